@@ -1,0 +1,4 @@
+pub mod ReadingLemmas
+pub mod WordLemmas
+pub mod NumberLemmas
+pub mod CommandLemmas

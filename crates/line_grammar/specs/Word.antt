@@ -1,0 +1,5 @@
+use Rattle.std.specs.Prelude.{◌≢◌, ℕ, List, All}
+
+-- no byte is a space
+abbrev pub HasNoSpace : List ℕ → Type 0
+HasNoSpace bytes = All (λ byte. byte ≢ 32) bytes

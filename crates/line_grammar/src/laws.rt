@@ -1,0 +1,16 @@
+ghost use Rattle.std.specs.Prelude.{◌≡◌, ◌≤◌, ℕ, List, length, Option};
+ghost use Rattle.line_grammar.specs.declared.command.Command.{Command};
+ghost use Rattle.line_grammar.specs.Command.{Means, IsInBounds, spelling};
+
+use crate::command::LINE_BYTES;
+
+/// A law: each line has one meaning.
+pub fn one_reading()
+    ensures some { (line : List ℕ) → (meaning : Option Command) × Means line meaning }
+    ensures unique { (line : List ℕ) (a b : Option Command) → Means line a → Means line b → a ≡ b }
+{}
+
+/// A law: a longer line than `LINE_BYTES` means nothing.
+pub fn command_length()
+    ensures { (command : Command) → IsInBounds command → length (spelling command) ≤ LINE_BYTES }
+{}

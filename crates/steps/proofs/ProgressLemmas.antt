@@ -1,0 +1,179 @@
+-- One byte of a script at a time: what stands after it.
+use Rattle.std.proofs.Common.{append-nil, arith, refl, ap, sym, ◌∙◌, ◌≡◌, ◌≢◌, ℕ, suc, ◌<◌, ◌≤◌, List, [], ◌∷◌, ◌++◌, append_assoc, length, get_or, take, drop, Option, None, ◌⊎◌, inl, inr}
+use Rattle.std.proofs.Math.Seq.{drop-cons}
+use Rattle.std.proofs.lemmas.Bool.{cases_lt}
+use Rattle.std.proofs.lemmas.List.{length-append, length-take-le, take-append-le, take_all, take-append-drop}
+use Rattle.world_actions.specs.declared.refusal.Refusal.{Refusal}
+use Rattle.world_actions.specs.declared.refusal.Refusal.TheVariants.{NoMemory}
+use Rattle.steps.specs.declared.line.Line.{Line}
+use Rattle.steps.specs.Line.{LineMeans}
+use Rattle.steps.specs.Script.{reply, core_after, lines_of, Replies, IsFront, IsCutOff}
+use Rattle.steps.specs.Progress.{ScriptState, HasNoNewline, kept_of, KeptMeans, Stands, LeadsOn, Completes, BreaksOff}
+use Rattle.steps.proofs.ScriptLemmas.{lines_of-line, lines_of-last, HasNoNewline-snoc, Replies-snoc}
+
+-- before anything is read
+pub stands_fresh : (input : List ℕ) → Stands input (record { core = None; kept = [] }) input []
+stands_fresh input = record { answered = []; line = []; split = refl; replies = (refl, refl); unbroken = tt; kept_is = refl }
+
+-- what is kept of a line with one byte more
+kept_of-snoc : (line : List ℕ) (b : ℕ) → kept_of (line ++ b ∷ []) ≡ kept_of (kept_of line ++ b ∷ [])
+kept_of-snoc line b = by_length (cases_lt 81 (length line))
+  where
+    by_length : (81 < length line) ⊎ (length line ≤ 81) → kept_of (line ++ b ∷ []) ≡ kept_of (kept_of line ++ b ∷ [])
+    by_length (inr short) = rw (take_all 81 line short) refl
+    by_length (inl long) =
+        let many : 81 ≤ length line = omega arith in
+        let whole : length (take 81 line) ≡ 81 = length-take-le 81 line many in
+        take-append-le 81 line (b ∷ []) many
+        ∙ (sym (take_all 81 (take 81 line) (omega (arith, whole))) ∙ sym (take-append-le 81 (take 81 line) (b ∷ []) (omega (arith, whole))))
+
+-- what is kept with one byte more, where there is room and where there is none
+pub keep_more : (kept : List ℕ) (b : ℕ) → length kept ≤ 80 → kept ++ b ∷ [] ≡ kept_of (kept ++ b ∷ [])
+keep_more kept b short = sym (take_all 81 (kept ++ b ∷ []) (simp length-append (omega arith)))
+
+pub keep_same : (kept : List ℕ) (b : ℕ) → length kept ≡ 81 → kept ≡ kept_of (kept ++ b ∷ [])
+keep_same kept b full = sym (take-append-le 81 kept (b ∷ []) (omega arith) ∙ take_all 81 kept (omega arith))
+
+-- no byte
+pub leads_nothing : (script : ScriptState) → LeadsOn script [] script []
+leads_nothing script = record { on = λ input left prior stands. rw (append-nil) stands }
+
+-- one part after the other
+pub leads_then : {old middle new : ScriptState} {bytes more written rest : List ℕ} → LeadsOn old bytes middle written → LeadsOn middle more new rest
+    → LeadsOn old (bytes ++ more) new (written ++ rest)
+leads_then {old} {middle} {new} {bytes} {more} {written} {rest} one two = record {
+  on = λ input left prior stands.
+      rw (← append_assoc prior written rest) (two.on input left (prior ++ written) (one.on input (more ++ left) prior (rw (append_assoc bytes more left) at stands)));
+}
+
+-- a byte of the line
+pub leads_kept : (old new : ScriptState) (b : ℕ) → b ≢ 10 → new.core ≡ old.core → new.kept ≡ kept_of (old.kept ++ b ∷ []) → LeadsOn old (b ∷ []) new []
+leads_kept old new b other core kept = record {
+  on = λ input left prior stands. record {
+    answered = stands.answered;
+    line = stands.line ++ b ∷ [];
+    split = rw (append_assoc stands.line (b ∷ []) left) stands.split;
+    replies = rw (append-nil, core) stands.replies;
+    unbroken = HasNoNewline-snoc stands.line b stands.unbroken other;
+    kept_is = kept ∙ (ap (λ k. kept_of (k ++ b ∷ [])) stands.kept_is ∙ sym (kept_of-snoc stands.line b));
+  };
+}
+
+-- the end of the line
+pub leads_answered : (old new : ScriptState) (b : ℕ) (meaning : Option Line) → b ≡ 10 → KeptMeans old.kept meaning
+    → new.core ≡ core_after old.core meaning → new.kept ≡ [] → LeadsOn old (b ∷ []) new (reply old.core meaning ++ 10 ∷ [])
+leads_answered old new b meaning newline means core empty = record {
+  on = λ input left prior stands.
+      let line_means : LineMeans stands.line meaning = means stands.line (sym stands.kept_is) in
+      record {
+        answered = stands.answered ++ stands.line ∷ [];
+        line = [];
+        split = stands.split ∙ (ap (λ c. stands.answered ++ lines_of (stands.line ++ (c ∷ left))) newline
+            ∙ (ap (λ lines. stands.answered ++ lines) (lines_of-line stands.line left stands.unbroken) ∙ sym (append_assoc stands.answered (stands.line ∷ []) (lines_of left))));
+        replies = rw (core) (Replies-snoc None old.core stands.answered prior stands.line meaning stands.replies line_means);
+        unbroken = tt;
+        kept_is = empty;
+      };
+}
+
+-- a fault in the answer to a line that is next
+cut_line : (input : List ℕ) (script : ScriptState) (answered later : List (List ℕ)) (line prior front : List ℕ) (meaning : Option Line) (refusal : Refusal)
+    → lines_of input ≡ answered ++ (line ∷ later) → Replies None answered prior script.core → LineMeans line meaning
+    → IsFront front (reply script.core meaning ++ 10 ∷ []) → (refusal ≡ NoMemory → front ≡ []) → IsCutOff input (prior ++ front) refusal
+cut_line input script answered later line prior front meaning refusal split replies means is_front memory = record {
+  answered = answered;
+  later = line ∷ later;
+  split = split;
+  core = script.core;
+  whole = prior;
+  replies = replies;
+  part = front;
+  are_written = refl;
+  next = inr (reply script.core meaning ++ 10 ∷ [], core_after script.core meaning, (meaning, [], means, (refl, refl), refl), is_front);
+  in_memory = memory;
+}
+
+-- a fault at the end of a line
+pub breaks_line : (old : ScriptState) (b : ℕ) (meaning : Option Line) (front : List ℕ) (refusal : Refusal) → b ≡ 10 → KeptMeans old.kept meaning
+    → IsFront front (reply old.core meaning ++ 10 ∷ []) → (refusal ≡ NoMemory → front ≡ []) → (left : List ℕ) → BreaksOff old (b ∷ left) front refusal
+breaks_line old b meaning front refusal newline means is_front memory left = record {
+  on = λ input prior stands.
+      cut_line input old stands.answered (lines_of left) stands.line prior front meaning refusal
+      (stands.split ∙ (ap (λ c. stands.answered ++ lines_of (stands.line ++ (c ∷ left))) newline ∙ ap (λ lines. stands.answered ++ lines) (lines_of-line stands.line left stands.unbroken)))
+      stands.replies (means stands.line (sym stands.kept_is)) is_front memory;
+}
+
+-- a fault that has nothing to do with a line
+pub cut_between : (input left written : List ℕ) (script : ScriptState) (refusal : Refusal) → Stands input script left written → IsCutOff input written refusal
+cut_between input left written script refusal stands = record {
+  answered = stands.answered;
+  later = lines_of (stands.line ++ left);
+  split = stands.split;
+  core = script.core;
+  whole = written;
+  replies = stands.replies;
+  part = [];
+  are_written = sym (append-nil written);
+  next = inl refl;
+  in_memory = λ _. refl;
+}
+
+-- a fault after some bytes that went well
+pub breaks_after : {old middle : ScriptState} {bytes more written front : List ℕ} {refusal : Refusal} → LeadsOn old bytes middle written
+    → BreaksOff middle more front refusal → BreaksOff old (bytes ++ more) (written ++ front) refusal
+breaks_after {old} {middle} {bytes} {more} {written} {front} one two = record {
+  on = λ input prior stands. rw (← append_assoc prior written front) (two.on input (prior ++ written) (one.on input more prior stands));
+}
+
+-- nothing is kept of a line only where it is empty
+empty_line : (line : List ℕ) → kept_of line ≡ [] → line ≡ []
+empty_line [] is = refl
+empty_line (b ∷ line) is = cc
+
+-- the last line, if there is one
+last_line : (line : List ℕ) → HasNoNewline line → line ≢ [] → lines_of (line ++ []) ≡ line ∷ []
+last_line [] unbroken some = absurd (some refl)
+last_line (b ∷ line) unbroken some = ap lines_of (append-nil (b ∷ line)) ∙ lines_of-last b line unbroken
+
+-- the input ends with a newline
+pub completes_empty : (script : ScriptState) → script.kept ≡ [] → Completes script []
+completes_empty script empty = record {
+  on = λ input prior stands.
+      let none = empty_line stands.line (sym stands.kept_is ∙ empty) in
+      record {
+        last = script.core;
+        replies = rw (append-nil, stands.split, none, append-nil) stands.replies;
+      };
+}
+
+some_line : (script : ScriptState) (line : List ℕ) → script.kept ≡ kept_of line → script.kept ≢ [] → line ≢ []
+some_line script line kept some none = some (kept ∙ ap kept_of none)
+
+-- the input ends in a line with no newline
+pub completes_answered : (script : ScriptState) (meaning : Option Line) → script.kept ≢ [] → KeptMeans script.kept meaning
+    → Completes script (reply script.core meaning ++ 10 ∷ [])
+completes_answered script meaning some means = record {
+  on = λ input prior stands.
+      let last = last_line stands.line stands.unbroken (some_line script stands.line stands.kept_is some) in
+      record {
+        last = core_after script.core meaning;
+        replies = rw (stands.split, last)
+            (Replies-snoc None script.core stands.answered prior stands.line meaning stands.replies (means stands.line (sym stands.kept_is)));
+      };
+}
+
+pub breaks_last : (script : ScriptState) (meaning : Option Line) (front : List ℕ) (refusal : Refusal) → script.kept ≢ [] → KeptMeans script.kept meaning
+    → IsFront front (reply script.core meaning ++ 10 ∷ []) → (refusal ≡ NoMemory → front ≡ []) → BreaksOff script [] front refusal
+breaks_last script meaning front refusal some means is_front memory = record {
+  on = λ input prior stands.
+      let last = last_line stands.line stands.unbroken (some_line script stands.line stands.kept_is some) in
+      cut_line input script stands.answered [] stands.line prior front meaning refusal
+      (stands.split ∙ ap (λ lines. stands.answered ++ lines) last) stands.replies
+      (means stands.line (sym stands.kept_is)) is_front memory;
+}
+
+-- a piece, at one of its bytes
+pub piece_at : (piece left : List ℕ) (i : ℕ) → i < length piece → take i piece ++ (get_or piece i 0 ∷ (drop (suc i) piece ++ left)) ≡ piece ++ left
+piece_at piece left i below =
+    sym (append_assoc (take i piece) (get_or piece i 0 ∷ drop (suc i) piece) left)
+    ∙ ap (λ bytes. bytes ++ left) (ap (λ rest. take i piece ++ rest) (sym (drop-cons piece i 0 below)) ∙ take-append-drop i piece)

@@ -1,0 +1,20 @@
+use Rattle.std.proofs.Common.{rules, [], ◌++◌, ◌∷◌}
+use Rattle.std.proofs.lemmas.Result.{err_from_is_err_and}
+use Rattle.steps.specs.Script.{reply}
+use Rattle.steps.proofs.StreamLemmas.{Appends-none}
+use Rattle.steps.proofs.ProgressLemmas.{leads_kept, leads_answered, breaks_line}
+use Rattle.steps.proofs.script.Script.take_byte.Goals as goal
+
+pub returns-in_err-answer_line-clause-fault : goal.returns-in_err-answer_line-clause-fault
+returns-in_err-answer_line-clause-fault g c =
+    let fault = c.in_err-answer_line.ensures.fault in
+    let p = err_from_is_err_and c.from_residual.result c.from_residual.ensures.1 in
+    rw (p.1, p.2) (fault.0, fault.3, fault.6, breaks_line _ _ fault.1 fault.3 _ c.if-byte-eq10.true fault.2 fault.4 fault.5)
+
+pub returns-then-byte-eq10-clause-done : goal.returns-then-byte-eq10-clause-done
+returns-then-byte-eq10-clause-done g c =
+    let done = c.in_ok-answer_line.ensures.done in
+    (reply c.args.self.now.core done.0 ++ 10 ∷ [], done.4, leads_answered _ _ _ done.0 c.if-byte-eq10.true done.1 done.2 done.3)
+
+pub returns-clause-done : goal.returns-clause-done
+returns-clause-done g c = ([], Appends-none _, leads_kept _ _ _ (search rules) c.keep.ensures.core c.keep.ensures.kept)

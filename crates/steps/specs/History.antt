@@ -1,0 +1,42 @@
+-- The ticks that moves and their answers ended, and what the live words are after them.
+use Rattle.std.specs.Prelude.{◌≡◌, ℕ, List, [], ◌∷◌, ◌++◌, length, Ok}
+use Rattle.world_actions.specs.declared.action.Action.{Action}
+use Rattle.world_ticks.specs.After.{after_actions, after_ticks}
+use Rattle.line_grammar.specs.declared.command.Command.{Command}
+use Rattle.line_grammar.specs.declared.command.Command.TheVariants.{Act, End}
+use Rattle.steps.specs.declared.world_core.Answer.{Answer}
+use Rattle.steps.specs.declared.world_core.Answer.TheVariants.{Did, Ended}
+use Rattle.steps.specs.Core.{State, answer_to, state_after}
+
+-- the ended ticks in order, and the running one
+pub record History : Type 0 where
+  pub ticks : List (List Action)
+  pub running : List Action
+
+-- a history in which nothing has happened
+abbrev pub no_history : History
+no_history = record { ticks = []; running = [] }
+
+-- the history after a move and its answer
+abbrev pub history_after : History → Command → Answer → History
+history_after history (Act action) Did = record history { running = history.running ++ action ∷ [] }
+history_after history End (Ended tick) = record { ticks = history.ticks ++ history.running ∷ []; running = [] }
+history_after history command answer = history
+
+-- the history of moves, each answered by a core in this state at first
+abbrev pub history_of : History → State → List Command → History
+history_of history state [] = history
+history_of history state (command ∷ commands) = history_of (history_after history command (answer_to state command)) (state_after state command) commands
+
+-- the state after moves in order
+abbrev pub state_after_all : State → List Command → State
+state_after_all state [] = state
+state_after_all state (command ∷ commands) = state_after_all (state_after state command) commands
+
+-- the live words are the world after the ended ticks, taken on by the actions of the running one
+pub record IsLive (cells : ℕ) (history : History) (state : State) : Type 0 where
+  pub ended_words : List ℕ
+  pub after_ended : after_ticks cells history.ticks ≡ Ok ended_words
+  pub live : after_actions ended_words history.running ≡ Ok state.words
+  pub running : state.running ≡ history.running
+  pub ended : state.ended ≡ length history.ticks

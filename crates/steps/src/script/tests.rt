@@ -1,0 +1,265 @@
+use super::run_script;
+use std::io::{self, ErrorKind, Read, Write};
+use std::test::Fail;
+use world_actions::Refusal;
+
+// The script of the first page, and a refused transfer.
+const TRANSFERS: &[u8] = b"open plain 2\nset 0 5\nmove 0 1 2\nget 1\nend\nmove 1 0 3\nworld\n";
+
+const TRANSFERS_TEXT: &[u8] = b"ready 0\n+\n+\n= 2\ntick 1\n- 3\n3 2\n";
+
+// How many of its calls are interrupted, fail or go well.
+#[derive(Clone, Copy)]
+enum Trouble {
+    Never,
+    // The call with this number and all after it fail.
+    FailsAt(usize),
+    // Each call that goes well comes after one that was interrupted.
+    Interrupts,
+}
+
+// Whether a call goes well.
+fn call(calls: usize, trouble: Trouble) -> io::Result<()> {
+    match trouble {
+        Trouble::Never => Ok(()),
+        Trouble::FailsAt(first) => {
+            if calls >= first {
+                return Err(io::Error::from(ErrorKind::Other));
+            }
+            Ok(())
+        }
+        Trouble::Interrupts => {
+            if calls % 2 == 0 {
+                return Err(io::Error::from(ErrorKind::Interrupted));
+            }
+            Ok(())
+        }
+    }
+}
+
+// A reader over bytes that gives a few at a time.
+#[derive(Drop)]
+struct Pieces<'a> {
+    bytes: &'a [u8],
+    most: usize,
+    calls: usize,
+    trouble: Trouble,
+}
+
+impl Read for Pieces<'_> {
+    fn read(&mut self, buf: &mut [u8]) -> io::Result<usize> {
+        let calls = self.calls;
+        self.calls = calls.saturating_add(1);
+        call(calls, self.trouble)?;
+        let count = self.bytes.len().min(self.most).min(buf.len());
+        let (now, later) = self.bytes.split_at(count);
+        buf[..count].copy_from_slice(now);
+        self.bytes = later;
+        Ok(count)
+    }
+}
+
+// A writer that takes a few bytes at a time, and none once it is full.
+#[derive(Drop)]
+struct Page {
+    bytes: [u8; 512],
+    len: usize,
+    most: usize,
+    calls: usize,
+    trouble: Trouble,
+}
+
+impl Page {
+    fn new(most: usize, trouble: Trouble) -> Self {
+        Page {
+            bytes: [0; 512],
+            len: 0,
+            most,
+            calls: 0,
+            trouble,
+        }
+    }
+
+    fn written(&self) -> &[u8] {
+        &self.bytes[..self.len.min(512)]
+    }
+}
+
+impl Write for Page {
+    fn write(&mut self, buf: &[u8]) -> io::Result<usize> {
+        let calls = self.calls;
+        self.calls = calls.saturating_add(1);
+        call(calls, self.trouble)?;
+        let start = self.len.min(512);
+        let count = buf.len().min(self.most).min(512 - start);
+        self.bytes[start..start + count].copy_from_slice(&buf[..count]);
+        self.len = start + count;
+        Ok(count)
+    }
+
+    fn flush(&mut self) -> io::Result<()> {
+        Ok(())
+    }
+}
+
+// What a script writes that is read in pieces of so many bytes.
+fn run(rt: &HostRuntime, input: &[u8], most: usize) -> (Result<(), Refusal>, Page) {
+    let mut reader = Pieces {
+        bytes: input,
+        most,
+        calls: 0,
+        trouble: Trouble::Never,
+    };
+    let mut page = Page::new(512, Trouble::Never);
+    let ended = run_script(rt.alloc(), &mut reader, &mut page);
+    (ended, page)
+}
+
+#[test]
+fn scripts_have_their_text(rt: HostRuntime) {
+    let scripts: [(&[u8], &[u8]); 10] = [
+        (b"", b""),
+        (TRANSFERS, TRANSFERS_TEXT),
+        (
+            b"open plain 1\nset 0 999999999999999999\nadd 0 1\nset 0 1000000000000000000\nadd 0 -999999999999999999\nget 0\n",
+            b"ready 0\n+\n- 3\n- 2\n+\n= 0\n",
+        ),
+        (
+            b"open plain 2\nmove 0 0 1\nmove 0 1 1\nmove 0 2 1\nset 2 1000000000000000000\nfoo\n",
+            b"ready 0\n- 4\n- 3\n- 1\n- 1\n- 16\n",
+        ),
+        // Before the first world that is opened, every other line is a bad one.
+        (
+            b"get 0\nend\nworld\nopen plain 0\nopen plain 65537\nopen plain 1\nend",
+            b"- 16\n- 16\n- 16\n- 16\n- 16\nready 0\ntick 1\n",
+        ),
+        (
+            b"open plain 1\n\nset 00 1\nset 0 +1\nadd 0 -0\nadd 0 -9223372036854775808\nadd 0 -9223372036854775807\nend\r\nset  0 1\nget 4294967296\n\x00\xff\nworld\n",
+            b"ready 0\n- 16\n- 16\n- 16\n- 16\n- 16\n- 2\n- 16\n- 16\n- 16\n- 16\n0\n",
+        ),
+        // A world that is opened later takes the place of the first; a bad opening leaves it.
+        (
+            b"open plain 1\nset 0 7\nend\nopen zigzag 1\nget 0\nopen plain 3\nworld\nend\n",
+            b"ready 0\n+\ntick 1\n- 16\n= 7\nready 0\n0 0 0\ntick 1\n",
+        ),
+        // The rest of a line that is too long is no line of its own.
+        (
+            b"open plain 1\nget 0\nget 0000000000000000000000000000000000000000000000000000000000000000000000000000\nget 00000000000000000000000000000000000000000000000000000000000000000000000000000 get 0\nget 0\n",
+            b"ready 0\n= 0\n- 16\n- 16\n= 0\n",
+        ),
+        (
+            b"open plain 65536\nget 65535\nget 65536",
+            b"ready 0\n= 0\n- 1\n",
+        ),
+        (b"\n", b"- 16\n"),
+    ];
+    for (input, text) in scripts {
+        for most in [1, 3, 512] {
+            let (ended, page) = run(&rt, input, most);
+            assert!(rt; ended == Ok(()), "in pieces of {most}");
+            assert_eq!(rt; page.written(), text, "in pieces of {most}");
+        }
+    }
+}
+
+#[test]
+fn a_full_tick_takes_no_more(rt: HostRuntime) -> Result<(), Fail> {
+    let mut input = b"open plain 1\n".to_vec(rt.alloc())?;
+    let mut text = b"ready 0\n".to_vec(rt.alloc())?;
+    for _ in 0..256 {
+        input.extend_from_slice(b"add 0 1\n")?;
+        text.extend_from_slice(b"+\n")?;
+    }
+    input.extend_from_slice(b"add 0 1\nget 0\n")?;
+    text.extend_from_slice(b"- 5\n= 256\n")?;
+    let mut reader = input.as_slice();
+    let mut out = Vec::new(rt.alloc());
+    run_script(rt.alloc(), &mut reader, &mut out)?;
+    assert_eq!(rt; out.as_slice(), text.as_slice());
+    Ok(())
+}
+
+#[test]
+fn interrupted_calls_are_tried_again(rt: HostRuntime) {
+    let mut reader = Pieces {
+        bytes: TRANSFERS,
+        most: 5,
+        calls: 0,
+        trouble: Trouble::Interrupts,
+    };
+    let mut page = Page::new(2, Trouble::Interrupts);
+    let ended = run_script(rt.alloc(), &mut reader, &mut page);
+    assert!(rt; ended == Ok(()));
+    assert_eq!(rt; page.written(), TRANSFERS_TEXT);
+}
+
+#[test]
+fn a_failed_read_leaves_whole_answers(rt: HostRuntime) {
+    let answers: [&[u8]; 8] = [
+        b"",
+        b"ready 0\n",
+        b"+\n",
+        b"+\n",
+        b"= 2\n",
+        b"tick 1\n",
+        b"- 3\n",
+        b"3 2\n",
+    ];
+    let mut ended_lines = 0usize;
+    let mut expected = Page::new(512, Trouble::Never);
+    for (place, byte) in TRANSFERS.iter().enumerate() {
+        let mut reader = Pieces {
+            bytes: TRANSFERS,
+            most: 1,
+            calls: 0,
+            trouble: Trouble::FailsAt(place),
+        };
+        let mut page = Page::new(512, Trouble::Never);
+        let ended = run_script(rt.alloc(), &mut reader, &mut page);
+        assert!(rt; ended == Err(Refusal::Device), "at byte {place}");
+        assert_eq!(rt; page.written(), expected.written(), "at byte {place}");
+        if *byte == b'\n' {
+            ended_lines = ended_lines.saturating_add(1);
+            let answer = answers.get(ended_lines).copied().unwrap_or(b"");
+            let kept = expected.write(answer);
+            assert!(rt; kept.is_ok());
+        }
+    }
+}
+
+#[test]
+fn a_failed_write_leaves_a_front_of_the_text(rt: HostRuntime) {
+    for place in 0..TRANSFERS_TEXT.len() {
+        let mut reader = TRANSFERS;
+        let mut page = Page::new(1, Trouble::FailsAt(place));
+        let ended = run_script(rt.alloc(), &mut reader, &mut page);
+        assert!(rt; ended == Err(Refusal::Device), "at byte {place}");
+        assert_eq!(rt; page.written(), &TRANSFERS_TEXT[..place], "at byte {place}");
+    }
+}
+
+#[test]
+fn a_full_writer_is_a_fault(rt: HostRuntime) {
+    let mut reader = TRANSFERS;
+    let mut page = Page::new(0, Trouble::Never);
+    let ended = run_script(rt.alloc(), &mut reader, &mut page);
+    assert!(rt; ended == Err(Refusal::Device));
+    assert_eq!(rt; page.written(), b"".as_slice());
+}
+
+// With a refused allocation, the script ends with `NoMemory` and whole answers, or it is whole.
+#[test]
+fn wanting_memory_leaves_whole_answers(rt: HostRuntime) {
+    let (ended, page) = run(&rt, TRANSFERS, 512);
+    let fronts: [usize; 8] = [0, 8, 10, 12, 16, 23, 27, 31];
+    let whole = page.len == TRANSFERS_TEXT.len();
+    assert!(rt;
+        if whole {
+            ended == Ok(())
+        } else {
+            ended == Err(Refusal::NoMemory)
+        }
+    );
+    assert!(rt; fronts.contains(&page.len));
+    assert!(rt; TRANSFERS_TEXT.starts_with(page.written()));
+}

@@ -1,0 +1,4 @@
+pub mod Refusal
+pub mod Action
+pub mod World
+pub mod Effect

@@ -1,0 +1,175 @@
+use crate::refusal::Refusal;
+use crate::world::LIMIT;
+
+/// A change that a client asks for. The numbers are as the client gave them, in range or not.
+#[derive(Clone, Copy, Debug, PartialEq, Eq)]
+pub enum Action {
+    /// Puts a value into a cell.
+    Set { cell: u32, value: u64 },
+    /// Adds a difference to a cell's word.
+    Add { cell: u32, by: i64 },
+    /// Takes an amount from one cell and adds it to another.
+    Transfer { from: u32, to: u32, amount: u64 },
+}
+
+/// The new words of the cells that an accepted action names.
+#[derive(Clone, Copy, Debug, PartialEq, Eq)]
+pub struct Change {
+    /// The new word of the first cell.
+    pub first: u64,
+    /// The new word of the second cell, where the action names two.
+    pub second: Option<u64>,
+}
+
+impl Action {
+    ghost use Rattle.std.specs.Prelude.{◌≡◌};
+    ghost use Rattle.world_actions.specs.Action.{first_cell, second_cell};
+
+    /// The cells that the action names, a single one twice.
+    pub fn cells(&self) -> (u32, u32)
+        ensures first { result.0 ≡ first_cell self.now }
+        ensures second { result.1 ≡ second_cell self.now }
+    {
+        match *self {
+            Action::Set { cell, .. } | Action::Add { cell, .. } => (cell, cell),
+            Action::Transfer { from, to, .. } => (from, to),
+        }
+    }
+}
+
+ghost use Rattle.std.specs.Prelude.{◌≡◌, ℕ, List, ◌<◌, OnOk, IfOk, IfSome};
+ghost use Rattle.std.specs.Result.{result_err};
+ghost use Rattle.world_actions.specs.Action.{first_cell, second_cell};
+ghost use Rattle.world_actions.specs.World.{IsWord};
+ghost use Rattle.world_actions.specs.Effect.{Shows, refusal_of, writes_of, change_writes};
+
+/// Decides an action from the number of cells and the words at the two cells that it names, 0 for a
+/// cell that isn't below `len`. Whoever holds the words writes the change. It takes no memory.
+pub fn check(a: &Action, len: usize, first: u64, second: u64) -> Result<Change, Refusal>
+    requires first { IsWord first }
+    requires second { IsWord second }
+    ensures refuses { (world : List ℕ) → Shows world a.now len first second
+        → refusal_of world a.now ≡ result_err result }
+    ensures writes { IfOk result (λ change. (world : List ℕ) → Shows world a.now len first second
+        → writes_of world a.now ≡ change_writes a.now change) }
+
+    // What the writer of the change needs.
+    ensures inside { OnOk result ((first_cell a.now < len) × (second_cell a.now < len)) }
+    ensures limit { IfOk result (λ change. IsWord change.first × IfSome change.second IsWord) }
+{
+    match *a {
+        Action::Set { cell, value } => {
+            if cell as usize >= len {
+                return Err(Refusal::BadCell);
+            }
+            if value > LIMIT {
+                return Err(Refusal::BadValue);
+            }
+            Ok(Change {
+                first: value,
+                second: None,
+            })
+        }
+        Action::Add { cell, by } => {
+            if cell as usize >= len {
+                return Err(Refusal::BadCell);
+            }
+            if by < -(LIMIT as i64) || by > LIMIT as i64 {
+                return Err(Refusal::BadValue);
+            }
+            let sum = first as i64 + by;
+            if sum < 0 || sum > LIMIT as i64 {
+                return Err(Refusal::OutOfRange);
+            }
+            Ok(Change {
+                first: sum as u64,
+                second: None,
+            })
+        }
+        Action::Transfer { from, to, amount } => {
+            if from as usize >= len || to as usize >= len {
+                return Err(Refusal::BadCell);
+            }
+            if amount > LIMIT {
+                return Err(Refusal::BadValue);
+            }
+            if from == to {
+                return Err(Refusal::SameCell);
+            }
+            if first < amount || second + amount > LIMIT {
+                return Err(Refusal::OutOfRange);
+            }
+            Ok(Change {
+                first: first - amount,
+                second: Some(second + amount),
+            })
+        }
+    }
+}
+
+#[cfg(test)]
+mod tests {
+    use super::*;
+
+    fn set(cell: u32, value: u64) -> Action {
+        Action::Set { cell, value }
+    }
+
+    fn add(cell: u32, by: i64) -> Action {
+        Action::Add { cell, by }
+    }
+
+    fn transfer(from: u32, to: u32, amount: u64) -> Action {
+        Action::Transfer { from, to, amount }
+    }
+
+    fn change(first: u64, second: Option<u64>) -> Result<Change, Refusal> {
+        Ok(Change { first, second })
+    }
+
+    #[test]
+    fn names_cells(rt: HostRuntime) {
+        assert_eq!(rt; set(3, 9).cells(), (3, 3));
+        assert_eq!(rt; add(4, -9).cells(), (4, 4));
+        assert_eq!(rt; transfer(5, 6, 9).cells(), (5, 6));
+    }
+
+    #[test]
+    fn decides_on_one_cell(rt: HostRuntime) {
+        let greatest = 999_999_999_999_999_999;
+        for (action, word, want) in [
+            (set(0, greatest), 0, change(greatest, None)),
+            (set(0, greatest + 1), 0, Err(Refusal::BadValue)),
+            (set(1, greatest + 1), 0, Err(Refusal::BadCell)),
+            (add(0, 1), greatest, Err(Refusal::OutOfRange)),
+            (add(0, -999_999_999_999_999_999), greatest, change(0, None)),
+            (add(0, -1), 0, Err(Refusal::OutOfRange)),
+            (add(0, i64::MIN), greatest, Err(Refusal::BadValue)),
+            (transfer(0, 0, greatest + 1), 5, Err(Refusal::BadValue)),
+        ] {
+            assert!(rt; word <= LIMIT);
+            assert_eq!(rt; check(&action, 1, word, word), want, "{action:?}");
+        }
+    }
+
+    #[test]
+    fn decides_on_two_cells(rt: HostRuntime) {
+        for (action, first, second, want) in [
+            (transfer(0, 0, 1), 0, 0, Err(Refusal::SameCell)),
+            (transfer(0, 1, 1), 0, 0, Err(Refusal::OutOfRange)),
+            (transfer(0, 2, 1), 0, 0, Err(Refusal::BadCell)),
+            (
+                set(2, 1_000_000_000_000_000_000),
+                0,
+                0,
+                Err(Refusal::BadCell),
+            ),
+            (transfer(0, 1, 0), 0, 0, change(0, Some(0))),
+            (transfer(1, 0, 30), 100, 7, change(70, Some(37))),
+            (transfer(0, 1, 1), 1, LIMIT, Err(Refusal::OutOfRange)),
+        ] {
+            assert!(rt; first <= LIMIT && second <= LIMIT);
+            assert_eq!(rt; check(&action, 2, first, second), want, "{action:?}");
+        }
+    }
+}

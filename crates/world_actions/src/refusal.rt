@@ -1,0 +1,196 @@
+use std::alloc::{AllocError, AllocFailed};
+use thiserror::Error;
+
+/// Why a call was refused. A refused call changes nothing, unless its own page says otherwise.
+#[derive(Clone, Copy, Debug, PartialEq, Eq, Error)]
+pub enum Refusal {
+    /// An action or a read names a cell that the world doesn't have.
+    #[error("there is no such cell: cells are numbered from 0 to the number of cells less 1")]
+    BadCell,
+    /// A value or an amount is above `LIMIT`, or a difference is further than that from 0.
+    #[error("the number is out of range: use at most 999999999999999999")]
+    BadValue,
+    /// The action would leave a word below 0 or above `LIMIT`.
+    #[error("the action would leave a word below 0 or above 999999999999999999")]
+    OutOfRange,
+    /// A transfer's two cells are one.
+    #[error("a transfer needs two different cells")]
+    SameCell,
+    /// The running tick has as many actions as a tick may have.
+    #[error("the running tick has 256 actions: end it first")]
+    TickFull,
+    /// A log segment's worth of ticks has ended since the last mark or start.
+    #[error("65536 ticks have ended since the last mark or start: mark a checkpoint first")]
+    SegmentFull,
+    /// The queue to the log writer has no room.
+    #[error("the queue to the log is full: let the log write first")]
+    QueueFull,
+    /// A mark came while the running tick has an action.
+    #[error("the running tick has an action: end it before a mark")]
+    OpenTick,
+    /// A mark came while a round is open.
+    #[error("a checkpoint is still being written: let it finish first")]
+    Busy,
+    /// A mark came while the newest image is of the newest tick.
+    #[error("the newest image already has the newest tick: end a tick first")]
+    NothingNew,
+    /// The image keeper met a failure.
+    #[error("images can't be written since the device failed: restart")]
+    ImageDown,
+    /// The log keeper met a failure.
+    #[error("the log can't be written since the device failed: restart")]
+    LogDown,
+    /// Recovery found neither an open image nor a bad file.
+    #[error("there is no image to recover from")]
+    NoImage,
+    /// An image whose gate is open isn't of the format.
+    #[error("an image file is damaged")]
+    BadImage,
+    /// A segment whose gate is open isn't of the format, or an action of a log is refused.
+    #[error("a log file is damaged")]
+    BadLog,
+    /// A line isn't of the grammar.
+    #[error("the line isn't understood")]
+    BadLine,
+    /// A growth was really refused.
+    #[error("there is no memory left")]
+    NoMemory,
+    /// A device, a reader or a writer failed in this call.
+    #[error("the device failed")]
+    Device,
+    /// The start after a recovery has not ended.
+    #[error("the start has not ended: let the images and the log finish it first")]
+    Starting,
+    /// No crash can leave these bytes.
+    #[error("a crash can't leave these bytes")]
+    Impossible,
+    /// The greatest tick number has been reached.
+    #[error("the last tick number has been given out")]
+    TicksEnded,
+    /// A file that is to be made anew holds something.
+    #[error("a file already holds a world: choose an empty folder")]
+    NotEmpty,
+}
+
+impl Refusal {
+    ghost use Rattle.std.specs.Prelude.{◌≡◌};
+    ghost use Rattle.world_actions.specs.Refusal.{code_of};
+
+    /// The number by which clients, scripts and exit texts know the refusal.
+    pub fn code(&self) -> u8
+        ensures code { result ≡ code_of self.now }
+    {
+        match self {
+            Refusal::BadCell => 1,
+            Refusal::BadValue => 2,
+            Refusal::OutOfRange => 3,
+            Refusal::SameCell => 4,
+            Refusal::TickFull => 5,
+            Refusal::SegmentFull => 6,
+            Refusal::QueueFull => 7,
+            Refusal::OpenTick => 8,
+            Refusal::Busy => 9,
+            Refusal::NothingNew => 10,
+            Refusal::ImageDown => 11,
+            Refusal::LogDown => 12,
+            Refusal::NoImage => 13,
+            Refusal::BadImage => 14,
+            Refusal::BadLog => 15,
+            Refusal::BadLine => 16,
+            Refusal::NoMemory => 17,
+            Refusal::Device => 18,
+            Refusal::Starting => 19,
+            Refusal::Impossible => 20,
+            Refusal::TicksEnded => 21,
+            Refusal::NotEmpty => 22,
+        }
+    }
+}
+
+impl From<AllocError> for Refusal {
+    ghost use Rattle.std.specs.Prelude.{◌≡◌};
+    ghost use Rattle.world_actions.specs.declared.refusal.Refusal.TheVariants.{NoMemory};
+
+    ghost from_gives = { λ _ refusal. refusal ≡ NoMemory };
+
+    fn from(_error: AllocError) -> Self {
+        Refusal::NoMemory
+    }
+}
+
+impl<T: Drop> From<AllocFailed<T>> for Refusal {
+    ghost use Rattle.std.specs.Prelude.{◌≡◌};
+    ghost use Rattle.world_actions.specs.declared.refusal.Refusal.TheVariants.{NoMemory};
+
+    ghost from_gives = { λ _ refusal. refusal ≡ NoMemory };
+
+    fn from(_error: AllocFailed<T>) -> Self {
+        Refusal::NoMemory
+    }
+}
+
+ghost use Rattle.std.specs.Prelude.{◌≡◌, ◌≤◌};
+ghost use Rattle.world_actions.specs.Refusal.{code_of};
+
+/// A law: the codes are numbers from 1 to 22, one for each refusal.
+pub fn one_code_each()
+    ensures range { (refusal : Refusal) → (1 ≤ code_of refusal) × (code_of refusal ≤ 22) }
+    ensures distinct { (a b : Refusal) → code_of a ≡ code_of b → a ≡ b }
+{}
+
+#[cfg(test)]
+mod tests {
+    use super::*;
+    use std::test::Fail;
+
+    #[test]
+    fn numbers_refusals(rt: HostRuntime) {
+        for (at, refusal) in [
+            Refusal::BadCell,
+            Refusal::BadValue,
+            Refusal::OutOfRange,
+            Refusal::SameCell,
+            Refusal::TickFull,
+            Refusal::SegmentFull,
+            Refusal::QueueFull,
+            Refusal::OpenTick,
+            Refusal::Busy,
+            Refusal::NothingNew,
+            Refusal::ImageDown,
+            Refusal::LogDown,
+            Refusal::NoImage,
+            Refusal::BadImage,
+            Refusal::BadLog,
+            Refusal::BadLine,
+            Refusal::NoMemory,
+            Refusal::Device,
+            Refusal::Starting,
+            Refusal::Impossible,
+            Refusal::TicksEnded,
+            Refusal::NotEmpty,
+        ]
+        .iter()
+        .enumerate()
+        {
+            assert_eq!(rt; refusal.code() as usize, at + 1, "{refusal:?}");
+        }
+    }
+
+    #[test]
+    fn tells_refusals(rt: HostRuntime) -> Result<(), Fail> {
+        for (refusal, want) in [
+            (Refusal::SameCell, "a transfer needs two different cells"),
+            (Refusal::BadLog, "a log file is damaged"),
+            (Refusal::NoMemory, "there is no memory left"),
+        ] {
+            assert_eq!(rt; refusal.to_string(rt.alloc())?.as_str(), want);
+        }
+        Ok(())
+    }
+
+    #[test]
+    fn comes_from_refused_memory(rt: HostRuntime) {
+        assert_eq!(rt; Refusal::from(AllocError), Refusal::NoMemory);
+        assert_eq!(rt; Refusal::from(AllocFailed { value: 5 }), Refusal::NoMemory);
+    }
+}

@@ -1,0 +1,2 @@
+pub mod PerformsLemmas
+pub mod AfterLemmas

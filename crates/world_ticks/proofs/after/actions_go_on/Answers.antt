@@ -1,0 +1,8 @@
+use Rattle.world_ticks.proofs.AfterLemmas.{after_actions-append, written-accepted_writes}
+use Rattle.world_ticks.proofs.after.actions_go_on.Goals as goal
+
+pub returns-clause-append : goal.returns-clause-append
+returns-clause-append c = after_actions-append
+
+pub returns-clause-writes : goal.returns-clause-writes
+returns-clause-writes c = written-accepted_writes

@@ -1,0 +1,210 @@
+ghost use Rattle.std.specs.Prelude.{◌≡◌, ◌≢◌, ◌+◌, ◌<◌, ◌≤◌, [], ◌∷◌, ◌++◌, length, slice_index, Ok, Err, IsOk, IsErr, OnOk, OnErr, IfOk, IfErr, IfSome};
+ghost use Rattle.std.specs.Result.{result_err};
+ghost use Rattle.world_actions.specs.Action.{first_cell, second_cell};
+ghost use Rattle.world_actions.specs.World.{IsWord};
+ghost use Rattle.world_actions.specs.Effect.{refusal_of, writes_of, written, change_writes};
+ghost use Rattle.world_ticks.specs.Cells.{Performs};
+ghost use Rattle.world_ticks.specs.After.{after_actions, accepted_writes, StopsAt};
+ghost use Rattle.world_ticks.specs.Tick.{decision};
+
+use crate::cells::Cells;
+use crate::tick::Tick;
+use world_actions::{Action, Change, Refusal, check};
+
+/// Does an action on the cells and adds it to the running tick, or refuses it: `TickFull` first,
+/// then by `check`, then `NoMemory` for the tick's growth, which is made before a cell is written.
+pub fn act<C: Cells>(c: &mut C, t: &mut Tick, a: Action) -> Result<(), Refusal>
+    ensures done { OnOk result ((decision (C.words c.old) t.old.list a ≡ Ok (C.words c.new))
+        × (t.new.list ≡ t.old.list ++ a ∷ [])) }
+    ensures writes { OnOk result (Performs C.accessed c.old (writes_of (C.words c.old) a) c.new) }
+    ensures room { OnOk result (t.old.room ≤ t.new.room + 1) }
+
+    ensures refused { IfErr result (λ refusal. refusal ≢ Refusal.NoMemory
+        → decision (C.words c.old) t.old.list a ≡ Err refusal) }
+    ensures memory { result ≡ Err Refusal.NoMemory
+        → (t.old.room ≡ 0) × IsOk (decision (C.words c.old) t.old.list a) }
+    ensures unchanged { OnErr result ((C.words c.new ≡ C.words c.old) × (t.new ≡ t.old)
+        × Performs C.accessed c.old [] c.new) }
+{
+    if t.is_full() {
+        return Err(Refusal::TickFull);
+    }
+    let change = decided(c, &a)?;
+    t.reserve(1)?;
+    put(c, &a, change);
+    t.push_reserved(a);
+    Ok(())
+}
+
+/// Does the actions of a tick in order, up to the first that is refused: then it answers `BadLog`,
+/// and those before it stay done. It takes no memory.
+pub fn replay<C: Cells>(c: &mut C, t: &Tick) -> Result<(), Refusal>
+    ensures done { OnOk result (after_actions (C.words c.old) t.now.list ≡ Ok (C.words c.new)) }
+    ensures refused { IfErr result (λ refusal. (refusal ≡ Refusal.BadLog)
+        × IsErr (after_actions (C.words c.old) t.now.list)
+        × StopsAt (C.words c.old) t.now.list (C.words c.new)) }
+    ensures writes { Performs C.accessed c.old (accepted_writes (C.words c.old) t.now.list) c.new }
+{
+    for a in t.actions() {
+        match decided(c, a) {
+            Ok(change) => put(c, a, change),
+            Err(_) => return Err(Refusal::BadLog),
+        }
+    }
+    Ok(())
+}
+
+// What is decided on an action from the words of its cells. It only reads.
+fn decided<C: Cells>(c: &mut C, a: &Action) -> Result<Change, Refusal>
+    ensures refuses { refusal_of (C.words c.old) a.now ≡ result_err result }
+    ensures writes { IfOk result (λ change. writes_of (C.words c.old) a.now ≡ change_writes a.now change) }
+    ensures inside { OnOk result ((first_cell a.now < length (C.words c.new))
+        × (second_cell a.now < length (C.words c.new))) }
+    ensures limit { IfOk result (λ change. IsWord change.first × IfSome change.second IsWord) }
+    ensures unchanged { C.words c.new ≡ C.words c.old }
+    ensures reads { Performs C.accessed c.old [] c.new }
+{
+    let (first_cell, second_cell) = a.cells();
+    let len = c.len();
+    let first = word_or_zero(c, first_cell as usize);
+    let second = word_or_zero(c, second_cell as usize);
+    check(a, len, first, second)
+}
+
+// The word of a cell, or 0 where there is no such cell.
+fn word_or_zero<C: Cells>(c: &mut C, i: usize) -> u64
+    ensures word { result ≡ slice_index (C.words c.old) i }
+    ensures limit { IsWord result }
+    ensures unchanged { C.words c.new ≡ C.words c.old }
+    ensures reads { Performs C.accessed c.old [] c.new }
+{
+    if i < c.len() { c.read(i) } else { 0 }
+}
+
+// Writes the new words of the cells that an action names.
+fn put<C: Cells>(c: &mut C, a: &Action, change: Change)
+    requires inside { (first_cell a.now < length (C.words c.old))
+        × (second_cell a.now < length (C.words c.old)) }
+    requires limit { IsWord change.first × IfSome change.second IsWord }
+    ensures words { C.words c.new ≡ written (C.words c.old) (change_writes a.now change) }
+    ensures writes { Performs C.accessed c.old (change_writes a.now change) c.new }
+{
+    let (first_cell, second_cell) = a.cells();
+    c.write(first_cell as usize, change.first);
+    if let Some(word) = change.second {
+        c.write(second_cell as usize, word);
+    }
+}
+
+#[cfg(test)]
+mod tests {
+    use super::*;
+    use std::marker::Model;
+    use std::test::Fail;
+    use world_actions::LIMIT;
+
+    #[derive(Drop)]
+    struct Memory {
+        words: Vec<u64>,
+    }
+
+    impl Model for Memory {
+        ghost use Rattle.std.specs.Prelude.{ℕ, List, All};
+        ghost use Rattle.world_actions.specs.World.{IsWord};
+
+        ghost Value = { List ℕ };
+
+        ghost view = { λ memory. memory.words.items };
+
+        ghost invariant = { λ memory. All IsWord memory.words.items };
+    }
+
+    impl Cells for Memory {
+        ghost use Rattle.std.specs.Prelude.{◌≡◌, [], ◌∷◌};
+        ghost use Rattle.world_actions.specs.Effect.{written};
+        ghost use Rattle.world_ticks.specs.Cells.{writes_among};
+
+        ghost words = { λ words. words };
+
+        ghost accessed = { λ old access new. new ≡ written old (writes_among (access ∷ [])) };
+
+        fn len(&self) -> usize {
+            self.words.len()
+        }
+
+        fn read(&mut self, i: usize) -> u64 {
+            self.words[i]
+        }
+
+        fn write(&mut self, i: usize, v: u64) {
+            self.words[i] = v;
+        }
+    }
+
+    #[test]
+    fn does_actions(rt: HostRuntime) -> Result<(), Fail> {
+        let mut memory = Memory {
+            words: vec![in rt.alloc(); 0, 20, LIMIT]?,
+        };
+        let mut tick = Tick::new(rt.alloc());
+        let set = Action::Set { cell: 0, value: 7 };
+        let add = Action::Add { cell: 1, by: -5 };
+        let transfer = Action::Transfer {
+            from: 2,
+            to: 1,
+            amount: 4,
+        };
+        act(&mut memory, &mut tick, set)?;
+        act(&mut memory, &mut tick, add)?;
+        act(&mut memory, &mut tick, transfer)?;
+        assert_eq!(rt; memory.words.as_slice(), [7, 19, LIMIT - 4].as_slice());
+        let refused = Action::Add { cell: 3, by: 1 };
+        assert_eq!(rt; act(&mut memory, &mut tick, refused), Err(Refusal::BadCell));
+        assert_eq!(rt; tick.actions(), [set, add, transfer].as_slice());
+        Ok(())
+    }
+
+    #[test]
+    fn takes_256_actions(rt: HostRuntime) -> Result<(), Fail> {
+        let mut memory = Memory {
+            words: vec![in rt.alloc(); 0]?,
+        };
+        let mut tick = Tick::new(rt.alloc());
+        let add = Action::Add { cell: 0, by: 2 };
+        for _ in 0..256 {
+            act(&mut memory, &mut tick, add)?;
+        }
+        assert!(rt; tick.is_full());
+        assert_eq!(rt; act(&mut memory, &mut tick, add), Err(Refusal::TickFull));
+        assert_eq!(rt; memory.words.as_slice(), [512].as_slice());
+        tick.clear();
+        act(&mut memory, &mut tick, add)?;
+        assert_eq!(rt; memory.words.as_slice(), [514].as_slice());
+        Ok(())
+    }
+
+    #[test]
+    fn replays_up_to_a_refused_action(rt: HostRuntime) -> Result<(), Fail> {
+        let mut memory = Memory {
+            words: vec![in rt.alloc(); 0, 0]?,
+        };
+        let mut tick = Tick::new(rt.alloc());
+        tick.reserve(3)?;
+        tick.push_reserved(Action::Set { cell: 0, value: 5 });
+        tick.push_reserved(Action::Transfer {
+            from: 0,
+            to: 1,
+            amount: 2,
+        });
+        replay(&mut memory, &tick)?;
+        assert_eq!(rt; memory.words.as_slice(), [3, 2].as_slice());
+        tick.push_reserved(Action::Transfer {
+            from: 0,
+            to: 1,
+            amount: 4,
+        });
+        assert_eq!(rt; replay(&mut memory, &tick), Err(Refusal::BadLog));
+        assert_eq!(rt; memory.words.as_slice(), [3, 4].as_slice());
+        Ok(())
+    }
+}

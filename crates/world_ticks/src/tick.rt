@@ -1,0 +1,110 @@
+use std::alloc::Global;
+use std::marker::Model;
+use world_actions::{Action, Refusal};
+
+/// The greatest number of accepted actions in a tick.
+pub const TICK_ACTIONS: usize = 256;
+
+/// The greatest tick number.
+pub const TICK_MAX: u64 = 1_000_000_000_000_000_000;
+
+/// The accepted actions of one batch, in order. Contracts see its actions, and for how many more it
+/// has memory.
+#[derive(Drop)]
+pub struct Tick {
+    actions: Vec<Action>,
+}
+
+impl Model for Tick {
+    ghost use Rattle.std.specs.Prelude.{◌-◌, ◌≤◌, vec_len, vec_capacity};
+    ghost use Rattle.world_ticks.specs.declared.tick.TheConstants.{TICK_ACTIONS};
+    ghost use Rattle.world_ticks.specs.Tick.{Actions};
+
+    ghost Value = { Actions };
+
+    ghost view = { λ t. record { list = t.actions.items; room = vec_capacity t.actions - vec_len t.actions } };
+
+    ghost invariant = { λ t. vec_len t.actions ≤ TICK_ACTIONS };
+}
+
+impl Tick {
+    ghost use Rattle.std.specs.Prelude.{◌≡◌, ◌+◌, ◌≤◌, ◌<◌, ◌↔◌, [], ◌∷◌, ◌++◌, length, IsTrue, OnOk, OnErr, IfErr};
+
+    /// A tick with no action. It takes no memory.
+    pub fn new(alloc: Global) -> Self
+        ensures { result.list ≡ [] }
+    {
+        Tick {
+            actions: Vec::new(alloc),
+        }
+    }
+
+    /// The actions in order.
+    pub fn actions(&self) -> &[Action]
+        ensures list { result.now ≡ self.now.list }
+        ensures most { length self.now.list ≤ TICK_ACTIONS }
+    {
+        &self.actions
+    }
+
+    /// Whether the tick takes no more actions.
+    pub fn is_full(&self) -> bool
+        ensures { IsTrue result ↔ (TICK_ACTIONS ≤ length self.now.list) }
+    {
+        self.actions.len() >= TICK_ACTIONS
+    }
+
+    /// Makes room for `more` actions, which then take no memory. It takes none where there is room.
+    pub fn reserve(&mut self, more: usize) -> Result<(), Refusal>
+        ensures list { self.new.list ≡ self.old.list }
+        ensures room { OnOk result (more ≤ self.new.room) }
+        ensures grows { self.old.room ≤ self.new.room }
+        ensures memory { IfErr result (λ refusal. (refusal ≡ Refusal.NoMemory) × (self.old.room < more)) }
+        ensures unchanged { OnErr result (self.new ≡ self.old) }
+    {
+        self.actions.reserve(more)?;
+        Ok(())
+    }
+
+    /// Adds an action for which there is room.
+    pub fn push_reserved(&mut self, a: Action)
+        requires not_full { length self.old.list < TICK_ACTIONS }
+        requires room { 0 < self.old.room }
+        ensures list { self.new.list ≡ self.old.list ++ a ∷ [] }
+        ensures room { self.new.room + 1 ≡ self.old.room }
+    {
+        self.actions.push_reserved(a);
+    }
+
+    /// Takes the actions out, and keeps their memory as room.
+    pub fn clear(&mut self)
+        ensures list { self.new.list ≡ [] }
+        ensures room { self.new.room ≡ self.old.room + length self.old.list }
+    {
+        self.actions.clear();
+    }
+}
+
+#[cfg(test)]
+mod tests {
+    use super::*;
+    use std::test::Fail;
+
+    #[test]
+    fn keeps_actions_in_order(rt: HostRuntime) -> Result<(), Fail> {
+        let first = Action::Set { cell: 3, value: 9 };
+        let second = Action::Add { cell: 3, by: -9 };
+        let mut tick = Tick::new(rt.alloc());
+        assert_eq!(rt; tick.actions().len(), 0);
+        tick.reserve(2)?;
+        tick.push_reserved(first);
+        tick.push_reserved(second);
+        assert_eq!(rt; tick.actions(), [first, second].as_slice());
+        assert!(rt; !tick.is_full());
+        tick.clear();
+        assert_eq!(rt; tick.actions().len(), 0);
+        tick.push_reserved(second);
+        assert_eq!(rt; tick.actions(), [second].as_slice());
+        Ok(())
+    }
+}
