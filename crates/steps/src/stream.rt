@@ -44,6 +44,7 @@ pub fn write_whole<W: Write>(w: &mut W, bytes: &[u8]) -> Result<(), Refusal>
 // again, as std does; any other failure is `Device`.
 fn write_some<W: Write>(w: &mut W, bytes: &[u8]) -> Result<usize, Refusal>
     ensures count { IfOk result (λ n. n ≤ length bytes.now) }
+    ensures some { IfOk result (λ n. 0 < n) }
     ensures wrote { IfOk result (λ n. Appends (W.contents w.old) (W.contents w.new) (take n bytes.now)) }
     ensures fault { IfErr result (λ refusal. (refusal ≡ Refusal.Device) × Appends (W.contents w.old) (W.contents w.new) []) }
 {
