@@ -1,5 +1,5 @@
 -- Each move keeps the live words what they are to be.
-use Rattle.std.proofs.Common.{append-nil, arith, refl, ap, sym, ◌∙◌, ◌≡◌, ℕ, ◌+◌, List, [], ◌∷◌, ◌++◌, append_assoc, length, Bool, true, false, Result, Ok, Err, nat_le, slice_index, replicate, if◌then◌else◌}
+use Rattle.std.proofs.Common.{append-nil, arith, refl, ap, sym, ◌∙◌, ◌≡◌, ℕ, ◌+◌, List, [], ◌∷◌, ◌++◌, append_assoc, length, Bool, true, false, Option, Some, None, ◌-◌, Result, Ok, Err, nat_le, slice_index, replicate, if◌then◌else◌}
 use Rattle.std.specs.List.{flat_map}
 use Rattle.std.proofs.lemmas.List.{length-append}
 use Rattle.world_actions.specs.declared.action.Action.{Action}
@@ -9,10 +9,12 @@ use Rattle.world_actions.specs.Effect.{effect, is_outside}
 use Rattle.world_ticks.specs.declared.tick.TheConstants.{TICK_ACTIONS, TICK_MAX}
 use Rattle.world_ticks.specs.After.{after_actions, and_then}
 use Rattle.world_ticks.specs.Tick.{decision}
-use Rattle.line_grammar.specs.declared.command.Command.{Command}
-use Rattle.line_grammar.specs.declared.command.Command.TheVariants.{Act, Get, End}
-use Rattle.steps.specs.declared.world_core.Answer.TheVariants.{Word, Ended, Refused}
-use Rattle.steps.specs.Core.{State, fresh_state, answer_to, state_after, action_answer, action_state}
+use Rattle.steps.specs.declared.moves.Move.{Move}
+use Rattle.steps.specs.declared.moves.Move.TheVariants.{Act, Get, End, Mark, Image}
+use Rattle.steps.specs.declared.moves.Answer.TheVariants.{Did, Word, Ended, Refused}
+use Rattle.steps.specs.Core.{State, Round, fresh_state, answer_to, state_after, action_answer, action_state, mark_refusal, mark_answer, mark_state, image_answer, image_state}
+use Rattle.steps.specs.declared.moves.Answer.TheVariants as answer
+use Rattle.steps.specs.declared.moves.ImageAnswer.TheVariants.{Working, Opened}
 use Rattle.steps.specs.History.{History, no_history, history_after, history_of, state_after_all, IsLive}
 
 -- the world after actions goes on
@@ -70,14 +72,36 @@ live_end goes_on cells history state false live =
 pub live_fresh : (cells : ℕ) → IsLive cells no_history (fresh_state cells)
 live_fresh cells = record { ended_words = replicate cells 0; after_ended = refl; live = refl; running = refl; ended = refl }
 
-pub live_step : GoesOn → (cells : ℕ) (history : History) (state : State) (command : Command) → IsLive cells history state
-    → IsLive cells (history_after history command (answer_to state command)) (state_after state command)
+-- a mark and a take change neither the history nor what is live
+live_mark : (cells : ℕ) (history : History) (state : State) (refusal : Option Refusal) → IsLive cells history state
+    → IsLive cells (history_after history Mark (mark_answer state.ended refusal)) (mark_state state refusal)
+live_mark cells history state None live =
+    record { ended_words = live.ended_words; after_ended = live.after_ended; live = live.live; running = live.running; ended = live.ended }
+live_mark cells history state (Some refusal) live = live
+
+live_take : (cells : ℕ) (history : History) (state : State) (round : Round) (last : Bool) → IsLive cells history state
+    → IsLive cells (history_after history Image (if last then answer.Image (Opened round.tick) else answer.Image Working))
+    (if last then record state { newest = round.tick; round = None } else record state { round = Some (record round { left = round.left - 1 }) })
+live_take cells history state round true live =
+    record { ended_words = live.ended_words; after_ended = live.after_ended; live = live.live; running = live.running; ended = live.ended }
+live_take cells history state round false live =
+    record { ended_words = live.ended_words; after_ended = live.after_ended; live = live.live; running = live.running; ended = live.ended }
+
+live_image : (cells : ℕ) (history : History) (state : State) (round : Option Round) → IsLive cells history state
+    → IsLive cells (history_after history Image (image_answer round)) (image_state state round)
+live_image cells history state None live = live
+live_image cells history state (Some round) live = live_take cells history state round (nat_le round.left 1) live
+
+pub live_step : GoesOn → (cells : ℕ) (history : History) (state : State) (chosen : Move) → IsLive cells history state
+    → IsLive cells (history_after history chosen (answer_to state chosen)) (state_after state chosen)
 live_step goes_on cells history state (Act action) live = live_act_unless goes_on cells history state action (nat_le TICK_MAX state.ended) live
 live_step goes_on cells history state (Get cell) live = live_get cells history state cell (slice_index state.words cell) (is_outside state.words cell) live
+live_step goes_on cells history state Mark live = live_mark cells history state (mark_refusal state) live
+live_step goes_on cells history state Image live = live_image cells history state state.round live
 live_step goes_on cells history state End live = live_end goes_on cells history state (nat_le TICK_MAX state.ended) live
 
-pub live_run : GoesOn → (cells : ℕ) (history : History) (state : State) (commands : List Command) → IsLive cells history state
-    → IsLive cells (history_of history state commands) (state_after_all state commands)
+pub live_run : GoesOn → (cells : ℕ) (history : History) (state : State) (moves : List Move) → IsLive cells history state
+    → IsLive cells (history_of history state moves) (state_after_all state moves)
 live_run goes_on cells history state [] live = live
-live_run goes_on cells history state (command ∷ commands) live =
-    live_run goes_on cells (history_after history command (answer_to state command)) (state_after state command) commands (live_step goes_on cells history state command live)
+live_run goes_on cells history state (chosen ∷ moves) live =
+    live_run goes_on cells (history_after history chosen (answer_to state chosen)) (state_after state chosen) moves (live_step goes_on cells history state chosen live)

@@ -4,3 +4,4 @@ pub mod ScriptLemmas
 pub mod ProgressLemmas
 pub mod StreamLemmas
 pub mod HistoryLemmas
+pub mod TakeLemmas

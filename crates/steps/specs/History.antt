@@ -2,10 +2,10 @@
 use Rattle.std.specs.Prelude.{◌≡◌, ℕ, List, [], ◌∷◌, ◌++◌, length, Ok}
 use Rattle.world_actions.specs.declared.action.Action.{Action}
 use Rattle.world_ticks.specs.After.{after_actions, after_ticks}
-use Rattle.line_grammar.specs.declared.command.Command.{Command}
-use Rattle.line_grammar.specs.declared.command.Command.TheVariants.{Act, End}
-use Rattle.steps.specs.declared.world_core.Answer.{Answer}
-use Rattle.steps.specs.declared.world_core.Answer.TheVariants.{Did, Ended}
+use Rattle.steps.specs.declared.moves.Move.{Move}
+use Rattle.steps.specs.declared.moves.Move.TheVariants.{Act, End}
+use Rattle.steps.specs.declared.moves.Answer.{Answer}
+use Rattle.steps.specs.declared.moves.Answer.TheVariants.{Did, Ended}
 use Rattle.steps.specs.Core.{State, answer_to, state_after}
 
 -- the ended ticks in order, and the running one
@@ -18,20 +18,25 @@ abbrev pub no_history : History
 no_history = record { ticks = []; running = [] }
 
 -- the history after a move and its answer
-abbrev pub history_after : History → Command → Answer → History
+abbrev pub history_after : History → Move → Answer → History
 history_after history (Act action) Did = record history { running = history.running ++ action ∷ [] }
 history_after history End (Ended tick) = record { ticks = history.ticks ++ history.running ∷ []; running = [] }
-history_after history command answer = history
+history_after history move answer = history
 
 -- the history of moves, each answered by a core in this state at first
-abbrev pub history_of : History → State → List Command → History
+abbrev pub history_of : History → State → List Move → History
 history_of history state [] = history
-history_of history state (command ∷ commands) = history_of (history_after history command (answer_to state command)) (state_after state command) commands
+history_of history state (move ∷ moves) = history_of (history_after history move (answer_to state move)) (state_after state move) moves
 
 -- the state after moves in order
-abbrev pub state_after_all : State → List Command → State
+abbrev pub state_after_all : State → List Move → State
 state_after_all state [] = state
-state_after_all state (command ∷ commands) = state_after_all (state_after state command) commands
+state_after_all state (move ∷ moves) = state_after_all (state_after state move) moves
+
+-- the answers to moves in order
+abbrev pub answers_to_all : State → List Move → List Answer
+answers_to_all state [] = []
+answers_to_all state (move ∷ moves) = answer_to state move ∷ answers_to_all (state_after state move) moves
 
 -- the live words are the world after the ended ticks, taken on by the actions of the running one
 pub record IsLive (cells : ℕ) (history : History) (state : State) : Type 0 where

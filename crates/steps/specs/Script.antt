@@ -4,11 +4,14 @@ use Rattle.std.specs.List.{join_with_byte}
 use Rattle.world_actions.specs.declared.refusal.Refusal.{Refusal}
 use Rattle.world_actions.specs.declared.refusal.Refusal.TheVariants.{BadLine, NoMemory}
 use Rattle.world_actions.specs.Refusal.{code_of}
-use Rattle.steps.specs.declared.world_core.Answer.{Answer}
-use Rattle.steps.specs.declared.world_core.Answer.TheVariants.{Did, Word, Ended, Refused}
+use Rattle.steps.specs.declared.moves.Answer.{Answer}
+use Rattle.steps.specs.declared.moves.Answer.TheVariants.{Did, Word, Ended, Started, Refused}
+use Rattle.steps.specs.declared.moves.Answer.TheVariants as answer
+use Rattle.steps.specs.declared.moves.ImageAnswer.{ImageAnswer}
+use Rattle.steps.specs.declared.moves.ImageAnswer.TheVariants.{Idle, Working, Opened}
 use Rattle.steps.specs.declared.line.Line.{Line}
 use Rattle.steps.specs.declared.line.Line.TheVariants as line
-use Rattle.steps.specs.Core.{State, fresh_state, answer_to, state_after}
+use Rattle.steps.specs.Core.{State, Round, fresh_state, answer_to, state_after, round_done}
 use Rattle.steps.specs.Line.{LineMeans}
 
 -- the text of an answer
@@ -16,24 +19,37 @@ abbrev pub answer_text : Answer → List ℕ
 answer_text Did = codes "+"
 answer_text (Word word) = codes "= " ++ decimal word
 answer_text (Ended tick) = codes "tick " ++ decimal tick
+answer_text (Started tick) = codes "mark " ++ decimal tick
+answer_text (answer.Image Idle) = codes "idle"
+answer_text (answer.Image Working) = codes "working"
+answer_text (answer.Image (Opened tick)) = codes "image open " ++ decimal tick
 answer_text (Refused refusal) = codes "- " ++ decimal (code_of refusal)
+
+-- what is answered to all takes of a round: the tick of its image
+abbrev pub whole_image : Option Round → ImageAnswer
+whole_image None = Idle
+whole_image (Some round) = Opened round.tick
 
 -- the answer to a line with this meaning, without its newline; at first no core is open
 abbrev pub reply : Option State → Option Line → List ℕ
 reply core None = answer_text (Refused BadLine)
-reply core (Some (line.Open cells)) = codes "ready 0"
-reply None (Some (line.Command command)) = answer_text (Refused BadLine)
+reply core (Some (line.Open method cells)) = codes "ready 0"
+reply None (Some (line.Play move)) = answer_text (Refused BadLine)
+reply None (Some line.WholeImage) = answer_text (Refused BadLine)
 reply None (Some line.World) = answer_text (Refused BadLine)
-reply (Some state) (Some (line.Command command)) = answer_text (answer_to state command)
+reply (Some state) (Some (line.Play move)) = answer_text (answer_to state move)
+reply (Some state) (Some line.WholeImage) = answer_text (answer.Image (whole_image state.round))
 reply (Some state) (Some line.World) = join_with_byte 32 (map decimal state.words)
 
 -- the core after that line
 abbrev pub core_after : Option State → Option Line → Option State
 core_after core None = core
-core_after core (Some (line.Open cells)) = Some (fresh_state cells)
-core_after None (Some (line.Command command)) = None
+core_after core (Some (line.Open method cells)) = Some (fresh_state cells)
+core_after None (Some (line.Play move)) = None
+core_after None (Some line.WholeImage) = None
 core_after None (Some line.World) = None
-core_after (Some state) (Some (line.Command command)) = Some (state_after state command)
+core_after (Some state) (Some (line.Play move)) = Some (state_after state move)
+core_after (Some state) (Some line.WholeImage) = Some (round_done state state.round)
 core_after (Some state) (Some line.World) = Some state
 
 -- a byte at the front of the first line

@@ -1,15 +1,17 @@
-ghost use Rattle.std.specs.Prelude.{◌≡◌, ◌++◌, ◌∷◌, ℕ, List, [], Option, OnOk, IfOk, IfErr, IfSome, None, Err};
+ghost use Rattle.std.specs.Prelude.{◌≡◌, ◌++◌, ◌∷◌, ℕ, List, [], Option, OnOk, IfOk, IfErr, IfSome, None, Some, Err, option_map};
 ghost use Rattle.std.specs.Io.KnownBytes.{Appends, IsAtEnd};
 ghost use Rattle.world_actions.specs.declared.refusal.Refusal.{Refusal};
 ghost use Rattle.steps.specs.declared.line.Line.{Line};
-ghost use Rattle.steps.specs.Line.{LineIsInBounds};
+ghost use Rattle.steps.specs.Line.{LineIsInBounds, IsNoOpening};
+ghost use Rattle.steps.specs.OpenCore.{state_of};
 ghost use Rattle.steps.specs.Script.{answer_text, reply, core_after, IsScriptText, IsFront, IsCutOff};
 ghost use Rattle.steps.specs.Progress.{kept_of, KeptMeans, LeadsOn, Completes, BreaksOff, IsFault};
 
 use crate::line::{Line, read_line};
+use crate::moves::Answer;
+use crate::open_core::OpenCore;
 use crate::stream::{read_some, write_whole};
-use crate::text::{push_answer, push_bytes, push_words};
-use crate::world_core::{Answer, Core};
+use crate::text::{push_answer, push_bytes};
 use line_grammar::{LINE_BYTES, command_length, one_reading};
 use std::alloc::Global;
 use std::io::{Read, Write};
@@ -56,19 +58,20 @@ pub fn script_has_one_text()
 #[derive(Drop)]
 struct Script {
     alloc: Global,
-    core: Option<Core>,
+    core: Option<OpenCore>,
     line: Vec<u8>,
     answer: Vec<u8>,
 }
 
 impl Model for Script {
-    ghost use Rattle.std.specs.Prelude.{◌≤◌, ◌+◌, vec_len, vec_capacity};
+    ghost use Rattle.std.specs.Prelude.{◌≤◌, ◌+◌, option_map, vec_len, vec_capacity};
+    ghost use Rattle.steps.specs.OpenCore.{state_of};
     ghost use Rattle.line_grammar.specs.declared.command.TheConstants.{LINE_BYTES};
     ghost use Rattle.steps.specs.Progress.{ScriptState};
 
     ghost Value = { ScriptState };
 
-    ghost view = { λ script. record { core = script.core; kept = script.line.items } };
+    ghost view = { λ script. record { core = option_map state_of script.core; kept = script.line.items } };
 
     ghost invariant = { λ script. (vec_len script.line ≤ LINE_BYTES + 1) × (LINE_BYTES + 1 ≤ vec_capacity script.line) };
 }
@@ -175,29 +178,40 @@ fn read_kept(kept: &[u8]) -> Option<Line>
 // Runs a line with this meaning, and adds the reply to it.
 fn push_reply(
     alloc: Global,
-    core: &mut Option<Core>,
+    core: &mut Option<OpenCore>,
     meaning: Option<Line>,
     text: &mut Vec<u8>,
 ) -> Result<(), Refusal>
     requires { IfSome meaning LineIsInBounds }
-    ensures text { OnOk result (text.new.items ≡ text.old.items ++ reply core.old meaning) }
-    ensures core { OnOk result (core.new ≡ core_after core.old meaning) }
+    ensures text { OnOk result (text.new.items ≡ text.old.items ++ reply (option_map state_of core.old) meaning) }
+    ensures core { OnOk result (option_map state_of core.new ≡ core_after (option_map state_of core.old) meaning) }
     ensures memory { IfErr result (λ refusal. refusal ≡ Refusal.NoMemory) }
 {
-    match meaning {
+    let Some(line) = meaning else {
+        return push_answer(text, Answer::Refused(Refusal::BadLine));
+    };
+    if let Line::Open(method, cells) = line {
+        *core = Some(OpenCore::fresh(alloc, method, cells)?);
+        return push_bytes(text, b"ready 0");
+    }
+    match core {
         None => push_answer(text, Answer::Refused(Refusal::BadLine)),
-        Some(Line::Open(cells)) => {
-            *core = Some(Core::fresh(alloc, cells)?);
-            push_bytes(text, b"ready 0")
-        }
-        Some(Line::Command(command)) => match core {
-            None => push_answer(text, Answer::Refused(Refusal::BadLine)),
-            Some(open) => push_move_answer(text, open.step(command)),
-        },
-        Some(Line::World) => match core {
-            None => push_answer(text, Answer::Refused(Refusal::BadLine)),
-            Some(open) => push_words(text, open.words()),
-        },
+        Some(opened) => push_open_reply(opened, line, text),
+    }
+}
+
+// Runs a line on an open core, and adds the reply to it.
+fn push_open_reply(opened: &mut OpenCore, line: Line, text: &mut Vec<u8>) -> Result<(), Refusal>
+    requires { IsNoOpening line }
+    ensures text { OnOk result (text.new.items ≡ text.old.items ++ reply (Some (state_of opened.old)) (Some line)) }
+    ensures core { OnOk result (Some (state_of opened.new) ≡ core_after (Some (state_of opened.old)) (Some line)) }
+    ensures memory { IfErr result (λ refusal. refusal ≡ Refusal.NoMemory) }
+{
+    match line {
+        Line::Open(_, _) => unreachable!(),
+        Line::Play(chosen) => push_move_answer(text, opened.step(chosen)),
+        Line::WholeImage => push_answer(text, Answer::Image(opened.take_round())),
+        Line::World => opened.push_words(text),
     }
 }
 

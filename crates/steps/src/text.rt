@@ -1,8 +1,7 @@
-ghost use Rattle.std.specs.Prelude.{◌≡◌, ◌++◌, map, decimal, OnOk, IfErr};
-ghost use Rattle.std.specs.List.{join_with_byte};
+ghost use Rattle.std.specs.Prelude.{◌≡◌, ◌++◌, decimal, OnOk, IfErr};
 ghost use Rattle.steps.specs.Script.{answer_text};
 
-use crate::world_core::Answer;
+use crate::moves::{Answer, ImageAnswer};
 use itoa::Buffer;
 use world_actions::Refusal;
 
@@ -15,23 +14,12 @@ pub fn push_answer(text: &mut Vec<u8>, answer: Answer) -> Result<(), Refusal>
         Answer::Did => push_bytes(text, b"+"),
         Answer::Word(word) => push_with_number(text, b"= ", word),
         Answer::Ended(tick) => push_with_number(text, b"tick ", tick),
+        Answer::Started(tick) => push_with_number(text, b"mark ", tick),
+        Answer::Image(ImageAnswer::Idle) => push_bytes(text, b"idle"),
+        Answer::Image(ImageAnswer::Working) => push_bytes(text, b"working"),
+        Answer::Image(ImageAnswer::Opened(tick)) => push_with_number(text, b"image open ", tick),
         Answer::Refused(refusal) => push_with_number(text, b"- ", u64::from(refusal.code())),
     }
-}
-
-/// Adds words in decimal, with one space between.
-pub fn push_words(text: &mut Vec<u8>, words: &[u64]) -> Result<(), Refusal>
-    ensures text { OnOk result (text.new.items ≡ text.old.items ++ join_with_byte 32 (map decimal words.now)) }
-    ensures memory { IfErr result (λ refusal. refusal ≡ Refusal.NoMemory) }
-{
-    let Some((first, rest)) = words.split_first() else {
-        return Ok(());
-    };
-    push_number(text, *first)?;
-    for word in rest {
-        push_with_number(text, b" ", *word)?;
-    }
-    Ok(())
 }
 
 /// Adds bytes as they are.
@@ -52,7 +40,8 @@ fn push_with_number(text: &mut Vec<u8>, bytes: &[u8], number: u64) -> Result<(),
     Ok(())
 }
 
-fn push_number(text: &mut Vec<u8>, number: u64) -> Result<(), Refusal>
+/// Adds a number in decimal.
+pub fn push_number(text: &mut Vec<u8>, number: u64) -> Result<(), Refusal>
     ensures text { OnOk result (text.new.items ≡ text.old.items ++ decimal number) }
     ensures memory { IfErr result (λ refusal. refusal ≡ Refusal.NoMemory) }
 {

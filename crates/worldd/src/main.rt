@@ -18,16 +18,22 @@ use world_actions::Refusal;
 /// What `worldd steps --help` says of the lines.
 const STEPS_HELP: &str = "\
 Each line of the script gets one line of answer:
-  open plain N         opens a world of N cells, 1 to 65536, all 0: `ready 0`
+  open METHOD N        opens a world of N cells, 1 to 65536, all 0: `ready 0`
+                       METHOD is plain, zigzag or pingpong
   set CELL VALUE       puts a value into a cell: `+`
   add CELL DIFFERENCE  adds a difference to a cell, less than 0 or not: `+`
   move FROM TO AMOUNT  takes an amount from a cell and adds it to another: `+`
   get CELL             `= VALUE`
   end                  ends the running tick: `tick NUMBER`
+  mark                 opens a round of the words as they are: `mark NUMBER`
+  image                takes the round's next cell: `working`,
+                       `image open NUMBER` at the last one, `idle` with no round
+  image*               takes all that the round has left
   world                all values, one space between
 A line that is refused gets `- CODE`, and changes nothing:
   1 no such cell, 2 a number out of range, 3 a result out of range,
-  4 one cell named twice, 5 the tick is full, 16 the line isn't understood,
+  4 one cell named twice, 5 the tick is full, 8 the tick has an action,
+  9 a round is open, 10 nothing is new, 16 the line isn't understood,
   21 no tick numbers are left";
 
 fn main(rt: HostRuntime) -> ExitCode {
@@ -59,7 +65,7 @@ fn command_words(rt: &(impl Env + AllocGlobal)) -> io::Result<Vec<String>> {
 // What the words ask for; the error has clap's text.
 fn matches_of<'a>(alloc: Global, words: &'a [String]) -> Result<ArgMatches<'a>, Error> {
     let steps = Command::new(alloc, "steps")
-        .about("Runs the script on standard input, over one plain list of words")
+        .about("Runs the script on standard input, over a world in memory")
         .after_help(STEPS_HELP);
     Command::new(alloc, "worldd")
         .about("A main-memory world server with asynchronous checkpoints")

@@ -117,7 +117,7 @@ fn run(rt: &HostRuntime, input: &[u8], most: usize) -> (Result<(), Refusal>, Pag
 
 #[test]
 fn scripts_have_their_text(rt: HostRuntime) {
-    let scripts: [(&[u8], &[u8]); 10] = [
+    let scripts: [(&[u8], &[u8]); 13] = [
         (b"", b""),
         (TRANSFERS, TRANSFERS_TEXT),
         (
@@ -137,10 +137,24 @@ fn scripts_have_their_text(rt: HostRuntime) {
             b"open plain 1\n\nset 00 1\nset 0 +1\nadd 0 -0\nadd 0 -9223372036854775808\nadd 0 -9223372036854775807\nend\r\nset  0 1\nget 4294967296\n\x00\xff\nworld\n",
             b"ready 0\n- 16\n- 16\n- 16\n- 16\n- 16\n- 2\n- 16\n- 16\n- 16\n- 16\n0\n",
         ),
+        // Marks are refused in their order: an open tick, an open round, nothing new.
+        (
+            b"open zigzag 1\nmark\nset 0 1\nmark\nend\nmark\nmark\nend\nimage*\nmark\nimage*\nmark\n",
+            b"ready 0\n- 10\n+\n- 8\ntick 1\nmark 1\n- 9\ntick 2\nimage open 1\nmark 2\nimage open 2\n- 10\n",
+        ),
+        // A round goes on while play does, and is taken cell by cell.
+        (
+            b"open pingpong 2\nset 0 5\nend\nmark\nimage\nset 1 9\nimage\nimage\nworld\n",
+            b"ready 0\n+\ntick 1\nmark 1\nworking\n+\nimage open 1\nidle\n5 9\n",
+        ),
+        (
+            b"open plain 2\nimage\nimage*\nend\nmark\nimage*\nimage*\n",
+            b"ready 0\nidle\nidle\ntick 1\nmark 1\nimage open 1\nidle\n",
+        ),
         // A world that is opened later takes the place of the first; a bad opening leaves it.
         (
-            b"open plain 1\nset 0 7\nend\nopen zigzag 1\nget 0\nopen plain 3\nworld\nend\n",
-            b"ready 0\n+\ntick 1\n- 16\n= 7\nready 0\n0 0 0\ntick 1\n",
+            b"open plain 1\nset 0 7\nend\nopen quick 1\nopen zigzag 01\nopen  plain 1\nget 0\nopen plain 3\nworld\nend\n",
+            b"ready 0\n+\ntick 1\n- 16\n- 16\n- 16\n= 7\nready 0\n0 0 0\ntick 1\n",
         ),
         // The rest of a line that is too long is no line of its own.
         (

@@ -1,0 +1,64 @@
+ghost use Rattle.std.specs.Prelude.{◌≡◌, ◌<◌, ◌≤◌, [], Option, length, map, All};
+ghost use Rattle.world_actions.specs.Effect.{written};
+ghost use Rattle.capture_core.specs.declared.taker.Taken.{Taken};
+ghost use Rattle.capture_core.specs.Content.{Covers};
+ghost use Rattle.capture_core.specs.Rounds.{with_taken, IsChange, write_of};
+
+use crate::capture::Capture;
+use crate::taker::{Taken, Taker};
+use world_ticks::Cells;
+
+/// Marks a store and takes the round into an image, which then has the words of the mark. After each
+/// take the next of the changes, a cell and its new word, is written.
+pub fn copy_round<C: Capture>(store: &mut C, image: &mut [u64], changes: &[(usize, u64)])
+    requires closed { (C.content store.old).left ≡ [] }
+    requires cells { length image.old ≡ length (C.content store.old).live }
+    requires covered { Covers image.old (C.content store.old) }
+    requires changes { All (IsChange (length image.old)) changes.now }
+    requires enough { length changes.now ≤ length image.old }
+    ensures image { image.new ≡ (C.content store.old).live }
+    ensures live { (C.content store.new).live
+        ≡ written (C.content store.old).live (map write_of changes.now) }
+
+    // So the next round may go into the same image.
+    ensures covered { Covers image.new (C.content store.new) }
+    ensures closed { (C.content store.new).left ≡ [] }
+{
+    store.mark();
+    for i in 0..image.len() {
+        copy_cell(store, image, i);
+        if i < changes.len() {
+            let (cell, word) = changes[i];
+            store.write(cell, word);
+        }
+    }
+}
+
+// Takes a cell, and puts its word into the image.
+fn copy_cell<T: Taker>(from: &mut T, image: &mut [u64], i: usize)
+    requires { i < length image.old }
+    ensures { (answer : Option Taken) × T.took from.old answer from.new
+        × (image.new ≡ with_taken image.old i answer) }
+{
+    if let Some(Taken::Word(word)) = from.take() {
+        image[i] = word;
+    }
+}
+
+#[cfg(test)]
+mod tests {
+    use super::*;
+    use crate::plain_copy::PlainCopy;
+    use std::test::Fail;
+
+    #[test]
+    fn copies_words_of_mark(rt: HostRuntime) -> Result<(), Fail> {
+        let mut store = PlainCopy::build(rt.alloc(), &[5, 7])?;
+        let mut image = [0, 0];
+        copy_round(&mut store, &mut image, &[(1, 9), (0, 4)]);
+        assert_eq!(rt; image, [5, 7]);
+        copy_round(&mut store, &mut image, &[]);
+        assert_eq!(rt; image, [4, 9]);
+        Ok(())
+    }
+}

@@ -1,0 +1,88 @@
+-- The live words, the two arrays of entries, and what each call does to them.
+use Rattle.std.specs.Prelude.{◌≡◌, ◌≤◌, ◌+◌, ℕ, Bool, true, false, not, List, [], ◌∷◌, Option, length, take, drop, replicate, All, slice_set, if◌then◌else◌}
+use Rattle.std.specs.Bool.{then_some}
+use Rattle.world_actions.specs.World.{IsWord}
+use Rattle.capture_core.specs.Content.{Content}
+
+-- the live words, the words and the dirty marks of both arrays, and how many cells of the round are taken
+pub record Arrays : Type 0 where
+  pub live : List ℕ
+  pub current_words : List ℕ
+  pub current_dirty : List Bool
+  pub previous_words : List ℕ
+  pub previous_dirty : List Bool
+  pub odd_is_current : Bool
+  pub taken : ℕ
+
+-- the words of array odd
+abbrev pub odd_words : Arrays → List ℕ
+odd_words store = if store.odd_is_current then store.current_words else store.previous_words
+
+-- the words of array even
+abbrev pub even_words : Arrays → List ℕ
+even_words store = if store.odd_is_current then store.previous_words else store.current_words
+
+-- for each entry its word where it is dirty, or else nothing
+abbrev pub dirty_words : List Bool → List ℕ → List (Option ℕ)
+dirty_words [] words = []
+dirty_words (dirty ∷ marks) [] = []
+dirty_words (dirty ∷ marks) (word ∷ words) = then_some dirty word ∷ dirty_words marks words
+
+-- what takes find in the previous array
+abbrev pub previous_entries : Arrays → List (Option ℕ)
+previous_entries store = dirty_words store.previous_dirty store.previous_words
+
+-- the content of a store: a cell is touched where its entry in the current array is dirty
+abbrev pub content_of : Arrays → Content
+content_of store = record { live = store.live; touched = store.current_dirty; left = drop store.taken (previous_entries store) }
+
+-- what is true of every store: a dirty entry of the current array has the live word, and a taken entry is clean
+pub record IsInOrder (store : Arrays) : Type 0 where
+  pub current_words_length : length store.current_words ≡ length store.live
+  pub current_dirty_length : length store.current_dirty ≡ length store.live
+  pub previous_words_length : length store.previous_words ≡ length store.live
+  pub previous_dirty_length : length store.previous_dirty ≡ length store.live
+  pub taken_most : store.taken ≤ length store.live
+  pub live_words : All IsWord store.live
+  pub previous_are_words : All IsWord store.previous_words
+  pub current_are_words : All IsWord store.current_words
+  pub current : dirty_words store.current_dirty store.current_words ≡ dirty_words store.current_dirty store.live
+  pub clean : take store.taken store.previous_dirty ≡ replicate store.taken false
+
+-- all three are the words, odd is current with every entry dirty, even has none dirty, and no cell is left to take
+abbrev pub built_arrays : List ℕ → Arrays
+built_arrays words = record {
+  live = words;
+  current_words = words;
+  current_dirty = replicate (length words) true;
+  previous_words = words;
+  previous_dirty = replicate (length words) false;
+  odd_is_current = true;
+  taken = length words;
+}
+
+-- a write changes the live word and the entry of the current array, which is dirty then
+abbrev pub written_arrays : Arrays → ℕ → ℕ → Arrays
+written_arrays store i v = record store {
+  live = slice_set store.live i v;
+  current_words = slice_set store.current_words i v;
+  current_dirty = slice_set store.current_dirty i true;
+}
+
+-- a mark swaps current and previous, and no cell is taken
+abbrev pub swapped_arrays : Arrays → Arrays
+swapped_arrays store = record store {
+  current_words = store.previous_words;
+  current_dirty = store.previous_dirty;
+  previous_words = store.current_words;
+  previous_dirty = store.current_dirty;
+  odd_is_current = not store.odd_is_current;
+  taken = 0;
+}
+
+-- a take of a cell cleans its entry, and goes on to the next
+abbrev pub taken_arrays : Arrays → Arrays
+taken_arrays store = record store {
+  previous_dirty = slice_set store.previous_dirty store.taken false;
+  taken = store.taken + 1;
+}

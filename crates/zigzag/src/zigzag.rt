@@ -1,0 +1,278 @@
+ghost use Rattle.std.specs.Prelude.{◌≡◌, ◌<◌, ◌↔◌, refl, [], ◌∷◌, length, map, not, All, slice_get, slice_index, slice_set, IfOk, IfErr, IfSome, IfNone, OnSome, if◌then◌else◌};
+ghost use Rattle.world_actions.specs.World.{IsWord};
+ghost use Rattle.world_ticks.specs.Cells.{writes_among};
+ghost use Rattle.capture_core.specs.Taken.{IsTakenWord};
+ghost use Rattle.capture_core.specs.Content.{all_touched, content_after, Takes, Marks};
+ghost use Rattle.zigzag.specs.Zigzag.{live_words, captured_words, content_of, built_arrays, written_arrays, marked_arrays, taken_arrays};
+
+use capture_core::{Capture, Taken, Taker};
+use std::alloc::Global;
+use std::marker::Model;
+use world_actions::Refusal;
+use world_ticks::Cells;
+
+/// A store of words in two arrays. For each cell a read mark says which of them has its live word,
+/// and a write mark which of them a write goes to: array zero, or for a mark that is set array one.
+#[derive(Drop)]
+pub struct Zigzag {
+    array_zero: Vec<u64>,
+    array_one: Vec<u64>,
+    read_marks: Vec<bool>,
+    write_marks: Vec<bool>,
+    taken: usize,
+}
+
+impl Model for Zigzag {
+    ghost use Rattle.zigzag.specs.Zigzag.{Arrays, IsInOrder};
+
+    ghost Value = { Arrays };
+
+    ghost view = { λ store. record {
+      array_zero = store.array_zero.items;
+      array_one = store.array_one.items;
+      read_marks = store.read_marks.items;
+      write_marks = store.write_marks.items;
+      taken = store.taken;
+    } };
+
+    ghost invariant = { λ store. IsInOrder (record {
+      array_zero = store.array_zero.items;
+      array_one = store.array_one.items;
+      read_marks = store.read_marks.items;
+      write_marks = store.write_marks.items;
+      taken = store.taken;
+    }) };
+}
+
+impl Zigzag {
+    /// A store of these words, with no round open. It takes all the memory that it will ever need.
+    pub fn new(alloc: Global, words: &[u64]) -> Result<Self, Refusal>
+        requires { All IsWord words.now }
+        ensures ok { IfOk result (λ store. store ≡ built_arrays words.now) }
+        ensures content { IfOk result (λ store. content_of store ≡ all_touched words.now []) }
+        ensures err { IfErr result (λ refusal. refusal ≡ Refusal.NoMemory) }
+    {
+        Ok(Zigzag {
+            array_zero: Vec::from_slice(alloc, words)?,
+            array_one: Vec::from_slice(alloc, words)?,
+            read_marks: vec![in alloc; false; words.len()]?,
+            write_marks: vec![in alloc; true; words.len()]?,
+            taken: words.len(),
+        })
+    }
+
+    /// A cell's entries in array zero and array one.
+    pub fn arrays(&self, i: usize) -> (u64, u64)
+        requires { i < length (live_words self.now) }
+        ensures zero { result.0 ≡ slice_index self.now.array_zero i }
+        ensures one { result.1 ≡ slice_index self.now.array_one i }
+    {
+        self.entries(i)
+    }
+}
+
+// The calls by the arrays alone.
+impl Zigzag {
+    fn entries(&self, i: usize) -> (u64, u64)
+        requires { i < length self.now.array_zero }
+        ensures zero { result.0 ≡ slice_index self.now.array_zero i }
+        ensures one { result.1 ≡ slice_index self.now.array_one i }
+    {
+        (self.array_zero[i], self.array_one[i])
+    }
+
+    fn word(&self, i: usize) -> u64
+        requires { i < length self.now.array_zero }
+        ensures word { result ≡ slice_index (live_words self.now) i }
+        ensures limit { IsWord result }
+    {
+        entry(&self.array_zero, &self.array_one, self.read_marks[i], i)
+    }
+
+    fn put_word(&mut self, i: usize, v: u64)
+        requires inside { i < length self.old.array_zero }
+        requires limit { IsWord v }
+        ensures { self.new ≡ written_arrays self.old i v }
+    {
+        let mark = self.write_marks[i];
+        put(&mut self.array_zero, &mut self.array_one, mark, i, v);
+        self.read_marks[i] = mark;
+    }
+
+    fn turn_marks(&mut self)
+        ensures { self.new ≡ marked_arrays self.old }
+    {
+        complement(&self.read_marks, &mut self.write_marks);
+        self.taken = 0;
+    }
+
+    fn take_word(&mut self) -> Option<u64>
+        ensures word { result ≡ slice_get (captured_words self.old) self.old.taken }
+        ensures limit { IfSome result IsWord }
+        ensures moved { OnSome result (self.new ≡ taken_arrays self.old) }
+        ensures unchanged { IfNone result (self.new ≡ self.old) }
+    {
+        let i = self.taken;
+        if i == self.write_marks.len() {
+            return None;
+        }
+        self.taken += 1;
+        Some(entry(&self.array_zero, &self.array_one, !self.write_marks[i], i))
+    }
+}
+
+impl Cells for Zigzag {
+    ghost words = { live_words };
+
+    ghost accessed = { λ old access new.
+        content_of new ≡ content_after (content_of old) (writes_among (access ∷ [])) };
+
+    fn len(&self) -> usize {
+        self.array_zero.len()
+    }
+
+    fn read(&mut self, i: usize) -> u64
+        requires { i < length (live_words self.old) }
+        ensures word { result ≡ slice_index (live_words self.old) i }
+        ensures limit { IsWord result }
+        ensures unchanged { self.new ≡ self.old }
+    {
+        self.word(i)
+    }
+
+    fn write(&mut self, i: usize, v: u64)
+        requires inside { i < length (live_words self.old) }
+        requires limit { IsWord v }
+        ensures word { live_words self.new ≡ slice_set (live_words self.old) i v }
+        ensures access { content_of self.new
+            ≡ content_after (content_of self.old) (record { cell = i; word = v } ∷ []) }
+        ensures arrays { self.new ≡ written_arrays self.old i v }
+    {
+        self.put_word(i, v);
+    }
+}
+
+impl Taker for Zigzag {
+    ghost took = { λ old answer new. Takes (content_of old) answer (content_of new) };
+
+    fn take(&mut self) -> Option<Taken>
+        ensures took { Takes (content_of self.old) result (content_of self.new) }
+        ensures limit { IfSome result IsTakenWord }
+        ensures unchanged { IfNone result (self.new ≡ self.old) }
+        ensures arrays { OnSome result (self.new ≡ taken_arrays self.old) }
+    {
+        Some(Taken::Word(self.take_word()?))
+    }
+}
+
+impl Capture for Zigzag {
+    ghost content = { content_of };
+
+    ghost live_is_words = { λ store. refl };
+
+    ghost after_access = { λ old new access accessed. accessed };
+
+    ghost after_take = { λ old new answer takes. takes };
+
+    fn build(alloc: Global, words: &[u64]) -> Result<Self, Refusal> {
+        Zigzag::new(alloc, words)
+    }
+
+    fn mark(&mut self)
+        requires { (content_of self.old).left ≡ [] }
+        ensures marks { Marks (content_of self.old) (content_of self.new) }
+        ensures arrays { self.new ≡ marked_arrays self.old }
+    {
+        self.turn_marks();
+    }
+
+    fn open_round(&self) -> bool {
+        self.taken < self.write_marks.len()
+    }
+}
+
+// The entry that a mark names.
+fn entry(zeros: &[u64], ones: &[u64], mark: bool, i: usize) -> u64
+    requires zero { i < length zeros.now }
+    requires one { i < length ones.now }
+    ensures { result ≡ (if mark then slice_index ones.now i else slice_index zeros.now i) }
+{
+    if mark { ones[i] } else { zeros[i] }
+}
+
+// Puts a word into the entry that a mark names.
+fn put(zeros: &mut [u64], ones: &mut [u64], mark: bool, i: usize, v: u64)
+    requires zero { i < length zeros.old }
+    requires one { i < length ones.old }
+    ensures zero { zeros.new ≡ (if mark then zeros.old else slice_set zeros.old i v) }
+    ensures one { ones.new ≡ (if mark then slice_set ones.old i v else ones.old) }
+{
+    if mark {
+        ones[i] = v;
+    } else {
+        zeros[i] = v;
+    }
+}
+
+// Sets each of the others to the opposite of its mark.
+fn complement(marks: &[bool], others: &mut [bool])
+    requires { length others.old ≡ length marks.now }
+    ensures { others.new ≡ map not marks.now }
+{
+    for (i, mark) in marks.iter().enumerate() {
+        others[i] = !*mark;
+    }
+}
+
+#[cfg(test)]
+mod tests {
+    use super::*;
+    use capture_core::copy_round;
+    use std::test::Fail;
+
+    #[test]
+    fn hands_out_words_of_marks(rt: HostRuntime) -> Result<(), Fail> {
+        let mut store = Zigzag::build(rt.alloc(), &[5, 7])?;
+        assert!(rt; !store.open_round());
+        store.mark();
+        assert!(rt; store.open_round());
+        assert_eq!(rt; store.take(), Some(Taken::Word(5)));
+        assert_eq!(rt; store.take(), Some(Taken::Word(7)));
+        assert_eq!(rt; store.take(), None);
+        assert!(rt; !store.open_round() && store.len() == 2);
+        store.write(1, 9);
+        assert_eq!(rt; store.read(1), 9);
+        store.mark();
+        assert_eq!(rt; store.take(), Some(Taken::Word(5)));
+        assert_eq!(rt; store.take(), Some(Taken::Word(9)));
+        Ok(())
+    }
+
+    #[test]
+    fn writes_zig_and_zag(rt: HostRuntime) -> Result<(), Fail> {
+        let mut store = Zigzag::new(rt.alloc(), &[5, 7])?;
+        store.mark();
+        store.write(0, 9);
+        assert_eq!(rt; store.arrays(0), (5, 9));
+        assert_eq!(rt; store.take(), Some(Taken::Word(5)));
+        assert_eq!(rt; store.take(), Some(Taken::Word(7)));
+        assert!(rt; !store.open_round());
+        store.mark();
+        assert_eq!(rt; store.arrays(0), (5, 9));
+        store.write(0, 4);
+        assert_eq!(rt; store.arrays(0), (4, 9));
+        assert_eq!(rt; store.take(), Some(Taken::Word(9)));
+        Ok(())
+    }
+
+    #[test]
+    fn copies_words_of_mark(rt: HostRuntime) -> Result<(), Fail> {
+        let mut store = Zigzag::build(rt.alloc(), &[5, 7])?;
+        let mut image = [0, 0];
+        copy_round(&mut store, &mut image, &[(1, 9), (0, 4)]);
+        assert_eq!(rt; image, [5, 7]);
+        copy_round(&mut store, &mut image, &[]);
+        assert_eq!(rt; image, [4, 9]);
+        Ok(())
+    }
+}
