@@ -78,3 +78,6 @@ impl OpenCore {
         }
     }
 }
+
+#[cfg(test)]
+mod tests;

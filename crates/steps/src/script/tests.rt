@@ -117,7 +117,7 @@ fn run(rt: &HostRuntime, input: &[u8], most: usize) -> (Result<(), Refusal>, Pag
 
 #[test]
 fn scripts_have_their_text(rt: HostRuntime) {
-    let scripts: [(&[u8], &[u8]); 13] = [
+    let scripts: [(&[u8], &[u8]); 14] = [
         (b"", b""),
         (TRANSFERS, TRANSFERS_TEXT),
         (
@@ -137,6 +137,7 @@ fn scripts_have_their_text(rt: HostRuntime) {
             b"open plain 1\n\nset 00 1\nset 0 +1\nadd 0 -0\nadd 0 -9223372036854775808\nadd 0 -9223372036854775807\nend\r\nset  0 1\nget 4294967296\n\x00\xff\nworld\n",
             b"ready 0\n- 16\n- 16\n- 16\n- 16\n- 16\n- 2\n- 16\n- 16\n- 16\n- 16\n0\n",
         ),
+        (b"open zigzag 1\nget 0\n", b"ready 0\n= 0\n"),
         // Marks are refused in their order: an open tick, an open round, nothing new.
         (
             b"open zigzag 1\nmark\nset 0 1\nmark\nend\nmark\nmark\nend\nimage*\nmark\nimage*\nmark\n",
