@@ -3,7 +3,7 @@ ghost use Rattle.std.specs.Io.KnownBytes.{Appends, IsAtEnd};
 ghost use Rattle.world_actions.specs.declared.refusal.Refusal.{Refusal};
 ghost use Rattle.steps.specs.declared.line.Line.{Line};
 ghost use Rattle.steps.specs.Line.{LineIsInBounds, IsNoOpening};
-ghost use Rattle.steps.specs.OpenCore.{state_of};
+ghost use Rattle.steps.specs.OpenCore.{state_of, method_of, method_after};
 ghost use Rattle.steps.specs.Script.{answer_text, reply, core_after, IsScriptText, IsFront, IsCutOff};
 ghost use Rattle.steps.specs.Progress.{kept_of, KeptMeans, LeadsOn, Completes, BreaksOff, IsFault};
 
@@ -185,6 +185,7 @@ fn push_reply(
     requires { IfSome meaning LineIsInBounds }
     ensures text { OnOk result (text.new.items ≡ text.old.items ++ reply (option_map state_of core.old) meaning) }
     ensures core { OnOk result (option_map state_of core.new ≡ core_after (option_map state_of core.old) meaning) }
+    ensures method { OnOk result (option_map method_of core.new ≡ method_after (option_map method_of core.old) meaning) }
     ensures memory { IfErr result (λ refusal. refusal ≡ Refusal.NoMemory) }
 {
     let Some(line) = meaning else {
@@ -205,6 +206,7 @@ fn push_open_reply(opened: &mut OpenCore, line: Line, text: &mut Vec<u8>) -> Res
     requires { IsNoOpening line }
     ensures text { OnOk result (text.new.items ≡ text.old.items ++ reply (Some (state_of opened.old)) (Some line)) }
     ensures core { OnOk result (Some (state_of opened.new) ≡ core_after (Some (state_of opened.old)) (Some line)) }
+    ensures method { method_of opened.new ≡ method_of opened.old }
     ensures memory { IfErr result (λ refusal. refusal ≡ Refusal.NoMemory) }
 {
     match line {
