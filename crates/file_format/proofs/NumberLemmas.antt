@@ -1,0 +1,42 @@
+-- The bytes of the number that bytes give.
+use Rattle.std.proofs.Common.{◌/◌, ◌%◌, ◌≡◌, ℕ, zero, suc, ◌+◌, ◌*◌, ◌^◌, ◌<◌, ◌≤◌, List, [], ◌∷◌, length, take, get_or, refl, sym, ap, ◌∙◌, arith}
+use Rattle.std.proofs.Math.Nat.{div-div-eq-div-mul, div-one, mod-lt, pow-succ'}
+use Rattle.std.specs.Int.{byte_at, bytes_low_first}
+use Rattle.byteorder.specs.Endian.{little_from}
+use Rattle.byteorder.specs.Numbers.{little_from-cons}
+use Rattle.file_format.specs.Number.{IsBytes}
+
+-- a byte of a number, by its place
+byte_at-pow : (k x : ℕ) → byte_at k x ≡ x / 256 ^ k % 256
+byte_at-pow zero x = ap (λ (y : ℕ). y % 256) (sym (div-one x))
+byte_at-pow (suc k) x = refl
+
+-- a byte is below 256
+byte_at-small : (k x : ℕ) → byte_at k x < 256
+byte_at-small k x = rw (byte_at-pow k x) (mod-lt (x / 256 ^ k) (omega arith))
+
+-- the bytes above the lowest are those of what is left without it
+higher_bytes : (k j b y : ℕ) → b < 256 → bytes_low_first (suc j) k (b + 256 * y) ≡ bytes_low_first j k y
+higher_bytes zero j b y small = refl
+higher_bytes (suc k) j b y small =
+    let below : (b + 256 * y) / 256 ≡ y = omega arith in
+    let shift : (b + 256 * y) / 256 ^ suc j ≡ y / 256 ^ j =
+    ap (λ (p : ℕ). (b + 256 * y) / p) (pow-succ' 256 j) ∙ sym (div-div-eq-div-mul (b + 256 * y) 256 (256 ^ j)) ∙ ap (λ (x : ℕ). x / 256 ^ j) below in
+    let first : byte_at (suc j) (b + 256 * y) ≡ byte_at j y = byte_at-pow (suc j) (b + 256 * y) ∙ ap (λ (x : ℕ). x % 256) shift ∙ sym (byte_at-pow j y) in
+    rw (first, higher_bytes k (suc j) b y small) refl
+
+-- the bytes of the number that the first bytes give are those
+pub bytes_of_number : (k : ℕ) (bytes : List ℕ) → IsBytes bytes → k ≤ length bytes → bytes_low_first 0 k (little_from 0 k bytes) ≡ take k bytes
+bytes_of_number zero bytes are_bytes long = refl
+bytes_of_number (suc k) [] are_bytes long = absurd (omega arith)
+bytes_of_number (suc k) (b ∷ rest) are_bytes long =
+    let small : b < 256 = are_bytes 0 in
+    let first : (b + 256 * little_from 0 k rest) % 256 ≡ b = omega arith in
+    let later : bytes_low_first 0 k (little_from 0 k rest) ≡ take k rest = bytes_of_number k rest (λ i. are_bytes (suc i)) (omega arith) in
+    rw (little_from-cons 0 k b rest, higher_bytes k 0 b (little_from 0 k rest) small, first, later) refl
+
+-- the bytes of a number are bytes
+pub number_is_bytes : (k j x i : ℕ) → get_or (bytes_low_first j k x) i 0 < 256
+number_is_bytes zero j x i = omega arith
+number_is_bytes (suc k) j x zero = byte_at-small j x
+number_is_bytes (suc k) j x (suc i) = number_is_bytes k (suc j) x i

@@ -1,0 +1,14 @@
+-- The gate of a file: its first byte.
+use Rattle.std.specs.Prelude.{◌≡◌, ◌≢◌, ◌<◌, ◌⊎◌, List, ℕ, length, get_or}
+
+-- the gate is there, and isn't open
+abbrev pub HasShutGate : List ℕ → Type 0
+HasShutGate file = (0 < length file) × (get_or file 0 0 ≢ 1)
+
+-- the gate is open
+abbrev pub HasOpenGate : List ℕ → Type 0
+HasOpenGate file = get_or file 0 0 ≡ 1
+
+-- there is no gate, or it is open
+abbrev pub HasNoShutGate : List ℕ → Type 0
+HasNoShutGate file = (length file ≡ 0) ⊎ HasOpenGate file

@@ -1,0 +1,3 @@
+pub mod Gate
+pub mod Number
+pub mod Slot

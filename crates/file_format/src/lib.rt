@@ -1,0 +1,14 @@
+//! What all files of a world have in common: they come in twos of a kind, a gate in byte 0 says whether
+//! the rest counts, and numbers have their lowest byte first.
+//!
+//! A file's gate is opened last, after the rest is durable, and closed first. A gate of any other value
+//! than `OPEN_GATE` is closed, so a torn write of it reads as closed or as whole.
+#![tactic(auto)]
+
+mod gate;
+mod number;
+mod slot;
+
+pub use gate::{CLOSED_GATE, OPEN_GATE, is_shut};
+pub use number::{numbers_read_back, u16_at, u32_at, u64_at};
+pub use slot::Slot;
