@@ -1,0 +1,5 @@
+pub mod BytesLemmas
+pub mod OverwrittenLemmas
+pub mod OutcomeLemmas
+pub mod ModelFileLemmas
+pub mod TornLemmas

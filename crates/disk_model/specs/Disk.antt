@@ -1,0 +1,53 @@
+-- What the calls of a disk do to its file, and to what a crash may leave of it.
+use Rattle.std.specs.Prelude.{◌≡◌, ◌⊎◌, ℕ, ◌+◌, ◌-◌, ◌^◌, ◌≤◌, min, max, List, ◌++◌, length, take, drop, Result, Ok, Err, IfErr}
+use Rattle.std.proofs.Common.{arith}
+use Rattle.world_actions.specs.declared.refusal.Refusal.{Refusal}
+use Rattle.world_actions.specs.declared.refusal.Refusal.TheVariants.{Device}
+
+-- a list with these items written over it from a place on
+abbrev pub overwritten : {A : Type 0} → List A → ℕ → List A → List A
+overwritten old at items = take at old ++ items ++ drop (at + length items) old
+
+-- A write of n bytes that isn't known to have been whole: any bytes in its range, the same elsewhere, and a length
+-- between the one before it and the one that it would have given.
+pub record Torn (at n : ℕ) (old new : List ℕ) : Type 0 where
+  pub before : take at new ≡ take at old
+  pub after : drop (at + n) new ≡ drop (at + n) old
+  pub no_shorter : length old ≤ length new
+  pub no_longer : length new ≤ max (length old) (at + n)
+
+-- each new outcome of a crash is an old outcome after a step
+abbrev pub Follows : (List ℕ → List ℕ → Type 0) → (List ℕ → Type 0) → (List ℕ → Type 0) → Type 0
+Follows step old new = (left : List ℕ) → new left → (before : List ℕ) × old before × step before left
+
+-- each new outcome of a crash was one before
+abbrev pub Within : (List ℕ → Type 0) → (List ℕ → Type 0) → Type 0
+Within old new = (left : List ℕ) → new left → old left
+
+-- a crash leaves this and nothing else
+abbrev pub Only : List ℕ → (List ℕ → Type 0) → Type 0
+Only file outcomes = (left : List ℕ) → outcomes left → left ≡ file
+
+-- the last value of a count of faults
+abbrev pub last_count : ℕ
+last_count = 2 ^ 64 - 1
+
+pub min-last_count : (faults : ℕ) → min faults last_count ≤ last_count
+min-last_count faults = omega arith
+
+-- the count of faults after a call: one more after a failure, except at the last value
+abbrev pub counted : {T : Type 0} → ℕ → Result T Refusal → ℕ
+counted faults (Ok value) = faults
+counted faults (Err refusal) = min (faults + 1) last_count
+
+-- a call failed between these two counts of faults
+abbrev pub Grew : ℕ → ℕ → Type 0
+Grew before now = now ≡ min (before + 1) last_count
+
+-- the only refusal of a device
+abbrev pub IsDeviceFault : {T : Type 0} → Result T Refusal → Type 0
+IsDeviceFault result = IfErr result (λ refusal. refusal ≡ Device)
+
+-- nothing was called, or one call was made
+abbrev pub CalledAtMostOnce : {S : Type 0} → (S → S → Type 0) → S → S → Type 0
+CalledAtMostOnce called old new = (new ≡ old) ⊎ called old new

@@ -1,0 +1,6 @@
+pub mod Disk
+pub mod FileState
+pub mod FileKept
+pub mod CrashOutcome
+pub mod Fused
+pub mod Gated

@@ -1,0 +1,79 @@
+ghost use Rattle.std.specs.Prelude.{◌≡◌, ◌+◌, ◌≤◌, Bool, List, ℕ, IsTrue, length, take, drop, IfOk, OnOk, OnErr};
+ghost use Rattle.file_format.specs.Number.{IsBytes};
+ghost use Rattle.disk_model.specs.Disk.{overwritten, Torn, Follows, Only, Within, counted, IsDeviceFault, last_count};
+
+use world_actions::Refusal;
+
+/// A file whose calls may fail, and of which a crash may leave more than one outcome.
+pub trait Disk {
+    /// The bytes that a read gives.
+    ghost content: { Self → List ℕ };
+
+    /// What a crash may leave now.
+    ghost may_leave: { Self → List ℕ → Type 0 };
+
+    /// Whether each file of this type keeps to the disk model. Of another nothing is said but its
+    /// faults and its calls.
+    ghost honest: { Bool };
+
+    /// How often the device failed, up to the last value of the count.
+    ghost faults: { Self → ℕ };
+
+    /// One call may lead from the first state to the second.
+    ghost called: { Self → Self → Type 0 };
+
+    /// The length of the content.
+    fn len(&mut self) -> Result<u64, Refusal>
+        ensures length { IsTrue honest → IfOk result (λ len. len ≡ length (content self.old)) }
+        ensures content { IsTrue honest → content self.new ≡ content self.old }
+        ensures crash { IsTrue honest → Within (may_leave self.old) (may_leave self.new) }
+        ensures faults { faults self.new ≡ counted (faults self.old) result }
+        ensures device { IsDeviceFault result }
+        ensures called { called self.old self.new };
+
+    /// Reads bytes that lie inside the file. A failed read changes nothing of the file, and may
+    /// leave any bytes in the buffer.
+    fn read_at(&mut self, at: u64, into: &mut [u8]) -> Result<(), Refusal>
+        requires { IsTrue honest → at + length into.old ≤ length (content self.old) }
+        ensures read { IsTrue honest
+            → OnOk result (into.new ≡ take (length into.old) (drop at (content self.old))) }
+        ensures content { IsTrue honest → content self.new ≡ content self.old }
+        ensures crash { IsTrue honest → Within (may_leave self.old) (may_leave self.new) }
+        ensures faults { faults self.new ≡ counted (faults self.old) result }
+        ensures device { IsDeviceFault result }
+        ensures called { called self.old self.new };
+
+    /// Writes over what is there, and past the end. Until a sync a crash may leave any bytes in the
+    /// range. After a failure reads may give any bytes there too.
+    fn write_at(&mut self, at: u64, bytes: &[u8]) -> Result<(), Refusal>
+        requires { IsTrue honest → at ≤ length (content self.old) }
+        ensures written { IsTrue honest
+            → OnOk result (content self.new ≡ overwritten (content self.old) at bytes.now) }
+        ensures torn { IsTrue honest
+            → OnErr result (Torn at (length bytes.now) (content self.old) (content self.new)) }
+        ensures crash { IsTrue honest
+            → Follows (Torn at (length bytes.now)) (may_leave self.old) (may_leave self.new) }
+        ensures faults { faults self.new ≡ counted (faults self.old) result }
+        ensures device { IsDeviceFault result }
+        ensures called { called self.old self.new };
+
+    /// Afterwards a crash leaves what a read gives. A failed sync makes nothing durable.
+    fn sync(&mut self) -> Result<(), Refusal>
+        ensures durable { IsTrue honest
+            → OnOk result (Only (content self.old) (may_leave self.new)) }
+        ensures content { IsTrue honest → content self.new ≡ content self.old }
+        ensures crash { IsTrue honest → Within (may_leave self.old) (may_leave self.new) }
+        ensures faults { faults self.new ≡ counted (faults self.old) result }
+        ensures device { IsDeviceFault result }
+        ensures called { called self.old self.new };
+
+    /// A crash may leave what a read gives.
+    ghost stays: { (disk : Self) → IsTrue Self.honest → may_leave disk (content disk) };
+
+    /// A crash leaves bytes, so what reads give are bytes too.
+    ghost are_bytes: { (disk : Self) (left : List ℕ) → IsTrue Self.honest → may_leave disk left
+        → IsBytes left };
+
+    /// The count is below its bound.
+    ghost few_faults: { (disk : Self) → faults disk ≤ last_count };
+}

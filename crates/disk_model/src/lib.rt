@@ -1,0 +1,27 @@
+//! Files of a disk that may fail and that a crash may stop.
+//!
+//! `Disk` is what the writers of images and of the log know of a file: its content, which reads
+//! give; what a crash may leave of it now; and a count of the calls that failed. A write may be
+//! torn until a sync succeeds, whether it failed or not.
+//!
+//! `ModelFile` is a file in memory that is exactly that: it keeps what is durable beside the
+//! content, and takes any crash that may happen. `Fused` lets a call of any disk fail. The laws
+//! tell what writes that may be torn leave of a file and of its gate; `write_gated` is the pattern
+//! of all that is made durable before it counts.
+#![tactic(auto)]
+
+mod disk;
+mod fused;
+mod gated;
+mod model_file;
+mod places;
+mod writes;
+
+pub use disk::Disk;
+pub use fused::Fused;
+pub use gated::{gated_writes, torn_gates, write_gated};
+pub use model_file::ModelFile;
+pub use writes::{overwritten_lists, torn_writes};
+
+#[cfg(test)]
+mod tests;

@@ -1,0 +1,224 @@
+ghost use Rattle.std.specs.Prelude.{◌≡◌, ◌+◌, ◌≤◌, ◌<◌, ◌↔◌, true, IsTrue, IsOk, length, take, drop, Err, IfOk, IfErr, OnOk, OnErr, vec_capacity, min};
+ghost use Rattle.disk_model.specs.Disk.{overwritten, last_count, min-last_count, Torn, Follows, Within, Only, counted, IsDeviceFault};
+ghost use Rattle.disk_model.specs.FileState.{IsUncertain, IsSynced, Writes, Syncs, after_fault, Calls};
+ghost use Rattle.disk_model.specs.FileKept.{IsKept};
+ghost use Rattle.disk_model.specs.CrashOutcome.{IsCrashOutcome, content_stays};
+
+use crate::Disk;
+use crate::places::{clear_from, copy_from, write_marked};
+use std::alloc::Global;
+use std::marker::Model;
+use world_actions::Refusal;
+
+/// A file in memory that is exactly the disk model. Contracts see what is durable, what reads give,
+/// and which places lie in unsynced writes.
+#[derive(Drop)]
+pub struct ModelFile {
+    durable: Vec<u8>,
+    content: Vec<u8>,
+    // For each place of the content, whether it lies in an unsynced write.
+    unsynced: Vec<bool>,
+    // No place below this one lies in an unsynced write.
+    first_unsynced: usize,
+    faults: u64,
+    ghost kept: { IsKept durable.items content.items unsynced.items first_unsynced (vec_capacity durable) },
+}
+
+impl Model for ModelFile {
+    ghost use Rattle.disk_model.specs.FileState.{FileState};
+    ghost use Rattle.disk_model.specs.FileKept.{file_code};
+
+    ghost Value = { FileState };
+
+    ghost coded = { file_code };
+
+    ghost view = { λ file. record {
+      durable = file.durable.items;
+      content = file.content.items;
+      unsynced = file.unsynced.items;
+      faults = file.faults;
+      in_order = file.kept.in_order;
+    } };
+}
+
+impl ModelFile {
+    /// A file with these bytes, all of them durable. It takes memory for as many bytes and marks
+    /// again.
+    pub fn new(alloc: Global, bytes: Vec<u8>) -> Result<Self, Refusal>
+        ensures synced { IfOk result (IsSynced bytes.items) }
+        ensures leaves { IfOk result (λ file. Only bytes.items (IsCrashOutcome file)) }
+        ensures no_faults { IfOk result (λ file. file.faults ≡ 0) }
+        ensures memory { IfErr result (λ refusal. refusal ≡ Refusal.NoMemory) }
+    {
+        let content = Vec::from_slice(alloc, &bytes)?;
+        let unsynced = vec![in alloc; false; bytes.len()]?;
+        Ok(ModelFile {
+            first_unsynced: bytes.len(),
+            durable: bytes,
+            content,
+            unsynced,
+            faults: 0,
+        })
+    }
+
+    /// The bytes that are durable.
+    pub fn durable(&self) -> &[u8]
+        ensures { result.now ≡ self.now.durable }
+    {
+        &self.durable
+    }
+
+    /// The bytes that reads give.
+    pub fn now(&self) -> &[u8]
+        ensures { result.now ≡ self.now.content }
+    {
+        &self.content
+    }
+
+    /// Whether a crash may change the byte at a place, or leave none there.
+    pub fn uncertain(&self, place: u64) -> bool
+        ensures { IsTrue result ↔ IsUncertain self.now place }
+    {
+        let place = place as usize;
+        place >= self.durable.len() || self.unsynced[place]
+    }
+
+    /// Whether a crash may leave these bytes. It takes no memory.
+    pub fn allows(&self, left: &[u8]) -> bool
+        ensures { IsTrue result ↔ IsCrashOutcome self.now left.now }
+    {
+        if left.len() < self.durable.len() || left.len() > self.content.len() {
+            return false;
+        }
+        for i in 0..self.durable.len() {
+            if !self.unsynced[i] && left[i] != self.durable[i] {
+                return false;
+            }
+        }
+        true
+    }
+
+    /// Stops the file, leaving these bytes, which are durable afterwards. It refuses exactly the
+    /// bytes that a crash may not leave, and hands the file back then. It takes no memory.
+    pub fn crash(self, left: Vec<u8>) -> Result<ModelFile, (ModelFile, Refusal)>
+        ensures allowed { OnOk result (IsCrashOutcome self left.items) }
+        ensures synced { IfOk result (IsSynced left.items) }
+        ensures leaves { IfOk result (λ file. Only left.items (IsCrashOutcome file)) }
+        ensures faults { IfOk result (λ file. file.faults ≡ self.faults) }
+        ensures not_allowed { OnErr result (¬ IsCrashOutcome self left.items) }
+        ensures impossible { IfErr result (λ refused. refused.1 ≡ Refusal.Impossible) }
+        ensures unchanged { IfErr result (λ refused. refused.0 ≡ self) }
+    {
+        if !self.allows(&left) {
+            return Err((self, Refusal::Impossible));
+        }
+        let ModelFile {
+            durable: _,
+            mut content,
+            mut unsynced,
+            first_unsynced: _,
+            faults,
+        } = self;
+        copy_from(&mut content, &left, 0);
+        clear_from(&mut unsynced, 0, left.len());
+        Ok(ModelFile {
+            first_unsynced: left.len(),
+            durable: left,
+            content,
+            unsynced,
+            faults,
+        })
+    }
+
+    // Counts a failure.
+    fn failed<T>(&mut self) -> Result<T, Refusal>
+        ensures file { self.new ≡ after_fault self.old }
+        ensures err { result ≡ Err Refusal.Device }
+    {
+        self.faults = self.faults.saturating_add(1);
+        Err(Refusal::Device)
+    }
+}
+
+impl Disk for ModelFile {
+    ghost content = { λ file. file.content };
+
+    ghost may_leave = { IsCrashOutcome };
+
+    ghost honest = { true };
+
+    ghost faults = { λ file. min file.faults last_count };
+
+    ghost called = { Calls };
+
+    ghost stays = { λ file _. content_stays file };
+
+    ghost are_bytes = { λ file left _ outcome. outcome.are_bytes };
+
+    ghost few_faults = { λ file. min-last_count file.faults };
+
+    fn len(&mut self) -> Result<u64, Refusal>
+        ensures length { IfOk result (λ len. len ≡ length self.old.content) }
+        ensures succeeds { IsOk result }
+        ensures unchanged { self.new ≡ self.old }
+    {
+        Ok(self.content.len() as u64)
+    }
+
+    fn read_at(&mut self, at: u64, into: &mut [u8]) -> Result<(), Refusal>
+        requires { at + length into.old ≤ length self.old.content }
+        ensures read { into.new ≡ take (length into.old) (drop at self.old.content) }
+        ensures succeeds { IsOk result }
+        ensures unchanged { self.new ≡ self.old }
+    {
+        let at = at as usize;
+        into.copy_from_slice(&self.content[at..at + into.len()]);
+        Ok(())
+    }
+
+    /// It takes memory only where it goes past the end. A growth that is refused is a fault, and
+    /// the write then counts as none.
+    fn write_at(&mut self, at: u64, bytes: &[u8]) -> Result<(), Refusal>
+        requires { at ≤ length self.old.content }
+        ensures writes { OnOk result (Writes at bytes.now self.old self.new) }
+        ensures fails { OnErr result (self.new ≡ after_fault self.old) }
+        ensures inside_succeeds { at + length bytes.now ≤ length self.old.content → IsOk result }
+
+        // What each disk says.
+        ensures written { OnOk result
+            (self.new.content ≡ overwritten self.old.content at bytes.now) }
+        ensures torn { OnErr result (Torn at (length bytes.now) self.old.content self.new.content) }
+        ensures crash { Follows (Torn at (length bytes.now))
+            (IsCrashOutcome self.old) (IsCrashOutcome self.new) }
+        ensures faults { min self.new.faults last_count
+            ≡ counted (min self.old.faults last_count) result }
+        ensures device { IsDeviceFault result }
+        ensures called { Calls self.old self.new }
+    {
+        let at = at as usize;
+        let (durable, content) = (&mut self.durable, &mut self.content);
+        match write_marked(durable, content, &mut self.unsynced, at, bytes) {
+            Ok(()) => {
+                self.first_unsynced = self.first_unsynced.min(at);
+                Ok(())
+            }
+            Err(_) => self.failed(),
+        }
+    }
+
+    /// It takes no memory.
+    fn sync(&mut self) -> Result<(), Refusal>
+        ensures syncs { Syncs self.old self.new }
+        ensures succeeds { IsOk result }
+
+        // What each disk says.
+        ensures called { Calls self.old self.new }
+        ensures crash { Within (IsCrashOutcome self.old) (IsCrashOutcome self.new) }
+    {
+        let from = self.first_unsynced;
+        copy_from(&mut self.durable, &self.content, from);
+        clear_from(&mut self.unsynced, from, self.content.len());
+        self.first_unsynced = self.content.len();
+        Ok(())
+    }
+}
