@@ -1,0 +1,202 @@
+-- The header and the words of a target, and the opening of its gate.
+use Rattle.std.proofs.Common.{◌≡◌, ◌⊎◌, inl, inr, ⊎_elim, Some, ℕ, zero, suc, ◌+◌, ◌-◌, ◌*◌, ◌^◌, ◌<◌, ◌≤◌, List, [], ◌∷◌, ◌++◌, true, IsTrue, length, get_or, take, drop, refl, sym, ◌∙◌, ap, subst, arith, length-append}
+use Rattle.std.proofs.lemmas.List.{append-nil, append_assoc, drop-drop, length-take}
+use Rattle.std.specs.List.{list_all}
+use Rattle.disk_model.specs.Disk.{Torn, Follows, Within, Only, overwritten}
+use Rattle.disk_model.proofs.TornLemmas.{torn_opening}
+use Rattle.file_format.specs.Gate.{HasShutGate}
+use Rattle.file_format.specs.Number.{number_of, number_bytes}
+use Rattle.capture_core.specs.declared.taker.Taken.{Taken}
+use Rattle.image_files.specs.declared.phase.Phase.{Phase}
+use Rattle.image_files.specs.declared.phase.Phase.TheVariants.{Header, Taking, Opening, OpeningSync, Down}
+use Rattle.image_files.specs.Image.{Image, image_of, number_at, words_from, is_word}
+use Rattle.image_files.specs.Taken.{filled_words}
+use Rattle.image_files.specs.Images.{IsTarget}
+use Rattle.image_files.specs.Progress.{Progress, IsInOrder, PhaseFits, done, newest_words}
+use Rattle.image_files.specs.Keeper.{HasBody, Fits, TargetFits, TargetEndures}
+use Rattle.image_files.specs.Steps.{IsOpenedImage}
+use Rattle.image_files.proofs.WordLemmas.{number_written, length-number_bytes, length-words_from}
+use Rattle.image_files.proofs.SpellingLemmas.{whole_reads}
+use Rattle.image_files.proofs.GateLemmas.{shut_reads_closed}
+
+-- ---- files that are alike behind a place
+
+drop_on : (xs ys : List ℕ) (p q : ℕ) → p ≤ q → drop p xs ≡ drop p ys → drop q xs ≡ drop q ys
+drop_on xs ys p q le same =
+    let k : p + (q - p) ≡ q = omega arith in
+    ap (λ (n : ℕ). drop n xs) (sym k) ∙ sym (drop-drop (q - p) p xs) ∙ ap (drop (q - p)) same ∙ drop-drop (q - p) p ys ∙ ap (λ (n : ℕ). drop n ys) k
+
+words_same : (xs ys : List ℕ) (place n : ℕ) → drop place xs ≡ drop place ys → words_from xs place n ≡ words_from ys place n
+words_same xs ys place zero same = refl
+words_same xs ys place (suc n) same =
+    ap (λ (l : List ℕ). number_of 8 l ∷ words_from xs (place + 8) n) same
+    ∙ ap (λ (l : List ℕ). number_at ys place ∷ l) (words_same xs ys (place + 8) n (drop_on xs ys place (place + 8) (omega arith) same))
+
+-- behind the gate they have the same words and the same body
+module _ (xs ys : List ℕ) (same : drop 1 xs ≡ drop 1 ys) where
+  number_behind : (place : ℕ) → 1 ≤ place → number_at xs place ≡ number_at ys place
+  number_behind place le = ap (number_of 8) (drop_on xs ys 1 place le same)
+
+  pub words_behind : (place n : ℕ) → 1 ≤ place → words_from xs place n ≡ words_from ys place n
+  words_behind place n le = words_same xs ys place n (drop_on xs ys 1 place le same)
+
+  pub body_behind : (keeper : Progress) → length xs ≡ length ys → HasBody keeper ys → HasBody keeper xs
+  body_behind keeper long body = record {
+    room = omega (arith, body.room);
+    cells = number_behind 1 (omega arith) ∙ body.cells;
+    tick = number_behind 9 (omega arith) ∙ body.tick;
+    words = subst (λ (l : List ℕ). IsTrue (list_all is_word l)) (sym (words_behind 17 keeper.written (omega arith))) body.words;
+  }
+
+-- the words so far don't depend on the phase and the gate
+pub done_behind : (keeper : Progress) (phase : Phase) (old new newest : List ℕ) → drop 1 new ≡ drop 1 old → done (record keeper { phase = phase }) new newest ≡ done keeper old newest
+done_behind keeper phase old new newest same =
+    ap (λ (l : List ℕ). l ++ filled_words keeper.chunk (drop keeper.written (newest_words keeper newest))) (words_behind new old same 17 keeper.written (omega arith))
+
+-- ---- the phase
+
+pub in_phase : (keeper : Progress) {phase : Phase} → IsInOrder keeper → keeper.phase ≡ phase → PhaseFits phase keeper
+in_phase keeper order is = subst (λ (p : Phase). PhaseFits p keeper) is order.by_phase
+
+-- ---- the header
+
+pub header_fits : (old bytes : List ℕ) (cells tick : ℕ) → 1 ≤ length old → cells < 256 ^ 8 → tick < 256 ^ 8 → HasShutGate old → bytes ≡ number_bytes 8 cells ++ number_bytes 8 tick
+    → HasShutGate (overwritten old 1 bytes) × (number_at (overwritten old 1 bytes) 1 ≡ cells) × (number_at (overwritten old 1 bytes) 9 ≡ tick) × (17 ≤ length (overwritten old 1 bytes))
+header_fits old bytes cells tick long small_cells small_tick shut is =
+    let file = overwritten old 1 bytes in
+    let rest = drop (1 + length bytes) old in
+    let front : length (take 1 old) ≡ 1 = omega (arith, length-take 1 old) in
+    let size : length bytes ≡ 16 = ap length is ∙ omega (arith, length-append (number_bytes 8 cells) (number_bytes 8 tick), length-number_bytes cells, length-number_bytes tick) in
+    let long_file : length file ≡ 1 + 16 + length rest = omega (arith, length-append (take 1 old ++ bytes) rest, length-append (take 1 old) bytes, front, size) in
+    let first : file ≡ take 1 old ++ (number_bytes 8 cells ++ (number_bytes 8 tick ++ rest)) =
+    append_assoc (take 1 old) bytes rest ∙ ap (λ (b : List ℕ). take 1 old ++ (b ++ rest)) is ∙ ap (λ (l : List ℕ). take 1 old ++ l) (append_assoc (number_bytes 8 cells) (number_bytes 8 tick) rest) in
+    let second : file ≡ (take 1 old ++ number_bytes 8 cells) ++ (number_bytes 8 tick ++ rest) = first ∙ sym (append_assoc (take 1 old) (number_bytes 8 cells) (number_bytes 8 tick ++ rest)) in
+    let gate : get_or file 0 0 ≡ get_or old 0 0 = first_kept old (bytes ++ rest) (append_assoc (take 1 old) bytes rest) long in (
+      (omega (arith, long_file), λ is_open. shut.1 (sym gate ∙ is_open)),
+      ap (λ (l : List ℕ). number_at l 1) first ∙ number_written (take 1 old) (number_bytes 8 tick ++ rest) 1 cells front small_cells,
+      ap (λ (l : List ℕ). number_at l 9) second ∙ number_written (take 1 old ++ number_bytes 8 cells) rest 9 tick (omega (arith, length-append (take 1 old) (number_bytes 8 cells), front, length-number_bytes cells)) small_tick,
+      omega (arith, long_file),
+    )
+  where
+    first_kept : (l m : List ℕ) {n : List ℕ} → n ≡ take 1 l ++ m → 1 ≤ length l → get_or n 0 0 ≡ get_or l 0 0
+    first_kept [] m same le = absurd (omega arith)
+    first_kept (x ∷ l) m same le = ap (λ (k : List ℕ). get_or k 0 0) same
+
+pub header_written : (keeper : Progress) (old new newest bytes : List ℕ) → keeper.phase ≡ Header → HasShutGate old
+    → new ≡ overwritten old 1 bytes → bytes ≡ number_bytes 8 keeper.cells ++ number_bytes 8 keeper.tick → Fits keeper old newest → Fits (record keeper { phase = Taking }) new newest
+header_written keeper old new newest bytes phase shut is bytes_are fits =
+    let order = fits.in_order in
+    let first : PhaseFits Header keeper = in_phase keeper order phase in
+    let none : keeper.written ≡ 0 = first.0 in
+    let taking : PhaseFits Taking keeper = omega (arith, order.some, none, ap length first.1) in
+    let parts = header_fits old bytes keeper.cells keeper.tick (omega (arith, shut.0)) (omega (arith, order.most)) (omega (arith, order.ticks)) shut bytes_are in
+    record {
+      in_order = record { some = order.some; most = order.most; ticks = order.ticks; within = order.within; by_phase = taking };
+      image = fits.image;
+      newest_shut = fits.newest_shut;
+      of_target = (
+        subst HasShutGate (sym is) parts.0,
+        record {
+          room = omega (arith, ap length is, parts.3, none);
+          cells = ap (λ (l : List ℕ). number_at l 1) is ∙ parts.1;
+          tick = ap (λ (l : List ℕ). number_at l 9) is ∙ parts.2;
+          words = ap (λ (n : ℕ). list_all is_word (words_from new 17 n)) none;
+        },
+      );
+      chunk = fits.chunk;
+    }
+
+-- ---- the open gate
+
+-- no cell is left to be written
+pub done_whole : (keeper : Progress) (target newest : List ℕ) → keeper.chunk ≡ [] → done keeper target newest ≡ words_from target 17 keeper.written
+done_whole keeper target newest none =
+    ap (λ (l : List Taken). words_from target 17 keeper.written ++ filled_words l (drop keeper.written (newest_words keeper newest))) none ∙ append-nil (words_from target 17 keeper.written)
+
+pub length_done : (keeper : Progress) (target newest : List ℕ) → keeper.written ≡ keeper.cells → keeper.chunk ≡ [] → length (done keeper target newest) ≡ keeper.cells
+length_done keeper target newest all none = ap length (done_whole keeper target newest none) ∙ length-words_from target 17 keeper.written ∙ all
+
+-- an open gate over a whole body is an image
+pub body_reads : (keeper : Progress) (file : List ℕ) → IsInOrder keeper → get_or file 0 0 ≡ 1 → HasBody keeper file → keeper.written ≡ keeper.cells
+    → image_of file ≡ Image.Open keeper.tick (words_from file 17 keeper.written)
+body_reads keeper file order gate body all =
+    let words = words_from file 17 keeper.written in
+    let count : length words ≡ keeper.written = length-words_from file 17 keeper.written in
+    whole_reads file keeper.tick words gate (body.cells ∙ sym all ∙ sym count) body.tick (ap (words_from file 17) count)
+    (omega (arith, body.room, count)) (omega (arith, order.some, count, all)) (omega (arith, order.most, count, all)) order.ticks body.words
+
+module _ (keeper : Progress) (old newest : List ℕ) (phase : keeper.phase ≡ Opening) (fits : Fits keeper old newest) where
+  body : HasBody keeper old
+  body = (subst (λ (p : Phase). TargetFits p keeper old) phase fits.of_target).1
+
+  order : PhaseFits Opening keeper
+  order = in_phase keeper fits.in_order phase
+
+  open_body : HasBody keeper (overwritten old 0 (1 ∷ []))
+  open_body = body_behind (overwritten old 0 (1 ∷ [])) old refl keeper (long old (omega (arith, body.room))) body
+    where
+      long : (l : List ℕ) → 1 ≤ length l → length (1 ∷ drop 1 l) ≡ length l
+      long [] le = absurd (omega arith)
+      long (x ∷ l) le = refl
+
+  pub opening_fits : (new : List ℕ) → new ≡ overwritten old 0 (1 ∷ []) → Fits (record keeper { phase = OpeningSync }) new newest
+  opening_fits new is = record {
+    in_order = record { some = fits.in_order.some; most = fits.in_order.most; ticks = fits.in_order.ticks; within = fits.in_order.within; by_phase = order };
+    image = fits.image;
+    newest_shut = fits.newest_shut;
+    of_target = (ap (λ (l : List ℕ). get_or l 0 0) is, same_keeper new (subst (HasBody keeper) (sym is) open_body));
+    chunk = fits.chunk;
+  }
+    where
+      same_keeper : (file : List ℕ) → HasBody keeper file → HasBody (record keeper { phase = OpeningSync }) file
+      same_keeper file b = record { room = b.room; cells = b.cells; tick = b.tick; words = b.words }
+
+  -- a gate whose write was torn leaves a closed file, or the whole image
+  gate_outcome : (left : List ℕ) → Torn 0 1 old left → (image_of left ≡ Image.Closed) ⊎ (image_of left ≡ Image.Open keeper.tick (done keeper old newest))
+  gate_outcome left torn = elim (torn_opening old left (omega (arith, body.room)) torn) [
+    | inl shut ↦ inl (shut_reads_closed left shut)
+    | inr is ↦ inr (
+        ap image_of is
+        ∙ body_reads keeper (overwritten old 0 (1 ∷ [])) fits.in_order refl open_body order.0
+        ∙ ap (Image.Open keeper.tick) (words_behind (overwritten old 0 (1 ∷ [])) old refl 17 keeper.written (omega arith) ∙ sym (done_whole keeper old newest order.1)))
+  ]
+
+  -- what a crash leaves after the write, whole or not
+  module _ (new : List ℕ) (same : drop 1 new ≡ drop 1 old) (before after : List ℕ → Type 0) (follows : Follows (Torn 0 1) before after) (read : Image) (stood : TargetEndures keeper.phase keeper read old newest before) where
+    left_so : (left : List ℕ) → after left → (image_of left ≡ Image.Closed) ⊎ (image_of left ≡ Image.Open keeper.tick (done keeper old newest))
+    left_so left outcome =
+        let only = subst (λ (p : Phase). TargetEndures p keeper read old newest before) phase stood in
+        let from = follows left outcome in
+        gate_outcome left (subst (λ (f : List ℕ). Torn 0 1 f left) (only from.0 from.1) from.2)
+
+    pub opening_endures : TargetEndures OpeningSync (record keeper { phase = OpeningSync }) read new newest after
+    opening_endures left outcome =
+        subst (λ (words : List ℕ). (image_of left ≡ Image.Closed) ⊎ (image_of left ≡ Image.Open keeper.tick words)) (sym (done_behind keeper OpeningSync old new newest same)) (left_so left outcome)
+
+    pub opening_down : TargetEndures Down (record keeper { phase = Down }) read new newest after
+    opening_down left outcome =
+        subst (λ (words : List ℕ). IsTarget keeper.cells read (Some (record { tick = keeper.tick; taken = words })) (image_of left)) (sym (done_behind keeper Down old new newest same))
+        (inr (⊎_elim (λ closed. inl closed) (λ is. inr (is, length_done keeper old newest order.0 order.1)) (left_so left outcome)))
+
+-- where the open gate can't be made durable, a crash leaves a closed file or the whole image
+pub opened_down : (keeper : Progress) (old newest : List ℕ) → keeper.phase ≡ OpeningSync → Fits keeper old newest → (new : List ℕ) → new ≡ old → (before after : List ℕ → Type 0) → Within before after
+    → (read : Image) → TargetEndures keeper.phase keeper read old newest before → TargetEndures Down (record keeper { phase = Down }) read new newest after
+opened_down keeper old newest phase fits new same before after within read stood left outcome =
+    let order = in_phase keeper fits.in_order phase in
+    let was = subst (λ (p : Phase). TargetEndures p keeper read old newest before) phase stood in
+    subst (λ (words : List ℕ). IsTarget keeper.cells read (Some (record { tick = keeper.tick; taken = words })) (image_of left)) (sym (done_behind keeper Down old new newest (ap (drop 1) same)))
+    (inr (⊎_elim (λ closed. inl closed) (λ is. inr (is, length_done keeper old newest order.0 order.1)) (was left (within left outcome))))
+
+-- where it is made durable, the image is opened
+pub opened_image : (keeper : Progress) (old newest : List ℕ) → keeper.phase ≡ OpeningSync → Fits keeper old newest → (new : List ℕ) → new ≡ old → (outcomes : List ℕ → Type 0) → Only old outcomes
+    → (tick : ℕ) → tick ≡ keeper.tick → IsOpenedImage keeper (done keeper old newest) new outcomes tick
+opened_image keeper old newest phase fits new same outcomes only tick of_the_round =
+    let order = in_phase keeper fits.in_order phase in
+    let target = subst (λ (p : Phase). TargetFits p keeper old) phase fits.of_target in
+    record {
+      of_the_round = of_the_round;
+      image = ap image_of same ∙ body_reads keeper old fits.in_order target.0 target.1 order.0
+          ∙ ap (λ (t : ℕ). Image.Open t (words_from old 17 keeper.written)) (sym of_the_round) ∙ ap (Image.Open tick) (sym (done_whole keeper old newest order.1));
+      whole = length_done keeper old newest order.0 order.1;
+      durable = λ left outcome. only left outcome ∙ sym same;
+    }

@@ -1,0 +1,153 @@
+-- What a crash leaves, and how a round begins.
+use Rattle.std.proofs.Common.{◌≡◌, ◌⊎◌, inl, inr, ⊎_elim, ℕ, ◌≤◌, List, [], Bool, true, false, Option, Some, None, IsTrue, length, refl, sym, ◌∙◌, ap, subst, arith}
+use Rattle.std.proofs.lemmas.Bool.{cases_Bool}
+use Rattle.std.specs.Prelude.{IfSome, is_some}
+use Rattle.world_ticks.specs.declared.tick.TheConstants.{TICK_MAX}
+use Rattle.disk_model.specs.Disk.{Only}
+use Rattle.file_format.specs.Gate.{HasShutGate, HasNoShutGate}
+use Rattle.file_format.specs.declared.slot.Slot.{Slot}
+use Rattle.file_format.specs.declared.slot.Slot.TheVariants.{A, B}
+use Rattle.file_format.specs.Slot.{other_slot, of_slot, in_slot, beside_slot}
+use Rattle.image_files.specs.declared.phase.Phase.{Phase}
+use Rattle.image_files.specs.declared.phase.Phase.TheVariants.{Idle, Closing, ClosingSync, Header, Taking, Reading, Writing, BodySync, Opening, OpeningSync, Down}
+use Rattle.image_files.specs.Image.{Image, image_of, words_from}
+use Rattle.image_files.specs.Images.{Round, Images, FirstImages, ImageFiles, NoneYet, Newest, ImagesAre, FirstImagesAre, ImageFilesAre, IsTarget, with_round}
+use Rattle.image_files.specs.Progress.{Progress, PhaseFits, IsInOrder, made_keeper, begun_keeper, target_of, newest_words, done, round_so_far, round_in_phase, round_of}
+use Rattle.image_files.specs.Keeper.{Fits, TargetFits, TargetEndures, Endures}
+use Rattle.image_files.specs.Files.{FitsFiles, Stands, StandsFor, HoldsNewest, IsTold, TellsShut}
+use Rattle.image_files.proofs.SpellingLemmas.{open_file}
+use Rattle.image_files.proofs.GateLemmas.{shut_reads_closed}
+use Rattle.image_files.proofs.BodyLemmas.{in_phase, length_done}
+
+-- ---- the target
+
+module _ (keeper : Progress) (before : Image) (target newest left : List ℕ) (outcomes : List ℕ → Type 0) (outcome : outcomes left) where
+  abbrev Reads : Phase → Type 0
+  Reads phase = IsTarget keeper.cells before (round_in_phase phase (round_so_far keeper target newest)) (image_of left)
+
+  closed : HasShutGate left → image_of left ≡ Image.Closed
+  closed shut = shut_reads_closed left shut
+
+  reads_so : (phase : Phase) → PhaseFits phase keeper → TargetFits phase keeper target → TargetEndures phase keeper before target newest outcomes → Reads phase
+  reads_so Idle order fits stands = ap image_of (stands.0 left outcome) ∙ stands.1
+  reads_so Closing order fits stands = inl (ap image_of (stands.0 left outcome) ∙ stands.1)
+  reads_so ClosingSync order fits stands = ⊎_elim (λ same. inl same) (λ is. inr (inl is)) (stands left outcome)
+  reads_so Header order fits stands = inr (inl (closed (subst HasShutGate (sym (stands left outcome)) fits)))
+  reads_so Opening order fits stands = inr (inl (closed (subst HasShutGate (sym (stands left outcome)) fits.0)))
+  reads_so OpeningSync order fits stands = ⊎_elim (λ is. inr (inl is)) (λ is. inr (inr (is, length_done keeper target newest order.0 order.1))) (stands left outcome)
+  reads_so Down order fits stands = stands left outcome
+  reads_so Taking order fits stands = inr (inl (closed (stands left outcome)))
+  reads_so Reading order fits stands = inr (inl (closed (stands left outcome)))
+  reads_so Writing order fits stands = inr (inl (closed (stands left outcome)))
+  reads_so BodySync order fits stands = inr (inl (closed (stands left outcome)))
+
+  pub target_left : Fits keeper target newest → TargetEndures keeper.phase keeper before target newest outcomes → IsTarget keeper.cells before (round_of keeper target newest) (image_of left)
+  target_left fits stands = reads_so keeper.phase fits.in_order.by_phase fits.of_target stands
+
+pub newest_left : (newest : Option (Slot × ℕ)) (file left words : List ℕ) → left ≡ file → IfSome newest (λ image. image_of file ≡ Image.Open image.1 words) → IfSome newest (λ image. image_of left ≡ Image.Open image.1 words)
+newest_left None file left words same is = is
+newest_left (Some image) file left words same is = ap image_of same ∙ is
+
+-- ---- both files
+
+-- in a round of a keeper with an image the newest file has it, and the other one is the target
+module _ (keeper : Progress) (images : Images) (target newest : List ℕ) (target_outcomes newest_outcomes : List ℕ → Type 0) (stands : StandsFor keeper (Newest images) target newest target_outcomes newest_outcomes) where
+  newest_has : (left : List ℕ) → newest_outcomes left → image_of left ≡ Image.Open images.tick images.words
+  newest_has left outcome =
+      let is = stands.held.0 in
+      let some : is_some keeper.newest ≡ true = ap is_some is in
+      let words : newest_words keeper newest ≡ words_from newest 17 keeper.cells = rw some refl in
+      let image : image_of newest ≡ Image.Open images.tick (words_from newest 17 keeper.cells) =
+      subst (λ (n : Option (Slot × ℕ)). IfSome n (λ image. image_of newest ≡ Image.Open image.1 (words_from newest 17 keeper.cells))) is stands.fits.image in
+      ap image_of (stands.endures.newest_stays left outcome) ∙ image ∙ ap (Image.Open images.tick) (sym (stands.held.1 ∙ words))
+
+  target_has : (left : List ℕ) → target_outcomes left → IsTarget keeper.cells images.before images.round (image_of left)
+  target_has left outcome =
+      subst (λ r. IsTarget keeper.cells images.before r (image_of left)) (sym stands.held.2)
+      (target_left keeper images.before target newest left target_outcomes outcome stands.fits stands.endures.of_target)
+
+module _ (keeper : Progress) (image_a image_b : List ℕ) (outcomes_a outcomes_b : List ℕ → Type 0) where
+  -- by the file of the newest image
+  abbrev StandsAt : ImageFiles → Slot → Type 0
+  StandsAt images target = StandsFor keeper images (of_slot target image_a image_b) (of_slot target image_b image_a) (in_slot target outcomes_a outcomes_b) (beside_slot target outcomes_a outcomes_b)
+
+  images_are : (images : Images) (slot : Slot) → StandsAt (Newest images) (other_slot slot)
+      → ((left : List ℕ) → in_slot slot outcomes_a outcomes_b left → image_of left ≡ Image.Open images.tick images.words)
+      × ((left : List ℕ) → beside_slot slot outcomes_a outcomes_b left → IsTarget keeper.cells images.before images.round (image_of left))
+  images_are images A stands = (newest_has keeper images image_b image_a outcomes_b outcomes_a stands, target_has keeper images image_b image_a outcomes_b outcomes_a stands)
+  images_are images B stands = (newest_has keeper images image_a image_b outcomes_a outcomes_b stands, target_has keeper images image_a image_b outcomes_a outcomes_b stands)
+
+  pub files_left : (images : ImageFiles) → Stands keeper images image_a image_b outcomes_a outcomes_b → ImageFilesAre keeper.cells images outcomes_a outcomes_b
+  files_left (NoneYet images) stands =
+      let here : StandsAt (NoneYet images) A = subst (λ (n : Option (Slot × ℕ)). StandsAt (NoneYet images) (target_of n)) stands.held.0 stands in
+      record {
+        target = λ left outcome. subst (λ r. IsTarget keeper.cells Image.Closed r (image_of left)) (sym here.held.2)
+            (target_left keeper Image.Closed image_a image_b left outcomes_a outcome here.fits here.endures.of_target);
+        beside = λ left outcome. ap image_of (here.endures.newest_stays left outcome) ∙ here.held.1;
+      }
+  files_left (Newest images) stands =
+      let here : StandsAt (Newest images) (other_slot images.slot) = subst (λ (n : Option (Slot × ℕ)). StandsAt (Newest images) (target_of n)) stands.held.0 stands in
+      let both = images_are images images.slot here in
+      record { newest = both.0; target = both.1 }
+
+-- ---- a keeper just made
+
+module _ (cells : ℕ) (some : 1 ≤ cells) (most : cells ≤ 65536) where
+  abbrev fresh : Option (Slot × ℕ) → (target_shut newest_shut : Bool) → Progress
+  fresh newest target_shut newest_shut = record { cells = cells; newest = newest; target_shut = target_shut; newest_shut = newest_shut; phase = Idle; tick = 0; written = 0; chunk = [] }
+
+  fresh_order : (newest : Option (Slot × ℕ)) (target_shut newest_shut : Bool) → IsInOrder (fresh newest target_shut newest_shut)
+  fresh_order newest target_shut newest_shut = record { some = some; most = most; ticks = omega arith; within = omega arith; by_phase = tt }
+
+  -- by the parts of the files
+  module _ (target_shut newest_shut : Bool) (target newest : List ℕ) (target_tells : target_shut ≡ true → HasShutGate target) (newest_tells : newest_shut ≡ true → HasShutGate newest) where
+    fits_without : Fits (fresh None target_shut newest_shut) target newest
+    fits_without = record { in_order = fresh_order None target_shut newest_shut; image = tt; newest_shut = newest_tells; of_target = target_tells; chunk = refl }
+
+    fits_with : (slot : Slot) (tick : ℕ) (words : List ℕ) → length words ≡ cells → image_of newest ≡ Image.Open tick words → Fits (fresh (Some (slot, tick)) target_shut newest_shut) target newest
+    fits_with slot tick words count is =
+        let same : words ≡ words_from newest 17 cells = sym (open_file newest tick words is).words_are ∙ ap (words_from newest 17) count in
+        record { in_order = fresh_order (Some (slot, tick)) target_shut newest_shut; image = is ∙ ap (Image.Open tick) same; newest_shut = newest_tells; of_target = target_tells; chunk = refl }
+
+  pub made_fits : (newest : Option (Slot × ℕ)) (shut_a shut_b : Bool) (image_a image_b : List ℕ) → HoldsNewest cells newest image_a image_b → (shut_a ≡ true → HasShutGate image_a) → (shut_b ≡ true → HasShutGate image_b)
+      → FitsFiles (made_keeper cells newest shut_a shut_b) image_a image_b
+  made_fits None shut_a shut_b image_a image_b holds a_tells b_tells = fits_without shut_a shut_b image_a image_b a_tells b_tells
+  made_fits (Some (A, tick)) shut_a shut_b image_a image_b holds a_tells b_tells = fits_with shut_b shut_a image_b image_a b_tells a_tells A tick holds.0 holds.1 holds.2
+  made_fits (Some (B, tick)) shut_a shut_b image_a image_b holds a_tells b_tells = fits_with shut_a shut_b image_a image_b a_tells b_tells B tick holds.0 holds.1 holds.2
+
+  module _ (target_shut newest_shut : Bool) (target newest : List ℕ) (target_outcomes newest_outcomes : List ℕ → Type 0)
+      (only_target : Only target target_outcomes) (only_newest : Only newest newest_outcomes) (target_tells : TellsShut target_shut target) (newest_tells : TellsShut newest_shut newest) where
+    made_without : (images : FirstImages) → images.round ≡ None → image_of target ≡ Image.Closed → image_of newest ≡ Image.Closed
+        → StandsFor (fresh None target_shut newest_shut) (NoneYet images) target newest target_outcomes newest_outcomes
+    made_without images no_round target_closed newest_closed = record {
+      fits = fits_without target_shut newest_shut target newest target_tells.yes newest_tells.yes;
+      endures = record { newest_stays = only_newest; newest_not_shut = newest_tells.no; of_target = (only_target, target_closed, target_tells.no) };
+      held = (refl, newest_closed, no_round);
+    }
+
+    made_with : (images : Images) → images.round ≡ None → length images.words ≡ cells → image_of newest ≡ Image.Open images.tick images.words → image_of target ≡ images.before
+        → StandsFor (fresh (Some (images.slot, images.tick)) target_shut newest_shut) (Newest images) target newest target_outcomes newest_outcomes
+    made_with images no_round count is was =
+        let words : images.words ≡ words_from newest 17 cells = sym (open_file newest images.tick images.words is).words_are ∙ ap (words_from newest 17) count in
+        record {
+          fits = fits_with target_shut newest_shut target newest target_tells.yes newest_tells.yes images.slot images.tick images.words count is;
+          endures = record { newest_stays = only_newest; newest_not_shut = newest_tells.no; of_target = (only_target, was, target_tells.no) };
+          held = (refl, words, no_round);
+        }
+
+  -- by their names
+  module _ (shut_a shut_b : Bool) (image_a image_b : List ℕ) (outcomes_a outcomes_b : List ℕ → Type 0)
+      (only_a : Only image_a outcomes_a) (only_b : Only image_b outcomes_b) (a_tells : TellsShut shut_a image_a) (b_tells : TellsShut shut_b image_b) where
+    abbrev MadeStands : ImageFiles → Option (Slot × ℕ) → Type 0
+    MadeStands images newest = Stands (made_keeper cells newest shut_a shut_b) images image_a image_b outcomes_a outcomes_b
+
+    made_at : (slot : Slot) (tick : ℕ) (words : List ℕ) (before : Image) (round : Option Round) → round ≡ None → length words ≡ cells → image_of (of_slot slot image_a image_b) ≡ Image.Open tick words → image_of (of_slot slot image_b image_a) ≡ before
+        → MadeStands (Newest (record { slot = slot; tick = tick; words = words; before = before; round = round })) (Some (slot, tick))
+    made_at A tick words before round = made_with shut_b shut_a image_b image_a outcomes_b outcomes_a only_b only_a b_tells a_tells (record { slot = A; tick = tick; words = words; before = before; round = round })
+    made_at B tick words before round = made_with shut_a shut_b image_a image_b outcomes_a outcomes_b only_a only_b a_tells b_tells (record { slot = B; tick = tick; words = words; before = before; round = round })
+
+    pub made_stands : (newest : Option (Slot × ℕ)) (images : ImageFiles) → IsTold cells newest images image_a image_b → MadeStands images newest
+    made_stands newest (NoneYet images) told =
+        subst (MadeStands (NoneYet images)) (sym told.0) (made_without shut_a shut_b image_a image_b outcomes_a outcomes_b only_a only_b a_tells b_tells images told.1 told.2 told.3)
+    made_stands newest (Newest images) told =
+        subst (MadeStands (Newest images)) (sym told.0) (made_at images.slot images.tick images.words images.before images.round told.1 told.2 told.3 told.4)

@@ -1,0 +1,19 @@
+-- What a gate says of a whole file.
+use Rattle.std.proofs.Common.{◌≡◌, ◌≢◌, ℕ, ◌<◌, List, length, get_or, arith}
+use Rattle.std.proofs.lemmas.Grind.{common_steps}
+use Rattle.std.proofs.lemmas.Bool.Decides.{nat_tests}
+use Rattle.disk_model.specs.Disk.{Torn, Follows}
+use Rattle.disk_model.specs.Gated.{AllShut}
+use Rattle.disk_model.proofs.TornLemmas.{torn_behind_gate}
+use Rattle.file_format.specs.Gate.{HasShutGate}
+use Rattle.image_files.specs.Image.{Image, image_of}
+
+pub shut_reads_closed : (file : List ℕ) → HasShutGate file → image_of file ≡ Image.Closed
+unfolding image_of
+shut_reads_closed file shut = let other = shut.1 in grind (arith, nat_tests, common_steps)
+
+-- writes behind the gate leave it
+pub follows_shut : (at n : ℕ) (old new : List ℕ → Type 0) → 0 < at → Follows (Torn at n) old new → AllShut old → AllShut new
+follows_shut at n old new behind follows shut left outcome =
+    let from = follows left outcome in
+    torn_behind_gate from.0 left at n behind from.2 (shut from.0 from.1)

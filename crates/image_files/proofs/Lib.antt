@@ -1,0 +1,10 @@
+pub mod WordLemmas
+pub mod SpellingLemmas
+pub mod ChunkLemmas
+pub mod GateLemmas
+pub mod BodyLemmas
+pub mod ChunkWrites
+pub mod ChunkReads
+pub mod TakeLemmas
+pub mod ClaimLemmas
+pub mod StandsLemmas

@@ -1,0 +1,167 @@
+-- The bytes of an image, and what they read as.
+use Rattle.std.proofs.Common.{◌≡◌, ℕ, zero, suc, ◌+◌, ◌*◌, ◌^◌, ◌<◌, ◌≤◌, List, [], ◌∷◌, ◌++◌, Bool, true, false, ◌&&◌, cond, length, get_or, take, drop, refl, sym, ◌∙◌, ap, subst, arith, length-append, length-drop}
+use Rattle.std.proofs.lemmas.List.{append_assoc, take-append-drop, drop-drop, drop_more, get_or-drop}
+use Rattle.std.proofs.Math.Seq.{take-add}
+use Rattle.std.proofs.lemmas.List.Sums.{AllPass-from_list_all, list_all-from_AllPass}
+use Rattle.std.proofs.lemmas.Bool.Decides.{nat_tests}
+use Rattle.std.specs.Prelude.{nat_le, All}
+use Rattle.std.specs.List.{list_all, flat_map}
+use Rattle.world_actions.specs.World.{IsWord, IsWorld}
+use Rattle.file_format.specs.Number.{IsBytes, number_of, number_bytes}
+use Rattle.image_files.specs.Image.{Image, image_of, image_bytes, number_at, words_from, is_word, is_open, is_whole}
+use Rattle.image_files.proofs.WordLemmas.{number_written, length-number_bytes, length-words_from}
+
+-- ---- tests
+
+pub both : (a b : Bool) → (a && b) ≡ true → (a ≡ true) × (b ≡ true)
+both true b holds = (refl, holds)
+both false b holds = absurd (cc holds)
+
+le_of : (a b : ℕ) → nat_le a b ≡ true → a ≤ b
+le_of a b holds = grind (arith, nat_tests)
+
+test_of : (a b : ℕ) → a ≤ b → nat_le a b ≡ true
+test_of a b le = grind (arith, nat_tests)
+
+pub words_pass : (words : List ℕ) → All IsWord words → list_all is_word words ≡ true
+words_pass words all = list_all-from_AllPass is_word words (λ i d lt. test_of (get_or words i d) 999999999999999999 (all i d lt))
+
+pub words_limited : (words : List ℕ) → list_all is_word words ≡ true → All IsWord words
+words_limited words pass = let each = AllPass-from_list_all is_word words pass in λ i d lt. le_of (get_or words i d) 999999999999999999 (each i d lt)
+
+-- ---- what is written is read
+
+-- a number that may stand in a cell has 8 bytes
+pub word_fits : (word : ℕ) → is_word word ≡ true → word < 256 ^ 8
+word_fits word pass = let small = le_of word 999999999999999999 pass in omega arith
+
+-- the words that are written at a place
+pub words_written : (front : List ℕ) (words : List ℕ) (rest : List ℕ) (place : ℕ) → length front ≡ place → list_all is_word words ≡ true
+    → words_from (front ++ (flat_map (number_bytes 8) words ++ rest)) place (length words) ≡ words
+words_written front [] rest place at pass = refl
+words_written front (w ∷ words) rest place at pass =
+    let file = front ++ (flat_map (number_bytes 8) (w ∷ words) ++ rest) in
+    let parts = both (is_word w) (list_all is_word words) pass in
+    let first : file ≡ front ++ (number_bytes 8 w ++ (flat_map (number_bytes 8) words ++ rest)) = ap (λ (l : List ℕ). front ++ l) (append_assoc (number_bytes 8 w) (flat_map (number_bytes 8) words) rest) in
+    let second : file ≡ (front ++ number_bytes 8 w) ++ (flat_map (number_bytes 8) words ++ rest) = first ∙ sym (append_assoc front (number_bytes 8 w) (flat_map (number_bytes 8) words ++ rest)) in
+    let head : number_at file place ≡ w = ap (λ (l : List ℕ). number_at l place) first ∙ number_written front (flat_map (number_bytes 8) words ++ rest) place w at (word_fits w parts.0) in
+    let tail : words_from file (place + 8) (length words) ≡ words = ap (λ (l : List ℕ). words_from l (place + 8) (length words)) second
+    ∙ words_written (front ++ number_bytes 8 w) words rest (place + 8) (omega (arith, length-append front (number_bytes 8 w), length-number_bytes w, at)) parts.1 in
+    ap (λ (x : ℕ). x ∷ words_from file (place + 8) (length words)) head ∙ ap (λ (l : List ℕ). w ∷ l) tail
+
+-- an open gate over a whole header and words is an image
+pub whole_reads : (file : List ℕ) (tick : ℕ) (words : List ℕ) → get_or file 0 0 ≡ 1 → number_at file 1 ≡ length words → number_at file 9 ≡ tick → words_from file 17 (length words) ≡ words
+    → 17 + 8 * length words ≤ length file → 1 ≤ length words → length words ≤ 65536 → tick ≤ 1000000000000000000 → list_all is_word words ≡ true → image_of file ≡ Image.Open tick words
+unfolding image_of
+whole_reads file tick words gate cells_is tick_is words_are room some most small pass =
+    let gate_open : is_open file ≡ true = grind (arith, nat_tests) in
+    let parts : (nat_le 1 (length words) ≡ true) × (nat_le (length words) 65536 ≡ true) × (nat_le tick 1000000000000000000 ≡ true) × (nat_le (17 + 8 * length words) (length file) ≡ true) = (test_of _ _ some, test_of _ _ most, test_of _ _ small, test_of _ _ room) in
+    let whole : is_whole file (length words) tick ≡ true = rw (parts.0, parts.1, parts.2, parts.3, words_are, pass) refl in
+    rw (gate_open, cells_is, tick_is, whole, words_are) refl
+
+pub image_read : (tick : ℕ) (words rest : List ℕ) → tick ≤ 1000000000000000000 → IsWorld words → image_of (image_bytes tick words ++ rest) ≡ Image.Open tick words
+image_read tick words rest small world =
+    let n = length words in
+    let pass : list_all is_word words ≡ true = words_pass words world.limit in
+    let tail = flat_map (number_bytes 8) words in
+    let file = image_bytes tick words ++ rest in
+    let first : file ≡ (1 ∷ []) ++ (number_bytes 8 n ++ ((number_bytes 8 tick ++ tail) ++ rest)) =
+    ap (λ (l : List ℕ). 1 ∷ l) (append_assoc (number_bytes 8 n) (number_bytes 8 tick ++ tail) rest) in
+    let second : file ≡ ((1 ∷ []) ++ number_bytes 8 n) ++ (number_bytes 8 tick ++ (tail ++ rest)) =
+    first ∙ ap (λ (l : List ℕ). 1 ∷ (number_bytes 8 n ++ l)) (append_assoc (number_bytes 8 tick) tail rest) in
+    let third : file ≡ (((1 ∷ []) ++ number_bytes 8 n) ++ number_bytes 8 tick) ++ (tail ++ rest) =
+    second ∙ sym (append_assoc ((1 ∷ []) ++ number_bytes 8 n) (number_bytes 8 tick) (tail ++ rest)) in
+    let front : length (((1 ∷ []) ++ number_bytes 8 n) ++ number_bytes 8 tick) ≡ 17 =
+    omega (arith, length-append ((1 ∷ []) ++ number_bytes 8 n) (number_bytes 8 tick), length-append (1 ∷ []) (number_bytes 8 n), length-number_bytes n, length-number_bytes tick) in
+    let cells_is : number_at file 1 ≡ n = ap (λ (l : List ℕ). number_at l 1) first ∙ number_written (1 ∷ []) ((number_bytes 8 tick ++ tail) ++ rest) 1 n refl (omega (arith, world.most)) in
+    let tick_is : number_at file 9 ≡ tick = ap (λ (l : List ℕ). number_at l 9) second ∙ number_written ((1 ∷ []) ++ number_bytes 8 n) (tail ++ rest) 9 tick (omega (arith, length-append (1 ∷ []) (number_bytes 8 n), length-number_bytes n)) (omega arith) in
+    let words_are : words_from file 17 n ≡ words = ap (λ (l : List ℕ). words_from l 17 n) third ∙ words_written (((1 ∷ []) ++ number_bytes 8 n) ++ number_bytes 8 tick) words rest 17 front pass in
+    let long : length file ≡ 17 + length (tail ++ rest) = ap length third ∙ omega (arith, length-append (((1 ∷ []) ++ number_bytes 8 n) ++ number_bytes 8 tick) (tail ++ rest), front) in
+    let room : 17 + 8 * n ≤ length file = omega (arith, long, length-append tail rest, length-words words) in
+    whole_reads file tick words refl cells_is tick_is words_are room world.some world.most small pass
+  where
+    length-words : (words : List ℕ) → length (flat_map (number_bytes 8) words) ≡ 8 * length words
+    length-words [] = refl
+    length-words (w ∷ words) = let e = length-words words in omega (arith, e, length-append (number_bytes 8 w) (flat_map (number_bytes 8) words), length-number_bytes w)
+
+-- ---- what is read is spelled
+
+chosen : (a b : Bool) (tick t : ℕ) (words ws : List ℕ) → cond a (cond b (Image.Open tick words) Image.Bad) Image.Closed ≡ Image.Open t ws → (a ≡ true) × (b ≡ true) × (tick ≡ t) × (words ≡ ws)
+chosen true true tick t words ws is = (refl, refl, cc, cc)
+chosen true false tick t words ws is = absurd (cc is)
+chosen false b tick t words ws is = absurd (cc is)
+
+-- what an open image's file has
+pub record OpenFile (file : List ℕ) (tick : ℕ) (words : List ℕ) : Type 0 where
+  pub gate : get_or file 0 0 ≡ 1
+  pub cells_is : number_at file 1 ≡ length words
+  pub tick_is : number_at file 9 ≡ tick
+  pub words_are : words_from file 17 (length words) ≡ words
+  pub some : 1 ≤ length words
+  pub most : length words ≤ 65536
+  pub small : tick ≤ 1000000000000000000
+  pub room : 17 + 8 * length words ≤ length file
+  pub pass : list_all is_word words ≡ true
+
+pub open_file : (file : List ℕ) (tick : ℕ) (words : List ℕ) → image_of file ≡ Image.Open tick words → OpenFile file tick words
+unfolding image_of
+open_file file tick words is =
+    let n = number_at file 1 in
+    let t = number_at file 9 in
+    let parts = chosen (is_open file) (is_whole file n t) t tick (words_from file 17 n) words is in
+    let count : n ≡ length words = sym (length-words_from file 17 n) ∙ ap length parts.3 in
+    let last = both _ (list_all is_word (words_from file 17 n)) parts.1 in
+    let fourth = both _ (nat_le (17 + 8 * n) (length file)) last.0 in
+    let third = both _ (nat_le t 1000000000000000000) fourth.0 in
+    let second = both (nat_le 1 n) (nat_le n 65536) third.0 in
+    record {
+      gate = gate_of file parts.0;
+      cells_is = count;
+      tick_is = parts.2;
+      words_are = ap (words_from file 17) (sym count) ∙ parts.3;
+      some = omega (arith, le_of _ _ second.0, count);
+      most = omega (arith, le_of _ _ second.1, count);
+      small = omega (arith, le_of _ _ third.1, parts.2);
+      room = omega (arith, le_of _ _ fourth.1, count);
+      pass = ap (list_all is_word) (sym parts.3) ∙ last.1;
+    }
+  where
+    gate_of : (file : List ℕ) → is_open file ≡ true → get_or file 0 0 ≡ 1
+    gate_of file pass = grind (arith, nat_tests)
+
+number_spelled : (spelled : (width : ℕ) (bytes : List ℕ) → IsBytes bytes → width ≤ length bytes → number_bytes width (number_of width bytes) ≡ take width bytes)
+    (bytes : List ℕ) (place : ℕ) → IsBytes bytes → place + 8 ≤ length bytes → number_bytes 8 (number_at bytes place) ≡ take 8 (drop place bytes)
+number_spelled spelled bytes place are_bytes room =
+    spelled 8 (drop place bytes) (λ i. subst (λ (x : ℕ). x < 256) (sym (get_or-drop place bytes i 0)) (are_bytes (place + i))) (omega (arith, length-drop place bytes))
+
+-- the bytes of the words that stand in bytes are these, where numbers are read from the bytes that they have
+pub words_spelled : (spelled : (width : ℕ) (bytes : List ℕ) → IsBytes bytes → width ≤ length bytes → number_bytes width (number_of width bytes) ≡ take width bytes)
+    (bytes : List ℕ) (place n : ℕ) → IsBytes bytes → place + 8 * n ≤ length bytes → flat_map (number_bytes 8) (words_from bytes place n) ≡ take (8 * n) (drop place bytes)
+words_spelled spelled bytes place zero are_bytes room = refl
+words_spelled spelled bytes place (suc n) are_bytes room =
+    let more : 8 * suc n ≡ 8 + 8 * n = omega arith in
+    let next : drop 8 (drop place bytes) ≡ drop (place + 8) bytes = drop-drop 8 place bytes in
+    ap (λ (l : List ℕ). l ++ flat_map (number_bytes 8) (words_from bytes (place + 8) n)) (number_spelled spelled bytes place are_bytes (omega arith))
+    ∙ ap (λ (l : List ℕ). take 8 (drop place bytes) ++ l) (words_spelled spelled bytes (place + 8) n are_bytes (omega arith) ∙ ap (take (8 * n)) (sym next))
+    ∙ sym (take-add 8 (8 * n) (drop place bytes))
+    ∙ ap (λ (m : ℕ). take m (drop place bytes)) (sym more)
+
+pub image_spelled : (spelled : (width : ℕ) (bytes : List ℕ) → IsBytes bytes → width ≤ length bytes → number_bytes width (number_of width bytes) ≡ take width bytes)
+    (file : List ℕ) (tick : ℕ) (words : List ℕ) → IsBytes file → OpenFile file tick words → file ≡ image_bytes tick words ++ drop (17 + 8 * length words) file
+image_spelled spelled file tick words are_bytes is =
+    let n = length words in
+    let cells = number_bytes 8 n in
+    let time = number_bytes 8 tick in
+    let body = flat_map (number_bytes 8) words in
+    let rest = drop (17 + 8 * n) file in
+    let gate : file ≡ 1 ∷ drop 1 file = drop_more file 0 0 (omega (arith, is.room)) ∙ ap (λ (b : ℕ). b ∷ drop 1 file) is.gate in
+    let first : drop 1 file ≡ cells ++ drop 9 file = split 1 8 cells (sym (number_spelled spelled file 1 are_bytes (omega (arith, is.room))) ∙ ap (number_bytes 8) is.cells_is) in
+    let second : drop 9 file ≡ time ++ drop 17 file = split 9 8 time (sym (number_spelled spelled file 9 are_bytes (omega (arith, is.room))) ∙ ap (number_bytes 8) is.tick_is) in
+    let third : drop 17 file ≡ body ++ rest = split 17 (8 * n) body (sym (words_spelled spelled file 17 n are_bytes is.room) ∙ ap (flat_map (number_bytes 8)) is.words_are) in
+    gate
+    ∙ ap (λ (l : List ℕ). 1 ∷ l) (first ∙ ap (λ (l : List ℕ). cells ++ l) (second ∙ ap (λ (l : List ℕ). time ++ l) third ∙ sym (append_assoc time body rest)) ∙ sym (append_assoc cells (time ++ body) rest))
+  where
+    split : (place n : ℕ) (part : List ℕ) → take n (drop place file) ≡ part → drop place file ≡ part ++ drop (place + n) file
+    split place n part same =
+        let next : drop n (drop place file) ≡ drop (place + n) file = drop-drop n place file in
+        sym (take-append-drop n (drop place file)) ∙ ap (λ (l : List ℕ). l ++ drop n (drop place file)) same ∙ ap (λ (l : List ℕ). part ++ l) next

@@ -1,0 +1,58 @@
+use Rattle.image_files.proofs.StandsLemmas.{Stepped, kept_at_a, kept_at_b}
+use Rattle.image_files.proofs.keeper.ImageKeeper.step_files.Goals as goal
+
+pub returns-in-A-clause-stands : goal.returns-in-A-clause-stands
+returns-in-A-clause-stands g c honest images stands =
+    let e = c.step.ensures in
+    let old = c.args.self.now in
+    let new = c.step.new.self in
+    let D = g.D.Disk in
+    kept_at_a g.T.Taker.took c.step.result old new c.args.from.now c.step.new.from
+    (D.content c.args.image_a.now) (D.content c.step.new.target) (D.content c.args.image_b.now) (D.content c.step.new.newest)
+    (D.may_leave c.args.image_a.now) (D.may_leave c.step.new.target) (D.may_leave c.args.image_b.now) (D.may_leave c.step.new.newest) images
+    c.in-A.ensures
+    (record {
+      fits = e.fits honest;
+      endures = e.endures honest;
+      opened_image = e.opened honest;
+      took_cell = λ taking. let took = e.took taking in (took.0, took.1, took.2, took.3, took.4 honest);
+      not_took = e.not_took;
+      words = λ not_taking. e.done not_taking honest;
+      goes_on = e.goes_on;
+      takes = e.takes;
+      idle = e.idle;
+      down = e.down;
+      cells = e.cells;
+      ended = e.ended;
+      rests = e.rests;
+      stays = (e.newest honest).0;
+    })
+    stands
+
+pub returns-in-B-clause-stands : goal.returns-in-B-clause-stands
+returns-in-B-clause-stands g c honest images stands =
+    let e = c.step-in-B.ensures in
+    let old = c.args.self.now in
+    let new = c.step-in-B.new.self in
+    let D = g.D.Disk in
+    kept_at_b g.T.Taker.took c.step-in-B.result old new c.args.from.now c.step-in-B.new.from
+    (D.content c.args.image_a.now) (D.content c.step-in-B.new.newest) (D.content c.args.image_b.now) (D.content c.step-in-B.new.target)
+    (D.may_leave c.args.image_a.now) (D.may_leave c.step-in-B.new.newest) (D.may_leave c.args.image_b.now) (D.may_leave c.step-in-B.new.target) images
+    c.in-B.ensures
+    (record {
+      fits = e.fits honest;
+      endures = e.endures honest;
+      opened_image = e.opened honest;
+      took_cell = λ taking. let took = e.took taking in (took.0, took.1, took.2, took.3, took.4 honest);
+      not_took = e.not_took;
+      words = λ not_taking. e.done not_taking honest;
+      goes_on = e.goes_on;
+      takes = e.takes;
+      idle = e.idle;
+      down = e.down;
+      cells = e.cells;
+      ended = e.ended;
+      rests = e.rests;
+      stays = (e.newest honest).0;
+    })
+    stands

@@ -1,0 +1,59 @@
+-- A keeper and image.a and image.b, by their own names.
+use Rattle.std.specs.Prelude.{◌≡◌, ◌≤◌, ℕ, Bool, true, false, Option, Some, None, List, length}
+use Rattle.file_format.specs.declared.slot.Slot.{Slot}
+use Rattle.file_format.specs.Slot.{of_slot, in_slot, beside_slot}
+use Rattle.file_format.specs.Gate.{HasShutGate, HasNoShutGate}
+use Rattle.image_files.specs.Image.{Image, image_of}
+use Rattle.image_files.specs.Image.Image.{Closed, Open}
+use Rattle.image_files.specs.Images.{Images, FirstImages, ImageFiles, NoneYet, Newest}
+use Rattle.image_files.specs.Progress.{Progress, target_of, newest_words, round_of}
+use Rattle.image_files.specs.Keeper.{Fits, Endures}
+
+-- the two files hold what the keeper takes them to hold
+abbrev pub FitsFiles : Progress → (image_a image_b : List ℕ) → Type 0
+FitsFiles keeper image_a image_b = Fits keeper (of_slot (target_of keeper.newest) image_a image_b) (of_slot (target_of keeper.newest) image_b image_a)
+
+-- how the round's target read before it
+abbrev pub before_in : ImageFiles → Image
+before_in (NoneYet images) = Closed
+before_in (Newest images) = images.before
+
+-- the plain data are those of the keeper and its files
+abbrev pub IsHeld : ImageFiles → Progress → (target newest : List ℕ) → Type 0
+IsHeld (NoneYet images) keeper target newest =
+    (keeper.newest ≡ None) × (image_of newest ≡ Closed) × (images.round ≡ round_of keeper target newest)
+IsHeld (Newest images) keeper target newest =
+    (keeper.newest ≡ Some (images.slot, images.tick)) × (images.words ≡ newest_words keeper newest) × (images.round ≡ round_of keeper target newest)
+
+-- The keeper and its two files stand for these images, also after a crash.
+pub record StandsFor (keeper : Progress) (images : ImageFiles) (target newest : List ℕ) (target_outcomes newest_outcomes : List ℕ → Type 0) : Type 0 where
+  pub fits : Fits keeper target newest
+  pub endures : Endures keeper (before_in images) target newest target_outcomes newest_outcomes
+  pub held : IsHeld images keeper target newest
+
+-- the same by the files' names
+abbrev pub Stands : Progress → ImageFiles → (image_a image_b : List ℕ) → (outcomes_a outcomes_b : List ℕ → Type 0) → Type 0
+Stands keeper images image_a image_b outcomes_a outcomes_b =
+    StandsFor keeper images (of_slot (target_of keeper.newest) image_a image_b) (of_slot (target_of keeper.newest) image_b image_a)
+    (in_slot (target_of keeper.newest) outcomes_a outcomes_b) (beside_slot (target_of keeper.newest) outcomes_a outcomes_b)
+
+-- ---- a keeper just made
+
+-- whether a file is shut is told rightly
+pub record TellsShut (shut : Bool) (file : List ℕ) : Type 0 where
+  pub yes : shut ≡ true → HasShutGate file
+  pub no : shut ≡ false → HasNoShutGate file
+
+-- the images that a keeper just made is told of are those in the files
+abbrev pub IsTold : (cells : ℕ) → Option (Slot × ℕ) → ImageFiles → (image_a image_b : List ℕ) → Type 0
+IsTold cells newest (NoneYet images) image_a image_b =
+    (newest ≡ None) × (images.round ≡ None) × (image_of image_a ≡ Closed) × (image_of image_b ≡ Closed)
+IsTold cells newest (Newest images) image_a image_b =
+    (newest ≡ Some (images.slot, images.tick)) × (images.round ≡ None) × (length images.words ≡ cells)
+    × (image_of (of_slot images.slot image_a image_b) ≡ Open images.tick images.words) × (image_of (of_slot images.slot image_b image_a) ≡ images.before)
+
+-- it is told of an image only where its file holds one, of so many words
+abbrev pub HoldsNewest : (cells : ℕ) → Option (Slot × ℕ) → (image_a image_b : List ℕ) → Type 0
+HoldsNewest cells None image_a image_b = Unit {0}
+HoldsNewest cells (Some (slot, tick)) image_a image_b =
+    (words : List ℕ) × (length words ≡ cells) × (image_of (of_slot slot image_a image_b) ≡ Open tick words)

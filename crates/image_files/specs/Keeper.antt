@@ -1,0 +1,59 @@
+-- What a keeper and its two files have in common: the target of the round, and the newest image's file.
+use Rattle.std.specs.Prelude.{◌≡◌, ◌⊎◌, ℕ, ◌+◌, ◌*◌, ◌≤◌, Bool, true, false, IsTrue, IfSome, Some, List, [], length}
+use Rattle.std.specs.List.{list_all}
+use Rattle.disk_model.specs.Disk.{Only}
+use Rattle.disk_model.specs.Gated.{AllShut}
+use Rattle.file_format.specs.Gate.{HasShutGate, HasNoShutGate, HasOpenGate}
+use Rattle.image_files.specs.declared.format.TheConstants.{HEADER_LENGTH, WORD_LENGTH, CELLS_PLACE, TICK_PLACE}
+use Rattle.image_files.specs.declared.phase.Phase.{Phase}
+use Rattle.image_files.specs.declared.phase.Phase.TheVariants.{Idle, Closing, ClosingSync, Header, Taking, Reading, Writing, BodySync, Opening, OpeningSync, Down}
+use Rattle.image_files.specs.Image.{Image, image_of, number_at, words_from, is_word}
+use Rattle.image_files.specs.Images.{IsTarget}
+use Rattle.image_files.specs.Taken.{filled_words}
+use Rattle.image_files.specs.Progress.{Progress, IsInOrder, done, round_so_far}
+
+-- ---- what reads of the files give
+
+-- the header, and the words written so far
+pub record HasBody (keeper : Progress) (file : List ℕ) : Type 0 where
+  pub room : HEADER_LENGTH + WORD_LENGTH * keeper.written ≤ length file
+  pub cells : number_at file CELLS_PLACE ≡ keeper.cells
+  pub tick : number_at file TICK_PLACE ≡ keeper.tick
+  pub words : IsTrue (list_all is_word (words_from file HEADER_LENGTH keeper.written))
+
+-- what the target holds, by phase
+abbrev pub TargetFits : Phase → Progress → List ℕ → Type 0
+TargetFits Idle keeper file = IsTrue keeper.target_shut → HasShutGate file
+TargetFits Closing keeper file = Unit {0}
+TargetFits ClosingSync keeper file = HasShutGate file
+TargetFits Header keeper file = HasShutGate file
+TargetFits OpeningSync keeper file = HasOpenGate file × HasBody keeper file
+TargetFits Down keeper file = Unit {0}
+TargetFits phase keeper file = HasShutGate file × HasBody keeper file
+
+-- The two files hold what the keeper takes them to hold.
+pub record Fits (keeper : Progress) (target newest : List ℕ) : Type 0 where
+  pub in_order : IsInOrder keeper
+  pub image : IfSome keeper.newest (λ image. image_of newest ≡ Image.Open image.1 (words_from newest HEADER_LENGTH keeper.cells))
+  pub newest_shut : IsTrue keeper.newest_shut → HasShutGate newest
+  pub of_target : TargetFits keeper.phase keeper target
+  pub chunk : IsTrue (list_all is_word (filled_words keeper.chunk []))
+
+-- ---- what a crash may leave of them
+
+-- of the target, by phase, where it read so before the round
+abbrev pub TargetEndures : Phase → Progress → (before : Image) → (target newest : List ℕ) → (List ℕ → Type 0) → Type 0
+TargetEndures Idle keeper before target newest outcomes = Only target outcomes × (image_of target ≡ before) × (keeper.target_shut ≡ false → HasNoShutGate target)
+TargetEndures Closing keeper before target newest outcomes = Only target outcomes × (image_of target ≡ before) × HasNoShutGate target
+TargetEndures ClosingSync keeper before target newest outcomes = (left : List ℕ) → outcomes left → (image_of left ≡ before) ⊎ (image_of left ≡ Image.Closed)
+TargetEndures Header keeper before target newest outcomes = Only target outcomes
+TargetEndures Opening keeper before target newest outcomes = Only target outcomes
+TargetEndures OpeningSync keeper before target newest outcomes = (left : List ℕ) → outcomes left → (image_of left ≡ Image.Closed) ⊎ (image_of left ≡ Image.Open keeper.tick (done keeper target newest))
+TargetEndures Down keeper before target newest outcomes = (left : List ℕ) → outcomes left → IsTarget keeper.cells before (Some (round_so_far keeper target newest)) (image_of left)
+TargetEndures phase keeper before target newest outcomes = AllShut outcomes
+
+-- of both: the newest image's file stays as it is
+pub record Endures (keeper : Progress) (before : Image) (target newest : List ℕ) (target_outcomes newest_outcomes : List ℕ → Type 0) : Type 0 where
+  pub newest_stays : Only newest newest_outcomes
+  pub newest_not_shut : keeper.newest_shut ≡ false → HasNoShutGate newest
+  pub of_target : TargetEndures keeper.phase keeper before target newest target_outcomes

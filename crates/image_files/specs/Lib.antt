@@ -1,0 +1,9 @@
+pub mod Image
+pub mod Reading
+pub mod Taken
+pub mod Images
+pub mod Progress
+pub mod View
+pub mod Keeper
+pub mod Steps
+pub mod Files

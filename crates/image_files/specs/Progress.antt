@@ -1,0 +1,160 @@
+-- What contracts see of a keeper.
+use Rattle.std.specs.Prelude.{◌≡◌, ℕ, ◌+◌, ◌-◌, ◌*◌, ◌/◌, ◌<◌, ◌≤◌, min, Bool, true, false, Option, Some, None, is_some, List, [], ◌∷◌, ◌++◌, length, drop, map, nat_lt, if◌then◌else◌, ◌==◌, ◌&&◌}
+use Rattle.world_actions.specs.declared.world.TheConstants.{CELLS}
+use Rattle.world_ticks.specs.declared.tick.TheConstants.{TICK_MAX}
+use Rattle.file_format.specs.declared.slot.Slot.{Slot}
+use Rattle.file_format.specs.declared.slot.Slot.TheVariants.{A}
+use Rattle.file_format.specs.Slot.{other_slot, of_slot}
+use Rattle.capture_core.specs.declared.taker.Taken.{Taken}
+use Rattle.capture_core.specs.declared.taker.Taken.TheVariants.{Word}
+use Rattle.image_files.specs.declared.format.TheConstants.{HEADER_LENGTH, WORD_LENGTH}
+use Rattle.image_files.specs.declared.phase.TheConstants.{CHUNK_CELLS}
+use Rattle.image_files.specs.declared.phase.Phase.{Phase}
+use Rattle.image_files.specs.declared.phase.Phase.TheVariants.{Idle, Closing, ClosingSync, Header, Taking, Reading, Writing, BodySync, Opening, OpeningSync, Down}
+use Rattle.image_files.specs.Image.{words_from}
+use Rattle.image_files.specs.Images.{Round}
+use Rattle.image_files.specs.Taken.{filled_words, has_same}
+
+-- where a keeper is in its round, and what it knows of its two files
+pub record Progress : Type 0 where
+  -- of the world
+  pub cells : ℕ
+  -- the file of the newest image, and its tick
+  pub newest : Option (Slot × ℕ)
+  -- whether the file that the round writes, or the next one will, is known to be shut, and whether the other one is
+  pub target_shut : Bool
+  pub newest_shut : Bool
+  pub phase : Phase
+  -- of the round in work, or of the last one
+  pub tick : ℕ
+  -- how many of its cells stand in the target
+  pub written : ℕ
+  -- the cells taken after them
+  pub chunk : List Taken
+
+-- the file that the round writes, or the next one will
+abbrev pub target_of : Option (Slot × ℕ) → Slot
+target_of None = A
+target_of (Some (slot, tick)) = other_slot slot
+
+-- ---- the words of the round
+
+-- the words of the newest image, in its file
+abbrev pub newest_words : Progress → (newest : List ℕ) → List ℕ
+newest_words keeper newest = if is_some keeper.newest then words_from newest HEADER_LENGTH keeper.cells else []
+
+-- the words taken so far: those that stand in the target, and those of the cells after them
+abbrev pub done : Progress → (target newest : List ℕ) → List ℕ
+done keeper target newest = words_from target HEADER_LENGTH keeper.written ++ filled_words keeper.chunk (drop keeper.written (newest_words keeper newest))
+
+-- the tick of the round in work, and the words taken so far
+abbrev pub round_so_far : Progress → (target newest : List ℕ) → Round
+round_so_far keeper target newest = record { tick = keeper.tick; taken = done keeper target newest }
+
+-- a round is in work in each phase but one
+abbrev pub round_in_phase : Phase → Round → Option Round
+round_in_phase Idle round = None
+round_in_phase phase round = Some round
+
+-- the round in work
+abbrev pub round_of : Progress → (target newest : List ℕ) → Option Round
+round_of keeper target newest = round_in_phase keeper.phase (round_so_far keeper target newest)
+
+-- how many cells of the round are taken
+abbrev pub cells_taken : Progress → ℕ
+cells_taken keeper = keeper.written + length keeper.chunk
+
+-- ---- what is true of every keeper
+
+-- how many cells the chunk in work has in the end
+abbrev pub chunk_size : Progress → ℕ
+chunk_size keeper = min CHUNK_CELLS (keeper.cells - keeper.written)
+
+-- how many cells are written and taken, by phase
+abbrev pub PhaseFits : Phase → Progress → Type 0
+PhaseFits Idle keeper = Unit {0}
+PhaseFits Down keeper = Unit {0}
+PhaseFits Closing keeper = (keeper.written ≡ 0) × (keeper.chunk ≡ [])
+PhaseFits ClosingSync keeper = (keeper.written ≡ 0) × (keeper.chunk ≡ [])
+PhaseFits Header keeper = (keeper.written ≡ 0) × (keeper.chunk ≡ [])
+PhaseFits Taking keeper = length keeper.chunk < chunk_size keeper
+PhaseFits Reading keeper = (length keeper.chunk ≡ chunk_size keeper) × (keeper.written < keeper.cells) × (is_some keeper.newest ≡ true)
+PhaseFits Writing keeper = (length keeper.chunk ≡ chunk_size keeper) × (keeper.written < keeper.cells) × (is_some keeper.newest ≡ true → has_same keeper.chunk ≡ false)
+PhaseFits phase keeper = (keeper.written ≡ keeper.cells) × (keeper.chunk ≡ [])
+
+-- a world's cells, a tick, and no more cells taken than there are
+pub record IsInOrder (keeper : Progress) : Type 0 where
+  pub some : 1 ≤ keeper.cells
+  pub most : keeper.cells ≤ CELLS
+  pub ticks : keeper.tick ≤ TICK_MAX
+  pub within : keeper.written + length keeper.chunk ≤ keeper.cells
+  pub by_phase : PhaseFits keeper.phase keeper
+
+-- ---- the moves that a round can still need
+
+-- how many chunks these cells make
+abbrev pub chunks : ℕ → ℕ
+chunks cells = (cells + (CHUNK_CELLS - 1)) / CHUNK_CELLS
+
+-- by phase: a take each for the cells that are left, and at most a read and a write each for the chunks
+abbrev pub moves_left : Phase → Progress → ℕ
+moves_left Idle keeper = 0
+moves_left Closing keeper = keeper.cells + 2 * chunks keeper.cells + 6
+moves_left ClosingSync keeper = keeper.cells + 2 * chunks keeper.cells + 5
+moves_left Header keeper = keeper.cells + 2 * chunks keeper.cells + 4
+moves_left Taking keeper = keeper.cells - (keeper.written + length keeper.chunk) + 2 * chunks (keeper.cells - keeper.written) + 3
+moves_left Reading keeper = keeper.cells - (keeper.written + length keeper.chunk) + 2 * chunks (keeper.cells - keeper.written) + 3
+moves_left Writing keeper = keeper.cells - (keeper.written + length keeper.chunk) + 2 * chunks (keeper.cells - keeper.written) + 2
+moves_left BodySync keeper = 3
+moves_left Opening keeper = 2
+moves_left OpeningSync keeper = 1
+moves_left Down keeper = 0
+
+-- of a keeper
+abbrev pub left_of : Progress → ℕ
+left_of keeper = moves_left keeper.phase keeper
+
+-- ---- how a keeper changes
+
+-- a keeper just made, which knows of image.a and of image.b whether they are shut
+abbrev pub made_keeper : ℕ → Option (Slot × ℕ) → (shut_a shut_b : Bool) → Progress
+made_keeper cells newest shut_a shut_b = record {
+  cells = cells;
+  newest = newest;
+  target_shut = of_slot (target_of newest) shut_a shut_b;
+  newest_shut = of_slot (target_of newest) shut_b shut_a;
+  phase = Idle;
+  tick = 0;
+  written = 0;
+  chunk = [];
+}
+
+-- a round begins
+abbrev pub begun_keeper : ℕ → Progress → Progress
+begun_keeper tick keeper = record keeper { phase = (if keeper.target_shut then Header else Closing); tick = tick; written = 0; chunk = [] }
+
+-- what follows a take, with these cells in the chunk
+abbrev pub after_take : Progress → List Taken → Phase
+after_take keeper chunk =
+    if nat_lt (length chunk) (chunk_size keeper) then Taking else (if is_some keeper.newest && has_same chunk then Reading else Writing)
+
+-- a cell is taken
+abbrev pub with_taken_cell : Taken → Progress → Progress
+with_taken_cell cell keeper = record keeper { chunk = keeper.chunk ++ cell ∷ []; phase = after_take keeper (keeper.chunk ++ cell ∷ []) }
+
+-- the cells of the chunk in work, each with its word, where the newest image has these
+abbrev pub read_cells : Progress → (newest : List ℕ) → List Taken
+read_cells keeper newest =
+    map (λ word. Word word) (filled_words keeper.chunk (words_from newest (HEADER_LENGTH + WORD_LENGTH * keeper.written) (length keeper.chunk)))
+
+-- what follows the write of a chunk
+abbrev pub after_chunk : Progress → Phase
+after_chunk keeper = if keeper.written + length keeper.chunk == keeper.cells then BodySync else Taking
+
+-- the chunk in work is written
+abbrev pub with_chunk_written : Progress → Progress
+with_chunk_written keeper = record keeper { phase = after_chunk keeper; chunk = []; written = keeper.written + length keeper.chunk }
+
+-- the image of the round is opened: it is the newest one, and the files change their parts
+abbrev pub opened_keeper : Progress → Progress
+opened_keeper keeper = record keeper { phase = Idle; newest = Some (target_of keeper.newest, keeper.tick); target_shut = keeper.newest_shut; newest_shut = false }

@@ -1,0 +1,49 @@
+ghost use Rattle.std.specs.Prelude.{◌≡◌, ◌*◌, ◌<◌, ◌≤◌, ◌⊎◌, ◌↔◌, ◌++◌, ℕ, List, length, take};
+ghost use Rattle.world_actions.specs.World.{IsWorld};
+ghost use Rattle.world_ticks.specs.declared.tick.TheConstants.{TICK_MAX};
+ghost use Rattle.file_format.specs.Gate.{HasOpenGate};
+ghost use Rattle.file_format.specs.Number.{IsBytes, number_bytes};
+ghost use Rattle.image_files.specs.Image.{Image, image_of, image_bytes};
+
+use byteorder::{ByteOrder, LittleEndian};
+use file_format::numbers_read_back;
+
+/// Where the number of cells stands, behind the gate.
+pub const CELLS_PLACE: usize = 1;
+
+/// Where the tick stands.
+pub const TICK_PLACE: usize = 9;
+
+/// The length of gate, number of cells and tick. The words follow.
+pub const HEADER_LENGTH: usize = 17;
+
+/// The bytes of a word, and of each other number of an image.
+pub const WORD_LENGTH: usize = 8;
+
+/// Laws: the bytes of an image are read back, whatever follows; an open file begins with the bytes of
+/// its image, which is of a world; and a file is closed where no whole header follows an open gate.
+#[tactic(auto, unfolding(crate::specs::Image::image_of))]
+pub fn images_read_back()
+    ensures read { (tick : ℕ) (words rest : List ℕ) → tick ≤ TICK_MAX → IsWorld words
+        → image_of (image_bytes tick words ++ rest) ≡ Image.Open tick words }
+    ensures spelled { (bytes : List ℕ) (tick : ℕ) (words : List ℕ) → IsBytes bytes
+        → image_of bytes ≡ Image.Open tick words
+        → (rest : List ℕ) × (bytes ≡ image_bytes tick words ++ rest) }
+    ensures bounds { (bytes : List ℕ) (tick : ℕ) (words : List ℕ)
+        → image_of bytes ≡ Image.Open tick words → (tick ≤ TICK_MAX) × IsWorld words }
+    ensures closed { (bytes : List ℕ) → (image_of bytes ≡ Image.Closed)
+        ↔ ((length bytes < HEADER_LENGTH) ⊎ ¬ HasOpenGate bytes) }
+{
+    numbers_read_back();
+}
+
+/// Writes the number of cells and the tick to the front of a buffer.
+#[tactic(auto, unfolding(file_format::specs::Number::number_bytes))]
+pub fn encode_header(buffer: &mut [u8], cells: u64, tick: u64)
+    requires { 2 * WORD_LENGTH ≤ length buffer.old }
+    ensures { take (2 * WORD_LENGTH) buffer.new
+        ≡ number_bytes WORD_LENGTH cells ++ number_bytes WORD_LENGTH tick }
+{
+    LittleEndian::write_u64(buffer, cells);
+    LittleEndian::write_u64(&mut buffer[WORD_LENGTH..], tick);
+}

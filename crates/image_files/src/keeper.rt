@@ -1,0 +1,326 @@
+ghost use Rattle.std.specs.Prelude.{◌≡◌, ◌+◌, ◌≤◌, ◌<◌, ◌⊎◌, ◌↔◌, ℕ, List, [], false, get_or, IsTrue, OnOk, OnErr, IfOk, IfErr, IfNone, Option, Some, None, ⊤};
+ghost use Rattle.world_actions.specs.declared.world.TheConstants.{CELLS};
+ghost use Rattle.world_ticks.specs.declared.tick.TheConstants.{TICK_MAX};
+ghost use Rattle.disk_model.specs.Disk.{Within};
+ghost use Rattle.capture_core.specs.declared.taker.Taken.{Taken};
+ghost use Rattle.image_files.specs.declared.phase.Phase.TheVariants.{Idle, Taking, Down};
+ghost use Rattle.image_files.specs.Image.{Image, image_of};
+ghost use Rattle.image_files.specs.Images.{ImageFiles, StepsImages};
+ghost use Rattle.image_files.specs.Progress.{target_of, done, cells_taken, left_of, made_keeper, begun_keeper, opened_keeper};
+ghost use Rattle.image_files.specs.Keeper.{Fits, Endures};
+ghost use Rattle.image_files.specs.Files.{FitsFiles, Stands};
+ghost use Rattle.image_files.specs.Steps.{IfOpened, OnOpened, OnWorking, TookCell, TookWord, CallsIn, CallsOnce, HasCause, IsOpenedImage};
+
+use crate::format::WORD_LENGTH;
+use crate::phase::{CHUNK_CELLS, ImageAnswer, Phase};
+use capture_core::{Taken, Taker};
+use disk_model::Disk;
+use file_format::Slot;
+use std::alloc::Global;
+use std::marker::Model;
+use world_actions::Refusal;
+
+mod body;
+mod closing;
+mod opening;
+
+/// Writes the image of a round, a take or a call of a device at a time.
+#[derive(Drop)]
+pub struct ImageKeeper {
+    cells: usize,
+    newest: Option<(Slot, u64)>,
+    target_shut: bool,
+    newest_shut: bool,
+    phase: Phase,
+    tick: u64,
+    written: usize,
+    chunk: Vec<Taken>,
+    buffer: Vec<u8>,
+}
+
+impl Model for ImageKeeper {
+    ghost use Rattle.image_files.specs.Progress.{Progress};
+
+    ghost Value = { Progress };
+
+    ghost use Rattle.image_files.specs.View.{progress_of, IsReady};
+
+    ghost view = { progress_of };
+
+    ghost invariant = { IsReady };
+}
+
+impl ImageKeeper {
+    /// A keeper of two files for worlds of so many cells, with no round in work. It reserves all
+    /// that it ever uses. `shut` tells of image.a and image.b whether they are known to be shut.
+    pub fn new(
+        alloc: Global,
+        cells: u32,
+        newest: Option<(Slot, u64)>,
+        shut: [bool; 2],
+    ) -> Result<Self, Refusal>
+        requires some_cells { 1 ≤ cells }
+        requires most_cells { cells ≤ CELLS }
+        ensures made { IfOk result (λ keeper.
+            keeper ≡ made_keeper cells newest (get_or shut 0 false) (get_or shut 1 false)) }
+        ensures memory { IfErr result (λ refusal. refusal ≡ Refusal.NoMemory) }
+    {
+        let chunk = Vec::with_capacity(alloc, CHUNK_CELLS)?;
+        let buffer = vec![in alloc; 0; CHUNK_CELLS * WORD_LENGTH]?;
+        let [shut_a, shut_b] = shut;
+        let (target_shut, newest_shut) = match target_beside(newest) {
+            Slot::A => (shut_a, shut_b),
+            Slot::B => (shut_b, shut_a),
+        };
+        Ok(ImageKeeper {
+            cells: cells as usize,
+            newest,
+            target_shut,
+            newest_shut,
+            phase: Phase::Idle,
+            tick: 0,
+            written: 0,
+            chunk,
+            buffer,
+        })
+    }
+
+    /// The file that the round writes, or the next one will.
+    pub fn target(&self) -> Slot
+        ensures { result ≡ target_of self.now.newest }
+    {
+        target_beside(self.newest)
+    }
+
+    /// The file of the newest image, and its tick.
+    pub fn newest(&self) -> Option<(Slot, u64)>
+        ensures { result ≡ self.now.newest }
+    {
+        self.newest
+    }
+
+    /// How many moves the round can still need, 0 where none is in work or the keeper is down.
+    pub fn left(&self) -> u64
+        ensures { result ≡ left_of self.now }
+    {
+        let cells = self.cells as u64;
+        let rest = cells - (self.written + self.chunk.len()) as u64;
+        let chunks = (self.cells - self.written).div_ceil(CHUNK_CELLS) as u64;
+        let all_chunks = self.cells.div_ceil(CHUNK_CELLS) as u64;
+        match self.phase {
+            Phase::Idle | Phase::Down => 0,
+            Phase::Closing => cells + 2 * all_chunks + 6,
+            Phase::ClosingSync => cells + 2 * all_chunks + 5,
+            Phase::Header => cells + 2 * all_chunks + 4,
+            Phase::Taking | Phase::Reading => rest + 2 * chunks + 3,
+            Phase::Writing => rest + 2 * chunks + 2,
+            Phase::BodySync => 3,
+            Phase::Opening => 2,
+            Phase::OpeningSync => 1,
+        }
+    }
+
+    /// Whether a call of a device failed.
+    pub fn is_down(&self) -> bool
+        ensures { IsTrue result ↔ (self.now.phase ≡ Down) }
+    {
+        self.phase == Phase::Down
+    }
+
+    /// Whether a round is in work, also one in which the keeper went down.
+    pub fn has_open_round(&self) -> bool
+        ensures { IsTrue result ↔ (self.now.phase ≡ Idle → ⊥) }
+    {
+        self.phase != Phase::Idle
+    }
+
+    /// Begins a round.
+    pub fn begin(&mut self, tick: u64)
+        requires idle { self.old.phase ≡ Idle }
+        requires most { tick ≤ TICK_MAX }
+        ensures begun { self.new ≡ begun_keeper tick self.old }
+        ensures done { (target newest : List ℕ) → done self.new target newest ≡ [] }
+        ensures fits { (target newest : List ℕ) → Fits self.old target newest
+            → Fits self.new target newest }
+    {
+        self.chunk.clear();
+        self.written = 0;
+        self.tick = tick;
+        self.phase = if self.target_shut {
+            Phase::Header
+        } else {
+            Phase::Closing
+        };
+    }
+
+    /// One take, or at most one call of a device. `target` and `newest` are the keeper's own two
+    /// files, which nothing else changes: the one that the round writes, and the other, which holds
+    /// the newest image once there is one.
+    #[tactic(auto, unfolding(crate::specs::Image::image_of))]
+    pub fn step<T: Taker, D: Disk>(
+        &mut self,
+        from: &mut T,
+        target: &mut D,
+        newest: &mut D,
+    ) -> ImageAnswer
+        requires fits { IsTrue D.honest
+            → Fits self.old (D.content target.old) (D.content newest.old) }
+
+        // So the next step may be made. An opened image is the newest one, and its file that one's.
+        ensures fits { IsTrue D.honest → IfOpened result
+            (Fits self.new (D.content newest.new) (D.content target.new))
+            (Fits self.new (D.content target.new) (D.content newest.new)) }
+        ensures endures { IsTrue D.honest → (before : Image)
+            → Endures self.old before (D.content target.old) (D.content newest.old)
+            (D.may_leave target.old) (D.may_leave newest.old)
+            → IfOpened result
+            (Endures self.new (image_of (D.content newest.new)) (D.content newest.new)
+            (D.content target.new) (D.may_leave newest.new) (D.may_leave target.new))
+            (Endures self.new before (D.content target.new) (D.content newest.new)
+            (D.may_leave target.new) (D.may_leave newest.new)) }
+
+        ensures opened { IsTrue D.honest → OnOpened result (IsOpenedImage self.old
+            (done self.old (D.content target.old) (D.content newest.old))
+            (D.content target.new) (D.may_leave target.new)) }
+
+        // A step takes a cell, whose word is then done, or leaves the taker and the words.
+        ensures took { self.old.phase ≡ Taking → (cell : Option Taken)
+            × T.took from.old cell from.new × IfNone cell (from.new ≡ from.old) × TookCell cell self.old self.new
+            × (IsTrue D.honest → TookWord cell self.old (D.content newest.old)
+            (done self.old (D.content target.old) (D.content newest.old))
+            (done self.new (D.content target.new) (D.content newest.new))) }
+        ensures not_took { (self.old.phase ≡ Taking → ⊥) → from.new ≡ from.old }
+        ensures done { (self.old.phase ≡ Taking → ⊥) → IsTrue D.honest → IfOpened result ⊤
+            (done self.new (D.content target.new) (D.content newest.new)
+            ≡ done self.old (D.content target.old) (D.content newest.old)) }
+        ensures counted { (self.old.phase ≡ Taking → ⊥) → IfOpened result
+            (cells_taken self.old ≡ self.old.cells) (cells_taken self.new ≡ cells_taken self.old) }
+
+        // It goes on, but where a take gave no cell.
+        ensures working { OnWorking result ((left_of self.new < left_of self.old)
+            ⊎ ((self.old.phase ≡ Taking) × (cells_taken self.old < self.old.cells)
+            × T.took from.old None from.new × (from.new ≡ from.old) × (self.new ≡ self.old))) }
+        ensures goes_on { OnWorking result (self.new.phase ≡ Idle → ⊥) }
+        ensures takes { self.old.phase ≡ Taking → result ≡ ImageAnswer.Working }
+        ensures idle { (result ≡ ImageAnswer.Idle) ↔ (self.old.phase ≡ Idle) }
+        ensures down { (result ≡ ImageAnswer.Down) ↔ (self.new.phase ≡ Down) }
+
+        // Nothing else of the round changes, and an opened image ends it.
+        ensures cells { self.new.cells ≡ self.old.cells }
+        ensures ended { IfOpened result (self.new ≡ opened_keeper self.old)
+            ((self.new.tick ≡ self.old.tick) × (self.new.newest ≡ self.old.newest)) }
+        ensures rests { (self.old.phase ≡ Idle) ⊎ (self.old.phase ≡ Down) → self.new ≡ self.old }
+
+        ensures calls { CallsIn self.old.phase D.called
+            target.old target.new newest.old newest.new }
+        ensures cause { HasCause result self.old.phase (D.faults target.old) (D.faults target.new)
+            (D.faults newest.old) (D.faults newest.new) }
+
+        // No step writes to the newest image's file.
+        ensures newest { IsTrue D.honest → (D.content newest.new ≡ D.content newest.old)
+            × Within (D.may_leave newest.old) (D.may_leave newest.new) }
+    {
+        match self.phase {
+            Phase::Idle => ImageAnswer::Idle,
+            Phase::Closing => answer(self.close(target)),
+            Phase::ClosingSync => answer(self.close_durably(target)),
+            Phase::Header => answer(self.write_header(target)),
+            Phase::Taking => {
+                self.take_cell(from);
+                ImageAnswer::Working
+            }
+            Phase::Reading => answer(self.read_chunk(newest)),
+            Phase::Writing => answer(self.write_chunk(target)),
+            Phase::BodySync => answer(self.sync_body(target)),
+            Phase::Opening => answer(self.open_gate(target)),
+            Phase::OpeningSync => match self.finish(target) {
+                Ok(tick) => ImageAnswer::Opened(tick),
+                Err(_) => ImageAnswer::Down,
+            },
+            Phase::Down => ImageAnswer::Down,
+        }
+    }
+
+    /// `step` on the keeper's two files by their names.
+    pub fn step_files<T: Taker, D: Disk>(
+        &mut self,
+        from: &mut T,
+        image_a: &mut D,
+        image_b: &mut D,
+    ) -> ImageAnswer
+        requires fits { IsTrue D.honest
+            → FitsFiles self.old (D.content image_a.old) (D.content image_b.old) }
+
+        ensures fits { IsTrue D.honest
+            → FitsFiles self.new (D.content image_a.new) (D.content image_b.new) }
+        // What the keeper and its files stand for goes on by takes and openings.
+        ensures stands { IsTrue D.honest → (images : ImageFiles)
+            → Stands self.old images (D.content image_a.old) (D.content image_b.old)
+            (D.may_leave image_a.old) (D.may_leave image_b.old)
+            → (next : ImageFiles)
+            × Stands self.new next (D.content image_a.new) (D.content image_b.new)
+            (D.may_leave image_a.new) (D.may_leave image_b.new)
+            × StepsImages T.took self.old.cells images result next from.old from.new }
+
+        // A cell is taken, or none, whatever the disks are.
+        ensures taken { ((from.new ≡ from.old)
+            × IfOpened result ⊤ (cells_taken self.new ≡ cells_taken self.old))
+            ⊎ ((cell : Taken) × T.took from.old (Some cell) from.new
+            × (cells_taken self.new ≡ cells_taken self.old + 1)) }
+        ensures all_taken { IfOpened result (cells_taken self.old ≡ self.old.cells) ⊤ }
+
+        // It goes on, but where a take gave no cell with cells still to be taken.
+        ensures working { OnWorking result ((left_of self.new < left_of self.old)
+            ⊎ ((cells_taken self.old < self.old.cells) × T.took from.old None from.new
+            × (from.new ≡ from.old) × (self.new ≡ self.old))) }
+        ensures goes_on { OnWorking result (self.new.phase ≡ Idle → ⊥) }
+        ensures idle { (result ≡ ImageAnswer.Idle) ↔ (self.old.phase ≡ Idle) }
+        ensures down { (result ≡ ImageAnswer.Down) ↔ (self.new.phase ≡ Down) }
+
+        ensures cells { self.new.cells ≡ self.old.cells }
+        ensures ended { IfOpened result (self.new ≡ opened_keeper self.old)
+            ((self.new.tick ≡ self.old.tick) × (self.new.newest ≡ self.old.newest)) }
+        ensures rests { (self.old.phase ≡ Idle) ⊎ (self.old.phase ≡ Down)
+            → (self.new ≡ self.old) × (image_a.new ≡ image_a.old) × (image_b.new ≡ image_b.old) }
+
+        ensures calls { CallsOnce D.called image_a.old image_a.new image_b.old image_b.new }
+        ensures cause { HasCause result self.old.phase (D.faults image_a.old) (D.faults image_a.new)
+            (D.faults image_b.old) (D.faults image_b.new) }
+    {
+        match self.target() {
+            Slot::A => self.step(from, image_a, image_b),
+            Slot::B => self.step(from, image_b, image_a),
+        }
+    }
+}
+
+impl ImageKeeper {
+    fn go_down(&mut self)
+        ensures { self.new ≡ record self.old { phase = Down } }
+    {
+        self.phase = Phase::Down;
+    }
+}
+
+fn answer(outcome: Result<(), Refusal>) -> ImageAnswer
+    ensures ok { OnOk outcome (result ≡ ImageAnswer.Working) }
+    ensures err { OnErr outcome (result ≡ ImageAnswer.Down) }
+{
+    match outcome {
+        Ok(()) => ImageAnswer::Working,
+        Err(_) => ImageAnswer::Down,
+    }
+}
+
+// The file that is not the newest image's.
+fn target_beside(newest: Option<(Slot, u64)>) -> Slot
+    ensures { result ≡ target_of newest }
+{
+    match newest {
+        None => Slot::A,
+        Some((slot, _)) => slot.other(),
+    }
+}
+
+#[cfg(test)]
+mod tests;

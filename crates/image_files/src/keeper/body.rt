@@ -1,0 +1,235 @@
+ghost use Rattle.std.specs.Prelude.{◌≡◌, ◌+◌, ◌*◌, ◌≤◌, ◌<◌, ℕ, List, [], length, take, drop, IsTrue, OnOk, OnErr, IfNone, Option, Some};
+ghost use Rattle.std.specs.List.{flat_map};
+ghost use Rattle.disk_model.specs.Disk.{counted, Within, Torn, Follows, overwritten};
+ghost use Rattle.file_format.specs.Number.{number_bytes};
+ghost use Rattle.file_format.specs.Gate.{HasShutGate};
+ghost use Rattle.capture_core.specs.declared.taker.Taken.{Taken};
+ghost use Rattle.capture_core.specs.Taken.{IsTakenWord};
+ghost use Rattle.image_files.specs.declared.phase.Phase.TheVariants.{Header, Taking, Reading, Writing, BodySync, Opening, Down};
+ghost use Rattle.image_files.specs.Taken.{filled_words};
+ghost use Rattle.image_files.specs.Progress.{left_of, done, with_chunk_written, read_cells};
+ghost use Rattle.image_files.specs.Keeper.{Fits};
+ghost use Rattle.image_files.specs.Steps.{TookCell, KeepsFits, KeepsWords, KeepsOutcomes};
+
+use super::ImageKeeper;
+use crate::chunk::{any_same, encode, fill};
+use crate::format::{CELLS_PLACE, HEADER_LENGTH, WORD_LENGTH, encode_header};
+use crate::phase::{CHUNK_CELLS, Phase};
+use capture_core::{Taken, Taker};
+use disk_model::Disk;
+use world_actions::Refusal;
+
+// The header and the words of the target, behind its closed gate.
+impl ImageKeeper {
+    // Writes the number of cells and the tick.
+    #[tactic(auto, unfolding(crate::specs::Image::image_of))]
+    pub(super) fn write_header<D: Disk>(&mut self, target: &mut D) -> Result<(), Refusal>
+        requires phase { self.old.phase ≡ Header }
+        requires gate { IsTrue D.honest → HasShutGate (D.content target.old) }
+        ensures ok { OnOk result (self.new ≡ record self.old { phase = Taking }) }
+        ensures failed { OnErr result (self.new ≡ record self.old { phase = Down }) }
+        ensures fits { IsTrue D.honest
+            → KeepsFits self.old self.new (D.content target.old) (D.content target.new) }
+        ensures done { IsTrue D.honest
+            → KeepsWords self.old self.new (D.content target.old) (D.content target.new) }
+        ensures endures { IsTrue D.honest
+            → KeepsOutcomes self.old self.new (D.content target.old) (D.content target.new)
+            (D.may_leave target.old) (D.may_leave target.new) }
+        ensures lowers { OnOk result (left_of self.new < left_of self.old) }
+        ensures faults { D.faults target.new ≡ counted (D.faults target.old) result }
+        ensures called { D.called target.old target.new }
+    {
+        encode_header(&mut self.buffer, self.cells as u64, self.tick);
+        if let Err(refusal) = target.write_at(CELLS_PLACE as u64, &self.buffer[..2 * WORD_LENGTH]) {
+            self.go_down();
+            return Err(refusal);
+        }
+        self.phase = Phase::Taking;
+        Ok(())
+    }
+
+    // Takes the next cell.
+    pub(super) fn take_cell<T: Taker>(&mut self, from: &mut T)
+        requires phase { self.old.phase ≡ Taking }
+        ensures took { (cell : Option Taken) × T.took from.old cell from.new
+            × IfNone cell (from.new ≡ from.old) × TookCell cell self.old self.new }
+    {
+        if let Some(cell) = from.take() {
+            self.keep(cell);
+        }
+    }
+
+    fn keep(&mut self, cell: Taken)
+        requires phase { self.old.phase ≡ Taking }
+        requires limit { IsTakenWord cell }
+        ensures { TookCell (Some cell) self.old self.new }
+    {
+        let size = CHUNK_CELLS.min(self.cells - self.written);
+        let has_newest = self.newest.is_some();
+        let _ = self.chunk.push(cell);
+        self.phase = if self.chunk.len() < size {
+            Phase::Taking
+        } else if has_newest && any_same(&self.chunk) {
+            Phase::Reading
+        } else {
+            Phase::Writing
+        };
+    }
+
+    // Reads the newest image's words of the chunk in work, and puts them in the place of the cells
+    // whose words are these.
+    pub(super) fn read_chunk<D: Disk>(&mut self, newest: &mut D) -> Result<(), Refusal>
+        requires phase { self.old.phase ≡ Reading }
+        requires image { IsTrue D.honest
+            → (target : List ℕ) × Fits self.old target (D.content newest.old) }
+        ensures ok { OnOk result ((chunk : List Taken)
+            × (self.new ≡ record self.old { phase = Writing; chunk = chunk })
+            × (length chunk ≡ length self.old.chunk)) }
+        ensures failed { OnErr result (self.new ≡ record self.old { phase = Down }) }
+        ensures fits { IsTrue D.honest → (target : List ℕ)
+            → Fits self.old target (D.content newest.old)
+            → Fits self.new target (D.content newest.new) }
+        ensures done { IsTrue D.honest → (target : List ℕ)
+            → Fits self.old target (D.content newest.old)
+            → done self.new target (D.content newest.new)
+            ≡ done self.old target (D.content newest.old) }
+        ensures content { IsTrue D.honest → D.content newest.new ≡ D.content newest.old }
+        ensures crash { IsTrue D.honest → Within (D.may_leave newest.old) (D.may_leave newest.new) }
+        ensures lowers { OnOk result (left_of self.new < left_of self.old) }
+        ensures faults { D.faults newest.new ≡ counted (D.faults newest.old) result }
+        ensures called { D.called newest.old newest.new }
+    {
+        self.get_chunk(newest)?;
+        Ok(())
+    }
+
+    fn get_chunk<D: Disk>(&mut self, newest: &mut D) -> Result<(), Refusal>
+        requires phase { self.old.phase ≡ Reading }
+        requires room { IsTrue D.honest
+            → HEADER_LENGTH + WORD_LENGTH * self.old.cells ≤ length (D.content newest.old) }
+        ensures failed { OnErr result (self.new ≡ record self.old { phase = Down }) }
+        ensures ok { OnOk result ((chunk : List Taken)
+            × (self.new ≡ record self.old { phase = Writing; chunk = chunk })
+            × (length chunk ≡ length self.old.chunk)
+            × (IsTrue D.honest → chunk ≡ read_cells self.old (D.content newest.old))) }
+        ensures content { IsTrue D.honest → D.content newest.new ≡ D.content newest.old }
+        ensures crash { IsTrue D.honest → Within (D.may_leave newest.old) (D.may_leave newest.new) }
+        ensures lowers { OnOk result (left_of self.new < left_of self.old) }
+        ensures faults { D.faults newest.new ≡ counted (D.faults newest.old) result }
+        ensures called { D.called newest.old newest.new }
+    {
+        let place = HEADER_LENGTH + WORD_LENGTH * self.written;
+        let length = WORD_LENGTH * self.chunk.len();
+        if let Err(refusal) = read_front(newest, place as u64, &mut self.buffer, length) {
+            self.go_down();
+            return Err(refusal);
+        }
+        fill(&mut self.chunk, &self.buffer);
+        self.phase = Phase::Writing;
+        Ok(())
+    }
+
+    // Writes the chunk in work.
+    pub(super) fn write_chunk<D: Disk>(&mut self, target: &mut D) -> Result<(), Refusal>
+        requires phase { self.old.phase ≡ Writing }
+        requires room { IsTrue D.honest
+            → HEADER_LENGTH + WORD_LENGTH * self.old.written ≤ length (D.content target.old) }
+        ensures ok { OnOk result (self.new ≡ with_chunk_written self.old) }
+        ensures failed { OnErr result (self.new ≡ record self.old { phase = Down }) }
+        ensures fits { IsTrue D.honest
+            → KeepsFits self.old self.new (D.content target.old) (D.content target.new) }
+        ensures done { IsTrue D.honest
+            → KeepsWords self.old self.new (D.content target.old) (D.content target.new) }
+        ensures endures { IsTrue D.honest
+            → KeepsOutcomes self.old self.new (D.content target.old) (D.content target.new)
+            (D.may_leave target.old) (D.may_leave target.new) }
+        ensures lowers { OnOk result (left_of self.new < left_of self.old) }
+        ensures faults { D.faults target.new ≡ counted (D.faults target.old) result }
+        ensures called { D.called target.old target.new }
+    {
+        self.put_chunk(target)?;
+        Ok(())
+    }
+
+    fn put_chunk<D: Disk>(&mut self, target: &mut D) -> Result<(), Refusal>
+        requires phase { self.old.phase ≡ Writing }
+        requires room { IsTrue D.honest
+            → HEADER_LENGTH + WORD_LENGTH * self.old.written ≤ length (D.content target.old) }
+        ensures ok { OnOk result (self.new ≡ with_chunk_written self.old) }
+        ensures failed { OnErr result (self.new ≡ record self.old { phase = Down }) }
+        ensures written { IsTrue D.honest → OnOk result (D.content target.new
+            ≡ overwritten (D.content target.old) (HEADER_LENGTH + WORD_LENGTH * self.old.written)
+            (flat_map (number_bytes WORD_LENGTH) (filled_words self.old.chunk []))) }
+        ensures torn { IsTrue D.honest → OnErr result
+            (Torn (HEADER_LENGTH + WORD_LENGTH * self.old.written)
+            (WORD_LENGTH * length self.old.chunk)
+            (D.content target.old) (D.content target.new)) }
+        ensures crash { IsTrue D.honest
+            → Follows (Torn (HEADER_LENGTH + WORD_LENGTH * self.old.written)
+            (WORD_LENGTH * length self.old.chunk))
+            (D.may_leave target.old) (D.may_leave target.new) }
+        ensures lowers { OnOk result (left_of self.new < left_of self.old) }
+        ensures faults { D.faults target.new ≡ counted (D.faults target.old) result }
+        ensures called { D.called target.old target.new }
+    {
+        let place = HEADER_LENGTH + WORD_LENGTH * self.written;
+        let count = self.chunk.len();
+        encode(&mut self.buffer, &self.chunk);
+        if let Err(refusal) = target.write_at(place as u64, &self.buffer[..WORD_LENGTH * count]) {
+            self.go_down();
+            return Err(refusal);
+        }
+        self.chunk.clear();
+        self.phase = if self.written + count == self.cells {
+            Phase::BodySync
+        } else {
+            Phase::Taking
+        };
+        self.written += count;
+        Ok(())
+    }
+
+    // Makes header and words durable.
+    #[tactic(auto, unfolding(crate::specs::Image::image_of))]
+    pub(super) fn sync_body<D: Disk>(&mut self, target: &mut D) -> Result<(), Refusal>
+        requires phase { self.old.phase ≡ BodySync }
+        ensures ok { OnOk result (self.new ≡ record self.old { phase = Opening }) }
+        ensures failed { OnErr result (self.new ≡ record self.old { phase = Down }) }
+        ensures fits { IsTrue D.honest
+            → KeepsFits self.old self.new (D.content target.old) (D.content target.new) }
+        ensures done { IsTrue D.honest
+            → KeepsWords self.old self.new (D.content target.old) (D.content target.new) }
+        ensures endures { IsTrue D.honest
+            → KeepsOutcomes self.old self.new (D.content target.old) (D.content target.new)
+            (D.may_leave target.old) (D.may_leave target.new) }
+        ensures lowers { OnOk result (left_of self.new < left_of self.old) }
+        ensures faults { D.faults target.new ≡ counted (D.faults target.old) result }
+        ensures called { D.called target.old target.new }
+    {
+        if let Err(refusal) = target.sync() {
+            self.go_down();
+            return Err(refusal);
+        }
+        self.phase = Phase::Opening;
+        Ok(())
+    }
+}
+
+// Reads so many bytes to the front of a buffer.
+fn read_front<D: Disk>(
+    disk: &mut D,
+    at: u64,
+    buffer: &mut [u8],
+    count: usize,
+) -> Result<(), Refusal>
+    requires room { count ≤ length buffer.old }
+    requires inside { IsTrue D.honest → at + count ≤ length (D.content disk.old) }
+    ensures read { IsTrue D.honest
+        → OnOk result (take count buffer.new ≡ take count (drop at (D.content disk.old))) }
+    ensures content { IsTrue D.honest → D.content disk.new ≡ D.content disk.old }
+    ensures crash { IsTrue D.honest → Within (D.may_leave disk.old) (D.may_leave disk.new) }
+    ensures faults { D.faults disk.new ≡ counted (D.faults disk.old) result }
+    ensures called { D.called disk.old disk.new }
+{
+    disk.read_at(at, &mut buffer[..count])
+}

@@ -1,0 +1,25 @@
+//! Images of a world in files.
+//!
+//! An image file has a gate, the number of cells, a tick, and the words of that tick. `read_image`
+//! reads any bytes: a file is closed, or is open and has one tick's words, or is damaged.
+//!
+//! `ImageKeeper` writes the image of each round into one of two files while the other keeps the newest
+//! one. It closes its target, writes the words behind the closed gate, makes them durable, and opens the
+//! gate last. So whatever a crash leaves, the newest image is there, and the target is what it was, is
+//! closed, or is the whole image of the round. `images_stay` gives that as plain data; the words of a
+//! round are those that a `Taker` handed out, and the newest image's where it handed out none.
+#![tactic(auto)]
+
+mod chunk;
+mod format;
+mod keeper;
+mod laws;
+mod phase;
+mod reader;
+
+pub use file_format::{Slot, is_shut};
+pub use format::{CELLS_PLACE, HEADER_LENGTH, TICK_PLACE, WORD_LENGTH, images_read_back};
+pub use keeper::ImageKeeper;
+pub use laws::{images_stay, keepers_endure};
+pub use phase::{CHUNK_CELLS, ImageAnswer, Phase};
+pub use reader::{ImageState, read_image};

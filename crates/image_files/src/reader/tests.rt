@@ -1,0 +1,83 @@
+use super::*;
+use crate::is_shut;
+use std::test::Fail;
+
+const ONE: [u8; 8] = [1, 0, 0, 0, 0, 0, 0, 0];
+
+const NOTHING: [u8; 8] = [0; 8];
+
+// LIMIT + 1 as a word, TICK_MAX as a tick.
+const MUCH: [u8; 8] = [0x00, 0x00, 0x64, 0xa7, 0xb3, 0xb6, 0xe0, 0x0d];
+
+// Closed, the refusal's code, or the tick and the words.
+fn told(alloc: Global, bytes: &[u8]) -> Result<String, Fail> {
+    match read_image(alloc, bytes) {
+        Ok(ImageState::Closed) => Ok(format!(in alloc; "closed")?),
+        Ok(ImageState::Open { tick, words }) => Ok(format!(in alloc; "{tick}: {words:?}")?),
+        Err(refusal) => Ok(format!(in alloc; "{}", refusal.code())?),
+    }
+}
+
+// A file of one cell with this header and word, and a byte after it.
+fn file(alloc: Global, cells: &[u8], tick: &[u8], word: &[u8]) -> Result<Vec<u8>, Fail> {
+    let mut file = vec![in alloc; 1]?;
+    for part in [cells, tick, word, &[9]] {
+        file.extend_from_slice(part)?;
+    }
+    Ok(file)
+}
+
+#[test]
+fn reads_image_of_two_words(rt: HostRuntime) -> Result<(), Fail> {
+    let alloc = rt.alloc();
+    let image = [
+        1, 2, 0, 0, 0, 0, 0, 0, 0, 3, 0, 0, 0, 0, 0, 0, 0, 5, 0, 0, 0, 0, 0, 0, 0, 7, 0, 0, 0, 0,
+        0, 0, 0,
+    ];
+    for length in 0..=33 {
+        let want = match length {
+            0..=16 => "closed",
+            17..=32 => "14",
+            _ => "3: [5, 7]",
+        };
+        assert_eq!(rt;
+            told(alloc, &image[..length])?.as_str(),
+            want,
+            "at {length}"
+        );
+    }
+    Ok(())
+}
+
+#[test]
+fn judges_header_and_words(rt: HostRuntime) -> Result<(), Fail> {
+    let alloc = rt.alloc();
+    let above_most_cells = [1, 0, 1, 0, 0, 0, 0, 0];
+    let above_last_tick = [0x01, 0x00, 0x64, 0xa7, 0xb3, 0xb6, 0xe0, 0x0d];
+    for (cells, tick, word, want) in [
+        (&ONE, &NOTHING, &[5, 1, 0, 0, 0, 0, 0, 0], "0: [261]"),
+        (&ONE, &MUCH, &NOTHING, "1000000000000000000: [0]"),
+        (&ONE, &NOTHING, &MUCH, "14"),
+        (&ONE, &above_last_tick, &NOTHING, "14"),
+        (&NOTHING, &ONE, &ONE, "14"),
+        (&above_most_cells, &ONE, &ONE, "14"),
+        (&[0xff; 8], &ONE, &ONE, "14"),
+    ] {
+        let file = file(alloc, cells, tick, word)?;
+        assert_eq!(rt; told(alloc, &file)?.as_str(), want);
+    }
+    Ok(())
+}
+
+#[test]
+fn other_gates_are_closed(rt: HostRuntime) -> Result<(), Fail> {
+    let alloc = rt.alloc();
+    let mut bytes = file(alloc, &ONE, &ONE, &ONE)?;
+    for gate in [0, 2, 0xff] {
+        bytes.as_mut_slice().fill(gate);
+        assert_eq!(rt; told(alloc, &bytes)?.as_str(), "closed");
+        assert!(rt; is_shut(&bytes));
+    }
+    assert!(rt; !is_shut(&[]) && !is_shut(&[1]));
+    Ok(())
+}
