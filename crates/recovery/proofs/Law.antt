@@ -1,0 +1,356 @@
+-- The law of recovery: what the two keepers say of their files makes the four of them sound.
+use Rattle.std.proofs.Common.{◌≡◌, ℕ, ◌+◌, ◌<◌, ◌≤◌, ◌⊎◌, inl, inr, Bool, true, false, cond, ltb, ◌||◌, List, ◌++◌, length, take, drop, Option, Some, None, Ok, Err, refl, sym, ap, subst, ◌∙◌, arith}
+use Rattle.std.proofs.lemmas.Bool.{eqb-true, cond-true, cond-false, le-ltb, lt-ltb, cases_lt}
+use Rattle.std.proofs.lemmas.List.{length-append, length-take, length-drop}
+use Rattle.world_actions.specs.declared.refusal.Refusal.TheVariants.{BadImage, BadLog}
+use Rattle.file_format.specs.declared.slot.Slot.{Slot}
+use Rattle.file_format.specs.declared.slot.Slot.TheVariants.{A, B}
+use Rattle.world_actions.specs.declared.action.Action.{Action}
+use Rattle.world_ticks.specs.After.{after_ticks}
+use Rattle.file_format.specs.Number.{IsBytes}
+use Rattle.action_log.specs.Segment.{IsSegment, Segment, ClosedSegment, MalformedSegment, OpenSegment}
+use Rattle.image_files.specs.Image.{Image, Closed, Bad, Open, image_of}
+use Rattle.action_log.specs.Reading.{segment_of}
+use Rattle.recovery.specs.Recovery.{Recovery, Newest, newest, has_base, recovery_from, recovery_with, replayed, is_bad_image, is_bad_segment}
+use Rattle.recovery.specs.Sound.{IsWorldAt, HoldsWorld, IsSoundReading, IsSound}
+use Rattle.file_format.specs.Slot.{in_slot, beside_slot}
+use Rattle.image_files.specs.Images.{Round, Images, IsTarget, ImagesAre}
+use Rattle.action_log.specs.Logs.{Logs, IsCurrent, IsOther, LogsAre}
+use Rattle.recovery.specs.Follow.{FollowsFrom, IsRoundOf, ImagesFollow, LeadsTo, IsSwitchOf, LogsFollow, mark_at, IsRoundAt, IsSwitchAt, FollowMarks}
+use Rattle.recovery.proofs.Replay.{world_on, follows_on, follows_front}
+use Rattle.recovery.proofs.Tails.{IsBehind, closed_behind, earlier_behind, next_behind, tail_here, tail_past, tail_before, IsTail, other_order}
+
+-- ---- the log
+
+-- from an image of this tick the log leads on: the current segment begins there, or the log is behind it, or
+-- the other segment, which no switch has touched, begins there
+abbrev LeadsOn : List (List Action) → Logs → ℕ → Type 0
+LeadsOn ticks logs tick =
+    (tick ≡ logs.base)
+    ⊎ (((logs.base < tick) × (logs.base + length (logs.kept ++ logs.pending) ≤ tick))
+    ⊎ ((logs.switch ≡ None) × (has_base tick logs.before ≡ true)))
+
+before_behind : (ticks : List (List Action)) (base : ℕ) (before : Segment) → LeadsTo ticks base before → IsBehind base before
+before_behind ticks base ClosedSegment h = closed_behind base
+before_behind ticks base MalformedSegment h = absurd h
+before_behind ticks base (OpenSegment earlier first) h = earlier_behind base earlier first h.0
+
+other_behind : (ticks : List (List Action)) (logs : Logs) (switch : Option ℕ) (now : Segment) → LeadsTo ticks logs.base logs.before → IsSwitchOf logs switch → IsOther logs.before switch now → IsBehind logs.base now
+other_behind ticks logs None now leads at e = subst (λ s. IsBehind logs.base s) (sym e) (before_behind ticks logs.base logs.before leads)
+other_behind ticks logs (Some t) now leads at (inl e) = subst (λ s. IsBehind logs.base s) (sym e) (before_behind ticks logs.base logs.before leads)
+other_behind ticks logs (Some t) now leads at (inr (inl e)) = subst (λ s. IsBehind logs.base s) (sym e) (closed_behind logs.base)
+other_behind ticks logs (Some t) now leads at (inr (inr e)) = subst (λ s. IsBehind logs.base s) (sym e) (next_behind logs.base t at.1)
+
+-- what the current segment has
+record Has (ticks : List (List Action)) (acknowledged : ℕ) (logs : Logs) (now : Segment) : Type 0 where
+  here : List (List Action)
+  is : now ≡ OpenSegment logs.base here
+  follows : FollowsFrom ticks logs.base here
+  reaches : acknowledged ≤ logs.base + length here
+
+current_has : (ticks : List (List Action)) (acknowledged : ℕ) (logs : Logs) (now : Segment) → LogsFollow ticks acknowledged logs → IsCurrent logs now → Has ticks acknowledged logs now
+current_has ticks acknowledged logs now f (inl e) = record { here = logs.kept; is = e; follows = follows_front ticks logs.base logs.kept logs.pending f.taken; reaches = f.acknowledges }
+current_has ticks acknowledged logs now f (inr e) = record { here = logs.kept ++ logs.pending; is = e; follows = f.taken; reaches = omega (arith, f.acknowledges, length-append logs.kept logs.pending) }
+
+-- from the tick of the segment before
+from_before : (ticks : List (List Action)) (acknowledged t base : ℕ) (here : List (List Action)) (before : Segment) → FollowsFrom ticks base here → acknowledged ≤ base + length here → LeadsTo ticks base before → has_base t before ≡ true → IsTail ticks acknowledged t (OpenSegment base here) before
+from_before ticks acknowledged t base here ClosedSegment f k leads at = absurd cc
+from_before ticks acknowledged t base here MalformedSegment f k leads at = absurd leads
+from_before ticks acknowledged t base here (OpenSegment earlier first) f k leads at =
+    let fits : earlier + (length first + length here) ≤ length ticks = omega (arith, leads.1, f.ended) in
+    let more : acknowledged ≤ earlier + (length first + length here) = omega (arith, leads.1) in
+    let from : IsTail ticks acknowledged earlier (OpenSegment base here) (OpenSegment earlier first) = record {
+      more = length first + length here;
+      is = tail_before earlier base first here leads.0 leads.1 ∙ follows_on ticks earlier base first here leads.1 leads.2 f;
+      ended = fits;
+      reaches = more;
+    } in
+    subst (λ n. IsTail ticks acknowledged n (OpenSegment base here) (OpenSegment earlier first)) (eqb-true earlier t at) from
+
+untouched : (before : Segment) (switch : Option ℕ) (now : Segment) → switch ≡ None → IsOther before switch now → now ≡ before
+untouched before None now none e = e
+untouched before (Some t) now none e = absurd (let h = none in cc)
+
+log_tail : (ticks : List (List Action)) (acknowledged t : ℕ) (logs : Logs) (here : List (List Action)) (other : Segment) → LogsFollow ticks acknowledged logs → FollowsFrom ticks logs.base here → acknowledged ≤ logs.base + length here → IsOther logs.before logs.switch other → IsBehind logs.base other → t ≤ length ticks → LeadsOn ticks logs t → IsTail ticks acknowledged t (OpenSegment logs.base here) other
+log_tail ticks acknowledged t logs here other f follows reaches is behind ended (inl e) =
+    let from : IsTail ticks acknowledged logs.base (OpenSegment logs.base here) other = record {
+      more = length here;
+      is = tail_here logs.base here other behind ∙ follows.are;
+      ended = follows.ended;
+      reaches = reaches;
+    } in
+    subst (λ n. IsTail ticks acknowledged n (OpenSegment logs.base here) other) (sym e) from
+log_tail ticks acknowledged t logs here other f follows reaches is behind ended (inr (inl past)) = record {
+  more = 0;
+  is = tail_past logs.base t here other past.0 behind;
+  ended = omega arith;
+  reaches = omega (arith, past.1, f.acknowledges, length-append logs.kept logs.pending);
+}
+log_tail ticks acknowledged t logs here other f follows reaches is behind ended (inr (inr at)) =
+    let same : other ≡ logs.before = untouched logs.before logs.switch other at.0 is in
+    subst (λ s. IsTail ticks acknowledged t (OpenSegment logs.base here) s) (sym same) (from_before ticks acknowledged t logs.base here logs.before follows reaches f.before at.1)
+
+-- two segments that read so, in either order
+record LogPair (ticks : List (List Action)) (acknowledged t : ℕ) (current other : Segment) : Type 0 where
+  first : IsTail ticks acknowledged t current other
+  second : IsTail ticks acknowledged t other current
+  current_formed : is_bad_segment current ≡ false
+  other_formed : is_bad_segment other ≡ false
+
+log_pair : (ticks : List (List Action)) (acknowledged t : ℕ) (logs : Logs) (current other : Segment) → LogsFollow ticks acknowledged logs → IsCurrent logs current → IsOther logs.before logs.switch other → t ≤ length ticks → LeadsOn ticks logs t → LogPair ticks acknowledged t current other
+log_pair ticks acknowledged t logs current other f is_current is_other ended leads =
+    let has = current_has ticks acknowledged logs current f is_current in
+    let behind = other_behind ticks logs logs.switch other f.before f.switch is_other in
+    let first = log_tail ticks acknowledged t logs has.here other f has.follows has.reaches is_other behind ended leads in
+    let pair : LogPair ticks acknowledged t (OpenSegment logs.base has.here) other = record {
+      first = first;
+      second = other_order ticks acknowledged t logs.base has.here other behind first;
+      current_formed = refl;
+      other_formed = behind.formed;
+    } in
+    subst (λ s. LogPair ticks acknowledged t s other) (sym has.is) pair
+
+-- ---- the images
+
+pub record Picked (cells : ℕ) (ticks : List (List Action)) (t : ℕ) (image_a image_b : Image) : Type 0 where
+  pub image : Newest
+  pub is : newest image_a image_b ≡ Some image
+  pub tick_is : image.tick ≡ t
+  pub world : IsWorldAt cells ticks image.tick image.words
+  pub a_holds : HoldsWorld cells ticks image.tick image_a
+  pub b_holds : HoldsWorld cells ticks image.tick image_b
+
+kept_left : (cells : ℕ) (ticks : List (List Action)) (tick : ℕ) (words : List ℕ) (now : Image) → IsWorldAt cells ticks tick words → HoldsWorld cells ticks tick now → Picked cells ticks tick (Open tick words) now
+kept_left cells ticks tick words Closed at h = record { image = record { slot = A; tick = tick; words = words }; is = refl; tick_is = refl; world = at; a_holds = (omega arith, at); b_holds = tt }
+kept_left cells ticks tick words Bad at h = absurd h
+kept_left cells ticks tick words (Open s v) at h = record {
+  image = record { slot = A; tick = tick; words = words };
+  is = cond-false (ltb tick s) (Some (record { slot = B; tick = s; words = v })) (Some (record { slot = A; tick = tick; words = words })) (le-ltb tick s h.0);
+  tick_is = refl;
+  world = at;
+  a_holds = (omega arith, at);
+  b_holds = h;
+}
+
+kept_right : (cells : ℕ) (ticks : List (List Action)) (tick : ℕ) (words : List ℕ) (now : Image) → IsWorldAt cells ticks tick words → HoldsWorld cells ticks tick now → Picked cells ticks tick now (Open tick words)
+kept_right cells ticks tick words Closed at h = record { image = record { slot = B; tick = tick; words = words }; is = refl; tick_is = refl; world = at; a_holds = tt; b_holds = (omega arith, at) }
+kept_right cells ticks tick words Bad at h = absurd h
+kept_right cells ticks tick words (Open s v) at h =
+    elim (cases_lt s tick) [
+      | inl lt ↦ record {
+        image = record { slot = B; tick = tick; words = words };
+        is = cond-true (ltb s tick) (Some (record { slot = B; tick = tick; words = words })) (Some (record { slot = A; tick = s; words = v })) (lt-ltb s tick lt);
+        tick_is = refl;
+        world = at;
+        a_holds = h;
+        b_holds = (omega arith, at);
+      }
+      | inr le ↦ record {
+        image = record { slot = A; tick = s; words = v };
+        is = cond-false (ltb s tick) (Some (record { slot = B; tick = tick; words = words })) (Some (record { slot = A; tick = s; words = v })) (le-ltb s tick le);
+        tick_is = (let same : s ≡ tick = omega (arith, h.0) in same);
+        world = h.1;
+        a_holds = (omega arith, h.1);
+        b_holds = (le, at);
+      }
+    ]
+
+passed_left : (cells : ℕ) (ticks : List (List Action)) (tick t : ℕ) (words done : List ℕ) → tick < t → IsWorldAt cells ticks tick words → IsWorldAt cells ticks t done → Picked cells ticks t (Open tick words) (Open t done)
+passed_left cells ticks tick t words done lt at later = record {
+  image = record { slot = B; tick = t; words = done };
+  is = cond-true (ltb tick t) (Some (record { slot = B; tick = t; words = done })) (Some (record { slot = A; tick = tick; words = words })) (lt-ltb tick t lt);
+  tick_is = refl;
+  world = later;
+  a_holds = (omega arith, at);
+  b_holds = (omega arith, later);
+}
+
+passed_right : (cells : ℕ) (ticks : List (List Action)) (tick t : ℕ) (words done : List ℕ) → tick < t → IsWorldAt cells ticks tick words → IsWorldAt cells ticks t done → Picked cells ticks t (Open t done) (Open tick words)
+passed_right cells ticks tick t words done lt at later = record {
+  image = record { slot = A; tick = t; words = done };
+  is = cond-false (ltb t tick) (Some (record { slot = B; tick = tick; words = words })) (Some (record { slot = A; tick = t; words = done })) (le-ltb t tick (omega arith));
+  tick_is = refl;
+  world = later;
+  a_holds = (omega arith, later);
+  b_holds = (omega arith, at);
+}
+
+-- the tick of the newest image, or of the round in work
+abbrev pub IsImageTick : ℕ → Option Round → ℕ → Type 0
+IsImageTick tick None t = t ≡ tick
+IsImageTick tick (Some round) t = (t ≡ tick) ⊎ (t ≡ round.tick)
+
+pub record ImagePair (cells : ℕ) (ticks : List (List Action)) (tick : ℕ) (words : List ℕ) (round : Option Round) (now : Image) : Type 0 where
+  t : ℕ
+  first : Picked cells ticks t (Open tick words) now
+  second : Picked cells ticks t now (Open tick words)
+  which : IsImageTick tick round t
+
+kept_pair : (cells : ℕ) (ticks : List (List Action)) (tick : ℕ) (words : List ℕ) (round : Option Round) (now : Image) → IsImageTick tick round tick → IsWorldAt cells ticks tick words → HoldsWorld cells ticks tick now → ImagePair cells ticks tick words round now
+kept_pair cells ticks tick words round now which at h = record { t = tick; first = kept_left cells ticks tick words now at h; second = kept_right cells ticks tick words now at h; which = which }
+
+image_pair : (cells : ℕ) (ticks : List (List Action)) (tick : ℕ) (words : List ℕ) (before : Image) (round : Option Round) (now : Image) → IsWorldAt cells ticks tick words → HoldsWorld cells ticks tick before → IsRoundOf cells ticks tick round → IsTarget cells before round now → ImagePair cells ticks tick words round now
+image_pair cells ticks tick words before None now at h r e = subst (λ i. ImagePair cells ticks tick words None i) (sym e) (kept_pair cells ticks tick words None before refl at h)
+image_pair cells ticks tick words before (Some round) now at h r (inl e) = subst (λ i. ImagePair cells ticks tick words (Some round) i) (sym e) (kept_pair cells ticks tick words (Some round) before (inl refl) at h)
+image_pair cells ticks tick words before (Some round) now at h r (inr (inl e)) = subst (λ i. ImagePair cells ticks tick words (Some round) i) (sym e) (kept_pair cells ticks tick words (Some round) Closed (inl refl) at tt)
+image_pair cells ticks tick words before (Some round) now at h r (inr (inr e)) =
+    let pair : ImagePair cells ticks tick words (Some round) (Open round.tick round.taken) = record {
+      t = round.tick;
+      first = passed_left cells ticks tick round.tick words round.taken r.0 at (r.1 e.1);
+      second = passed_right cells ticks tick round.tick words round.taken r.0 at (r.1 e.1);
+      which = inr refl;
+    } in
+    subst (λ i. ImagePair cells ticks tick words (Some round) i) (sym e.0) pair
+
+-- ---- together
+
+pub or_false : (x y : Bool) → x ≡ false → y ≡ false → (x || y) ≡ false
+or_false true y h k = absurd cc
+or_false false y h k = k
+
+pub well_formed : (cells : ℕ) (ticks : List (List Action)) (most : ℕ) (image : Image) → HoldsWorld cells ticks most image → is_bad_image image ≡ false
+well_formed cells ticks most Closed h = refl
+well_formed cells ticks most Bad h = absurd h
+well_formed cells ticks most (Open s v) h = refl
+
+pub still_holds : (cells : ℕ) (ticks : List (List Action)) (most more : ℕ) (image : Image) → most ≤ more → HoldsWorld cells ticks most image → HoldsWorld cells ticks more image
+still_holds cells ticks most more Closed le h = tt
+still_holds cells ticks most more Bad le h = h
+still_holds cells ticks most more (Open s v) le h = (omega (arith, h.0), h.1)
+
+pub sound_reading : (cells : ℕ) (ticks : List (List Action)) (acknowledged t : ℕ) (last : List ℕ) (image_a image_b : Image) (log_a log_b : Segment) → after_ticks cells ticks ≡ Ok last → Picked cells ticks t image_a image_b → IsTail ticks acknowledged t log_a log_b → is_bad_segment log_a ≡ false → is_bad_segment log_b ≡ false → IsSoundReading image_a image_b log_a log_b cells ticks acknowledged
+sound_reading cells ticks acknowledged t last image_a image_b log_a log_b all p from fa fb =
+    let n = p.image in
+    let at : IsTail ticks acknowledged n.tick log_a log_b = subst (λ m. IsTail ticks acknowledged m log_a log_b) (sym p.tick_is) from in
+    let on = world_on cells ticks n.tick at.more n.words last all at.ended p.world in
+    let rest : List (List Action) = take at.more (drop n.tick ticks) in
+    let len : length rest ≡ at.more = omega (arith, length-take at.more (drop n.tick ticks), length-drop n.tick ticks, at.ended) in
+    let answer : Recovery = record { tick = n.tick + at.more; from = n.tick; slot = n.slot; words = on.later_words } in
+    let images_formed : (is_bad_image image_a || is_bad_image image_b) ≡ false = or_false (is_bad_image image_a) (is_bad_image image_b) (well_formed cells ticks n.tick image_a p.a_holds) (well_formed cells ticks n.tick image_b p.b_holds) in
+    let logs_formed : (is_bad_segment log_a || is_bad_segment log_b) ≡ false = or_false (is_bad_segment log_a) (is_bad_segment log_b) fa fb in
+    let later : n.tick ≤ n.tick + at.more = omega arith in
+    record {
+      recovery = answer;
+      stands =
+          cond-false (is_bad_image image_a || is_bad_image image_b) (Err BadImage) (cond (is_bad_segment log_a || is_bad_segment log_b) (Err BadLog) (recovery_from (newest image_a image_b) log_a log_b)) images_formed
+          ∙ cond-false (is_bad_segment log_a || is_bad_segment log_b) (Err BadLog) (recovery_from (newest image_a image_b) log_a log_b) logs_formed
+          ∙ ap (λ o. recovery_from o log_a log_b) p.is
+          ∙ ap (replayed n) at.is
+          ∙ ap (recovery_with n rest) on.replays
+          ∙ ap (λ m. Ok (record { tick = n.tick + m; from = n.tick; slot = n.slot; words = on.later_words })) len;
+      keeps = at.reaches;
+      world = on.world;
+      image_a_holds = still_holds cells ticks n.tick (n.tick + at.more) image_a later p.a_holds;
+      image_b_holds = still_holds cells ticks n.tick (n.tick + at.more) image_b later p.b_holds;
+    }
+
+-- ---- the marks
+
+no_switch : (marks : List ℕ) (switched : ℕ) (switch : Option ℕ) → length marks ≤ switched + 1 → IsSwitchAt marks switched switch → switch ≡ None
+no_switch marks switched None le at = refl
+no_switch marks switched (Some t) le at = absurd (omega (arith, at.0))
+
+pub no_less : (marks : List ℕ) (images : Images) (logs : Logs) → FollowMarks marks images logs → (i j : ℕ) → i ≤ j → j < length marks → mark_at marks i ≤ mark_at marks j
+no_less marks images logs m i j le lt =
+    elim (cases_lt i j) [
+      | inl below ↦ (let h : mark_at marks i < mark_at marks j = m.rising i j below lt in omega arith)
+      | inr above ↦ (let same : i ≡ j = omega arith in subst (λ n. mark_at marks i ≤ mark_at marks n) same (omega arith))
+    ]
+
+-- from the last mark, and from the one before it, the log leads on
+place_leads : (ticks : List (List Action)) (marks : List ℕ) (images : Images) (logs : Logs) → FollowMarks marks images logs → (i : ℕ) → i < length marks → length marks ≤ i + 2 → LeadsOn ticks logs (mark_at marks i)
+place_leads ticks marks images logs m i lt le =
+    elim (cases_lt i m.switched) [
+      | inl below ↦ (let next : i + 1 ≡ m.switched = omega (arith, m.switched_is.0) in inr (inr (no_switch marks m.switched logs.switch (omega arith) m.switch, m.before i next)))
+      | inr above ↦ (elim (cases_lt m.switched i) [
+        | inl behind ↦ (
+            let base : mark_at marks m.switched ≡ logs.base = m.switched_is.1 in
+            let up : mark_at marks m.switched < mark_at marks i = m.rising m.switched i behind lt in
+            let upto : mark_at marks (m.switched + 1) ≤ mark_at marks i = no_less marks images logs m (m.switched + 1) i (omega arith) lt in
+            let held : logs.base + length (logs.kept ++ logs.pending) ≤ mark_at marks (m.switched + 1) = m.in_order (omega arith) in
+            let past : logs.base < mark_at marks i = omega arith in
+            let all : logs.base + length (logs.kept ++ logs.pending) ≤ mark_at marks i = omega arith in
+            inr (inl (past, all)))
+        | inr here ↦ (let same : i ≡ m.switched = omega arith in inl (ap (mark_at marks) same ∙ m.switched_is.1))
+      ])
+    ]
+
+image_leads : (ticks : List (List Action)) (marks : List ℕ) (images : Images) (logs : Logs) (m : FollowMarks marks images logs) (round : Option Round) (t : ℕ) → IsRoundAt marks m.opened round → IsImageTick images.tick round t → LeadsOn ticks logs t
+image_leads ticks marks images logs m None t at e =
+    subst (λ n. LeadsOn ticks logs n) (m.opened_is.1 ∙ sym e) (place_leads ticks marks images logs m m.opened m.opened_is.0 m.all_but_last)
+image_leads ticks marks images logs m (Some round) t at (inl e) =
+    subst (λ n. LeadsOn ticks logs n) (m.opened_is.1 ∙ sym e) (place_leads ticks marks images logs m m.opened m.opened_is.0 m.all_but_last)
+image_leads ticks marks images logs m (Some round) t at (inr e) =
+    subst (λ n. LeadsOn ticks logs n) (sym at.1 ∙ sym e) (place_leads ticks marks images logs m (m.opened + 1) (omega (arith, at.0)) (omega (arith, at.0)))
+
+-- ---- the two slots
+
+pub record ReadImages (cells : ℕ) (ticks : List (List Action)) (tick : ℕ) (round : Option Round) (image_a image_b : Image) : Type 0 where
+  pub t : ℕ
+  pub picked : Picked cells ticks t image_a image_b
+  pub which : IsImageTick tick round t
+
+pub read_images : (cells : ℕ) (ticks : List (List Action)) (slot : Slot) (tick : ℕ) (words : List ℕ) (before : Image) (round : Option Round) (may_a may_b : List ℕ → Type 0) → IsWorldAt cells ticks tick words → HoldsWorld cells ticks tick before → IsRoundOf cells ticks tick round
+    → ((bytes : List ℕ) → in_slot slot may_a may_b bytes → image_of bytes ≡ Open tick words)
+    → ((bytes : List ℕ) → beside_slot slot may_a may_b bytes → IsTarget cells before round (image_of bytes))
+    → (a b : List ℕ) → may_a a → may_b b → ReadImages cells ticks tick round (image_of a) (image_of b)
+read_images cells ticks A tick words before round may_a may_b at h r newest_is target_is a b ha hb =
+    let pair = image_pair cells ticks tick words before round (image_of b) at h r (target_is b hb) in
+    let read : ReadImages cells ticks tick round (Open tick words) (image_of b) = record { t = pair.t; picked = pair.first; which = pair.which } in
+    subst (λ i. ReadImages cells ticks tick round i (image_of b)) (sym (newest_is a ha)) read
+read_images cells ticks B tick words before round may_a may_b at h r newest_is target_is a b ha hb =
+    let pair = image_pair cells ticks tick words before round (image_of a) at h r (target_is a ha) in
+    let read : ReadImages cells ticks tick round (image_of a) (Open tick words) = record { t = pair.t; picked = pair.second; which = pair.which } in
+    subst (λ i. ReadImages cells ticks tick round (image_of a) i) (sym (newest_is b hb)) read
+
+record ReadLogs (ticks : List (List Action)) (acknowledged t : ℕ) (log_a log_b : Segment) : Type 0 where
+  tail_is : IsTail ticks acknowledged t log_a log_b
+  a_formed : is_bad_segment log_a ≡ false
+  b_formed : is_bad_segment log_b ≡ false
+
+read_logs : (ticks : List (List Action)) (acknowledged t : ℕ) (logs : Logs) (slot : Slot) (may_a may_b : List ℕ → Type 0) → LogsFollow ticks acknowledged logs → t ≤ length ticks → LeadsOn ticks logs t
+    → ((bytes : List ℕ) → in_slot slot may_a may_b bytes → IsCurrent logs (segment_of bytes))
+    → ((bytes : List ℕ) → beside_slot slot may_a may_b bytes → IsOther logs.before logs.switch (segment_of bytes))
+    → (a b : List ℕ) → may_a a → may_b b → ReadLogs ticks acknowledged t (segment_of a) (segment_of b)
+read_logs ticks acknowledged t logs A may_a may_b f ended leads current_is other_is a b ha hb =
+    let pair = log_pair ticks acknowledged t logs (segment_of a) (segment_of b) f (current_is a ha) (other_is b hb) ended leads in
+    record { tail_is = pair.first; a_formed = pair.current_formed; b_formed = pair.other_formed }
+read_logs ticks acknowledged t logs B may_a may_b f ended leads current_is other_is a b ha hb =
+    let pair = log_pair ticks acknowledged t logs (segment_of b) (segment_of a) f (current_is b hb) (other_is a ha) ended leads in
+    record { tail_is = pair.second; a_formed = pair.other_formed; b_formed = pair.current_formed }
+
+-- ---- how what is left of a segment reads
+
+-- bytes that are a segment read as it
+abbrev pub SegmentsRead : Type 0
+SegmentsRead = (bytes : List ℕ) → IsBytes bytes → (now : Segment) → IsSegment bytes now → segment_of bytes ≡ now
+
+-- what may be left are bytes
+abbrev pub LeavesBytes : (List ℕ → Type 0) → Type 0
+LeavesBytes may = (bytes : List ℕ) → may bytes → IsBytes bytes
+
+in_slot_bytes : (slot : Slot) (may_a may_b : List ℕ → Type 0) → LeavesBytes may_a → LeavesBytes may_b → LeavesBytes (in_slot slot may_a may_b)
+in_slot_bytes A may_a may_b a b bytes h = a bytes h
+in_slot_bytes B may_a may_b a b bytes h = b bytes h
+
+beside_slot_bytes : (slot : Slot) (may_a may_b : List ℕ → Type 0) → LeavesBytes may_a → LeavesBytes may_b → LeavesBytes (beside_slot slot may_a may_b)
+beside_slot_bytes A may_a may_b a b bytes h = b bytes h
+beside_slot_bytes B may_a may_b a b bytes h = a bytes h
+
+-- ---- the law
+
+pub files_are_sound : SegmentsRead → (image_a image_b log_a log_b : List ℕ → Type 0) → LeavesBytes log_a → LeavesBytes log_b
+    → (cells : ℕ) (ticks : List (List Action)) (acknowledged : ℕ) (last : List ℕ) (images : Images) (logs : Logs) (marks : List ℕ)
+    → after_ticks cells ticks ≡ Ok last → ImagesFollow cells ticks images → LogsFollow ticks acknowledged logs → FollowMarks marks images logs
+    → ImagesAre cells images image_a image_b → LogsAre logs log_a log_b
+    → IsSound image_a image_b log_a log_b cells ticks acknowledged
+files_are_sound reads image_a image_b log_a log_b bytes_a bytes_b cells ticks acknowledged last images logs marks all fi fl m ai al a b la lb ha hb hla hlb =
+    let i = read_images cells ticks images.slot images.tick images.words images.before images.round image_a image_b fi.newest fi.before fi.round ai.newest ai.target a b ha hb in
+    let ended : i.t ≤ length ticks = subst (λ n. n ≤ length ticks) i.picked.tick_is i.picked.world.ended in
+    let leads = image_leads ticks marks images logs m images.round i.t m.round i.which in
+    let current : (bytes : List ℕ) → in_slot logs.slot log_a log_b bytes → IsCurrent logs (segment_of bytes) =
+    λ bytes h. (let r = al.current bytes h in subst (IsCurrent logs) (sym (reads bytes (in_slot_bytes logs.slot log_a log_b bytes_a bytes_b bytes h) r.0 r.1)) r.2) in
+    let other : (bytes : List ℕ) → beside_slot logs.slot log_a log_b bytes → IsOther logs.before logs.switch (segment_of bytes) =
+    λ bytes h. (let r = al.other bytes h in subst (IsOther logs.before logs.switch) (sym (reads bytes (beside_slot_bytes logs.slot log_a log_b bytes_a bytes_b bytes h) r.0 r.1)) r.2) in
+    let l = read_logs ticks acknowledged i.t logs logs.slot log_a log_b fl ended leads current other la lb hla hlb in
+    sound_reading cells ticks acknowledged i.t last (image_of a) (image_of b) (segment_of la) (segment_of lb) all i.picked l.tail_is l.a_formed l.b_formed

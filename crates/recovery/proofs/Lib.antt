@@ -1,0 +1,10 @@
+pub mod Replay
+pub mod Tails
+pub mod Law
+pub mod Starting
+pub mod TailOrder
+pub mod Events
+pub mod Steps
+pub mod Restart
+pub mod Kept
+pub mod Started

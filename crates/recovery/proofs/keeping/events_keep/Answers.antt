@@ -1,0 +1,22 @@
+use Rattle.recovery.proofs.Law.{SegmentsRead}
+use Rattle.recovery.proofs.Kept.{kept_is_sound, tick_ends, mark_is_made, image_step_keeps}
+use Rattle.recovery.proofs.Steps.{log_step_keeps}
+use Rattle.recovery.proofs.keeping.events_keep.Goals as goal
+
+pub returns-clause-sound : goal.returns-clause-sound
+returns-clause-sound g c = λ honest image_a image_b log_a log_b.
+    let reads : SegmentsRead = λ bytes are_bytes now is. c.segments_read_once.ensures.once bytes _ now (c.segments_read_once.ensures.right bytes are_bytes) is in
+    kept_is_sound reads (g.D.Disk.may_leave image_a) (g.D.Disk.may_leave image_b) (g.D.Disk.may_leave log_a) (g.D.Disk.may_leave log_b)
+    (λ bytes left. g.met.D.Disk.are_bytes log_a bytes honest left) (λ bytes left. g.met.D.Disk.are_bytes log_b bytes honest left)
+
+pub returns-clause-tick_ends : goal.returns-clause-tick_ends
+returns-clause-tick_ends g c = tick_ends
+
+pub returns-clause-mark : goal.returns-clause-mark
+returns-clause-mark g c = mark_is_made
+
+pub returns-clause-image_step : goal.returns-clause-image_step
+returns-clause-image_step g c = image_step_keeps g.T.Taker.took
+
+pub returns-clause-log_step : goal.returns-clause-log_step
+returns-clause-log_step g c = λ cells ticks acknowledged marks images logs queue. log_step_keeps cells ticks acknowledged marks images logs queue
