@@ -1,0 +1,213 @@
+ghost use Rattle.std.specs.Prelude.{◌≡◌, ◌<◌, ◌≤◌, ◌++◌, ◌∷◌, [], length, IfOk};
+ghost use Rattle.action_log.specs.Queue.{QueueFits};
+
+use crate::crash::{CRASHES, empty_file, left_by};
+use crate::tally::Tally;
+use action_log::{HEADER_BYTES, LogAnswer, LogKeeper, Record, log_outcomes};
+use circular_buffer::HeapCircularBuffer;
+use disk_model::{Fused, ModelFile};
+use recovery::recover;
+use std::alloc::Global;
+use std::marker::Model;
+use world_actions::{Action, Refusal};
+use world_ticks::Tick;
+
+/// The ticks before the switch: a group of 32, and one of 1.
+const FIRST_TICKS: u64 = 33;
+
+/// The ticks in all: one behind the switch.
+const TICKS: u64 = 34;
+
+/// More steps than the trial has.
+const STEPS: u32 = 100;
+
+/// A world of one cell, 0, at tick 0, as an image file.
+const IMAGE: [u8; 25] = [
+    1, 1, 0, 0, 0, 0, 0, 0, 0, 0, 0, 0, 0, 0, 0, 0, 0, 0, 0, 0, 0, 0, 0, 0, 0,
+];
+
+/// Runs a start, two groups, a switch and a group, and recovers from all that crashes may leave after
+/// each step; and then lets the call of each step fail in turn, and does the same there.
+pub fn try_log(alloc: Global) -> Result<Tally, Refusal> {
+    let mut tally = Tally::new();
+    let steps = run(alloc, None, &mut tally)?;
+    for failing in 1..=steps {
+        run(alloc, Some(failing), &mut tally)?;
+    }
+    Ok(tally)
+}
+
+/// The bytes that a group of so many ticks of four actions writes, and the calls that it makes.
+pub fn cost_of_group(alloc: Global, ticks: u64) -> Result<(usize, u32), Refusal>
+    requires { ticks ≤ 32 }
+{
+    let mut trial = LogTrial::new(alloc, busy_ticks(alloc, ticks)?)?;
+    let mut calls = 0u32;
+    for _ in 0..STEPS {
+        let is_start = trial.keeper.starting();
+        match trial.step() {
+            LogAnswer::Idle | LogAnswer::Down => break,
+            _ if is_start => {}
+            _ => calls = calls.saturating_add(1),
+        }
+    }
+    // Behind the segment's header, and the group's gate once more.
+    let grown = trial.log_a.inner().now().len().saturating_sub(HEADER_BYTES);
+    Ok((grown.saturating_add(1), calls))
+}
+
+// Runs to the end or up to the step whose call fails, and counts the steps that made a call.
+fn run(alloc: Global, failing: Option<u32>, tally: &mut Tally) -> Result<u32, Refusal> {
+    let mut trial = LogTrial::new(alloc, records(alloc)?)?;
+    for step in 0..STEPS {
+        if failing == Some(step.saturating_add(1)) {
+            trial.fail(tally)?;
+            return Ok(step);
+        }
+        let answer = trial.step();
+        trial.check(tally)?;
+        if answer == LogAnswer::Idle {
+            tally.outcome(trial.acked == TICKS);
+            return Ok(step);
+        }
+    }
+    Ok(STEPS)
+}
+
+/// A keeper with its queue and its two files, and the number of its greatest receipt.
+#[derive(Drop)]
+struct LogTrial {
+    alloc: Global,
+    keeper: LogKeeper,
+    queue: HeapCircularBuffer<Record>,
+    log_a: Fused<ModelFile>,
+    log_b: Fused<ModelFile>,
+    acked: u64,
+}
+
+// Contracts see the number of the greatest receipt.
+impl Model for LogTrial {
+    ghost use Rattle.std.specs.Prelude.{ℕ};
+    ghost use Rattle.disk_model.specs.CrashOutcome.{IsCrashOutcome};
+    ghost use Rattle.action_log.specs.Logs.{LogPlace};
+    ghost use Rattle.action_log.specs.Progress.{QueueFollows};
+    ghost use Rattle.action_log.specs.Stands.{Stands};
+
+    ghost Value = { ℕ };
+
+    ghost view = { λ trial. trial.acked };
+
+    ghost invariant = { λ trial. QueueFollows trial.keeper trial.queue.items
+        × ((place : LogPlace) × Stands trial.keeper trial.log_a.inner.content trial.log_b.inner.content
+        (IsCrashOutcome trial.log_a.inner) (IsCrashOutcome trial.log_b.inner) place) };
+}
+
+impl LogTrial {
+    // Two empty files, and these records.
+    fn new(alloc: Global, queue: HeapCircularBuffer<Record>) -> Result<Self, Refusal>
+        requires { QueueFits 0 0 queue.items }
+    {
+        log_outcomes::<Fused<ModelFile>>();
+        Ok(LogTrial {
+            alloc,
+            keeper: LogKeeper::new(alloc, 0, [false, false])?,
+            queue,
+            log_a: empty_file(alloc)?,
+            log_b: empty_file(alloc)?,
+            acked: 0,
+        })
+    }
+
+    fn step(&mut self) -> LogAnswer {
+        log_outcomes::<Fused<ModelFile>>();
+        let answer = self
+            .keeper
+            .step(&mut self.queue, &mut self.log_a, &mut self.log_b);
+        if let LogAnswer::Acked(receipt) = answer {
+            self.acked = receipt.tick();
+        }
+        answer
+    }
+
+    // Lets the call of the next step fail: then it and the next one answer Down.
+    fn fail(&mut self, tally: &mut Tally) -> Result<(), Refusal> {
+        self.log_a.arm(1);
+        self.log_b.arm(1);
+        tally.failure();
+        tally.outcome(self.step() == LogAnswer::Down);
+        self.check(tally)?;
+        tally.outcome(self.step() == LogAnswer::Down);
+        self.check(tally)
+    }
+
+    // Recovers from what crashes may leave of both files.
+    fn check(&self, tally: &mut Tally) -> Result<(), Refusal> {
+        for crash_a in CRASHES {
+            let log_a = left_by(self.alloc, self.log_a.inner(), crash_a)?;
+            for crash_b in CRASHES {
+                let log_b = left_by(self.alloc, self.log_b.inner(), crash_b)?;
+                let found = recover(self.alloc, &IMAGE, &[], &log_a, &log_b)?;
+                let sum = found.tick.saturating_mul(found.tick.saturating_add(1)) / 2;
+                tally.outcome(
+                    self.acked <= found.tick
+                        && found.tick <= TICKS
+                        && found.words.as_slice() == [sum].as_slice(),
+                );
+            }
+        }
+        Ok(())
+    }
+}
+
+// The ticks before the switch, the switch, and the tick behind it: tick k adds k to the only cell.
+fn records(alloc: Global) -> Result<HeapCircularBuffer<Record>, Refusal>
+    ensures { IfOk result (λ queue. QueueFits 0 0 queue.items) }
+{
+    let mut queue = HeapCircularBuffer::with_capacity(alloc, 64)?;
+    for i in 0..FIRST_TICKS {
+        push(&mut queue, Record::Tick(tick(alloc, i + 1)?));
+    }
+    push(&mut queue, Record::Switch(FIRST_TICKS));
+    push(&mut queue, Record::Tick(tick(alloc, TICKS)?));
+    Ok(queue)
+}
+
+// So many ticks of four actions.
+fn busy_ticks(alloc: Global, ticks: u64) -> Result<HeapCircularBuffer<Record>, Refusal>
+    requires { ticks ≤ 32 }
+    ensures { IfOk result (λ queue. QueueFits 0 0 queue.items) }
+{
+    let mut queue = HeapCircularBuffer::with_capacity(alloc, 64)?;
+    for i in 0..ticks {
+        let mut tick = Tick::new(alloc);
+        tick.reserve(4)?;
+        tick.push_reserved(Action::Set { cell: 0, value: i });
+        tick.push_reserved(Action::Set { cell: 1, value: i });
+        tick.push_reserved(Action::Set { cell: 2, value: i });
+        tick.push_reserved(Action::Set { cell: 3, value: i });
+        push(&mut queue, Record::Tick(tick));
+    }
+    Ok(queue)
+}
+
+// Adds a record for which there is room.
+fn push(queue: &mut HeapCircularBuffer<Record>, added: Record)
+    requires { length queue.old.items < queue.old.capacity }
+    ensures items { queue.new.items ≡ queue.old.items ++ added ∷ [] }
+    ensures capacity { queue.new.capacity ≡ queue.old.capacity }
+{
+    queue.push_back(added);
+}
+
+// The tick of this number.
+fn tick(alloc: Global, number: u64) -> Result<Tick, Refusal>
+    requires { number ≤ 1000 }
+{
+    let mut tick = Tick::new(alloc);
+    tick.reserve(1)?;
+    tick.push_reserved(Action::Add {
+        cell: 0,
+        by: number as i64,
+    });
+    Ok(tick)
+}
