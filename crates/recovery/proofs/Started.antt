@@ -9,7 +9,7 @@ use Rattle.image_files.specs.Image.{Closed}
 use Rattle.image_files.specs.declared.phase.ImageAnswer.{ImageAnswer}
 use Rattle.image_files.specs.declared.phase.ImageAnswer.TheVariants as answer
 use Rattle.image_files.specs.Images.{Round, Images, ImagesAre, FirstImages, ImageFiles, NoneYet, Newest, round_in, with_cell, with_taken, StepsImages}
-use Rattle.action_log.specs.Logs.{started, Start, StartLogsAre, Journal, InStart, Writing, LogPlace}
+use Rattle.action_log.specs.Logs.{started, Start, StartLogsAre, InStart, Writing, LogPlace}
 use Rattle.action_log.specs.LogSteps.{StartStep}
 use Rattle.action_log.specs.declared.record.LogAnswer.{LogAnswer}
 use Rattle.action_log.specs.declared.record.LogAnswer.TheVariants as log_answer

@@ -7,7 +7,7 @@ use Rattle.action_log.specs.Logs.{Logs}
 use Rattle.recovery.specs.Follow.{IsSwitchOf, IsSwitchAt}
 use Rattle.recovery.specs.Events.{ticks_in, IsQueueOf, switched_with, IsKept, acknowledged_after}
 use Rattle.action_log.specs.Logs.{switched_to}
-use Rattle.action_log.specs.LogSteps.{is_idle, TakesGroup, TakesSwitch, GoesOn, EndsSwitch, Acknowledges, LogsStep}
+use Rattle.action_log.specs.LogSteps.{is_idle, GoesOn, EndsSwitch, Acknowledges, LogsStep}
 use Rattle.action_log.specs.declared.record.LogAnswer.{LogAnswer}
 use Rattle.action_log.specs.declared.record.LogAnswer.TheVariants as answer
 use Rattle.action_log.specs.declared.record.Record.{Record}

@@ -1,5 +1,5 @@
 -- From what the two keepers and their files stand for to sound files.
-use Rattle.std.specs.Prelude.{◌≡◌, ℕ, List}
+use Rattle.std.specs.Prelude.{ℕ, List}
 use Rattle.world_actions.specs.declared.action.Action.{Action}
 use Rattle.image_files.specs.Images.{Images, FirstImages, NoneYet, Newest}
 use Rattle.image_files.specs.Progress.{Progress as ImageProgress}

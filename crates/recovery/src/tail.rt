@@ -38,7 +38,8 @@ pub fn tail_of<'a>(tick: u64, log_a: &'a LogState, log_b: &'a LogState) -> (&'a 
     requires tick { tick ≤ TICK_MAX }
     requires a { IsBoundedSegment (segment_in log_a.now) }
     requires b { IsBoundedSegment (segment_in log_b.now) }
-    ensures tail { tail tick (segment_in log_a.now) (segment_in log_b.now) ≡ actions_in result.0.now ++ actions_in result.1.now }
+    ensures tail { tail tick (segment_in log_a.now) (segment_in log_b.now)
+        ≡ actions_in result.0.now ++ actions_in result.1.now }
     ensures few { length result.0.now + length result.1.now ≤ 2 * SEGMENT_TICKS }
 {
     let (first, second) = if begins_at(tick, log_a) {
@@ -54,7 +55,8 @@ pub fn tail_of<'a>(tick: u64, log_a: &'a LogState, log_b: &'a LogState) -> (&'a 
 /// Replays ticks in order, up to the first action that is refused.
 pub fn replay_all(words: &mut Words, ticks: &[Tick]) -> Result<(), Refusal>
     ensures done { OnOk result (words_after words.old (actions_in ticks.now) ≡ Ok words.new) }
-    ensures refused { IfErr result (λ refusal. (refusal ≡ Refusal.BadLog) × IsErr (words_after words.old (actions_in ticks.now))) }
+    ensures refused { IfErr result (λ refusal. (refusal ≡ Refusal.BadLog)
+        × IsErr (words_after words.old (actions_in ticks.now))) }
 {
     for tick in ticks {
         replay(words, tick)?;
