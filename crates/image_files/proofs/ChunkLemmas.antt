@@ -1,5 +1,5 @@
 -- The words of taken cells.
-use Rattle.std.proofs.Common.{◌≡◌, inl, inr, ⊎_elim, ℕ, zero, suc, ◌+◌, ◌-◌, ◌*◌, ◌<◌, ◌≤◌, List, [], ◌∷◌, ◌++◌, length, get_or, take, drop, set, refl, sym, ◌∙◌, ap, arith, length-append, rules}
+use Rattle.std.proofs.Common.{◌≡◌, ℕ, suc, ◌+◌, ◌*◌, ◌<◌, ◌≤◌, List, [], ◌∷◌, ◌++◌, length, get_or, take, drop, set, refl, sym, ◌∙◌, ap, arith, length-append}
 use Rattle.std.proofs.lemmas.List.{take-take, take-append-le, get_or_at, take_at, take_more, drop_more, set_at, length-take, append-nil, append_assoc, map_push, length-map}
 use Rattle.std.specs.Prelude.{map}
 use Rattle.std.specs.List.{flat_map}
@@ -8,7 +8,7 @@ use Rattle.file_format.specs.Number.{number_bytes}
 use Rattle.image_files.specs.Image.{number_at, words_from}
 use Rattle.image_files.specs.Taken.{filled_words, word_of}
 use Rattle.capture_core.specs.declared.taker.Taken.{Taken}
-use Rattle.capture_core.specs.declared.taker.Taken.TheVariants.{Word, Same}
+use Rattle.capture_core.specs.declared.taker.Taken.TheVariants.{Word}
 use Rattle.image_files.proofs.WordLemmas.{words_from-push, length-words_from, length-number_bytes}
 
 pub take_overwritten : {A : Type 0} (old : List A) (at : ℕ) (items : List A) (end : ℕ) → at ≤ length old → end ≡ at + length items → take end (overwritten old at items) ≡ take at old ++ items

@@ -1,5 +1,5 @@
 -- The write of a chunk.
-use Rattle.std.proofs.Common.{◌≡◌, ◌⊎◌, inl, inr, ⊎_elim, Some, ℕ, zero, suc, ◌+◌, ◌-◌, ◌*◌, ◌<◌, ◌≤◌, List, [], ◌∷◌, ◌++◌, true, false, ◌==◌, IsTrue, length, get_or, take, drop, refl, sym, ◌∙◌, ap, subst, arith, length-append}
+use Rattle.std.proofs.Common.{◌≡◌, inl, inr, ℕ, zero, suc, ◌+◌, ◌*◌, ◌<◌, ◌≤◌, List, [], ◌∷◌, ◌++◌, true, false, ◌==◌, length, get_or, take, drop, refl, sym, ◌∙◌, ap, subst, arith, length-append}
 use Rattle.std.proofs.lemmas.List.{append_assoc, append-nil, length-take, take-take, get_or-take, take_at, drop-take}
 use Rattle.std.proofs.lemmas.List.Folds.{list_all-append}
 use Rattle.std.proofs.lemmas.Bool.{cases_Bool}
@@ -14,7 +14,7 @@ use Rattle.capture_core.specs.declared.taker.Taken.{Taken}
 use Rattle.capture_core.specs.declared.taker.Taken.TheVariants.{Word, Same}
 use Rattle.image_files.specs.declared.phase.Phase.{Phase}
 use Rattle.image_files.specs.declared.phase.Phase.TheVariants.{Taking, Writing, BodySync, Down}
-use Rattle.image_files.specs.Image.{Image, image_of, number_at, words_from, is_word}
+use Rattle.image_files.specs.Image.{Image, number_at, words_from, is_word}
 use Rattle.image_files.specs.Taken.{filled_words, has_same}
 use Rattle.image_files.specs.Progress.{Progress, PhaseFits, IsInOrder, newest_words, done, after_chunk, with_chunk_written}
 use Rattle.image_files.specs.Keeper.{HasBody, Fits, TargetFits, TargetEndures}

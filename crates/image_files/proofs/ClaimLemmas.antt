@@ -1,23 +1,21 @@
 -- What a crash leaves, and how a round begins.
-use Rattle.std.proofs.Common.{◌≡◌, ◌⊎◌, inl, inr, ⊎_elim, ℕ, ◌≤◌, List, [], Bool, true, false, Option, Some, None, IsTrue, length, refl, sym, ◌∙◌, ap, subst, arith}
-use Rattle.std.proofs.lemmas.Bool.{cases_Bool}
+use Rattle.std.proofs.Common.{◌≡◌, inl, inr, ⊎_elim, ℕ, ◌≤◌, List, [], Bool, true, Option, Some, None, length, refl, sym, ◌∙◌, ap, subst, arith}
 use Rattle.std.specs.Prelude.{IfSome, is_some}
-use Rattle.world_ticks.specs.declared.tick.TheConstants.{TICK_MAX}
 use Rattle.disk_model.specs.Disk.{Only}
-use Rattle.file_format.specs.Gate.{HasShutGate, HasNoShutGate}
+use Rattle.file_format.specs.Gate.{HasShutGate}
 use Rattle.file_format.specs.declared.slot.Slot.{Slot}
 use Rattle.file_format.specs.declared.slot.Slot.TheVariants.{A, B}
 use Rattle.file_format.specs.Slot.{other_slot, of_slot, in_slot, beside_slot}
 use Rattle.image_files.specs.declared.phase.Phase.{Phase}
 use Rattle.image_files.specs.declared.phase.Phase.TheVariants.{Idle, Closing, ClosingSync, Header, Taking, Reading, Writing, BodySync, Opening, OpeningSync, Down}
 use Rattle.image_files.specs.Image.{Image, image_of, words_from}
-use Rattle.image_files.specs.Images.{Round, Images, FirstImages, ImageFiles, NoneYet, Newest, ImagesAre, FirstImagesAre, ImageFilesAre, IsTarget, with_round}
-use Rattle.image_files.specs.Progress.{Progress, PhaseFits, IsInOrder, made_keeper, begun_keeper, target_of, newest_words, done, round_so_far, round_in_phase, round_of}
-use Rattle.image_files.specs.Keeper.{Fits, TargetFits, TargetEndures, Endures}
+use Rattle.image_files.specs.Images.{Round, Images, FirstImages, ImageFiles, NoneYet, Newest, ImageFilesAre, IsTarget}
+use Rattle.image_files.specs.Progress.{Progress, PhaseFits, IsInOrder, made_keeper, target_of, newest_words, round_so_far, round_in_phase, round_of}
+use Rattle.image_files.specs.Keeper.{Fits, TargetFits, TargetEndures}
 use Rattle.image_files.specs.Files.{FitsFiles, Stands, StandsFor, HoldsNewest, IsTold, TellsShut}
 use Rattle.image_files.proofs.SpellingLemmas.{open_file}
 use Rattle.image_files.proofs.GateLemmas.{shut_reads_closed}
-use Rattle.image_files.proofs.BodyLemmas.{in_phase, length_done}
+use Rattle.image_files.proofs.BodyLemmas.{length_done}
 
 -- ---- the target
 

@@ -1,7 +1,6 @@
 -- A step keeps what the keeper and its files stand for.
-use Rattle.std.proofs.Common.{◌≡◌, ◌⊎◌, inl, inr, ◌↔◌, ℕ, List, [], ◌∷◌, ◌++◌, true, false, Option, Some, None, length, get_or, refl, sym, ◌∙◌, ap, subst}
+use Rattle.std.proofs.Common.{◌≡◌, ◌⊎◌, inl, inr, ◌↔◌, ℕ, List, [], true, false, Option, Some, None, length, refl, sym, ◌∙◌, ap, subst}
 use Rattle.std.specs.Prelude.{IfSome, IfNone, is_some, option_map, ⊤}
-use Rattle.disk_model.specs.Disk.{Only}
 use Rattle.file_format.specs.declared.slot.Slot.{Slot}
 use Rattle.file_format.specs.declared.slot.Slot.TheVariants.{A, B}
 use Rattle.file_format.specs.Slot.{other_slot, of_slot, in_slot, beside_slot}
@@ -11,9 +10,8 @@ use Rattle.image_files.specs.declared.phase.Phase.TheVariants.{Idle, Closing, Cl
 use Rattle.image_files.specs.declared.phase.ImageAnswer.{ImageAnswer}
 use Rattle.image_files.specs.declared.phase.ImageAnswer.TheVariants as answer
 use Rattle.image_files.specs.Image.{Image, image_of, words_from}
-use Rattle.image_files.specs.Images.{Round, Images, FirstImages, ImageFiles, NoneYet, Newest, StepsImages, round_in, with_cell, with_taken, with_opened}
-use Rattle.image_files.specs.Taken.{word_of}
-use Rattle.image_files.specs.Progress.{Progress, target_of, newest_words, done, round_so_far, round_in_phase, round_of, cells_taken, opened_keeper, with_taken_cell}
+use Rattle.image_files.specs.Images.{Round, ImageFiles, NoneYet, Newest, StepsImages, round_in, with_cell, with_taken, with_opened}
+use Rattle.image_files.specs.Progress.{Progress, target_of, newest_words, done, round_so_far, round_in_phase, round_of, cells_taken, opened_keeper}
 use Rattle.image_files.specs.Keeper.{Fits, Endures}
 use Rattle.image_files.specs.Steps.{IfOpened, OnOpened, OnWorking, TookCell, TookWord, IsOpenedImage}
 use Rattle.image_files.proofs.TakeLemmas.{length-done}

@@ -1,11 +1,11 @@
 -- A keeper and image.a and image.b, by their own names.
-use Rattle.std.specs.Prelude.{◌≡◌, ◌≤◌, ℕ, Bool, true, false, Option, Some, None, List, length}
+use Rattle.std.specs.Prelude.{◌≡◌, ℕ, Bool, true, false, Option, Some, None, List, length}
 use Rattle.file_format.specs.declared.slot.Slot.{Slot}
 use Rattle.file_format.specs.Slot.{of_slot, in_slot, beside_slot}
 use Rattle.file_format.specs.Gate.{HasShutGate, HasNoShutGate}
 use Rattle.image_files.specs.Image.{Image, image_of}
 use Rattle.image_files.specs.Image.Image.{Closed, Open}
-use Rattle.image_files.specs.Images.{Images, FirstImages, ImageFiles, NoneYet, Newest}
+use Rattle.image_files.specs.Images.{ImageFiles, NoneYet, Newest}
 use Rattle.image_files.specs.Progress.{Progress, target_of, newest_words, round_of}
 use Rattle.image_files.specs.Keeper.{Fits, Endures}
 

@@ -1,12 +1,12 @@
 -- What a keeper and its two files have in common: the target of the round, and the newest image's file.
-use Rattle.std.specs.Prelude.{◌≡◌, ◌⊎◌, ℕ, ◌+◌, ◌*◌, ◌≤◌, Bool, true, false, IsTrue, IfSome, Some, List, [], length}
+use Rattle.std.specs.Prelude.{◌≡◌, ◌⊎◌, ℕ, ◌+◌, ◌*◌, ◌≤◌, false, IsTrue, IfSome, Some, List, [], length}
 use Rattle.std.specs.List.{list_all}
 use Rattle.disk_model.specs.Disk.{Only}
 use Rattle.disk_model.specs.Gated.{AllShut}
 use Rattle.file_format.specs.Gate.{HasShutGate, HasNoShutGate, HasOpenGate}
 use Rattle.image_files.specs.declared.format.TheConstants.{HEADER_LENGTH, WORD_LENGTH, CELLS_PLACE, TICK_PLACE}
 use Rattle.image_files.specs.declared.phase.Phase.{Phase}
-use Rattle.image_files.specs.declared.phase.Phase.TheVariants.{Idle, Closing, ClosingSync, Header, Taking, Reading, Writing, BodySync, Opening, OpeningSync, Down}
+use Rattle.image_files.specs.declared.phase.Phase.TheVariants.{Idle, Closing, ClosingSync, Header, Opening, OpeningSync, Down}
 use Rattle.image_files.specs.Image.{Image, image_of, number_at, words_from, is_word}
 use Rattle.image_files.specs.Images.{IsTarget}
 use Rattle.image_files.specs.Taken.{filled_words}

@@ -1,5 +1,5 @@
 -- What a step does to its keeper, its taker and its two disks.
-use Rattle.std.specs.Prelude.{◌≡◌, ◌⊎◌, ℕ, ◌+◌, min, Option, Some, None, List, [], ◌∷◌, ◌++◌, length, get_or, ⊤}
+use Rattle.std.specs.Prelude.{◌≡◌, ◌⊎◌, ℕ, Option, Some, None, List, [], ◌∷◌, ◌++◌, length, get_or, ⊤}
 use Rattle.disk_model.specs.Disk.{Only, Grew}
 use Rattle.capture_core.specs.declared.taker.Taken.{Taken}
 use Rattle.capture_core.specs.Taken.{IsTakenWord}

@@ -1,4 +1,4 @@
-use Rattle.std.proofs.Common.{◌≡◌, ◌+◌, ◌*◌, ℕ, List, take, get_or, arith, rules, ap, sym, ◌∙◌}
+use Rattle.std.proofs.Common.{◌+◌, ◌*◌, ℕ, List, take, arith, ap, ◌∙◌}
 use Rattle.disk_model.specs.Disk.{overwritten}
 use Rattle.file_format.specs.Number.{number_bytes}
 use Rattle.image_files.proofs.ChunkLemmas.{encode_step}

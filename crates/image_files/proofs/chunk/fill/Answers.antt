@@ -1,4 +1,4 @@
-use Rattle.std.proofs.Common.{◌≡◌, ◌+◌, ◌*◌, ℕ, List, set, take, get_or, arith, rules, ap, sym, ◌∙◌}
+use Rattle.std.proofs.Common.{set, arith, ap, ◌∙◌}
 use Rattle.capture_core.specs.declared.taker.Taken.{Taken}
 use Rattle.image_files.proofs.ChunkLemmas.{fill_step}
 use Rattle.image_files.proofs.chunk.fill.Goals as goal

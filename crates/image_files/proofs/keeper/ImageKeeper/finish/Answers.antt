@@ -1,6 +1,5 @@
-use Rattle.std.proofs.Common.{◌≡◌, ◌⊎◌, ℕ, List, sym, ap, subst}
+use Rattle.std.proofs.Common.{ap}
 use Rattle.image_files.specs.Progress.{Progress}
-use Rattle.image_files.specs.Keeper.{TargetEndures}
 use Rattle.image_files.proofs.BodyLemmas.{opened_down, opened_image}
 use Rattle.image_files.proofs.keeper.ImageKeeper.finish.Goals as goal
 

@@ -1,10 +1,10 @@
-use Rattle.std.proofs.Common.{◌≡◌, ◌+◌, ◌*◌, ◌≤◌, ℕ, List, length, take, drop, sym, ◌∙◌, ap, subst, arith, rules}
+use Rattle.std.proofs.Common.{◌≡◌, ◌+◌, ◌*◌, ℕ, List, length, take, drop, sym, ◌∙◌, ap, subst, arith, rules}
 use Rattle.std.proofs.lemmas.List.{with_items_is, length-map}
 use Rattle.std.specs.Prelude.{map}
 use Rattle.std.specs.Vec.{with_items}
 use Rattle.capture_core.specs.declared.taker.Taken.{Taken}
 use Rattle.capture_core.specs.declared.taker.Taken.TheVariants.{Word}
-use Rattle.image_files.specs.declared.phase.Phase.TheVariants.{Reading, Writing}
+use Rattle.image_files.specs.declared.phase.Phase.TheVariants.{Writing}
 use Rattle.image_files.specs.Image.{words_from}
 use Rattle.image_files.specs.Taken.{filled_words}
 use Rattle.image_files.specs.Progress.{Progress, IsInOrder, read_cells}

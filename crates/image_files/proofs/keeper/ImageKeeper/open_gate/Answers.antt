@@ -1,4 +1,4 @@
-use Rattle.std.proofs.Common.{◌≡◌, ◌⊎◌, ◌+◌, ◌≤◌, ℕ, List, drop, sym, ◌∙◌, ap, subst}
+use Rattle.std.proofs.Common.{ℕ, List, drop, sym, ◌∙◌, ap, subst}
 use Rattle.disk_model.specs.Disk.{Torn}
 use Rattle.image_files.specs.declared.phase.Phase.TheVariants.{OpeningSync, Down}
 use Rattle.image_files.specs.Progress.{Progress, done}

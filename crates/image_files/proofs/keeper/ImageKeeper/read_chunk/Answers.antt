@@ -1,8 +1,7 @@
-use Rattle.std.proofs.Common.{◌≡◌, ◌+◌, ◌*◌, ℕ, List, length, sym, ◌∙◌, ap, subst}
+use Rattle.std.proofs.Common.{ℕ, List, ◌∙◌, ap}
 use Rattle.capture_core.specs.declared.taker.Taken.{Taken}
 use Rattle.image_files.specs.declared.phase.Phase.TheVariants.{Reading, Writing}
 use Rattle.image_files.specs.Progress.{Progress, done}
-use Rattle.image_files.specs.Keeper.{Fits}
 use Rattle.image_files.proofs.BodyLemmas.{in_phase}
 use Rattle.image_files.proofs.ChunkReads.{read_fits, read_done, newest_file}
 use Rattle.image_files.proofs.keeper.ImageKeeper.read_chunk.Goals as goal

@@ -1,10 +1,6 @@
-use Rattle.std.proofs.Common.{◌≡◌, ◌+◌, ◌*◌, ◌≤◌, ℕ, List, length, sym, ◌∙◌, ap, subst, arith}
-use Rattle.image_files.specs.declared.phase.Phase.TheVariants.{Taking, Reading, OpeningSync}
-use Rattle.image_files.specs.Image.{Image}
-use Rattle.image_files.specs.Progress.{Progress, done}
-use Rattle.image_files.specs.Keeper.{Fits}
-use Rattle.image_files.proofs.BodyLemmas.{in_phase, length_done}
-use Rattle.image_files.proofs.ChunkReads.{newest_file}
+use Rattle.std.proofs.Common.{◌≡◌, sym, ◌∙◌, ap}
+use Rattle.image_files.specs.declared.phase.Phase.TheVariants.{Taking}
+use Rattle.image_files.specs.Progress.{Progress}
 use Rattle.image_files.proofs.TakeLemmas.{take_fits, take_endures, take_word}
 use Rattle.image_files.proofs.keeper.ImageKeeper.step.Goals as goal
 

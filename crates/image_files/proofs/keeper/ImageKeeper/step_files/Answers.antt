@@ -1,4 +1,4 @@
-use Rattle.image_files.proofs.StandsLemmas.{Stepped, kept_at_a, kept_at_b}
+use Rattle.image_files.proofs.StandsLemmas.{kept_at_a, kept_at_b}
 use Rattle.image_files.proofs.keeper.ImageKeeper.step_files.Goals as goal
 
 pub returns-in-A-clause-stands : goal.returns-in-A-clause-stands

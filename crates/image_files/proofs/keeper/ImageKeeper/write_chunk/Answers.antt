@@ -1,6 +1,4 @@
-use Rattle.std.proofs.Common.{◌≡◌, ◌+◌, ◌*◌, ℕ, List, length, sym, ◌∙◌, ap, subst}
-use Rattle.image_files.specs.Progress.{Progress, with_chunk_written, done}
-use Rattle.image_files.specs.Keeper.{Fits, TargetEndures}
+use Rattle.std.proofs.Common.{◌*◌, length}
 use Rattle.image_files.proofs.ChunkWrites.{chunk_fits, chunk_done, torn_done, chunk_endures, chunk_down}
 use Rattle.image_files.proofs.keeper.ImageKeeper.write_chunk.Goals as goal
 

@@ -1,4 +1,4 @@
-use Rattle.std.proofs.Common.{◌≡◌, ◌+◌, ◌≤◌, ℕ, List, length, take, drop, sym, ap, subst, arith, ◌∙◌}
+use Rattle.std.proofs.Common.{length, take, drop, sym, ap, subst, arith, ◌∙◌}
 use Rattle.image_files.specs.Progress.{Progress}
 use Rattle.image_files.specs.Keeper.{Fits}
 use Rattle.image_files.specs.View.{progress_of}
