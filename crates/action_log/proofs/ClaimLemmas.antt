@@ -1,10 +1,10 @@
 -- From the relations between a keeper and its files to what a crash leaves.
-use Rattle.std.proofs.Common.{◌≡◌, ◌≢◌, ◌⊎◌, inl, inr, ⊎_elim, IsTrue, ℕ, ◌+◌, ◌<◌, ◌≤◌, Bool, true, false, List, [], ◌∷◌, ◌++◌, length, get_or, refl, sym, ap, subst, ◌∙◌, arith, length-append}
+use Rattle.std.proofs.Common.{◌≡◌, ◌≢◌, ◌⊎◌, inl, inr, IsTrue, ℕ, ◌+◌, ◌<◌, ◌≤◌, Bool, true, false, List, [], ◌∷◌, ◌++◌, length, get_or, refl, sym, ap, subst, ◌∙◌, arith, length-append}
 use Rattle.std.specs.Prelude.{Some}
 use Rattle.std.specs.List.{AllByRecursion}
 use Rattle.world_ticks.specs.declared.tick.TheConstants.{TICK_MAX}
 use Rattle.file_format.specs.declared.slot.Slot.{Slot}
-use Rattle.file_format.specs.declared.slot.Slot.TheVariants.{A, B}
+use Rattle.file_format.specs.declared.slot.Slot.TheVariants.{B}
 use Rattle.file_format.specs.declared.gate.TheConstants.{CLOSED_GATE}
 use Rattle.file_format.specs.Gate.{HasShutGate, HasNoShutGate}
 use Rattle.file_format.specs.Slot.{of_slot, in_slot, beside_slot}
@@ -13,12 +13,12 @@ use Rattle.action_log.specs.declared.format.TheConstants.{SEGMENT_TICKS}
 use Rattle.action_log.specs.declared.phase.Phase.{Phase}
 use Rattle.action_log.specs.declared.phase.Phase.TheVariants.{Retiring, RetiringSync, Ready, BodySync, Gate, GateSync, Closing, ClosingSync, Header, HeaderSync, Opening, OpeningSync}
 use Rattle.action_log.specs.declared.progress.Progress.{Progress}
-use Rattle.action_log.specs.Segment.{Tick, IsGroup, joined, Segment, ClosedSegment, OpenSegment, IsSegment, IsOpenSegment, IsClosedSegment}
+use Rattle.action_log.specs.Segment.{IsGroup, joined, Segment, ClosedSegment, OpenSegment, IsSegment, IsOpenSegment, IsClosedSegment}
 use Rattle.action_log.specs.Progress.{begun, is_of_start, switch_in, IsInOrder, rest_of}
-use Rattle.action_log.specs.Written.{Written, ticks_in, front, body, IsCurrentOutcome}
+use Rattle.action_log.specs.Written.{Written, front, body, IsCurrentOutcome}
 use Rattle.action_log.specs.Files.{Fits, CurrentFits, OtherFits, CurrentOutcomes, OtherOutcomes, Holds, Endures, first_written}
-use Rattle.action_log.specs.Logs.{Logs, LogsAre, IsCurrent, IsOther, Start, IsStartLogA, IsStartLogB, StartLogsAre, Journal, InStart, Writing, JournalIs, LogPlace, start_of, start_moves}
-use Rattle.action_log.specs.Stands.{logs_of, StandsAfterStart, StandsInStart, StandsBy, Stands}
+use Rattle.action_log.specs.Logs.{Logs, LogsAre, IsOther, Start, IsStartLogA, IsStartLogB, StartLogsAre, Journal, InStart, Writing, JournalIs, LogPlace, start_of, start_moves}
+use Rattle.action_log.specs.Stands.{logs_of, StandsInStart, StandsBy, Stands}
 use Rattle.action_log.proofs.GroupLemmas.{closed_reads, length_front_none}
 use Rattle.action_log.proofs.StepLemmas.{shut_is_closed}
 

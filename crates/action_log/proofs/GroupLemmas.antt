@@ -9,7 +9,7 @@ use Rattle.file_format.specs.declared.gate.TheConstants.{OPEN_GATE, CLOSED_GATE}
 use Rattle.file_format.specs.Number.{number_bytes}
 use Rattle.disk_model.specs.Disk.{Torn, overwritten}
 use Rattle.action_log.specs.declared.format.TheConstants.{FIRST_GROUP, SEGMENT_TICKS}
-use Rattle.action_log.specs.Segment.{Tick, joined, IsGroup, group_bytes, tick_bytes, IsOpenSegment}
+use Rattle.action_log.specs.Segment.{Tick, joined, IsGroup, group_bytes, IsOpenSegment}
 use Rattle.action_log.specs.Written.{front, body, header}
 use Rattle.action_log.proofs.SpellingLemmas.{length_number}
 

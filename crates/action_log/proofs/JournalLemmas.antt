@@ -1,11 +1,10 @@
 -- What each step does to what the log keeper tells recovery.
-use Rattle.std.proofs.Common.{◌≡◌, ◌⊎◌, inl, inr, IsTrue, ℕ, ◌+◌, ◌-◌, ◌<◌, ◌≤◌, Bool, true, false, List, [], ◌∷◌, ◌++◌, length, refl, sym, ap, subst, ◌∙◌, arith, length-append}
+use Rattle.std.proofs.Common.{◌≡◌, ◌⊎◌, inl, inr, IsTrue, ℕ, ◌+◌, ◌-◌, ◌<◌, ◌≤◌, Bool, true, false, List, [], ◌++◌, length, refl, sym, ap, subst, ◌∙◌, arith, length-append}
 use Rattle.std.specs.Prelude.{Option, Some, None, if◌then◌else◌}
 use Rattle.file_format.specs.declared.slot.Slot.{Slot}
-use Rattle.file_format.specs.declared.slot.Slot.TheVariants.{A, B}
 use Rattle.file_format.specs.Gate.{HasShutGate}
 use Rattle.file_format.specs.Slot.{of_slot, other_slot}
-use Rattle.action_log.specs.declared.format.TheConstants.{GROUP_TICKS, SEGMENT_TICKS}
+use Rattle.action_log.specs.declared.format.TheConstants.{GROUP_TICKS}
 use Rattle.action_log.specs.declared.phase.Phase.{Phase}
 use Rattle.action_log.specs.declared.phase.Phase.TheVariants.{Retiring, RetiringSync, Ready, BodySync, Gate, GateSync, Closing, ClosingSync, Header, HeaderSync, Opening, OpeningSync}
 use Rattle.action_log.specs.declared.phase.Outcome.{Outcome}
@@ -16,12 +15,12 @@ use Rattle.action_log.specs.declared.record.LogAnswer.{LogAnswer}
 use Rattle.action_log.specs.declared.record.LogAnswer.TheVariants as answer
 use Rattle.action_log.specs.Segment.{Tick, joined, Segment, ClosedSegment, OpenSegment, IsSegment}
 use Rattle.action_log.specs.Queue.{group_of, ticks_before, StandBefore}
-use Rattle.action_log.specs.Progress.{is_of_start, IsInOrder, rest_in, rest_of, switch_in, switch_of, phase_after, after_call, with_group, with_switch, acknowledged, changed}
+use Rattle.action_log.specs.Progress.{is_of_start, IsInOrder, rest_in, rest_of, switch_in, switch_of, phase_after, after_call}
 use Rattle.action_log.specs.Written.{Written, with_pending, with_group_kept, renewed}
-use Rattle.action_log.specs.Files.{Fits, CurrentFits, Holds, Endures}
+use Rattle.action_log.specs.Files.{CurrentFits, Holds, Endures}
 use Rattle.action_log.specs.Steps.{goes_on, Moved, answer_by}
-use Rattle.action_log.specs.Logs.{Logs, started, switched_to, Start, Journal, InStart, Writing, LogPlace}
-use Rattle.action_log.specs.LogSteps.{TakesGroup, TakesSwitch, GoesOn, EndsSwitch, Acknowledges, LogsStep, StartStep, StepIn, JournalStep}
+use Rattle.action_log.specs.Logs.{Logs, started, Start, Journal, InStart, Writing, LogPlace}
+use Rattle.action_log.specs.LogSteps.{TakesGroup, TakesSwitch, LogsStep, StepIn}
 use Rattle.action_log.specs.Stands.{logs_of, StandsAfterStart, StandsInStart, StandsBy, Stands}
 use Rattle.action_log.proofs.QueueLemmas.{group_front, group_most, length_group}
 use Rattle.action_log.proofs.GroupLemmas.{joined_with, closed_reads}

@@ -1,27 +1,19 @@
 -- What a step keeps.
-use Rattle.std.proofs.Common.{◌≡◌, ◌≢◌, ◌⊎◌, inl, inr, ℕ, zero, suc, ◌+◌, ◌*◌, ◌-◌, ◌<◌, ◌≤◌, Bool, true, false, not, IsTrue, List, [], ◌∷◌, ◌++◌, length, take, drop, refl, sym, ap, subst, ◌∙◌, arith}
+use Rattle.std.proofs.Common.{◌≡◌, ℕ, ◌+◌, Bool, true, false, IsTrue, List, ◌∷◌, refl, sym, ap, subst, ◌∙◌, arith}
 use Rattle.std.specs.Prelude.{if◌then◌else◌}
-use Rattle.std.proofs.lemmas.List.{take-append-drop}
-use Rattle.file_format.specs.declared.slot.Slot.{Slot}
-use Rattle.file_format.specs.declared.slot.Slot.TheVariants.{A, B}
-use Rattle.action_log.specs.declared.format.TheConstants.{GROUP_TICKS, SEGMENT_TICKS}
-use Rattle.world_ticks.specs.declared.tick.TheConstants.{TICK_MAX}
+use Rattle.action_log.specs.declared.format.TheConstants.{GROUP_TICKS}
 use Rattle.action_log.specs.declared.progress.Progress.{Progress}
 use Rattle.action_log.specs.declared.phase.Phase.{Phase}
 use Rattle.action_log.specs.declared.phase.Phase.TheVariants.{Retiring, RetiringSync, Ready, BodySync, Gate, GateSync, Closing, ClosingSync, Header, HeaderSync, Opening, OpeningSync}
 use Rattle.action_log.specs.declared.phase.Outcome.{Outcome}
 use Rattle.action_log.specs.declared.phase.Outcome.TheVariants as outcome
-use Rattle.action_log.specs.declared.record.LogAnswer.{LogAnswer}
-use Rattle.action_log.specs.declared.record.LogAnswer.TheVariants as answer
 use Rattle.action_log.specs.declared.record.Record.{Record}
 use Rattle.action_log.specs.declared.record.Record.TheVariants as records
-use Rattle.action_log.specs.Segment.{Tick, IsGroup}
-use Rattle.action_log.specs.Queue.{group_of, queue_work, QueueFits, QueueEnd, queue_end}
-use Rattle.action_log.specs.Progress.{is_of_start, IsInOrder, rest_in, rest_of, work_of, QueueFollowsIn, QueueFollows, end_in, end_of, phase_after, after_call, with_group, with_switch, acknowledged, changed, stepped_in, stepped, answer_in, answer_of, taken_in, taken_count, taken, left_over}
-use Rattle.action_log.specs.Written.{Written, body, with_pending}
-use Rattle.action_log.specs.Files.{written_in, written_after}
-use Rattle.action_log.specs.Steps.{goes_on, Moved, answer_by, slot_by, written_by, fails}
-use Rattle.action_log.proofs.QueueLemmas.{HasRoom, queue_room, queue_left, queue_end_left, queue_work_group, length_group}
+use Rattle.action_log.specs.Segment.{IsGroup}
+use Rattle.action_log.specs.Queue.{group_of, QueueFits, QueueEnd, queue_end}
+use Rattle.action_log.specs.Progress.{is_of_start, IsInOrder, rest_in, QueueFollowsIn, QueueFollows, end_in, end_of, phase_after, after_call, with_group, with_switch}
+use Rattle.action_log.specs.Steps.{goes_on, Moved, slot_by}
+use Rattle.action_log.proofs.QueueLemmas.{queue_room, queue_left, queue_end_left}
 use Rattle.action_log.proofs.SpellingLemmas.{length_body}
 
 -- ---- a job that goes on

@@ -1,6 +1,6 @@
 -- The ticks in front of a queue, and what its records need.
 use Rattle.std.proofs.Common.{◌≡◌, ◌⊎◌, inl, inr, ℕ, zero, suc, ◌+◌, ◌*◌, ◌<◌, ◌≤◌, List, [], ◌∷◌, ◌++◌, length, take, drop, refl, sym, ap, subst, ◌∙◌, arith, zero-add}
-use Rattle.std.specs.Prelude.{slice_get, Option, Some, None}
+use Rattle.std.specs.Prelude.{slice_get, Some, None}
 use Rattle.world_ticks.specs.Tick.{Actions}
 use Rattle.world_ticks.specs.declared.tick.TheConstants.{TICK_MAX}
 use Rattle.action_log.specs.declared.format.TheConstants.{SEGMENT_TICKS}
@@ -10,7 +10,7 @@ use Rattle.action_log.specs.Segment.{Tick}
 use Rattle.action_log.specs.declared.phase.Phase.{Phase}
 use Rattle.action_log.specs.declared.phase.Phase.TheVariants.{Retiring, RetiringSync, Ready, BodySync, Gate, GateSync, Closing, ClosingSync, Header, HeaderSync, Opening, OpeningSync}
 use Rattle.action_log.specs.Progress.{QueueFollowsIn, end_in}
-use Rattle.action_log.specs.Queue.{group_of, ticks_before, StandBefore, queue_work, QueueFits, QueueEnd, queue_end}
+use Rattle.action_log.specs.Queue.{group_of, ticks_before, StandBefore, queue_work, QueueFits, queue_end}
 use Rattle.action_log.specs.Steps.{StartsWith}
 
 -- ---- the group in front

@@ -1,10 +1,10 @@
 -- What each call of a device makes of the relations between a keeper and its files.
-use Rattle.std.proofs.Common.{◌≡◌, ◌≢◌, ◌⊎◌, inl, inr, ℕ, ◌+◌, ◌<◌, ◌≤◌, Bool, true, false, List, [], ◌∷◌, ◌++◌, length, get_or, take, drop, not, IsTrue, refl, sym, ap, subst, ◌∙◌, arith, length-append}
-use Rattle.std.specs.Prelude.{if◌then◌else◌}
+use Rattle.std.proofs.Common.{◌≡◌, ◌≢◌, ◌⊎◌, inl, inr, ℕ, ◌+◌, ◌<◌, ◌≤◌, Bool, true, false, List, [], ◌∷◌, ◌++◌, length, get_or, drop, not, IsTrue, refl, sym, ap, subst, ◌∙◌, arith, length-append}
+use Rattle.std.specs.Prelude.{if◌then◌else◌, Result, Ok, Err, is_err, OnOk}
 use Rattle.std.proofs.lemmas.List.{append-nil, get_or-take}
 use Rattle.std.proofs.lemmas.Bool.Decides.{eqb_tells}
 use Rattle.world_ticks.specs.declared.tick.TheConstants.{TICK_MAX}
-use Rattle.file_format.specs.declared.gate.TheConstants.{OPEN_GATE, CLOSED_GATE}
+use Rattle.file_format.specs.declared.gate.TheConstants.{CLOSED_GATE}
 use Rattle.file_format.specs.declared.slot.Slot.{Slot}
 use Rattle.file_format.specs.Gate.{HasShutGate}
 use Rattle.disk_model.specs.Disk.{Torn, overwritten}
@@ -13,8 +13,8 @@ use Rattle.action_log.specs.declared.progress.Progress.{Progress}
 use Rattle.action_log.specs.declared.phase.Phase.{Phase}
 use Rattle.action_log.specs.declared.phase.Phase.TheVariants.{Ready, Gate, GateSync, Closing, Header, Opening, OpeningSync}
 use Rattle.action_log.specs.Segment.{Tick, joined, IsGroup, IsClosedSegment, IsOpenSegment}
-use Rattle.action_log.specs.Progress.{with_group, changing, changed}
-use Rattle.action_log.specs.Written.{Written, ticks_in, front, body, header, HasGroups, IsCurrentOutcome, with_pending, with_group_kept, renewed}
+use Rattle.action_log.specs.Progress.{with_group, changed}
+use Rattle.action_log.specs.Written.{Written, front, body, header, HasGroups, IsCurrentOutcome, with_pending, with_group_kept, renewed}
 use Rattle.action_log.specs.Files.{Fits, CurrentFits, OtherFits, PendingFits, CurrentOutcomes, OtherOutcomes, CurrentEndures, OtherEndures}
 use Rattle.action_log.proofs.GroupLemmas.{all_with, behind_front, put_behind_front, torn_behind, put_behind, closed_reads, gate_reads, front_with, joined_with, length_front_with, header_front, length_front_none, front_gate}
 
@@ -108,6 +108,11 @@ changed_fits k slot written current other is up fits =
 ready_file : (k : Progress) (written : Written) (file other : List ℕ) → k.phase ≡ Ready → k.starting ≡ false → Fits k written file other → HasGroups k.base written file
 ready_file k written file other is started fits = subst (λ (s : Bool). CurrentFits Ready s k.down k.base written file) started (current_at Ready k written file other is fits)
 
+-- what a call did that didn't fail
+pub done_call : {T E P : Type 0} (call : Result T E) (failed : Bool) → failed ≡ is_err call → OnOk call P → failed ≡ false → P
+done_call (Ok value) failed is done up = done
+done_call (Err error) failed is done up = let both : true ≡ false = sym is ∙ up in absurd cc
+
 pub group_fits : (k : Progress) (written : Written) (ticks : List Tick) (failed : Bool) (file other new : List ℕ) → k.phase ≡ Ready → k.starting ≡ false → IsGroup ticks
     → (failed ≡ false → new ≡ overwritten file (k.place + 1) (body ticks ++ 0 ∷ [])) → Fits k written file other → Fits (with_group k ticks failed) (with_pending written ticks) new other
 group_fits k written ticks failed file other new is started group put fits =
@@ -178,9 +183,9 @@ changing_by k number written current other is started fits false shut = record {
   of_other = tt;
 }
 
-pub changing_fits : (k new : Progress) (number : ℕ) (written : Written) (current other : List ℕ) → new ≡ changing number k → k.phase ≡ Ready → k.starting ≡ false → Fits k written current other → Fits new written current other
-changing_fits k new number written current other begins is started fits =
-    subst (λ (p : Progress). Fits p written current other) (sym begins) (changing_by k number written current other is started fits k.other_shut refl)
+pub changing_fits : (k : Progress) (first : Phase) (number : ℕ) (written : Written) (current other : List ℕ) → first ≡ (if k.other_shut then Header else Closing) → k.phase ≡ Ready → k.starting ≡ false → Fits k written current other → Fits (record k { phase = first; target = number }) written current other
+changing_fits k first number written current other begins is started fits =
+    subst (λ (p : Phase). Fits (record k { phase = p; target = number }) written current other) (sym begins) (changing_by k number written current other is started fits k.other_shut refl)
 
 lasting_by : (k : Progress) (number : ℕ) (written : Written) (other : List ℕ) (outcomes : List ℕ → Type 0) → k.phase ≡ Ready → OtherEndures k written other outcomes → (shut : Bool) → k.other_shut ≡ shut → OtherEndures (record k { phase = (if shut then Header else Closing); target = number }) written other outcomes
 lasting_by k number written other outcomes is endures true shut = (subst (λ (p : Phase). OtherOutcomes p k.other_shut k.target written other outcomes) is endures).0
@@ -188,6 +193,6 @@ lasting_by k number written other outcomes is endures false shut =
     let old = subst (λ (p : Phase). OtherOutcomes p k.other_shut k.target written other outcomes) is endures in
     (old.0, old.1, old.2 shut)
 
-pub changing_lasts : (k new : Progress) (number : ℕ) (written : Written) (other : List ℕ) (outcomes : List ℕ → Type 0) → new ≡ changing number k → k.phase ≡ Ready → OtherEndures k written other outcomes → OtherEndures new written other outcomes
-changing_lasts k new number written other outcomes begins is endures =
-    subst (λ (p : Progress). OtherEndures p written other outcomes) (sym begins) (lasting_by k number written other outcomes is endures k.other_shut refl)
+pub changing_lasts : (k : Progress) (first : Phase) (number : ℕ) (written : Written) (other : List ℕ) (outcomes : List ℕ → Type 0) → first ≡ (if k.other_shut then Header else Closing) → k.phase ≡ Ready → OtherEndures k written other outcomes → OtherEndures (record k { phase = first; target = number }) written other outcomes
+changing_lasts k first number written other outcomes begins is endures =
+    subst (λ (p : Phase). OtherEndures (record k { phase = p; target = number }) written other outcomes) (sym begins) (lasting_by k number written other outcomes is endures k.other_shut refl)

@@ -1,8 +1,7 @@
 -- A keeper as contracts see it, and what a step makes of it.
 use Rattle.std.specs.Prelude.{◌≡◌, ℕ, ◌+◌, ◌*◌, ◌≤◌, Bool, true, false, not, IsTrue, Option, Some, None, List, [], ◌∷◌, length, take, drop, if◌then◌else◌}
 use Rattle.world_ticks.specs.declared.tick.TheConstants.{TICK_MAX}
-use Rattle.file_format.specs.declared.slot.Slot.{Slot}
-use Rattle.file_format.specs.declared.slot.Slot.TheVariants.{A, B}
+use Rattle.file_format.specs.declared.slot.Slot.TheVariants.{B}
 use Rattle.file_format.specs.Slot.{other_slot}
 use Rattle.action_log.specs.declared.format.TheConstants.{FIRST_GROUP, GROUP_TICKS, SEGMENT_TICKS}
 use Rattle.action_log.specs.declared.progress.Progress.{Progress}
@@ -146,10 +145,6 @@ with_group keeper ticks failed = record keeper { phase = BodySync; down = failed
 -- the keeper after it took a switch and made its first call
 abbrev pub with_switch : Progress → ℕ → (failed : Bool) → Progress
 with_switch keeper number failed = record keeper { phase = (if keeper.other_shut then HeaderSync else ClosingSync); down = failed; target = number }
-
--- the keeper at the beginning of a change to the other segment
-abbrev pub changing : ℕ → Progress → Progress
-changing number keeper = record keeper { phase = (if keeper.other_shut then Header else Closing); target = number }
 
 -- the keeper after its group was made durable
 abbrev pub acknowledged : Progress → Progress
