@@ -1,22 +1,10 @@
 -- What a write that may be torn leaves.
-use Rattle.std.proofs.Common.{◌≡◌, ◌⊎◌, inl, inr, ℕ, ◌+◌, ◌-◌, ◌<◌, ◌≤◌, List, [], ◌∷◌, ◌++◌, length, get_or, take, drop, refl, sym, ◌∙◌, ap, append_assoc, arith, length-append}
+use Rattle.std.proofs.Common.{◌≡◌, ◌⊎◌, inl, inr, ℕ, ◌+◌, ◌-◌, ◌<◌, ◌≤◌, List, [], ◌∷◌, ◌++◌, length, get_or, take, drop, sym, ◌∙◌, ap, append_assoc, arith, length-append}
 use Rattle.std.proofs.lemmas.List.{get_or-take, get_or-drop, take-take, take_at, drop_at, take-append-drop, drop_more}
 use Rattle.std.proofs.lemmas.Bool.{cases_eq}
-use Rattle.file_format.specs.Gate.{HasShutGate, HasOpenGate}
-use Rattle.disk_model.specs.Disk.{overwritten, Torn}
+use Rattle.file_format.specs.Gate.{HasShutGate}
+use Rattle.disk_model.specs.Disk.{Torn}
 use Rattle.disk_model.specs.Gated.{with_open_gate}
-use Rattle.disk_model.proofs.OverwrittenLemmas.{length-overwritten, overwritten_front, overwritten_back}
-
-pub torn_whole : (old : List ℕ) (at : ℕ) (items : List ℕ) → at ≤ length old → Torn at (length items) old (overwritten old at items)
-torn_whole old at items inside = record {
-  before = overwritten_front old at items inside at (omega arith);
-  after = overwritten_back old at items inside;
-  no_shorter = omega (arith, length-overwritten old at items inside);
-  no_longer = omega (arith, length-overwritten old at items inside);
-}
-
-pub torn_none : (old : List ℕ) (at n : ℕ) → Torn at n old old
-torn_none old at n = record { before = refl; after = refl; no_shorter = omega arith; no_longer = omega arith }
 
 module _ (old new : List ℕ) (at n : ℕ) (torn : Torn at n old new) where
   pub torn_before : (i d : ℕ) → i < at → get_or new i d ≡ get_or old i d
@@ -58,18 +46,5 @@ pub torn_opening : (old new : List ℕ) → 0 < length old → Torn 0 1 old new 
 torn_opening old [] long torn = absurd (omega (arith, torn.no_shorter))
 torn_opening old (gate ∷ rest) long torn = elim (cases_eq gate 1) [
   | inl is_open ↦ inr (λ i. is_open i ∷ torn.after i)
-  | inr shut ↦ inl (omega arith, shut)
-]
-
--- an open gate stands in a list
-open_somewhere : (old : List ℕ) → HasOpenGate old → (rest : List ℕ) × (old ≡ 1 ∷ rest)
-open_somewhere [] none = absurd cc
-open_somewhere (gate ∷ rest) is_open = (rest, λ i. is_open i ∷ rest)
-
-pub torn_closing : (old new : List ℕ) → HasOpenGate old → Torn 0 1 old new → HasShutGate new ⊎ (new ≡ old)
-torn_closing [] new none torn = absurd cc
-torn_closing (first ∷ old) [] is_open torn = absurd (omega (arith, torn.no_shorter))
-torn_closing (first ∷ old) (gate ∷ rest) is_open torn = elim (cases_eq gate 1) [
-  | inl still_open ↦ inr (let same : gate ≡ first = still_open ∙ sym is_open in λ i. same i ∷ torn.after i)
   | inr shut ↦ inl (omega arith, shut)
 ]

@@ -45,22 +45,6 @@ other_o : starts_command 111 ≡ false
 unfolding starts_command
 other_o = refl
 
-other_i : starts_command 105 ≡ false
-unfolding starts_command
-other_i = refl
-
-other_w : starts_command 119 ≡ false
-unfolding starts_command
-other_w = refl
-
--- no command is spelled as the word mark: a transfer's second byte is another
-no_mark : (command : Command) → codes "mark" ≢ spelling command
-no_mark (command.Act (Set cell value)) is = let first : 109 ≡ 115 = same_first is in omega (arith, first)
-no_mark (command.Act (Add cell by)) is = let first : 109 ≡ 97 = same_first is in omega (arith, first)
-no_mark (command.Act (Transfer from to amount)) is = let second : 97 ≡ 111 = ap (λ text. slice_index text 1) is in omega (arith, second)
-no_mark (command.Get cell) is = let first : 109 ≡ 103 = same_first is in omega (arith, first)
-no_mark command.End is = let first : 109 ≡ 101 = same_first is in omega (arith, first)
-
 -- a line that starts with o opens a world, or means nothing
 pub none_open : (rest : List ℕ) → ((method : Method) (cells : ℕ) → (1 ≤ cells) × (cells ≤ CELLS) → rest ≢ method_word method ++ (32 ∷ decimal cells))
     → LineMeans (codes "open " ++ rest) None

@@ -125,26 +125,10 @@ breaks_after {old} {middle} {bytes} {more} {written} {front} one two = record {
   on = λ input prior stands. rw (← append_assoc prior written front) (two.on input (prior ++ written) (one.on input more prior stands));
 }
 
--- nothing is kept of a line only where it is empty
-empty_line : (line : List ℕ) → kept_of line ≡ [] → line ≡ []
-empty_line [] is = refl
-empty_line (b ∷ line) is = cc
-
 -- the last line, if there is one
 last_line : (line : List ℕ) → HasNoNewline line → line ≢ [] → lines_of (line ++ []) ≡ line ∷ []
 last_line [] unbroken some = absurd (some refl)
 last_line (b ∷ line) unbroken some = ap lines_of (append-nil (b ∷ line)) ∙ lines_of-last b line unbroken
-
--- the input ends with a newline
-pub completes_empty : (script : ScriptState) → script.kept ≡ [] → Completes script []
-completes_empty script empty = record {
-  on = λ input prior stands.
-      let none = empty_line stands.line (sym stands.kept_is ∙ empty) in
-      record {
-        last = script.core;
-        replies = rw (append-nil, stands.split, none, append-nil) stands.replies;
-      };
-}
 
 some_line : (script : ScriptState) (line : List ℕ) → script.kept ≡ kept_of line → script.kept ≢ [] → line ≢ []
 some_line script line kept some none = some (kept ∙ ap kept_of none)

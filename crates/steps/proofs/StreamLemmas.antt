@@ -46,18 +46,6 @@ consumed_after (Some xs) None new bytes keeps consumes = absurd keeps
 consumed_after (Some xs) (Some ys) None bytes keeps consumes = absurd consumes
 consumed_after (Some xs) (Some ys) (Some zs) bytes keeps consumes = sym keeps ∙ consumes
 
--- a write that wrote nothing, and a write after it
-pub Appends-nothing : (old new : Option (List ℕ)) → Keeps old new → Appends old new []
-Appends-nothing None new keeps = tt
-Appends-nothing (Some xs) None keeps = absurd keeps
-Appends-nothing (Some xs) (Some ys) keeps = keeps ∙ sym (append-nil xs)
-
-pub Appends-after : (old middle new : Option (List ℕ)) (bytes : List ℕ) → Keeps old middle → Appends middle new bytes → Appends old new bytes
-Appends-after None middle new bytes keeps appends = tt
-Appends-after (Some xs) None new bytes keeps appends = absurd keeps
-Appends-after (Some xs) (Some ys) None bytes keeps appends = absurd appends
-Appends-after (Some xs) (Some ys) (Some zs) bytes keeps appends = appends ∙ ap (λ front. front ++ bytes) keeps
-
 -- one front more
 take-more : (i n : ℕ) (bytes : List ℕ) → i ≤ length bytes → take i bytes ++ take n (take (length bytes - i) (drop i bytes)) ≡ take (i + n) bytes
 take-more i n bytes within = rw (take_rest bytes i) (sym (take-add i n bytes))
