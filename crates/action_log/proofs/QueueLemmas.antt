@@ -117,7 +117,7 @@ queue_end_left (suc n) base count (records.Tick tick ∷ queue) =
 pub queue_grows : (base count : ℕ) (queue : List Record) (added : Record) → QueueFits base count queue → QueueFits (queue_end base count queue).base (queue_end base count queue).count (added ∷ []) → QueueFits base count (queue ++ added ∷ [])
 queue_grows base count [] added fits at_end = at_end
 queue_grows base count (records.Tick tick ∷ queue) added fits at_end = (fits.0, fits.1, queue_grows base (count + 1) queue added fits.2 at_end)
-queue_grows base count (records.Switch number ∷ queue) added fits at_end = (fits.0, queue_grows number 0 queue added fits.1 at_end)
+queue_grows base count (records.Switch number ∷ queue) added fits at_end = (fits.0, fits.1, queue_grows number 0 queue added fits.2 at_end)
 
 pub queue_end_grows : (base count : ℕ) (queue : List Record) (added : Record) → queue_end base count (queue ++ added ∷ []) ≡ queue_end (queue_end base count queue).base (queue_end base count queue).count (added ∷ [])
 queue_end_grows base count [] added = refl

@@ -1,5 +1,5 @@
 -- The records that wait for the log.
-use Rattle.std.specs.Prelude.{◌≡◌, ℕ, zero, suc, ◌+◌, ◌<◌, List, [], ◌∷◌, ⊤}
+use Rattle.std.specs.Prelude.{◌≡◌, ℕ, zero, suc, ◌+◌, ◌<◌, ◌≤◌, List, [], ◌∷◌, ⊤}
 use Rattle.world_ticks.specs.declared.tick.TheConstants.{TICK_MAX}
 use Rattle.action_log.specs.declared.format.TheConstants.{SEGMENT_TICKS}
 use Rattle.action_log.specs.declared.record.Record.{Record}
@@ -32,12 +32,12 @@ queue_work [] = 0
 queue_work (records.Tick tick ∷ queue) = 4 + queue_work queue
 queue_work (records.Switch number ∷ queue) = 6 + queue_work queue
 
--- Behind so many ticks since this base a switch has the number of the last tick before it, and no segment gets more
--- ticks, nor a tick a greater number, than the format takes.
+-- Behind so many ticks since this base a switch has no smaller number than the last tick before it, and no segment gets
+-- more ticks, nor a tick a greater number, than the format takes.
 abbrev pub QueueFits : ℕ → ℕ → List Record → Type 0
 QueueFits base count [] = ⊤
 QueueFits base count (records.Tick tick ∷ queue) = (count < SEGMENT_TICKS) × (base + count < TICK_MAX) × QueueFits base (count + 1) queue
-QueueFits base count (records.Switch number ∷ queue) = (number ≡ base + count) × QueueFits number 0 queue
+QueueFits base count (records.Switch number ∷ queue) = (base + count ≤ number) × (number ≤ TICK_MAX) × QueueFits number 0 queue
 
 -- the base behind a queue, and the ticks since
 pub record QueueEnd : Type 0 where

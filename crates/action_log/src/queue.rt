@@ -1,4 +1,4 @@
-ghost use Rattle.std.specs.Prelude.{◌≡◌, ◌+◌, ◌<◌, ◌++◌, ◌∷◌, [], ℕ, Bool, List};
+ghost use Rattle.std.specs.Prelude.{◌≡◌, ◌+◌, ◌<◌, ◌≤◌, ◌++◌, ◌∷◌, [], ℕ, Bool, List};
 ghost use Rattle.world_ticks.specs.declared.tick.TheConstants.{TICK_MAX};
 ghost use Rattle.world_ticks.specs.Tick.{Actions};
 ghost use Rattle.action_log.specs.declared.format.TheConstants.{SEGMENT_TICKS};
@@ -18,7 +18,7 @@ pub fn log_queues()
         × (end_of keeper (queue ++ records.Tick tick ∷ [])
         ≡ record { base = (end_of keeper queue).base; count = (end_of keeper queue).count + 1 }) }
     ensures switch { (keeper : Progress) (queue : List Record) (number : ℕ) → QueueFollows keeper queue
-        → number ≡ (end_of keeper queue).base + (end_of keeper queue).count
+        → (end_of keeper queue).base + (end_of keeper queue).count ≤ number → number ≤ TICK_MAX
         → QueueFollows keeper (queue ++ records.Switch number ∷ [])
         × (end_of keeper (queue ++ records.Switch number ∷ []) ≡ record { base = number; count = 0 }) }
 {}

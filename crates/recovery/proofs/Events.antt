@@ -1,6 +1,6 @@
 -- Each event keeps what the law of recovery asks of the keepers' data.
-use Rattle.std.proofs.Common.{◌≡◌, ℕ, ◌+◌, ◌<◌, ◌≤◌, inl, inr, List, [], ◌∷◌, ◌++◌, length, take, drop, Option, Some, None, refl, sym, ap, subst, ◌∙◌, arith, eq-eqb}
-use Rattle.std.proofs.lemmas.List.{append-nil, length-append, length-drop, take_at, drop-append-le, take-append-le}
+use Rattle.std.proofs.Common.{◌≡◌, ℕ, ◌+◌, ◌<◌, ◌≤◌, inl, inr, max, List, [], ◌∷◌, ◌++◌, length, take, drop, Option, Some, None, refl, sym, ap, subst, ◌∙◌, arith}
+use Rattle.std.proofs.lemmas.List.{append_assoc, length-append, length-drop, take_at, drop-append-le, take-append-le}
 use Rattle.std.proofs.lemmas.Bool.{cases_lt}
 use Rattle.world_actions.specs.declared.action.Action.{Action}
 use Rattle.world_ticks.specs.After.{after_ticks}
@@ -9,17 +9,14 @@ use Rattle.image_files.specs.Image.{Image, Closed, Bad, Open}
 use Rattle.recovery.specs.Sound.{IsWorldAt, HoldsWorld}
 use Rattle.image_files.specs.Images.{Images, Round}
 use Rattle.action_log.specs.Logs.{Logs}
-use Rattle.recovery.specs.Follow.{FollowsFrom, IsRoundOf, ImagesFollow, LeadsTo, IsSwitchOf, LogsFollow, mark_at, IsRoundAt, IsSwitchAt, FollowMarks}
-use Rattle.recovery.specs.Events.{ticks_in, IsQueueOf, with_round_begun, with_round_opened}
-use Rattle.action_log.specs.Logs.{started, switched_to}
+use Rattle.recovery.specs.Follow.{FollowsFrom, IsRoundOf, ImagesFollow, Reaches, LeadsTo, IsSwitchOf, LogsFollow, round_tick, base_in, coming, RiseFrom, BeginFrom}
+use Rattle.recovery.specs.Events.{ticks_in, switches_in, with_work, AreNumbered, IsSwitchFirst, HasUpTo, with_round_opened}
 use Rattle.action_log.specs.declared.record.Record.{Record}
 use Rattle.action_log.specs.declared.record.Record.TheVariants as records
 use Rattle.world_ticks.specs.Tick.{Actions}
-use Rattle.action_log.specs.Queue.{ticks_before, StandBefore}
-use Rattle.recovery.proofs.Replay.{follows_front, follows_on}
-use Rattle.recovery.proofs.Law.{no_less}
-use Rattle.std.proofs.Math.Seq.{get_or-append_seam}
-use Rattle.std.proofs.lemmas.List.{get_or_append_left}
+use Rattle.action_log.specs.Queue.{StandBefore}
+use Rattle.recovery.proofs.Replay.{follows_on}
+use Rattle.recovery.proofs.Law.{Reached, reached_newer}
 
 -- a group is taken
 abbrev pub with_group : Logs → List (List Action) → Logs
@@ -33,101 +30,81 @@ with_group_kept logs = record logs { kept = logs.kept ++ logs.pending; pending =
 abbrev pub with_switch : Logs → ℕ → Logs
 with_switch logs tick = record logs { switch = Some tick }
 
--- ticks that wait before a mark's switch are counted by the mark
-pub queue_in_order : (marks : List ℕ) (switched taken : ℕ) (queue : List Record) → IsQueueOf marks switched taken queue → switched + 1 < length marks → taken + length (ticks_before queue) ≤ mark_at marks (switched + 1)
-queue_in_order marks switched taken [] q lt = absurd (omega arith)
-queue_in_order marks switched taken (records.Tick tick ∷ queue) q lt = (let h = queue_in_order marks switched (taken + 1) queue q lt in omega arith)
-queue_in_order marks switched taken (records.Switch mark ∷ queue) q lt = omega (arith, q.1, q.2)
+-- ---- what is acknowledged
 
--- the switch in work is done
-pub switched_follows : (ticks : List (List Action)) (acknowledged : ℕ) (logs : Logs) (tick : ℕ) → LogsFollow ticks acknowledged logs → IsSwitchOf logs (Some tick) → LogsFollow ticks acknowledged (switched_to logs tick)
-switched_follows ticks acknowledged logs tick f s =
-    let kept : FollowsFrom ticks logs.base logs.kept = follows_front ticks logs.base logs.kept logs.pending f.taken in
-    record {
-      taken = record { ended = omega (arith, s.0, kept.ended); are = refl };
-      acknowledges = omega (arith, s.0, f.acknowledges);
-      before = (s.1, sym s.0, kept);
-      switch = tt;
-    }
+-- the greater of two numbers that are reached is
+pub reached_max : (m n end newest : ℕ) → Reached m end newest → Reached n end newest → Reached (max m n) end newest
+reached_max m n end newest (inl h) (inl k) = inl (omega arith)
+reached_max m n end newest (inr h) (inr k) = inr (omega arith)
+reached_max m n end newest (inl h) (inr k) =
+    elim (cases_lt n m) [
+      | inl lt ↦ inl (omega (arith, lt, h))
+      | inr le ↦ inr (omega (arith, le, k))
+    ]
+reached_max m n end newest (inr h) (inl k) =
+    elim (cases_lt n m) [
+      | inl lt ↦ inr (omega (arith, lt, h))
+      | inr le ↦ inl (omega (arith, le, k))
+    ]
 
-unfoldable pub switched_marks : (marks : List ℕ) (images : Images) (logs : Logs) (tick : ℕ) → (m : FollowMarks marks images logs) → IsSwitchAt marks m.switched (Some tick) → FollowMarks marks images (switched_to logs tick)
-switched_marks marks images logs tick m at = record {
-  rising = m.rising;
-  opened = m.opened;
-  opened_is = m.opened_is;
-  all_but_last = m.all_but_last;
-  round = m.round;
-  switched = m.switched + 1;
-  switched_is = (at.0, sym at.1);
-  in_order = λ lt. (let up : mark_at marks (m.switched + 1) < mark_at marks (m.switched + 1 + 1) = m.rising (m.switched + 1) (m.switched + 1 + 1) (omega arith) lt in omega (arith, at.1));
-  switch = tt;
-  before = λ earlier e. eq-eqb logs.base (mark_at marks earlier) (let same : earlier ≡ m.switched = omega arith in sym (ap (mark_at marks) same ∙ m.switched_is.1));
+reaches_later : (end base newest newer : ℕ) → newest ≤ newer → Reaches end base newest → Reaches end base newer
+reaches_later end base newest newer le (inl e) = inl e
+reaches_later end base newest newer le (inr h) = inr (h.0, omega (arith, h.1))
+
+leads_later : (ticks : List (List Action)) (newest newer base : ℕ) (before : Segment) → newest ≤ newer → LeadsTo ticks newest base before → LeadsTo ticks newer base before
+leads_later ticks newest newer base ClosedSegment le h = tt
+leads_later ticks newest newer base MalformedSegment le h = h
+leads_later ticks newest newer base (OpenSegment earlier first) le h = (h.0, h.1, reaches_later (earlier + length first) base newest newer le h.2)
+
+switch_later : (newest newer : ℕ) (logs : Logs) (switch : Option ℕ) → newest ≤ newer → IsSwitchOf newest logs switch → IsSwitchOf newer logs switch
+switch_later newest newer logs None le h = tt
+switch_later newest newer logs (Some tick) le h = (h.0, h.1, reaches_later (logs.base + length logs.kept) tick newest newer le h.2)
+
+-- a newer image is opened
+pub logs_later : (ticks : List (List Action)) (acknowledged newest newer : ℕ) (logs : Logs) → newest ≤ newer → LogsFollow ticks acknowledged newest logs → LogsFollow ticks acknowledged newer logs
+logs_later ticks acknowledged newest newer logs le f = record {
+  taken = f.taken;
+  acknowledges = reached_newer acknowledged (logs.base + length logs.kept) newest newer le f.acknowledges;
+  before = leads_later ticks newest newer logs.base logs.before le f.before;
+  switch = switch_later newest newer logs logs.switch le f.switch;
 }
 
--- a switch is taken from the front of the queue
-unfoldable pub switch_begins : (ticks : List (List Action)) (acknowledged : ℕ) (marks : List ℕ) (images : Images) (logs : Logs) (mark : ℕ) (queue : List Record) → LogsFollow ticks acknowledged logs → (m : FollowMarks marks images logs) → logs.pending ≡ [] → IsQueueOf marks m.switched (logs.base + length logs.kept) (records.Switch mark ∷ queue) → LogsFollow ticks acknowledged (with_switch logs mark) × FollowMarks marks images (with_switch logs mark)
-switch_begins ticks acknowledged marks images logs mark queue f m none q =
-    let up : mark_at marks m.switched < mark_at marks (m.switched + 1) = m.rising m.switched (m.switched + 1) (omega arith) q.0 in
-    let past : logs.base < mark = omega (arith, m.switched_is.1, q.2) in (
-      record { taken = f.taken; acknowledges = f.acknowledges; before = f.before; switch = (q.1, past, none) },
-      record { rising = m.rising; opened = m.opened; opened_is = m.opened_is; all_but_last = m.all_but_last; round = m.round; switched = m.switched; switched_is = m.switched_is; in_order = m.in_order; switch = (q.0, q.2); before = m.before },
-    )
+pub has_later : (logs : Logs) (taken newest newer : ℕ) (queue : List Record) → newest ≤ newer → HasUpTo logs taken newest queue → HasUpTo logs taken newer queue
+has_later logs taken newest newer queue le (inl e) = inl e
+has_later logs taken newest newer queue le (inr h) = inr (h.0, h.1, omega (arith, h.2), h.3)
 
--- the group in work is acknowledged
-unfoldable pub group_kept : (ticks : List (List Action)) (acknowledged : ℕ) (marks : List ℕ) (images : Images) (logs : Logs) → LogsFollow ticks acknowledged logs → FollowMarks marks images logs → logs.switch ≡ None → LogsFollow ticks (logs.base + length (logs.kept ++ logs.pending)) (with_group_kept logs) × FollowMarks marks images (with_group_kept logs)
-group_kept ticks acknowledged marks images logs f m none =
-    let same : (logs.kept ++ logs.pending) ++ [] ≡ logs.kept ++ logs.pending = append-nil (logs.kept ++ logs.pending) in (
-      record { taken = subst (FollowsFrom ticks logs.base) (sym same) f.taken; acknowledges = omega arith; before = f.before; switch = subst (IsSwitchOf (with_group_kept logs)) (sym none) tt },
-      record { rising = m.rising; opened = m.opened; opened_is = m.opened_is; all_but_last = m.all_but_last; round = m.round; switched = m.switched; switched_is = m.switched_is; in_order = λ lt. omega (arith, m.in_order lt, ap length same); switch = m.switch; before = m.before },
-    )
+-- ---- the records in front
 
--- the round in work is opened
-pub opened_follows : (cells : ℕ) (ticks : List (List Action)) (images : Images) (round : Round) → ImagesFollow cells ticks images → IsRoundOf cells ticks images.tick (Some round) → length round.taken ≡ cells → ImagesFollow cells ticks (with_round_opened images round)
-opened_follows cells ticks images round f r all =
-    let later : images.tick ≤ round.tick = omega (arith, r.0) in
-    record { newest = r.1 all; before = (later, f.newest); round = tt }
+begins_lower : (low more : ℕ) (ticks : List ℕ) → low ≤ more → BeginFrom more ticks → BeginFrom low ticks
+begins_lower low more [] le h = tt
+begins_lower low more (tick ∷ ticks) le h = omega (arith, h)
 
-unfoldable pub opened_marks : (marks : List ℕ) (images : Images) (logs : Logs) (round : Round) → (m : FollowMarks marks images logs) → IsRoundAt marks m.opened (Some round) → FollowMarks marks (with_round_opened images round) logs
-opened_marks marks images logs round m at = record {
-  rising = m.rising;
-  opened = m.opened + 1;
-  opened_is = (omega (arith, at.0), sym at.1);
-  all_but_last = omega (arith, at.0);
-  round = tt;
-  switched = m.switched;
-  switched_is = m.switched_is;
-  in_order = m.in_order;
-  switch = m.switch;
-  before = m.before;
-}
+-- the first switch isn't before the ticks that stand before it
+pub first_switch : (taken : ℕ) (queue : List Record) → AreNumbered taken queue → BeginFrom taken (switches_in queue)
+first_switch taken [] n = tt
+first_switch taken (records.Tick tick ∷ queue) n = begins_lower taken (taken + 1) (switches_in queue) (omega arith) (first_switch (taken + 1) queue n)
+first_switch taken (records.Switch number ∷ queue) n = omega (arith, n.0)
 
--- the start has ended: one mark, which is the base of the new segment and the tick of the newest image
-unfoldable pub start_done : (ticks : List (List Action)) (acknowledged : ℕ) (images : Images) → length ticks ≡ images.tick → acknowledged ≤ images.tick → images.round ≡ None → LogsFollow ticks acknowledged (started images.tick) × FollowMarks (images.tick ∷ []) images (started images.tick)
-start_done ticks acknowledged images whole k none = (
-  record { taken = record { ended = omega arith; are = refl }; acknowledges = omega arith; before = tt; switch = tt },
-  record {
-    rising = λ i j lt below. absurd (omega arith);
-    opened = 0;
-    opened_is = (omega arith, refl);
-    all_but_last = omega arith;
-    round = subst (IsRoundAt (images.tick ∷ []) 0) (sym none) tt;
-    switched = 0;
-    switched_is = (omega arith, refl);
-    in_order = λ lt. absurd (omega arith);
-    switch = tt;
-    before = λ earlier e. absurd (omega arith);
-  },
-)
+-- where a tick comes first, the segment has all ticks before it
+pub group_at : (logs : Logs) (taken newest : ℕ) (group : List (List Action)) (queue left : List Record) → StandBefore group queue left → 1 ≤ length group → HasUpTo logs taken newest queue → logs.base + length (logs.kept ++ logs.pending) ≡ taken
+group_at logs taken newest [] queue left stand some h = absurd (omega (arith, some))
+group_at logs taken newest (tick ∷ group) [] left stand some h = absurd stand
+group_at logs taken newest (tick ∷ group) (records.Tick first ∷ queue) left stand some (inl e) = e
+group_at logs taken newest (tick ∷ group) (records.Tick first ∷ queue) left stand some (inr h) = absurd h.3
+group_at logs taken newest (tick ∷ group) (records.Switch number ∷ queue) left stand some h = absurd stand
 
--- ---- a group is taken from the front of the queue
+pub group_numbered : (taken : ℕ) (group : List (List Action)) (queue left : List Record) → StandBefore group queue left → AreNumbered taken queue → AreNumbered (taken + length group) left
+group_numbered taken [] queue left stand n = subst (λ m. AreNumbered m left) (let e : taken ≡ taken + 0 = omega arith in e) (subst (AreNumbered taken) stand n)
+group_numbered taken (tick ∷ group) [] left stand n = absurd stand
+group_numbered taken (tick ∷ group) (records.Tick first ∷ queue) left stand n =
+    subst (λ m. AreNumbered m left) (let e : taken + 1 + length group ≡ taken + length (tick ∷ group) = omega arith in e) (group_numbered (taken + 1) group queue left stand.1 n)
+group_numbered taken (tick ∷ group) (records.Switch number ∷ queue) left stand n = absurd stand
 
-pub group_queue : (marks : List ℕ) (switched taken : ℕ) (group : List (List Action)) (queue left : List Record) → StandBefore group queue left → IsQueueOf marks switched taken queue → IsQueueOf marks switched (taken + length group) left
-group_queue marks switched taken [] queue left stand q =
-    subst (λ n. IsQueueOf marks switched n left) (let e : taken ≡ taken + 0 = omega arith in e) (subst (IsQueueOf marks switched taken) stand q)
-group_queue marks switched taken (tick ∷ group) [] left stand q = absurd stand
-group_queue marks switched taken (tick ∷ group) (records.Tick first ∷ queue) left stand q =
-    subst (λ n. IsQueueOf marks switched n left) (let e : taken + 1 + length group ≡ taken + length (tick ∷ group) = omega arith in e) (group_queue marks switched (taken + 1) group queue left stand.1 q)
-group_queue marks switched taken (tick ∷ group) (records.Switch number ∷ queue) left stand q = absurd stand
+pub group_switches : (group : List (List Action)) (queue left : List Record) → StandBefore group queue left → switches_in queue ≡ switches_in left
+group_switches [] queue left stand = ap switches_in stand
+group_switches (tick ∷ group) [] left stand = absurd stand
+group_switches (tick ∷ group) (records.Tick first ∷ queue) left stand = group_switches group queue left stand.1
+group_switches (tick ∷ group) (records.Switch number ∷ queue) left stand = absurd stand
 
 pub group_ticks : (group : List (List Action)) (queue left : List Record) → StandBefore group queue left → ticks_in queue ≡ group ++ ticks_in left
 group_ticks [] queue left stand = ap ticks_in stand
@@ -135,95 +112,99 @@ group_ticks (tick ∷ group) [] left stand = absurd stand
 group_ticks (tick ∷ group) (records.Tick first ∷ queue) left stand = ap (λ t. t ∷ ticks_in queue) stand.0 ∙ ap (λ l. tick ∷ l) (group_ticks group queue left stand.1)
 group_ticks (tick ∷ group) (records.Switch number ∷ queue) left stand = absurd stand
 
-unfoldable pub group_begins : (ticks : List (List Action)) (acknowledged : ℕ) (marks : List ℕ) (images : Images) (logs : Logs) (group : List (List Action)) (whole queue : List Record) → StandBefore group whole queue → LogsFollow ticks acknowledged logs → (m : FollowMarks marks images logs) → logs.pending ≡ [] → logs.switch ≡ None
-    → IsQueueOf marks m.switched (logs.base + length logs.kept) whole → drop (logs.base + length logs.kept) ticks ≡ ticks_in whole
-    → LogsFollow ticks acknowledged (with_group logs group) × FollowMarks marks images (with_group logs group) × IsQueueOf marks m.switched (logs.base + length (logs.kept ++ group)) queue
-group_begins ticks acknowledged marks images logs group whole queue stand f m none idle q left =
-    let kept : FollowsFrom ticks logs.base logs.kept = follows_front ticks logs.base logs.kept logs.pending f.taken in
-    let sum : length (logs.kept ++ group) ≡ length logs.kept + length group = length-append logs.kept group in
-    let at : logs.base + length logs.kept + length group ≡ logs.base + length (logs.kept ++ group) = omega arith in
-    let q' : IsQueueOf marks m.switched (logs.base + length (logs.kept ++ group)) queue = subst (λ n. IsQueueOf marks m.switched n queue) at (group_queue marks m.switched (logs.base + length logs.kept) group whole queue stand q) in
-    let rest : drop (logs.base + length logs.kept) ticks ≡ group ++ ticks_in queue = left ∙ group_ticks group whole queue stand in
-    let more : FollowsFrom ticks (logs.base + length logs.kept) group = record {
-      ended = omega (arith, kept.ended, ap length rest, length-drop (logs.base + length logs.kept) ticks, length-append group (ticks_in queue));
-      are = sym (ap (take (length group)) rest ∙ take_at group (ticks_in queue) (length group) refl);
+-- the group follows the ticks of the segment
+pub group_follows : (ticks : List (List Action)) (base : ℕ) (kept group rest : List (List Action)) → FollowsFrom ticks base kept → drop (base + length kept) ticks ≡ group ++ rest → FollowsFrom ticks base (kept ++ group)
+group_follows ticks base kept group more f rest =
+    let sum : length (kept ++ group) ≡ length kept + length group = length-append kept group in
+    let next : FollowsFrom ticks (base + length kept) group = record {
+      ended = omega (arith, f.ended, ap length rest, length-drop (base + length kept) ticks, length-append group more);
+      are = sym (ap (take (length group)) rest ∙ take_at group more (length group) refl);
     } in
-    let both : FollowsFrom ticks logs.base (logs.kept ++ group) = record {
-      ended = omega (arith, more.ended);
-      are = follows_on ticks logs.base (logs.base + length logs.kept) logs.kept group refl kept more ∙ ap (λ n. take n (drop logs.base ticks)) (sym sum);
-    } in (
-      record { taken = both; acknowledges = f.acknowledges; before = f.before; switch = subst (IsSwitchOf (with_group logs group)) (sym idle) tt },
-      record {
-        rising = m.rising;
-        opened = m.opened;
-        opened_is = m.opened_is;
-        all_but_last = m.all_but_last;
-        round = m.round;
-        switched = m.switched;
-        switched_is = m.switched_is;
-        in_order = λ lt. (let h = queue_in_order marks m.switched (logs.base + length (logs.kept ++ group)) queue q' lt in omega arith);
-        switch = m.switch;
-        before = m.before;
-      },
-      q',
-    )
+    record {
+      ended = omega (arith, next.ended);
+      are = follows_on ticks base (base + length kept) kept group refl f next ∙ ap (λ n. take n (drop base ticks)) (sym sum);
+    }
+
+-- ---- the switch in work is done
+
+-- no image or round in work has the base of the segment that is closed
+pub bases_done : (before : Segment) (base mark newest : ℕ) (later earlier : List ℕ) (round : Option Round) → base_in before ++ base ∷ mark ∷ later ≡ earlier ++ newest ∷ round_tick round
+    → (front : List ℕ) × (base ∷ mark ∷ later ≡ front ++ newest ∷ round_tick round)
+bases_done ClosedSegment base mark newest later earlier round e = (earlier, e)
+bases_done MalformedSegment base mark newest later earlier round e = (earlier, e)
+bases_done (OpenSegment first ticks) base mark newest later [] None e = absurd (omega (arith, ap length e))
+bases_done (OpenSegment first ticks) base mark newest later [] (Some round) e = absurd (omega (arith, ap length e))
+bases_done (OpenSegment first ticks) base mark newest later (one ∷ earlier) round e = (earlier, (let rest : base ∷ mark ∷ later ≡ earlier ++ newest ∷ round_tick round = cc in rest))
+
+-- the round in work is opened
+pub opened_follows : (cells : ℕ) (ticks : List (List Action)) (images : Images) (round : Round) → ImagesFollow cells ticks images → IsRoundOf cells ticks images.tick (Some round) → length round.taken ≡ cells → ImagesFollow cells ticks (with_round_opened images round)
+opened_follows cells ticks images round f r all =
+    let later : images.tick ≤ round.tick = omega (arith, r.0) in
+    record { newest = r.1 all; before = (later, f.newest); round = tt }
 
 -- ---- a mark
 
-pub mark_front : (marks : List ℕ) (t i : ℕ) → i < length marks → mark_at (marks ++ t ∷ []) i ≡ mark_at marks i
-mark_front marks t i lt = get_or_append_left marks (t ∷ []) 0 i lt
+pub coming_more : (switch : Option ℕ) (later more : List ℕ) → coming switch (later ++ more) ≡ coming switch later ++ more
+coming_more None later more = refl
+coming_more (Some tick) later more = refl
 
-pub mark_last : (marks : List ℕ) (t : ℕ) → mark_at (marks ++ t ∷ []) (length marks) ≡ t
-mark_last marks t = get_or-append_seam marks t [] 0
+-- the mark is the last of the bases
+pub bases_more : (before : Segment) (base newest mark : ℕ) (switch : Option ℕ) (later earlier : List ℕ) → base_in before ++ base ∷ coming switch later ≡ earlier ++ newest ∷ []
+    → base_in before ++ base ∷ coming switch (later ++ mark ∷ []) ≡ earlier ++ newest ∷ mark ∷ []
+bases_more before base newest mark switch later earlier e =
+    ap (λ l. base_in before ++ base ∷ l) (coming_more switch later (mark ∷ []))
+    ∙ sym (append_assoc (base_in before) (base ∷ coming switch later) (mark ∷ []))
+    ∙ ap (λ l. l ++ mark ∷ []) e
+    ∙ append_assoc earlier (newest ∷ []) (mark ∷ [])
 
-pub still_switch : (marks : List ℕ) (t switched : ℕ) (switch : Option ℕ) → IsSwitchAt marks switched switch → IsSwitchAt (marks ++ t ∷ []) switched switch
-still_switch marks t switched None h = tt
-still_switch marks t switched (Some n) h = (omega (arith, h.0, length-append marks (t ∷ [])), h.1 ∙ sym (mark_front marks t (switched + 1) h.0))
+rise_more : (low newest mark : ℕ) (ticks front : List ℕ) → low ∷ ticks ≡ front ++ newest ∷ [] → newest < mark → RiseFrom low ticks → RiseFrom low (ticks ++ mark ∷ [])
+rise_more low newest mark [] [] e lt rise = (let same : low ≡ newest = cc in (omega (arith, lt), tt))
+rise_more low newest mark [] (one ∷ front) e lt rise = absurd (omega (arith, ap length e, length-append front (newest ∷ [])))
+rise_more low newest mark (tick ∷ ticks) [] e lt rise = absurd (omega (arith, ap length e))
+rise_more low newest mark (tick ∷ ticks) (one ∷ front) e lt rise =
+    let rest : tick ∷ ticks ≡ front ++ newest ∷ [] = cc in
+    (rise.0, rise_more tick newest mark ticks front rest lt rise.1)
 
--- a mark is made where the last one's image is opened: its tick is the number of ended ticks
-unfoldable pub mark_begins : (marks : List ℕ) (images : Images) (logs : Logs) (t : ℕ) → (m : FollowMarks marks images logs) → images.round ≡ None → m.opened + 1 ≡ length marks → images.tick < t → logs.base + length (logs.kept ++ logs.pending) ≤ t → FollowMarks (marks ++ t ∷ []) (with_round_begun images t) logs
-mark_begins marks images logs t m none last above taken =
-    let len : length (marks ++ t ∷ []) ≡ length marks + 1 = length-append marks (t ∷ []) in
-    record {
-      rising = λ i j lt below.
-          elim (cases_lt j (length marks)) [
-            | inl inside ↦ rw (mark_front marks t i (omega arith), mark_front marks t j inside) (m.rising i j lt inside)
-            | inr end ↦ (
-                let at : j ≡ length marks = omega arith in
-                let before : mark_at marks i ≤ mark_at marks m.opened = no_less marks images logs m i m.opened (omega arith) m.opened_is.0 in
-                let h : mark_at (marks ++ t ∷ []) i < mark_at (marks ++ t ∷ []) (length marks) = rw (mark_front marks t i (omega arith), mark_last marks t) (omega (arith, m.opened_is.1)) in
-                subst (λ n. mark_at (marks ++ t ∷ []) i < mark_at (marks ++ t ∷ []) n) (sym at) h)
-          ];
-      opened = m.opened;
-      opened_is = (omega (arith, m.opened_is.0), mark_front marks t m.opened m.opened_is.0 ∙ m.opened_is.1);
-      all_but_last = omega arith;
-      round = (omega arith, sym (ap (mark_at (marks ++ t ∷ [])) last ∙ mark_last marks t));
-      switched = m.switched;
-      switched_is = (omega (arith, m.switched_is.0), mark_front marks t m.switched m.switched_is.0 ∙ m.switched_is.1);
-      in_order = λ lt.
-          elim (cases_lt (m.switched + 1) (length marks)) [
-            | inl inside ↦ rw (mark_front marks t (m.switched + 1) inside) (m.in_order inside)
-            | inr end ↦ (let at : length marks ≡ m.switched + 1 = omega (arith, m.switched_is.0) in subst (λ n. logs.base + length (logs.kept ++ logs.pending) ≤ mark_at (marks ++ t ∷ []) n) at (rw (mark_last marks t) taken))
-          ];
-      switch = still_switch marks t m.switched logs.switch m.switch;
-      before = λ earlier e. (let inside : earlier < length marks = omega (arith, m.switched_is.0) in rw (mark_front marks t earlier inside) (m.before earlier e));
-    }
+-- and is greater than the newest image's tick
+pub rising_more : (before : Segment) (base newest mark : ℕ) (ticks earlier : List ℕ) → base_in before ++ base ∷ ticks ≡ earlier ++ newest ∷ [] → newest < mark → RiseFrom base ticks → RiseFrom base (ticks ++ mark ∷ [])
+rising_more ClosedSegment base newest mark ticks earlier e lt rise = rise_more base newest mark ticks earlier e lt rise
+rising_more MalformedSegment base newest mark ticks earlier e lt rise = rise_more base newest mark ticks earlier e lt rise
+rising_more (OpenSegment first some) base newest mark ticks [] e lt rise = absurd (omega (arith, ap length e))
+rising_more (OpenSegment first some) base newest mark ticks (one ∷ earlier) e lt rise =
+    let rest : base ∷ ticks ≡ earlier ++ newest ∷ [] = cc in
+    rise_more base newest mark ticks earlier rest lt rise
 
--- the mark's switch goes to the back of the queue
-pub mark_queue : (marks : List ℕ) (t switched taken : ℕ) (queue : List Record) → t ≡ taken + length (ticks_in queue) → IsQueueOf marks switched taken queue → IsQueueOf (marks ++ t ∷ []) switched taken (queue ++ records.Switch t ∷ [])
-mark_queue marks t switched taken [] e q =
-    let len : length (marks ++ t ∷ []) ≡ length marks + 1 = length-append marks (t ∷ []) in
-    (omega arith, omega arith, sym (ap (mark_at (marks ++ t ∷ [])) q ∙ mark_last marks t), omega arith)
-mark_queue marks t switched taken (records.Tick tick ∷ queue) e q = mark_queue marks t switched (taken + 1) queue (omega arith) q
-mark_queue marks t switched taken (records.Switch mark ∷ queue) e q =
-    let len : length (marks ++ t ∷ []) ≡ length marks + 1 = length-append marks (t ∷ []) in
-    (omega (arith, q.0), q.1, q.2 ∙ sym (mark_front marks t (switched + 1) q.0), mark_queue marks t (switched + 1) taken queue e q.3)
+pub begin_more : (low mark : ℕ) (ticks : List ℕ) → low ≤ mark → BeginFrom low ticks → BeginFrom low (ticks ++ mark ∷ [])
+begin_more low mark [] le h = le
+begin_more low mark (tick ∷ ticks) le h = h
 
--- and so does a tick that ends
-pub end_queue : (marks : List ℕ) (switched taken : ℕ) (tick : Actions) (queue : List Record) → IsQueueOf marks switched taken queue → IsQueueOf marks switched taken (queue ++ records.Tick tick ∷ [])
-end_queue marks switched taken tick [] q = q
-end_queue marks switched taken tick (records.Tick first ∷ queue) q = end_queue marks switched (taken + 1) tick queue q
-end_queue marks switched taken tick (records.Switch mark ∷ queue) q = (q.0, q.1, q.2, end_queue marks (switched + 1) taken tick queue q.3)
+mark_numbered_in : (taken mark : ℕ) (queue : List Record) → mark ≡ taken + length (ticks_in queue) → AreNumbered taken queue → AreNumbered taken (queue ++ records.Switch mark ∷ [])
+mark_numbered_in taken mark [] e n = (omega arith, tt)
+mark_numbered_in taken mark (records.Tick tick ∷ queue) e n = mark_numbered_in (taken + 1) mark queue (omega arith) n
+mark_numbered_in taken mark (records.Switch number ∷ queue) e n = (n.0, mark_numbered_in taken mark queue e n.1)
+
+pub mark_numbered : (switch : Option ℕ) (taken mark : ℕ) (queue : List Record) → mark ≡ taken + length (ticks_in queue) → AreNumbered taken (with_work switch queue) → AreNumbered taken (with_work switch (queue ++ records.Switch mark ∷ []))
+mark_numbered None taken mark queue e n = mark_numbered_in taken mark queue e n
+mark_numbered (Some number) taken mark queue e n = (n.0, mark_numbered_in taken mark queue e n.1)
+
+tick_numbered_in : (taken : ℕ) (tick : Actions) (queue : List Record) → AreNumbered taken queue → AreNumbered taken (queue ++ records.Tick tick ∷ [])
+tick_numbered_in taken tick [] n = tt
+tick_numbered_in taken tick (records.Tick first ∷ queue) n = tick_numbered_in (taken + 1) tick queue n
+tick_numbered_in taken tick (records.Switch number ∷ queue) n = (n.0, tick_numbered_in taken tick queue n.1)
+
+pub tick_numbered : (switch : Option ℕ) (taken : ℕ) (tick : Actions) (queue : List Record) → AreNumbered taken (with_work switch queue) → AreNumbered taken (with_work switch (queue ++ records.Tick tick ∷ []))
+tick_numbered None taken tick queue n = tick_numbered_in taken tick queue n
+tick_numbered (Some number) taken tick queue n = (n.0, tick_numbered_in taken tick queue n.1)
+
+first_more : (switch : Option ℕ) (queue : List Record) (added : Record) → IsSwitchFirst (with_work switch queue) → IsSwitchFirst (with_work switch (queue ++ added ∷ []))
+first_more None [] added h = absurd h
+first_more None (records.Tick tick ∷ queue) added h = absurd h
+first_more None (records.Switch number ∷ queue) added h = tt
+first_more (Some number) queue added h = tt
+
+pub has_more : (logs : Logs) (taken newest : ℕ) (switch : Option ℕ) (queue : List Record) (added : Record) → HasUpTo logs taken newest (with_work switch queue) → HasUpTo logs taken newest (with_work switch (queue ++ added ∷ []))
+has_more logs taken newest switch queue added (inl e) = inl e
+has_more logs taken newest switch queue added (inr h) = inr (h.0, h.1, h.2, first_more switch queue added h.3)
 
 -- ---- a tick ends
 
@@ -239,13 +220,13 @@ pub end_world : (cells : ℕ) (ticks more : List (List Action)) (tick : ℕ) (wo
 end_world cells ticks more tick words w =
     record { ended = omega (arith, w.ended, length-append ticks more); words_are = ap (after_ticks cells) (take-append-le tick ticks more w.ended) ∙ w.words_are }
 
-end_before : (ticks more : List (List Action)) (base : ℕ) (before : Segment) → LeadsTo ticks base before → LeadsTo (ticks ++ more) base before
-end_before ticks more base ClosedSegment h = tt
-end_before ticks more base MalformedSegment h = h
-end_before ticks more base (OpenSegment earlier first) h = (h.0, h.1, end_stretch ticks more earlier first h.2)
+end_before : (ticks more : List (List Action)) (newest base : ℕ) (before : Segment) → LeadsTo ticks newest base before → LeadsTo (ticks ++ more) newest base before
+end_before ticks more newest base ClosedSegment h = tt
+end_before ticks more newest base MalformedSegment h = h
+end_before ticks more newest base (OpenSegment earlier first) h = (h.0, end_stretch ticks more earlier first h.1, h.2)
 
-pub end_logs : (ticks more : List (List Action)) (acknowledged : ℕ) (logs : Logs) → LogsFollow ticks acknowledged logs → LogsFollow (ticks ++ more) acknowledged logs
-end_logs ticks more acknowledged logs f = record { taken = end_stretch ticks more logs.base (logs.kept ++ logs.pending) f.taken; acknowledges = f.acknowledges; before = end_before ticks more logs.base logs.before f.before; switch = f.switch }
+pub end_logs : (ticks more : List (List Action)) (acknowledged newest : ℕ) (logs : Logs) → LogsFollow ticks acknowledged newest logs → LogsFollow (ticks ++ more) acknowledged newest logs
+end_logs ticks more acknowledged newest logs f = record { taken = end_stretch ticks more logs.base (logs.kept ++ logs.pending) f.taken; acknowledges = f.acknowledges; before = end_before ticks more newest logs.base logs.before f.before; switch = f.switch }
 
 end_held : (cells : ℕ) (ticks more : List (List Action)) (most : ℕ) (image : Image) → HoldsWorld cells ticks most image → HoldsWorld cells (ticks ++ more) most image
 end_held cells ticks more most Closed h = tt

@@ -1,7 +1,7 @@
 -- The law of recovery: what the two keepers say of their files makes the four of them sound.
-use Rattle.std.proofs.Common.{◌≡◌, ℕ, ◌+◌, ◌<◌, ◌≤◌, ◌⊎◌, inl, inr, Bool, true, false, cond, ltb, ◌||◌, List, ◌++◌, length, take, drop, Option, Some, None, Ok, Err, refl, sym, ap, subst, ◌∙◌, arith}
+use Rattle.std.proofs.Common.{◌≡◌, ℕ, ◌+◌, ◌<◌, ◌≤◌, ◌⊎◌, inl, inr, Bool, true, false, cond, ltb, ◌||◌, List, [], ◌∷◌, ◌++◌, length, take, drop, Option, Some, None, Ok, Err, refl, sym, ap, subst, ◌∙◌, arith, eq-eqb}
 use Rattle.std.proofs.lemmas.Bool.{eqb-true, cond-true, cond-false, le-ltb, lt-ltb, cases_lt}
-use Rattle.std.proofs.lemmas.List.{length-append, length-take, length-drop}
+use Rattle.std.proofs.lemmas.List.{append_assoc, length-append, length-take, length-drop}
 use Rattle.world_actions.specs.declared.refusal.Refusal.TheVariants.{BadImage, BadLog}
 use Rattle.file_format.specs.declared.slot.Slot.{Slot}
 use Rattle.file_format.specs.declared.slot.Slot.TheVariants.{A, B}
@@ -16,7 +16,7 @@ use Rattle.recovery.specs.Sound.{IsWorldAt, HoldsWorld, IsSoundReading, IsSound}
 use Rattle.file_format.specs.Slot.{in_slot, beside_slot}
 use Rattle.image_files.specs.Images.{Round, Images, IsTarget, ImagesAre}
 use Rattle.action_log.specs.Logs.{Logs, IsCurrent, IsOther, LogsAre}
-use Rattle.recovery.specs.Follow.{FollowsFrom, IsRoundOf, ImagesFollow, LeadsTo, IsSwitchOf, LogsFollow, mark_at, IsRoundAt, IsSwitchAt, FollowMarks}
+use Rattle.recovery.specs.Follow.{FollowsFrom, IsRoundOf, ImagesFollow, Reaches, LeadsTo, IsSwitchOf, LogsFollow, round_tick, base_in, coming, RiseFrom, BeginFrom, FollowMarks}
 use Rattle.recovery.proofs.Replay.{world_on, follows_on, follows_front}
 use Rattle.recovery.proofs.Tails.{IsBehind, closed_behind, earlier_behind, next_behind, tail_here, tail_past, tail_before, IsTail, other_order}
 
@@ -30,65 +30,90 @@ LeadsOn ticks logs tick =
     ⊎ (((logs.base < tick) × (logs.base + length (logs.kept ++ logs.pending) ≤ tick))
     ⊎ ((logs.switch ≡ None) × (has_base tick logs.before ≡ true)))
 
-before_behind : (ticks : List (List Action)) (base : ℕ) (before : Segment) → LeadsTo ticks base before → IsBehind base before
-before_behind ticks base ClosedSegment h = closed_behind base
-before_behind ticks base MalformedSegment h = absurd h
-before_behind ticks base (OpenSegment earlier first) h = earlier_behind base earlier first h.0
+before_behind : (ticks : List (List Action)) (newest base : ℕ) (before : Segment) → LeadsTo ticks newest base before → IsBehind base before
+before_behind ticks newest base ClosedSegment h = closed_behind base
+before_behind ticks newest base MalformedSegment h = absurd h
+before_behind ticks newest base (OpenSegment earlier first) h = earlier_behind base earlier first h.0
 
-other_behind : (ticks : List (List Action)) (logs : Logs) (switch : Option ℕ) (now : Segment) → LeadsTo ticks logs.base logs.before → IsSwitchOf logs switch → IsOther logs.before switch now → IsBehind logs.base now
-other_behind ticks logs None now leads at e = subst (λ s. IsBehind logs.base s) (sym e) (before_behind ticks logs.base logs.before leads)
-other_behind ticks logs (Some t) now leads at (inl e) = subst (λ s. IsBehind logs.base s) (sym e) (before_behind ticks logs.base logs.before leads)
-other_behind ticks logs (Some t) now leads at (inr (inl e)) = subst (λ s. IsBehind logs.base s) (sym e) (closed_behind logs.base)
-other_behind ticks logs (Some t) now leads at (inr (inr e)) = subst (λ s. IsBehind logs.base s) (sym e) (next_behind logs.base t at.1)
+other_behind : (ticks : List (List Action)) (newest : ℕ) (logs : Logs) (switch : Option ℕ) (now : Segment) → LeadsTo ticks newest logs.base logs.before → IsSwitchOf newest logs switch → IsOther logs.before switch now → IsBehind logs.base now
+other_behind ticks newest logs None now leads at e = subst (λ s. IsBehind logs.base s) (sym e) (before_behind ticks newest logs.base logs.before leads)
+other_behind ticks newest logs (Some t) now leads at (inl e) = subst (λ s. IsBehind logs.base s) (sym e) (before_behind ticks newest logs.base logs.before leads)
+other_behind ticks newest logs (Some t) now leads at (inr (inl e)) = subst (λ s. IsBehind logs.base s) (sym e) (closed_behind logs.base)
+other_behind ticks newest logs (Some t) now leads at (inr (inr e)) = subst (λ s. IsBehind logs.base s) (sym e) (next_behind logs.base t at.0)
+
+-- up to this tick, or to the newest image's, all acknowledged ones are there
+abbrev pub Reached : (acknowledged end newest : ℕ) → Type 0
+Reached acknowledged end newest = (acknowledged ≤ end) ⊎ (acknowledged ≤ newest)
+
+reached_at : (acknowledged end newest t more : ℕ) → Reached acknowledged end newest → newest ≤ t → end ≤ t + more → acknowledged ≤ t + more
+reached_at acknowledged end newest t more (inl h) from le = omega arith
+reached_at acknowledged end newest t more (inr h) from le = omega arith
+
+pub reached_more : (acknowledged end more newest : ℕ) → Reached acknowledged end newest → end ≤ more → Reached acknowledged more newest
+reached_more acknowledged end more newest (inl h) le = inl (omega arith)
+reached_more acknowledged end more newest (inr h) le = inr h
+
+pub reached_newer : (acknowledged end newest newer : ℕ) → newest ≤ newer → Reached acknowledged end newest → Reached acknowledged end newer
+reached_newer acknowledged end newest newer le (inl h) = inl h
+reached_newer acknowledged end newest newer le (inr h) = inr (omega (arith, h))
 
 -- what the current segment has
-record Has (ticks : List (List Action)) (acknowledged : ℕ) (logs : Logs) (now : Segment) : Type 0 where
+record Has (ticks : List (List Action)) (acknowledged newest : ℕ) (logs : Logs) (now : Segment) : Type 0 where
   here : List (List Action)
   is : now ≡ OpenSegment logs.base here
   follows : FollowsFrom ticks logs.base here
-  reaches : acknowledged ≤ logs.base + length here
+  reaches : Reached acknowledged (logs.base + length here) newest
 
-current_has : (ticks : List (List Action)) (acknowledged : ℕ) (logs : Logs) (now : Segment) → LogsFollow ticks acknowledged logs → IsCurrent logs now → Has ticks acknowledged logs now
-current_has ticks acknowledged logs now f (inl e) = record { here = logs.kept; is = e; follows = follows_front ticks logs.base logs.kept logs.pending f.taken; reaches = f.acknowledges }
-current_has ticks acknowledged logs now f (inr e) = record { here = logs.kept ++ logs.pending; is = e; follows = f.taken; reaches = omega (arith, f.acknowledges, length-append logs.kept logs.pending) }
+current_has : (ticks : List (List Action)) (acknowledged newest : ℕ) (logs : Logs) (now : Segment) → LogsFollow ticks acknowledged newest logs → IsCurrent logs now → Has ticks acknowledged newest logs now
+current_has ticks acknowledged newest logs now f (inl e) = record { here = logs.kept; is = e; follows = follows_front ticks logs.base logs.kept logs.pending f.taken; reaches = f.acknowledges }
+current_has ticks acknowledged newest logs now f (inr e) =
+    let more : logs.base + length logs.kept ≤ logs.base + length (logs.kept ++ logs.pending) = omega (arith, length-append logs.kept logs.pending) in
+    record { here = logs.kept ++ logs.pending; is = e; follows = f.taken; reaches = reached_more acknowledged (logs.base + length logs.kept) (logs.base + length (logs.kept ++ logs.pending)) newest f.acknowledges more }
+
+-- to a base behind the newest image's tick the segment before leads with no tick between
+meets : (end base newest : ℕ) → Reaches end base newest → newest < base → end ≡ base
+meets end base newest (inl e) below = e
+meets end base newest (inr h) below = absurd (omega (arith, h.1))
 
 -- from the tick of the segment before
-from_before : (ticks : List (List Action)) (acknowledged t base : ℕ) (here : List (List Action)) (before : Segment) → FollowsFrom ticks base here → acknowledged ≤ base + length here → LeadsTo ticks base before → has_base t before ≡ true → IsTail ticks acknowledged t (OpenSegment base here) before
-from_before ticks acknowledged t base here ClosedSegment f k leads at = absurd cc
-from_before ticks acknowledged t base here MalformedSegment f k leads at = absurd leads
-from_before ticks acknowledged t base here (OpenSegment earlier first) f k leads at =
-    let fits : earlier + (length first + length here) ≤ length ticks = omega (arith, leads.1, f.ended) in
-    let more : acknowledged ≤ earlier + (length first + length here) = omega (arith, leads.1) in
-    let from : IsTail ticks acknowledged earlier (OpenSegment base here) (OpenSegment earlier first) = record {
+from_before : (ticks : List (List Action)) (acknowledged newest t base : ℕ) (here : List (List Action)) (before : Segment) → FollowsFrom ticks base here → Reached acknowledged (base + length here) newest → newest ≤ t → LeadsTo ticks newest base before → has_base t before ≡ true → IsTail ticks acknowledged t (OpenSegment base here) before
+from_before ticks acknowledged newest t base here ClosedSegment f k from leads at = absurd cc
+from_before ticks acknowledged newest t base here MalformedSegment f k from leads at = absurd leads
+from_before ticks acknowledged newest t base here (OpenSegment earlier first) f k from leads at =
+    let same : earlier ≡ t = eqb-true earlier t at in
+    let meet : earlier + length first ≡ base = meets (earlier + length first) base newest leads.2 (omega (arith, leads.0)) in
+    let fits : earlier + (length first + length here) ≤ length ticks = omega (arith, meet, f.ended) in
+    let more : acknowledged ≤ earlier + (length first + length here) = reached_at acknowledged (base + length here) newest earlier (length first + length here) k (omega arith) (omega arith) in
+    let tail : IsTail ticks acknowledged earlier (OpenSegment base here) (OpenSegment earlier first) = record {
       more = length first + length here;
-      is = tail_before earlier base first here leads.0 leads.1 ∙ follows_on ticks earlier base first here leads.1 leads.2 f;
+      is = tail_before earlier base first here leads.0 meet ∙ follows_on ticks earlier base first here meet leads.1 f;
       ended = fits;
       reaches = more;
     } in
-    subst (λ n. IsTail ticks acknowledged n (OpenSegment base here) (OpenSegment earlier first)) (eqb-true earlier t at) from
+    subst (λ n. IsTail ticks acknowledged n (OpenSegment base here) (OpenSegment earlier first)) same tail
 
 untouched : (before : Segment) (switch : Option ℕ) (now : Segment) → switch ≡ None → IsOther before switch now → now ≡ before
 untouched before None now none e = e
 untouched before (Some t) now none e = absurd (let h = none in cc)
 
-log_tail : (ticks : List (List Action)) (acknowledged t : ℕ) (logs : Logs) (here : List (List Action)) (other : Segment) → LogsFollow ticks acknowledged logs → FollowsFrom ticks logs.base here → acknowledged ≤ logs.base + length here → IsOther logs.before logs.switch other → IsBehind logs.base other → t ≤ length ticks → LeadsOn ticks logs t → IsTail ticks acknowledged t (OpenSegment logs.base here) other
-log_tail ticks acknowledged t logs here other f follows reaches is behind ended (inl e) =
-    let from : IsTail ticks acknowledged logs.base (OpenSegment logs.base here) other = record {
+log_tail : (ticks : List (List Action)) (acknowledged newest t : ℕ) (logs : Logs) (here : List (List Action)) (other : Segment) → LogsFollow ticks acknowledged newest logs → FollowsFrom ticks logs.base here → Reached acknowledged (logs.base + length here) newest → IsOther logs.before logs.switch other → IsBehind logs.base other → newest ≤ t → t ≤ length ticks → LeadsOn ticks logs t → IsTail ticks acknowledged t (OpenSegment logs.base here) other
+log_tail ticks acknowledged newest t logs here other f follows reaches is behind from ended (inl e) =
+    let tail : IsTail ticks acknowledged logs.base (OpenSegment logs.base here) other = record {
       more = length here;
       is = tail_here logs.base here other behind ∙ follows.are;
       ended = follows.ended;
-      reaches = reaches;
+      reaches = reached_at acknowledged (logs.base + length here) newest logs.base (length here) reaches (omega arith) (omega arith);
     } in
-    subst (λ n. IsTail ticks acknowledged n (OpenSegment logs.base here) other) (sym e) from
-log_tail ticks acknowledged t logs here other f follows reaches is behind ended (inr (inl past)) = record {
+    subst (λ n. IsTail ticks acknowledged n (OpenSegment logs.base here) other) (sym e) tail
+log_tail ticks acknowledged newest t logs here other f follows reaches is behind from ended (inr (inl past)) = record {
   more = 0;
   is = tail_past logs.base t here other past.0 behind;
   ended = omega arith;
-  reaches = omega (arith, past.1, f.acknowledges, length-append logs.kept logs.pending);
+  reaches = reached_at acknowledged (logs.base + length logs.kept) newest t 0 f.acknowledges from (omega (arith, past.1, length-append logs.kept logs.pending));
 }
-log_tail ticks acknowledged t logs here other f follows reaches is behind ended (inr (inr at)) =
+log_tail ticks acknowledged newest t logs here other f follows reaches is behind from ended (inr (inr at)) =
     let same : other ≡ logs.before = untouched logs.before logs.switch other at.0 is in
-    subst (λ s. IsTail ticks acknowledged t (OpenSegment logs.base here) s) (sym same) (from_before ticks acknowledged t logs.base here logs.before follows reaches f.before at.1)
+    subst (λ s. IsTail ticks acknowledged t (OpenSegment logs.base here) s) (sym same) (from_before ticks acknowledged newest t logs.base here logs.before follows reaches from f.before at.1)
 
 -- two segments that read so, in either order
 record LogPair (ticks : List (List Action)) (acknowledged t : ℕ) (current other : Segment) : Type 0 where
@@ -97,11 +122,11 @@ record LogPair (ticks : List (List Action)) (acknowledged t : ℕ) (current othe
   current_formed : is_bad_segment current ≡ false
   other_formed : is_bad_segment other ≡ false
 
-log_pair : (ticks : List (List Action)) (acknowledged t : ℕ) (logs : Logs) (current other : Segment) → LogsFollow ticks acknowledged logs → IsCurrent logs current → IsOther logs.before logs.switch other → t ≤ length ticks → LeadsOn ticks logs t → LogPair ticks acknowledged t current other
-log_pair ticks acknowledged t logs current other f is_current is_other ended leads =
-    let has = current_has ticks acknowledged logs current f is_current in
-    let behind = other_behind ticks logs logs.switch other f.before f.switch is_other in
-    let first = log_tail ticks acknowledged t logs has.here other f has.follows has.reaches is_other behind ended leads in
+log_pair : (ticks : List (List Action)) (acknowledged newest t : ℕ) (logs : Logs) (current other : Segment) → LogsFollow ticks acknowledged newest logs → IsCurrent logs current → IsOther logs.before logs.switch other → newest ≤ t → t ≤ length ticks → LeadsOn ticks logs t → LogPair ticks acknowledged t current other
+log_pair ticks acknowledged newest t logs current other f is_current is_other from ended leads =
+    let has = current_has ticks acknowledged newest logs current f is_current in
+    let behind = other_behind ticks newest logs logs.switch other f.before f.switch is_other in
+    let first = log_tail ticks acknowledged newest t logs has.here other f has.follows has.reaches is_other behind from ended leads in
     let pair : LogPair ticks acknowledged t (OpenSegment logs.base has.here) other = record {
       first = first;
       second = other_order ticks acknowledged t logs.base has.here other behind first;
@@ -244,44 +269,63 @@ sound_reading cells ticks acknowledged t last image_a image_b log_a log_b all p 
       image_b_holds = still_holds cells ticks n.tick (n.tick + at.more) image_b later p.b_holds;
     }
 
--- ---- the marks
+-- ---- the bases
 
-no_switch : (marks : List ℕ) (switched : ℕ) (switch : Option ℕ) → length marks ≤ switched + 1 → IsSwitchAt marks switched switch → switch ≡ None
-no_switch marks switched None le at = refl
-no_switch marks switched (Some t) le at = absurd (omega (arith, at.0))
+pub begins : (low : ℕ) (ticks : List ℕ) → RiseFrom low ticks → BeginFrom low ticks
+begins low [] rise = tt
+begins low (tick ∷ ticks) rise = omega (arith, rise.0)
 
-pub no_less : (marks : List ℕ) (images : Images) (logs : Logs) → FollowMarks marks images logs → (i j : ℕ) → i ≤ j → j < length marks → mark_at marks i ≤ mark_at marks j
-no_less marks images logs m i j le lt =
-    elim (cases_lt i j) [
-      | inl below ↦ (let h : mark_at marks i < mark_at marks j = m.rising i j below lt in omega arith)
-      | inr above ↦ (let same : i ≡ j = omega arith in subst (λ n. mark_at marks i ≤ mark_at marks n) same (omega arith))
-    ]
+-- a switch to come is past all that the current segment has
+past : (low end t : ℕ) (front after to_come : List ℕ) → to_come ≡ front ++ t ∷ after → RiseFrom low to_come → BeginFrom end to_come → (low < t) × (end ≤ t)
+past low end t [] after [] e rise begin = absurd cc
+past low end t (first ∷ front) after [] e rise begin = absurd cc
+past low end t [] after (s ∷ to_come) e rise begin = (let same : s ≡ t = cc in (omega (arith, rise.0), omega (arith, begin)))
+past low end t (first ∷ front) after (s ∷ to_come) e rise begin =
+    let rest : to_come ≡ front ++ t ∷ after = cc in
+    let h = past s s t front after to_come rest rise.1 (begins s to_come rise.1) in
+    (omega (arith, rise.0, h.0), omega (arith, begin, h.1))
 
--- from the last mark, and from the one before it, the log leads on
-place_leads : (ticks : List (List Action)) (marks : List ℕ) (images : Images) (logs : Logs) → FollowMarks marks images logs → (i : ℕ) → i < length marks → length marks ≤ i + 2 → LeadsOn ticks logs (mark_at marks i)
-place_leads ticks marks images logs m i lt le =
-    elim (cases_lt i m.switched) [
-      | inl below ↦ (let next : i + 1 ≡ m.switched = omega (arith, m.switched_is.0) in inr (inr (no_switch marks m.switched logs.switch (omega arith) m.switch, m.before i next)))
-      | inr above ↦ (elim (cases_lt m.switched i) [
-        | inl behind ↦ (
-            let base : mark_at marks m.switched ≡ logs.base = m.switched_is.1 in
-            let up : mark_at marks m.switched < mark_at marks i = m.rising m.switched i behind lt in
-            let upto : mark_at marks (m.switched + 1) ≤ mark_at marks i = no_less marks images logs m (m.switched + 1) i (omega arith) lt in
-            let held : logs.base + length (logs.kept ++ logs.pending) ≤ mark_at marks (m.switched + 1) = m.in_order (omega arith) in
-            let past : logs.base < mark_at marks i = omega arith in
-            let all : logs.base + length (logs.kept ++ logs.pending) ≤ mark_at marks i = omega arith in
-            inr (inl (past, all)))
-        | inr here ↦ (let same : i ≡ m.switched = omega arith in inl (ap (mark_at marks) same ∙ m.switched_is.1))
-      ])
-    ]
+module _ (ticks : List (List Action)) (logs : Logs) (t : ℕ) (later : List ℕ) where
+  from_current : (front after : List ℕ) → logs.base ∷ coming logs.switch later ≡ front ++ t ∷ after
+      → RiseFrom logs.base (coming logs.switch later) → BeginFrom (logs.base + length (logs.kept ++ logs.pending)) (coming logs.switch later) → LeadsOn ticks logs t
+  from_current [] after e rise begin = inl (let same : logs.base ≡ t = cc in sym same)
+  from_current (first ∷ front) after e rise begin =
+      let rest : coming logs.switch later ≡ front ++ t ∷ after = cc in
+      inr (inl (past logs.base (logs.base + length (logs.kept ++ logs.pending)) t front after (coming logs.switch later) rest rise begin))
 
-image_leads : (ticks : List (List Action)) (marks : List ℕ) (images : Images) (logs : Logs) (m : FollowMarks marks images logs) (round : Option Round) (t : ℕ) → IsRoundAt marks m.opened round → IsImageTick images.tick round t → LeadsOn ticks logs t
-image_leads ticks marks images logs m None t at e =
-    subst (λ n. LeadsOn ticks logs n) (m.opened_is.1 ∙ sym e) (place_leads ticks marks images logs m m.opened m.opened_is.0 m.all_but_last)
-image_leads ticks marks images logs m (Some round) t at (inl e) =
-    subst (λ n. LeadsOn ticks logs n) (m.opened_is.1 ∙ sym e) (place_leads ticks marks images logs m m.opened m.opened_is.0 m.all_but_last)
-image_leads ticks marks images logs m (Some round) t at (inr e) =
-    subst (λ n. LeadsOn ticks logs n) (sym at.1 ∙ sym e) (place_leads ticks marks images logs m (m.opened + 1) (omega (arith, at.0)) (omega (arith, at.0)))
+  none_comes : (switch : Option ℕ) (base : ℕ) (after : List ℕ) → after ≡ base ∷ coming switch later → length after ≤ 1 → switch ≡ None
+  none_comes None base after e le = refl
+  none_comes (Some tick) base after e le = absurd (omega (arith, ap length e, le))
+
+  -- from the last of the bases, and from the one before it, the log leads on
+  place_leads : (before : Segment) (front after : List ℕ) → logs.before ≡ before → base_in before ++ logs.base ∷ coming logs.switch later ≡ front ++ t ∷ after → length after ≤ 1
+      → RiseFrom logs.base (coming logs.switch later) → BeginFrom (logs.base + length (logs.kept ++ logs.pending)) (coming logs.switch later) → LeadsOn ticks logs t
+  place_leads ClosedSegment front after is e le rise begin = from_current front after e rise begin
+  place_leads MalformedSegment front after is e le rise begin = from_current front after e rise begin
+  place_leads (OpenSegment earlier first) [] after is e le rise begin =
+      let same : earlier ≡ t = cc in
+      let rest : after ≡ logs.base ∷ coming logs.switch later = cc in
+      inr (inr (none_comes logs.switch logs.base after rest le, subst (λ s. has_base t s ≡ true) (sym is) (eq-eqb earlier t same)))
+  place_leads (OpenSegment earlier first) (one ∷ front) after is e le rise begin =
+      let rest : logs.base ∷ coming logs.switch later ≡ front ++ t ∷ after = cc in
+      from_current front after rest rise begin
+
+image_leads : (ticks : List (List Action)) (later : List ℕ) (images : Images) (logs : Logs) (m : FollowMarks later images logs) (round : Option Round) (t : ℕ) → images.round ≡ round → IsImageTick images.tick round t → LeadsOn ticks logs t
+image_leads ticks later images logs m None t is e =
+    let bases : base_in logs.before ++ logs.base ∷ coming logs.switch later ≡ m.earlier ++ images.tick ∷ [] = subst (λ r. base_in logs.before ++ logs.base ∷ coming logs.switch later ≡ m.earlier ++ images.tick ∷ round_tick r) is m.bases in
+    subst (λ n. LeadsOn ticks logs n) (sym e) (place_leads ticks logs images.tick later logs.before m.earlier [] refl bases (omega arith) m.rising m.in_order)
+image_leads ticks later images logs m (Some round) t is (inl e) =
+    let bases : base_in logs.before ++ logs.base ∷ coming logs.switch later ≡ m.earlier ++ images.tick ∷ round.tick ∷ [] = subst (λ r. base_in logs.before ++ logs.base ∷ coming logs.switch later ≡ m.earlier ++ images.tick ∷ round_tick r) is m.bases in
+    subst (λ n. LeadsOn ticks logs n) (sym e) (place_leads ticks logs images.tick later logs.before m.earlier (round.tick ∷ []) refl bases (omega arith) m.rising m.in_order)
+image_leads ticks later images logs m (Some round) t is (inr e) =
+    let bases : base_in logs.before ++ logs.base ∷ coming logs.switch later ≡ m.earlier ++ images.tick ∷ round.tick ∷ [] = subst (λ r. base_in logs.before ++ logs.base ∷ coming logs.switch later ≡ m.earlier ++ images.tick ∷ round_tick r) is m.bases in
+    subst (λ n. LeadsOn ticks logs n) (sym e) (place_leads ticks logs round.tick later logs.before (m.earlier ++ images.tick ∷ []) [] refl (bases ∙ sym (append_assoc m.earlier (images.tick ∷ []) (round.tick ∷ []))) (omega arith) m.rising m.in_order)
+
+-- what is picked is no older than the newest image
+not_older : (cells : ℕ) (ticks : List (List Action)) (newest : ℕ) (round : Option Round) (t : ℕ) → IsRoundOf cells ticks newest round → IsImageTick newest round t → newest ≤ t
+not_older cells ticks newest None t of e = omega (arith, e)
+not_older cells ticks newest (Some round) t of (inl e) = omega (arith, e)
+not_older cells ticks newest (Some round) t of (inr e) = omega (arith, e, of.0)
 
 -- ---- the two slots
 
@@ -308,15 +352,15 @@ record ReadLogs (ticks : List (List Action)) (acknowledged t : ℕ) (log_a log_b
   a_formed : is_bad_segment log_a ≡ false
   b_formed : is_bad_segment log_b ≡ false
 
-read_logs : (ticks : List (List Action)) (acknowledged t : ℕ) (logs : Logs) (slot : Slot) (may_a may_b : List ℕ → Type 0) → LogsFollow ticks acknowledged logs → t ≤ length ticks → LeadsOn ticks logs t
+read_logs : (ticks : List (List Action)) (acknowledged newest t : ℕ) (logs : Logs) (slot : Slot) (may_a may_b : List ℕ → Type 0) → LogsFollow ticks acknowledged newest logs → newest ≤ t → t ≤ length ticks → LeadsOn ticks logs t
     → ((bytes : List ℕ) → in_slot slot may_a may_b bytes → IsCurrent logs (segment_of bytes))
     → ((bytes : List ℕ) → beside_slot slot may_a may_b bytes → IsOther logs.before logs.switch (segment_of bytes))
     → (a b : List ℕ) → may_a a → may_b b → ReadLogs ticks acknowledged t (segment_of a) (segment_of b)
-read_logs ticks acknowledged t logs A may_a may_b f ended leads current_is other_is a b ha hb =
-    let pair = log_pair ticks acknowledged t logs (segment_of a) (segment_of b) f (current_is a ha) (other_is b hb) ended leads in
+read_logs ticks acknowledged newest t logs A may_a may_b f from ended leads current_is other_is a b ha hb =
+    let pair = log_pair ticks acknowledged newest t logs (segment_of a) (segment_of b) f (current_is a ha) (other_is b hb) from ended leads in
     record { tail_is = pair.first; a_formed = pair.current_formed; b_formed = pair.other_formed }
-read_logs ticks acknowledged t logs B may_a may_b f ended leads current_is other_is a b ha hb =
-    let pair = log_pair ticks acknowledged t logs (segment_of b) (segment_of a) f (current_is b hb) (other_is a ha) ended leads in
+read_logs ticks acknowledged newest t logs B may_a may_b f from ended leads current_is other_is a b ha hb =
+    let pair = log_pair ticks acknowledged newest t logs (segment_of b) (segment_of a) f (current_is b hb) (other_is a ha) from ended leads in
     record { tail_is = pair.second; a_formed = pair.other_formed; b_formed = pair.current_formed }
 
 -- ---- how what is left of a segment reads
@@ -340,17 +384,18 @@ beside_slot_bytes B may_a may_b a b bytes h = a bytes h
 -- ---- the law
 
 pub files_are_sound : SegmentsRead → (image_a image_b log_a log_b : List ℕ → Type 0) → LeavesBytes log_a → LeavesBytes log_b
-    → (cells : ℕ) (ticks : List (List Action)) (acknowledged : ℕ) (last : List ℕ) (images : Images) (logs : Logs) (marks : List ℕ)
-    → after_ticks cells ticks ≡ Ok last → ImagesFollow cells ticks images → LogsFollow ticks acknowledged logs → FollowMarks marks images logs
+    → (cells : ℕ) (ticks : List (List Action)) (acknowledged : ℕ) (last : List ℕ) (images : Images) (logs : Logs) (later : List ℕ)
+    → after_ticks cells ticks ≡ Ok last → ImagesFollow cells ticks images → LogsFollow ticks acknowledged images.tick logs → FollowMarks later images logs
     → ImagesAre cells images image_a image_b → LogsAre logs log_a log_b
     → IsSound image_a image_b log_a log_b cells ticks acknowledged
-files_are_sound reads image_a image_b log_a log_b bytes_a bytes_b cells ticks acknowledged last images logs marks all fi fl m ai al a b la lb ha hb hla hlb =
+files_are_sound reads image_a image_b log_a log_b bytes_a bytes_b cells ticks acknowledged last images logs later all fi fl m ai al a b la lb ha hb hla hlb =
     let i = read_images cells ticks images.slot images.tick images.words images.before images.round image_a image_b fi.newest fi.before fi.round ai.newest ai.target a b ha hb in
     let ended : i.t ≤ length ticks = subst (λ n. n ≤ length ticks) i.picked.tick_is i.picked.world.ended in
-    let leads = image_leads ticks marks images logs m images.round i.t m.round i.which in
+    let leads = image_leads ticks later images logs m images.round i.t refl i.which in
+    let from = not_older cells ticks images.tick images.round i.t fi.round i.which in
     let current : (bytes : List ℕ) → in_slot logs.slot log_a log_b bytes → IsCurrent logs (segment_of bytes) =
     λ bytes h. (let r = al.current bytes h in subst (IsCurrent logs) (sym (reads bytes (in_slot_bytes logs.slot log_a log_b bytes_a bytes_b bytes h) r.0 r.1)) r.2) in
     let other : (bytes : List ℕ) → beside_slot logs.slot log_a log_b bytes → IsOther logs.before logs.switch (segment_of bytes) =
     λ bytes h. (let r = al.other bytes h in subst (IsOther logs.before logs.switch) (sym (reads bytes (beside_slot_bytes logs.slot log_a log_b bytes_a bytes_b bytes h) r.0 r.1)) r.2) in
-    let l = read_logs ticks acknowledged i.t logs logs.slot log_a log_b fl ended leads current other la lb hla hlb in
+    let l = read_logs ticks acknowledged images.tick i.t logs logs.slot log_a log_b fl from ended leads current other la lb hla hlb in
     sound_reading cells ticks acknowledged i.t last (image_of a) (image_of b) (segment_of la) (segment_of lb) all i.picked l.tail_is l.a_formed l.b_formed

@@ -1,5 +1,5 @@
 -- Each event of a start keeps what its law asks for.
-use Rattle.std.proofs.Common.{◌≡◌, ℕ, ◌+◌, ◌<◌, ◌≤◌, ◌⊎◌, inl, inr, true, List, [], ◌∷◌, length, Option, Some, None, Ok, refl, sym, ap, subst, ◌∙◌, arith}
+use Rattle.std.proofs.Common.{◌≡◌, ℕ, ◌<◌, ◌≤◌, ◌⊎◌, inl, inr, true, List, [], ◌∷◌, length, Option, Some, None, Ok, refl, sym, ap, subst, ◌∙◌, arith}
 use Rattle.std.specs.Prelude.{replicate, option_map}
 use Rattle.std.proofs.lemmas.List.{drop_all}
 use Rattle.world_actions.specs.declared.action.Action.{Action}
@@ -15,12 +15,12 @@ use Rattle.action_log.specs.declared.record.LogAnswer.{LogAnswer}
 use Rattle.action_log.specs.declared.record.LogAnswer.TheVariants as log_answer
 use Rattle.recovery.specs.Recovery.{words_after, tail, is_bad_segment}
 use Rattle.recovery.specs.Sound.{IsWorldAt, IsSound}
-use Rattle.recovery.specs.Follow.{IsRoundOf}
+use Rattle.recovery.specs.Follow.{IsRoundOf, round_tick}
 use Rattle.recovery.specs.Start.{IsStartRound, IsStarting, IsFirstRound, FirstFollows}
 use Rattle.recovery.specs.Events.{with_round_begun, with_round_opened, IsKept}
 use Rattle.recovery.proofs.Law.{SegmentsRead, LeavesBytes}
 use Rattle.recovery.proofs.Starting.{start_is_sound}
-use Rattle.recovery.proofs.Events.{opened_follows, start_done}
+use Rattle.recovery.proofs.Events.{opened_follows}
 use Rattle.recovery.proofs.Restart.{zeros_at}
 
 pub starting_is_sound : SegmentsRead → (image_a image_b log_a log_b : List ℕ → Type 0) → LeavesBytes log_a → LeavesBytes log_b
@@ -98,30 +98,30 @@ start_log_begins cells ticks acknowledged images from start s at =
 
 start_ends : (cells : ℕ) (ticks : List (List Action)) (acknowledged : ℕ) (images : Images) (from : ℕ) (start : Start)
     → 1 ≤ cells → IsStarting cells ticks acknowledged images from start → images.tick ≡ start.tick → images.round ≡ None
-    → IsKept cells ticks acknowledged (start.tick ∷ []) images (started start.tick) []
-unfolding start_done
+    → IsKept cells ticks acknowledged images (started start.tick) []
 start_ends cells ticks acknowledged images from start some s at none =
     let f = s.start_follows in
     let whole : length ticks ≡ images.tick = f.whole ∙ sym at in
-    let done = start_done ticks acknowledged images whole (omega (arith, f.acknowledges, at)) none in
-    let kept : IsKept cells ticks acknowledged (images.tick ∷ []) images (started images.tick) [] = record {
+    let kept : IsKept cells ticks acknowledged images (started images.tick) [] = record {
       some_cells = some;
       last = s.last;
       accepted = s.accepted;
       images_follow = s.images_follow;
-      logs_follow = done.0;
-      follow_marks = done.1;
-      idle = λ e. omega arith;
-      queue_is = omega arith;
-      left = drop_all (images.tick + 0) ticks (omega (arith, whole));
+      logs_follow = record { taken = record { ended = omega (arith, whole); are = refl }; acknowledges = inr (omega (arith, f.acknowledges, at)); before = tt; switch = tt };
+      follow_marks = record { earlier = []; bases = ap (λ r. images.tick ∷ round_tick r) (sym none); rising = tt; in_order = tt };
+      taken = images.tick;
+      some_taken = omega (arith, whole);
+      left = drop_all images.tick ticks (omega (arith, whole));
+      numbered = tt;
+      has = inl (omega arith);
     } in
-    subst (λ t. IsKept cells ticks acknowledged (t ∷ []) images (started t) []) at kept
+    subst (λ t. IsKept cells ticks acknowledged images (started t) []) at kept
 
 module _ (cells : ℕ) (ticks : List (List Action)) (acknowledged : ℕ) (images : Images) (from : ℕ) (start : Start) where
   abbrev Keeps : LogPlace → Type 0
   Keeps next =
       ((after : Start) × (next.journal ≡ InStart after) × IsStarting cells ticks acknowledged images from after)
-      ⊎ ((next.journal ≡ Writing (started start.tick)) × IsKept cells ticks acknowledged (start.tick ∷ []) images (started start.tick) [])
+      ⊎ ((next.journal ≡ Writing (started start.tick)) × IsKept cells ticks acknowledged images (started start.tick) [])
 
   pub start_log_step_keeps : (left : ℕ) (given : LogAnswer) (next : LogPlace)
       → 1 ≤ cells → IsStarting cells ticks acknowledged images from start → images.tick ≡ start.tick → images.round ≡ None

@@ -1,11 +1,11 @@
 -- Each step of the log keeper keeps what the core keeps.
-use Rattle.std.proofs.Common.{◌≡◌, ℕ, ◌+◌, inl, inr, List, [], ◌∷◌, ◌++◌, length, drop, Some, refl, sym, ap, subst, ◌∙◌, arith}
-use Rattle.std.proofs.lemmas.List.{append-nil, length-append, drop_at, drop-drop}
+use Rattle.std.proofs.Common.{◌≡◌, ℕ, ◌+◌, ◌≤◌, max, inl, inr, List, [], ◌∷◌, ◌++◌, length, drop, Some, refl, sym, ap, subst, ◌∙◌, arith}
+use Rattle.std.proofs.lemmas.List.{append-nil, length-append, length-drop, drop_at, drop-drop}
 use Rattle.world_actions.specs.declared.action.Action.{Action}
 use Rattle.image_files.specs.Images.{Images}
 use Rattle.action_log.specs.Logs.{Logs}
-use Rattle.recovery.specs.Follow.{IsSwitchOf, IsSwitchAt}
-use Rattle.recovery.specs.Events.{ticks_in, IsQueueOf, switched_with, IsKept, acknowledged_after}
+use Rattle.recovery.specs.Follow.{FollowsFrom, Reaches, IsSwitchOf, round_tick, base_in, coming, RiseFrom, BeginFrom}
+use Rattle.recovery.specs.Events.{ticks_in, switches_in, with_work, AreNumbered, HasUpTo, IsKept, acknowledged_after, ReceiptIs}
 use Rattle.action_log.specs.Logs.{switched_to}
 use Rattle.action_log.specs.LogSteps.{is_idle, GoesOn, EndsSwitch, Acknowledges, LogsStep}
 use Rattle.action_log.specs.declared.record.LogAnswer.{LogAnswer}
@@ -13,110 +13,189 @@ use Rattle.action_log.specs.declared.record.LogAnswer.TheVariants as answer
 use Rattle.action_log.specs.declared.record.Record.{Record}
 use Rattle.action_log.specs.declared.record.Record.TheVariants as records
 use Rattle.action_log.specs.Queue.{StandBefore}
-use Rattle.recovery.proofs.Events.{with_group, with_group_kept, with_switch, group_begins, switch_begins, switched_follows, switched_marks, group_kept, group_ticks}
+use Rattle.recovery.proofs.Replay.{follows_front}
+use Rattle.recovery.proofs.Law.{Reached, reached_more, begins}
+use Rattle.recovery.proofs.Events.{with_group, with_group_kept, with_switch, reached_max, first_switch, group_at, group_numbered, group_switches, group_ticks, group_follows, bases_done}
 
 idle_count : (logs : Logs) → logs.pending ≡ [] → logs.base + length (logs.kept ++ logs.pending) ≡ logs.base + length logs.kept
 idle_count logs none = ap (λ l. logs.base + length (logs.kept ++ l)) none ∙ ap (λ l. logs.base + length l) (append-nil logs.kept)
 
-module _ (cells : ℕ) (ticks : List (List Action)) (acknowledged : ℕ) (marks : List ℕ) (images : Images) (logs : Logs) where
-  idle_queue : (queue : List Record) (k : IsKept cells ticks acknowledged marks images logs queue) → is_idle logs → IsQueueOf marks k.follow_marks.switched (logs.base + length logs.kept) queue
-  idle_queue queue k idle =
-      subst (λ n. IsQueueOf marks k.follow_marks.switched n queue) (idle_count logs idle.0)
-      (subst (λ o. IsQueueOf marks (switched_with k.follow_marks.switched o) (logs.base + length (logs.kept ++ logs.pending)) queue) idle.1 k.queue_is)
+module _ (cells : ℕ) (ticks : List (List Action)) (acknowledged : ℕ) (images : Images) (logs : Logs) where
+  -- with no job in work the queue is all that is left
+  idle_numbered : (queue : List Record) (k : IsKept cells ticks acknowledged images logs queue) → is_idle logs → AreNumbered k.taken queue
+  idle_numbered queue k idle = subst (λ o. AreNumbered k.taken (with_work o queue)) idle.1 k.numbered
 
-  idle_left : (queue : List Record) (k : IsKept cells ticks acknowledged marks images logs queue) → is_idle logs → drop (logs.base + length logs.kept) ticks ≡ ticks_in queue
-  idle_left queue k idle = subst (λ n. drop n ticks ≡ ticks_in queue) (idle_count logs idle.0) k.left
+  idle_has : (queue : List Record) (k : IsKept cells ticks acknowledged images logs queue) → is_idle logs → HasUpTo logs k.taken images.tick queue
+  idle_has queue k idle = subst (λ o. HasUpTo logs k.taken images.tick (with_work o queue)) idle.1 k.has
 
-  keeps_group : (group : List (List Action)) (queue left : List Record) → StandBefore group queue left → IsKept cells ticks acknowledged marks images logs queue → is_idle logs → IsKept cells ticks acknowledged marks images (with_group logs group) left
-  unfolding group_begins
-  keeps_group group queue left stand k idle =
-      let q = idle_queue queue k idle in
-      let rest = idle_left queue k idle in
-      let r = group_begins ticks acknowledged marks images logs group queue left stand k.logs_follow k.follow_marks idle.0 idle.1 q rest in
-      let sum : logs.base + length logs.kept + length group ≡ logs.base + length (logs.kept ++ group) = omega (arith, length-append logs.kept group) in
-      let more : drop (logs.base + length (logs.kept ++ group)) ticks ≡ ticks_in left =
-      ap (λ n. drop n ticks) (sym sum) ∙ sym (drop-drop (length group) (logs.base + length logs.kept) ticks) ∙ ap (drop (length group)) (rest ∙ group_ticks group queue left stand) ∙ drop_at group (ticks_in left) (length group) refl in
+  idle_bases : (queue : List Record) (k : IsKept cells ticks acknowledged images logs queue) → is_idle logs → base_in logs.before ++ logs.base ∷ switches_in queue ≡ k.follow_marks.earlier ++ images.tick ∷ round_tick images.round
+  idle_bases queue k idle = subst (λ o. base_in logs.before ++ logs.base ∷ coming o (switches_in queue) ≡ k.follow_marks.earlier ++ images.tick ∷ round_tick images.round) idle.1 k.follow_marks.bases
+
+  idle_rising : (queue : List Record) (k : IsKept cells ticks acknowledged images logs queue) → is_idle logs → RiseFrom logs.base (switches_in queue)
+  idle_rising queue k idle = subst (λ o. RiseFrom logs.base (coming o (switches_in queue))) idle.1 k.follow_marks.rising
+
+  keeps_group : (group : List (List Action)) (queue left : List Record) → StandBefore group queue left → 1 ≤ length group → IsKept cells ticks acknowledged images logs queue → is_idle logs → IsKept cells ticks acknowledged images (with_group logs group) left
+  keeps_group group queue left stand some k idle =
+      let f = k.logs_follow in
+      let m = k.follow_marks in
+      let at : logs.base + length logs.kept ≡ k.taken = sym (idle_count logs idle.0) ∙ group_at logs k.taken images.tick group queue left stand some (idle_has queue k idle) in
+      let kept : FollowsFrom ticks logs.base logs.kept = follows_front ticks logs.base logs.kept logs.pending f.taken in
+      let rest : drop k.taken ticks ≡ group ++ ticks_in left = k.left ∙ group_ticks group queue left stand in
+      let both : FollowsFrom ticks logs.base (logs.kept ++ group) = group_follows ticks logs.base logs.kept group (ticks_in left) kept (ap (λ n. drop n ticks) at ∙ rest) in
+      let end : k.taken + length group ≡ logs.base + length (logs.kept ++ group) = omega (arith, at, length-append logs.kept group) in
+      let numbered : AreNumbered (k.taken + length group) left = group_numbered k.taken group queue left stand (idle_numbered queue k idle) in
+      let same : switches_in queue ≡ switches_in left = group_switches group queue left stand in
+      let begin : BeginFrom (logs.base + length (logs.kept ++ group)) (switches_in left) = subst (λ n. BeginFrom n (switches_in left)) end (first_switch (k.taken + length group) left numbered) in
       record {
         some_cells = k.some_cells;
         last = k.last;
         accepted = k.accepted;
-        idle = k.idle;
         images_follow = k.images_follow;
-        logs_follow = r.0;
-        follow_marks = r.1;
-        queue_is = subst (λ o. IsQueueOf marks (switched_with k.follow_marks.switched o) (logs.base + length (logs.kept ++ group)) left) (sym idle.1) r.2;
-        left = more;
+        logs_follow = record { taken = both; acknowledges = f.acknowledges; before = f.before; switch = subst (IsSwitchOf images.tick (with_group logs group)) (sym idle.1) tt };
+        follow_marks = record {
+          earlier = m.earlier;
+          bases = subst (λ l. base_in logs.before ++ logs.base ∷ coming logs.switch l ≡ m.earlier ++ images.tick ∷ round_tick images.round) same m.bases;
+          rising = subst (λ l. RiseFrom logs.base (coming logs.switch l)) same m.rising;
+          in_order = subst (λ o. BeginFrom (logs.base + length (logs.kept ++ group)) (coming o (switches_in left))) (sym idle.1) begin;
+        };
+        taken = k.taken + length group;
+        some_taken = omega (arith, end, both.ended);
+        left = sym (drop-drop (length group) k.taken ticks) ∙ ap (drop (length group)) rest ∙ drop_at group (ticks_in left) (length group) refl;
+        numbered = subst (λ o. AreNumbered (k.taken + length group) (with_work o left)) (sym idle.1) numbered;
+        has = inl (sym end);
       }
 
-  keeps_switch_begun : (mark : ℕ) (left : List Record) → IsKept cells ticks acknowledged marks images logs (records.Switch mark ∷ left) → is_idle logs → IsKept cells ticks acknowledged marks images (with_switch logs mark) left
-  unfolding switch_begins
+  switch_reaches : (mark taken newest : ℕ) (queue : List Record) → mark ≡ taken → logs.pending ≡ [] → HasUpTo logs taken newest queue → Reaches (logs.base + length logs.kept) mark newest
+  switch_reaches mark taken newest queue e none (inl h) = inl (sym (idle_count logs none) ∙ h ∙ sym e)
+  switch_reaches mark taken newest queue e none (inr h) = inr (omega (arith, e, h.1), omega (arith, e, h.2))
+
+  keeps_switch_begun : (mark : ℕ) (left : List Record) → IsKept cells ticks acknowledged images logs (records.Switch mark ∷ left) → is_idle logs → IsKept cells ticks acknowledged images (with_switch logs mark) left
   keeps_switch_begun mark left k idle =
-      let q = idle_queue (records.Switch mark ∷ left) k idle in
-      let r = switch_begins ticks acknowledged marks images logs mark left k.logs_follow k.follow_marks idle.0 q in
+      let f = k.logs_follow in
+      let m = k.follow_marks in
+      let numbered = idle_numbered (records.Switch mark ∷ left) k idle in
+      let rise = idle_rising (records.Switch mark ∷ left) k idle in
       record {
         some_cells = k.some_cells;
         last = k.last;
         accepted = k.accepted;
-        idle = k.idle;
         images_follow = k.images_follow;
-        logs_follow = r.0;
-        follow_marks = r.1;
-        queue_is = subst (λ n. IsQueueOf marks (k.follow_marks.switched + 1) n left) (sym (idle_count logs idle.0)) q.3;
+        logs_follow = record {
+          taken = f.taken;
+          acknowledges = f.acknowledges;
+          before = f.before;
+          switch = (rise.0, idle.0, switch_reaches mark k.taken images.tick (records.Switch mark ∷ left) numbered.0 idle.0 (idle_has (records.Switch mark ∷ left) k idle));
+        };
+        follow_marks = record {
+          earlier = m.earlier;
+          bases = idle_bases (records.Switch mark ∷ left) k idle;
+          rising = rise;
+          in_order = subst (λ o. BeginFrom (logs.base + length (logs.kept ++ logs.pending)) (coming o (mark ∷ switches_in left))) idle.1 m.in_order;
+        };
+        taken = k.taken;
+        some_taken = k.some_taken;
         left = k.left;
+        numbered = numbered;
+        has = idle_has (records.Switch mark ∷ left) k idle;
       }
 
-  keeps_switched : (mark : ℕ) (queue : List Record) → IsKept cells ticks acknowledged marks images logs queue → logs.switch ≡ Some mark → IsKept cells ticks acknowledged marks images (switched_to logs mark) queue
-  unfolding switched_marks
+  -- what a closed segment keeps, the next one's base reaches
+  switch_kept : (mark newest : ℕ) → Reaches (logs.base + length logs.kept) mark newest → Reached acknowledged (logs.base + length logs.kept) newest → Reached acknowledged (mark + 0) newest
+  switch_kept mark newest (inl e) (inl h) = inl (omega (arith, e, h))
+  switch_kept mark newest (inr r) (inl h) = inl (omega (arith, r.0, h))
+  switch_kept mark newest r (inr h) = inr h
+
+  keeps_switched : (mark : ℕ) (queue : List Record) → IsKept cells ticks acknowledged images logs queue → logs.switch ≡ Some mark → IsKept cells ticks acknowledged images (switched_to logs mark) queue
   keeps_switched mark queue k is =
-      let of : IsSwitchOf logs (Some mark) = subst (IsSwitchOf logs) is k.logs_follow.switch in
-      let at : IsSwitchAt marks k.follow_marks.switched (Some mark) = subst (IsSwitchAt marks k.follow_marks.switched) is k.follow_marks.switch in
-      let count : logs.base + length (logs.kept ++ logs.pending) ≡ mark + 0 = idle_count logs of.2 ∙ (let e : logs.base + length logs.kept ≡ mark + 0 = omega (arith, of.0) in e) in
+      let f = k.logs_follow in
+      let m = k.follow_marks in
+      let of : IsSwitchOf images.tick logs (Some mark) = subst (IsSwitchOf images.tick logs) is f.switch in
+      let numbered : AreNumbered k.taken (records.Switch mark ∷ queue) = subst (λ o. AreNumbered k.taken (with_work o queue)) is k.numbered in
+      let rise : RiseFrom logs.base (mark ∷ switches_in queue) = subst (λ o. RiseFrom logs.base (coming o (switches_in queue))) is m.rising in
+      let bases : base_in logs.before ++ logs.base ∷ mark ∷ switches_in queue ≡ m.earlier ++ images.tick ∷ round_tick images.round = subst (λ o. base_in logs.before ++ logs.base ∷ coming o (switches_in queue) ≡ m.earlier ++ images.tick ∷ round_tick images.round) is m.bases in
+      let done = bases_done logs.before logs.base mark images.tick (switches_in queue) m.earlier images.round bases in
+      let kept : FollowsFrom ticks logs.base logs.kept = follows_front ticks logs.base logs.kept logs.pending f.taken in
       record {
         some_cells = k.some_cells;
         last = k.last;
         accepted = k.accepted;
-        idle = k.idle;
         images_follow = k.images_follow;
-        logs_follow = switched_follows ticks acknowledged logs mark k.logs_follow of;
-        follow_marks = switched_marks marks images logs mark k.follow_marks at;
-        queue_is = subst (λ n. IsQueueOf marks (k.follow_marks.switched + 1) n queue) count (subst (λ o. IsQueueOf marks (switched_with k.follow_marks.switched o) (logs.base + length (logs.kept ++ logs.pending)) queue) is k.queue_is);
-        left = subst (λ n. drop n ticks ≡ ticks_in queue) count k.left;
+        logs_follow = record {
+          taken = record { ended = omega (arith, numbered.0, k.some_taken); are = refl };
+          acknowledges = switch_kept mark images.tick of.2 f.acknowledges;
+          before = (of.0, kept, of.2);
+          switch = tt;
+        };
+        follow_marks = record {
+          earlier = done.0;
+          bases = done.1;
+          rising = rise.1;
+          in_order = subst (λ n. BeginFrom n (switches_in queue)) (let e : mark ≡ mark + 0 = omega arith in e) (begins mark (switches_in queue) rise.1);
+        };
+        taken = k.taken;
+        some_taken = k.some_taken;
+        left = k.left;
+        numbered = numbered.1;
+        has = inl (omega (arith, numbered.0));
       }
 
-  going_on_keeps : (queue : List Record) (next : Logs) (left : List Record) → IsKept cells ticks acknowledged marks images logs queue → GoesOn logs queue next left → IsKept cells ticks acknowledged marks images next left
+  going_on_keeps : (queue : List Record) (next : Logs) (left : List Record) → IsKept cells ticks acknowledged images logs queue → GoesOn logs queue next left → IsKept cells ticks acknowledged images next left
   going_on_keeps queue next left k (inl same) =
-      subst (λ l. IsKept cells ticks acknowledged marks images l left) (sym same.0) (subst (λ q. IsKept cells ticks acknowledged marks images logs q) (sym same.1) k)
+      subst (λ l. IsKept cells ticks acknowledged images l left) (sym same.0) (subst (λ q. IsKept cells ticks acknowledged images logs q) (sym same.1) k)
   going_on_keeps queue next left k (inr (inl t)) =
-      subst (λ l. IsKept cells ticks acknowledged marks images l left) (sym t.is) (keeps_group t.group queue left t.in_front k t.idle)
+      subst (λ l. IsKept cells ticks acknowledged images l left) (sym t.is) (keeps_group t.group queue left t.in_front t.some k t.idle)
   going_on_keeps queue next left k (inr (inr t)) =
-      subst (λ l. IsKept cells ticks acknowledged marks images l left) (sym t.is) (keeps_switch_begun t.tick left (subst (λ q. IsKept cells ticks acknowledged marks images logs q) t.in_front k) t.idle)
+      subst (λ l. IsKept cells ticks acknowledged images l left) (sym t.is) (keeps_switch_begun t.tick left (subst (λ q. IsKept cells ticks acknowledged images logs q) t.in_front k) t.idle)
 
-  switching_keeps : (queue : List Record) (next : Logs) (left : List Record) → IsKept cells ticks acknowledged marks images logs queue → EndsSwitch logs queue next left → IsKept cells ticks acknowledged marks images next left
+  switching_keeps : (queue : List Record) (next : Logs) (left : List Record) → IsKept cells ticks acknowledged images logs queue → EndsSwitch logs queue next left → IsKept cells ticks acknowledged images next left
   switching_keeps queue next left k s =
-      subst (λ l. IsKept cells ticks acknowledged marks images l left) (sym s.is) (subst (λ q. IsKept cells ticks acknowledged marks images (switched_to logs s.tick) q) (sym s.queue_is) (keeps_switched s.tick queue k s.in_work))
+      subst (λ l. IsKept cells ticks acknowledged images l left) (sym s.is) (subst (λ q. IsKept cells ticks acknowledged images (switched_to logs s.tick) q) (sym s.queue_is) (keeps_switched s.tick queue k s.in_work))
 
-  acknowledging_keeps : (queue : List Record) (next : Logs) (left : List Record) (number : ℕ) → IsKept cells ticks acknowledged marks images logs queue → Acknowledges logs queue next left number → IsKept cells ticks number marks images next left
-  unfolding group_kept
+  -- where a group is in work, the segment has with it all ticks before the queue
+  group_taken : (queue : List Record) (k : IsKept cells ticks acknowledged images logs queue) → 1 ≤ length logs.pending → logs.base + length (logs.kept ++ logs.pending) ≡ k.taken
+  group_taken queue k some = elim k.has [ inl e ↦ e | inr h ↦ absurd (omega (arith, some, ap length h.0)) ]
+
+  acknowledging_keeps : (queue : List Record) (next : Logs) (left : List Record) (number : ℕ) → IsKept cells ticks acknowledged images logs queue → Acknowledges logs queue next left number → IsKept cells ticks (max acknowledged number) images next left
   acknowledging_keeps queue next left number k a =
-      let r = group_kept ticks acknowledged marks images logs k.logs_follow k.follow_marks a.no_switch in
-      let count : logs.base + length (logs.kept ++ logs.pending) ≡ logs.base + length ((logs.kept ++ logs.pending) ++ []) = ap (λ l. logs.base + length l) (sym (append-nil (logs.kept ++ logs.pending))) in
-      let after : IsKept cells ticks (logs.base + length (logs.kept ++ logs.pending)) marks images (with_group_kept logs) queue = record {
+      let f = k.logs_follow in
+      let m = k.follow_marks in
+      let end = logs.base + length (logs.kept ++ logs.pending) in
+      let same : logs.kept ++ logs.pending ≡ (logs.kept ++ logs.pending) ++ [] = sym (append-nil (logs.kept ++ logs.pending)) in
+      let count : logs.base + length (logs.kept ++ logs.pending) ≡ logs.base + length ((logs.kept ++ logs.pending) ++ []) = ap (λ l. logs.base + length l) same in
+      let more : logs.base + length logs.kept ≤ logs.base + length (logs.kept ++ logs.pending) = omega (arith, length-append logs.kept logs.pending) in
+      let after : IsKept cells ticks (max acknowledged number) images (with_group_kept logs) queue = record {
         some_cells = k.some_cells;
         last = k.last;
         accepted = k.accepted;
-        idle = k.idle;
         images_follow = k.images_follow;
-        logs_follow = r.0;
-        follow_marks = r.1;
-        queue_is = subst (λ n. IsQueueOf marks (switched_with k.follow_marks.switched logs.switch) n queue) count k.queue_is;
-        left = subst (λ n. drop n ticks ≡ ticks_in queue) count k.left;
+        logs_follow = record {
+          taken = subst (FollowsFrom ticks logs.base) same f.taken;
+          acknowledges = reached_max acknowledged number (logs.base + length (logs.kept ++ logs.pending)) images.tick (reached_more acknowledged (logs.base + length logs.kept) (logs.base + length (logs.kept ++ logs.pending)) images.tick f.acknowledges more) (inl (omega (arith, a.number_is)));
+          before = f.before;
+          switch = subst (IsSwitchOf images.tick (with_group_kept logs)) (sym a.no_switch) tt;
+        };
+        follow_marks = record { earlier = m.earlier; bases = m.bases; rising = m.rising; in_order = subst (λ n. BeginFrom n (coming logs.switch (switches_in queue))) count m.in_order };
+        taken = k.taken;
+        some_taken = k.some_taken;
+        left = k.left;
+        numbered = k.numbered;
+        has = inl (sym count ∙ group_taken queue k a.some);
       } in
-      subst (λ n. IsKept cells ticks n marks images next left) (sym a.number_is)
-      (subst (λ l. IsKept cells ticks (logs.base + length (logs.kept ++ logs.pending)) marks images l left) (sym a.is) (subst (λ q. IsKept cells ticks (logs.base + length (logs.kept ++ logs.pending)) marks images (with_group_kept logs) q) (sym a.queue_is) after))
+      subst (λ l. IsKept cells ticks (max acknowledged number) images l left) (sym a.is) (subst (λ q. IsKept cells ticks (max acknowledged number) images (with_group_kept logs) q) (sym a.queue_is) after)
 
-  pub log_step_keeps : (queue : List Record) (given : LogAnswer) (next : Logs) (left : List Record) → IsKept cells ticks acknowledged marks images logs queue → LogsStep logs queue given next left → IsKept cells ticks (acknowledged_after acknowledged given) marks images next left
+  pub log_step_keeps : (queue : List Record) (given : LogAnswer) (next : Logs) (left : List Record) → IsKept cells ticks acknowledged images logs queue → LogsStep logs queue given next left → IsKept cells ticks (acknowledged_after acknowledged given) images next left
   log_step_keeps queue answer.Idle next left k s = going_on_keeps queue next left k (inl (s.2, s.3))
   log_step_keeps queue answer.Working next left k (inl s) = going_on_keeps queue next left k s
   log_step_keeps queue answer.Working next left k (inr s) = switching_keeps queue next left k s
   log_step_keeps queue (answer.Acked number) next left k s = acknowledging_keeps queue next left number k s
   log_step_keeps queue answer.Down next left k s = going_on_keeps queue next left k s
+
+  -- ---- the number in a receipt
+
+  pub receipt_is_exact : (queue : List Record) (given : LogAnswer) (next : Logs) (left : List Record) → IsKept cells ticks acknowledged images logs queue → LogsStep logs queue given next left → ReceiptIs given ticks left
+  receipt_is_exact queue answer.Idle next left k s = tt
+  receipt_is_exact queue answer.Working next left k s = tt
+  receipt_is_exact queue (answer.Acked number) next left k a =
+      let wait : length (ticks_in left) ≡ length (drop k.taken ticks) = ap (λ q. length (ticks_in q)) a.queue_is ∙ ap length (sym k.left) in
+      omega (arith, a.number_is, group_taken queue k a.some, wait, length-drop k.taken ticks, k.some_taken)
+  receipt_is_exact queue answer.Down next left k s = tt

@@ -1,5 +1,5 @@
 -- The records that wait for the log, and how each event changes the keepers' data.
-use Rattle.std.specs.Prelude.{◌≡◌, ◌⊎◌, ℕ, ◌+◌, ◌<◌, ◌≤◌, List, [], ◌∷◌, ◌++◌, length, drop, Option, Some, None, Ok}
+use Rattle.std.specs.Prelude.{◌≡◌, ◌⊎◌, ℕ, ◌+◌, ◌<◌, ◌≤◌, List, [], ◌∷◌, ◌++◌, length, drop, max, Option, Some, None, Ok}
 use Rattle.world_actions.specs.declared.action.Action.{Action}
 use Rattle.action_log.specs.declared.record.Record.{Record}
 use Rattle.action_log.specs.declared.record.Record.TheVariants as records
@@ -16,7 +16,7 @@ use Rattle.world_ticks.specs.After.{after_actions, after_ticks}
 use Rattle.recovery.specs.Sound.{IsSound}
 use Rattle.recovery.specs.Start.{IsStarting, IsFirstRound, FirstFollows}
 use Rattle.file_format.specs.Slot.{other_slot}
-use Rattle.recovery.specs.Follow.{mark_at, IsRoundOf, ImagesFollow, LogsFollow, FollowMarks}
+use Rattle.recovery.specs.Follow.{IsRoundOf, ImagesFollow, LogsFollow, FollowMarks}
 
 -- the ticks that wait, in order
 abbrev pub ticks_in : List Record → List (List Action)
@@ -24,11 +24,35 @@ ticks_in [] = []
 ticks_in (records.Tick tick ∷ queue) = tick.list ∷ ticks_in queue
 ticks_in (records.Switch number ∷ queue) = ticks_in queue
 
--- behind this many ticks and this mark the queue has each later mark once, in order, as a switch of its number
-abbrev pub IsQueueOf : List ℕ → ℕ → ℕ → List Record → Type 0
-IsQueueOf marks switched taken [] = switched + 1 ≡ length marks
-IsQueueOf marks switched taken (records.Tick tick ∷ queue) = IsQueueOf marks switched (taken + 1) queue
-IsQueueOf marks switched taken (records.Switch mark ∷ queue) = (switched + 1 < length marks) × (mark ≡ taken) × (mark ≡ mark_at marks (switched + 1)) × IsQueueOf marks (switched + 1) taken queue
+-- the ticks of the switches that wait, in order
+abbrev pub switches_in : List Record → List ℕ
+switches_in [] = []
+switches_in (records.Tick tick ∷ queue) = switches_in queue
+switches_in (records.Switch number ∷ queue) = number ∷ switches_in queue
+
+-- the switch in work, as if it stood in the queue, and the queue
+abbrev pub with_work : Option ℕ → List Record → List Record
+with_work None queue = queue
+with_work (Some tick) queue = records.Switch tick ∷ queue
+
+-- behind this many ticks each switch has the number of the ticks before it
+abbrev pub AreNumbered : ℕ → List Record → Type 0
+AreNumbered taken [] = Unit {0}
+AreNumbered taken (records.Tick tick ∷ queue) = AreNumbered (taken + 1) queue
+AreNumbered taken (records.Switch number ∷ queue) = (number ≡ taken) × AreNumbered taken queue
+
+-- a switch comes first
+abbrev pub IsSwitchFirst : List Record → Type 0
+IsSwitchFirst [] = ⊥
+IsSwitchFirst (records.Tick tick ∷ queue) = ⊥
+IsSwitchFirst (records.Switch number ∷ queue) = Unit {0}
+
+-- The segment and the group in work have all ticks up to this one; or no group is in work, the ticks that the segment
+-- lacks are in the newest image, and a switch comes next.
+abbrev pub HasUpTo : Logs → (taken newest : ℕ) → List Record → Type 0
+HasUpTo logs taken newest queue =
+    (logs.base + length (logs.kept ++ logs.pending) ≡ taken)
+    ⊎ ((logs.pending ≡ []) × (logs.base + length logs.kept ≤ taken) × (taken ≤ newest) × IsSwitchFirst queue)
 
 -- a round begins
 abbrev pub with_round_begun : Images → ℕ → Images
@@ -38,70 +62,82 @@ with_round_begun images tick = record images { round = Some (record { tick = tic
 abbrev pub with_round_opened : Images → Round → Images
 with_round_opened images round = record { slot = other_slot images.slot; tick = round.tick; words = round.taken; before = Open images.tick images.words; round = None }
 
--- the marks whose switch was taken from the queue
-abbrev pub switched_with : ℕ → Option ℕ → ℕ
-switched_with switched None = switched
-switched_with switched (Some tick) = switched + 1
-
 -- What is kept between any two events after a start: all ended ticks were accepted, the data of both keepers follow
--- them and the marks, and the queue has what the log has still to take.
-pub record IsKept (cells : ℕ) (ticks : List (List Action)) (acknowledged : ℕ) (marks : List ℕ) (images : Images) (logs : Logs) (queue : List Record) : Type 0 where
+-- them and one another, and the queue has what the log has still to take.
+pub record IsKept (cells : ℕ) (ticks : List (List Action)) (acknowledged : ℕ) (images : Images) (logs : Logs) (queue : List Record) : Type 0 where
   pub some_cells : 1 ≤ cells
   pub last : List ℕ
   pub accepted : after_ticks cells ticks ≡ Ok last
   pub images_follow : ImagesFollow cells ticks images
-  pub logs_follow : LogsFollow ticks acknowledged logs
-  pub follow_marks : FollowMarks marks images logs
-  pub idle : images.round ≡ None → follow_marks.opened + 1 ≡ length marks
-  pub queue_is : IsQueueOf marks (switched_with follow_marks.switched logs.switch) (logs.base + length (logs.kept ++ logs.pending)) queue
-  pub left : drop (logs.base + length (logs.kept ++ logs.pending)) ticks ≡ ticks_in queue
+  pub logs_follow : LogsFollow ticks acknowledged images.tick logs
+  pub follow_marks : FollowMarks (switches_in queue) images logs
+  pub taken : ℕ
+  pub some_taken : taken ≤ length ticks
+  pub left : drop taken ticks ≡ ticks_in queue
+  pub numbered : AreNumbered taken (with_work logs.switch queue)
+  pub has : HasUpTo logs taken images.tick (with_work logs.switch queue)
 
 -- ---- the events
 
 -- what is kept is enough for the law of recovery
 abbrev pub KeptIsSound : (image_a image_b log_a log_b : List ℕ → Type 0) → Type 0
 KeptIsSound image_a image_b log_a log_b =
-    (cells : ℕ) (ticks : List (List Action)) (acknowledged : ℕ) (marks : List ℕ) (images : Images) (logs : Logs) (queue : List Record)
-    → IsKept cells ticks acknowledged marks images logs queue → ImagesAre cells images image_a image_b → LogsAre logs log_a log_b
+    (cells : ℕ) (ticks : List (List Action)) (acknowledged : ℕ) (images : Images) (logs : Logs) (queue : List Record)
+    → IsKept cells ticks acknowledged images logs queue → ImagesAre cells images image_a image_b → LogsAre logs log_a log_b
     → IsSound image_a image_b log_a log_b cells ticks acknowledged
 
 -- a tick ends whose actions are all accepted, and is queued
 abbrev pub TickEnds : Type 0
 TickEnds =
-    (cells : ℕ) (ticks : List (List Action)) (acknowledged : ℕ) (marks : List ℕ) (images : Images) (logs : Logs) (queue : List Record)
-    (kept : IsKept cells ticks acknowledged marks images logs queue) (tick : Actions) (next : List ℕ) → after_actions kept.last tick.list ≡ Ok next
-    → IsKept cells (ticks ++ tick.list ∷ []) acknowledged marks images logs (queue ++ records.Tick tick ∷ [])
+    (cells : ℕ) (ticks : List (List Action)) (acknowledged : ℕ) (images : Images) (logs : Logs) (queue : List Record)
+    (kept : IsKept cells ticks acknowledged images logs queue) (tick : Actions) (next : List ℕ) → after_actions kept.last tick.list ≡ Ok next
+    → IsKept cells (ticks ++ tick.list ∷ []) acknowledged images logs (queue ++ records.Tick tick ∷ [])
 
--- with no round in work, and a tick ended since the newest image, the number of ended ticks is marked and its switch queued
+-- with no round in work, and a tick ended since the newest image, the number of ended ticks is marked: a round begins at
+-- it, and its switch is queued
 abbrev pub MarkIsMade : Type 0
 MarkIsMade =
-    (cells : ℕ) (ticks : List (List Action)) (acknowledged : ℕ) (marks : List ℕ) (images : Images) (logs : Logs) (queue : List Record)
-    → IsKept cells ticks acknowledged marks images logs queue → images.round ≡ None → images.tick < length ticks
-    → IsKept cells ticks acknowledged (marks ++ length ticks ∷ []) (with_round_begun images (length ticks)) logs (queue ++ records.Switch (length ticks) ∷ [])
+    (cells : ℕ) (ticks : List (List Action)) (acknowledged : ℕ) (images : Images) (logs : Logs) (queue : List Record)
+    → IsKept cells ticks acknowledged images logs queue → images.round ≡ None → images.tick < length ticks
+    → IsKept cells ticks acknowledged (with_round_begun images (length ticks)) logs (queue ++ records.Switch (length ticks) ∷ [])
 
 -- a step of the image keeper, whose round is the world after its tick once all cells are taken
 abbrev pub ImageStepKeeps : {S : Type 0} → (S → Option Taken → S → Type 0) → Type 0
 ImageStepKeeps {S = S} took =
-    (cells : ℕ) (ticks : List (List Action)) (acknowledged : ℕ) (marks : List ℕ) (images : Images) (logs : Logs) (queue : List Record)
+    (cells : ℕ) (ticks : List (List Action)) (acknowledged : ℕ) (images : Images) (logs : Logs) (queue : List Record)
     (answer : ImageAnswer) (next : ImageFiles) (old new : S)
-    → IsKept cells ticks acknowledged marks images logs queue → StepsImages took cells (Newest images) answer next old new
+    → IsKept cells ticks acknowledged images logs queue → StepsImages took cells (Newest images) answer next old new
     → IsRoundOf cells ticks images.tick (round_in next)
-    → (after : Images) × (next ≡ Newest after) × IsKept cells ticks acknowledged marks after logs queue
+    → (after : Images) × (next ≡ Newest after) × IsKept cells ticks acknowledged after logs queue
 
--- what is acknowledged after a step of the log keeper
+-- what is acknowledged after a step of the log keeper: the greatest number in a receipt
 abbrev pub acknowledged_after : ℕ → LogAnswer → ℕ
 acknowledged_after acknowledged log_answer.Idle = acknowledged
 acknowledged_after acknowledged log_answer.Working = acknowledged
-acknowledged_after acknowledged (log_answer.Acked number) = number
+acknowledged_after acknowledged (log_answer.Acked number) = max acknowledged number
 acknowledged_after acknowledged log_answer.Down = acknowledged
 
 -- a step of the log keeper
 abbrev pub LogStepKeeps : Type 0
 LogStepKeeps =
-    (cells : ℕ) (ticks : List (List Action)) (acknowledged : ℕ) (marks : List ℕ) (images : Images) (logs : Logs) (queue : List Record)
+    (cells : ℕ) (ticks : List (List Action)) (acknowledged : ℕ) (images : Images) (logs : Logs) (queue : List Record)
     (answer : LogAnswer) (next : Logs) (left : List Record)
-    → IsKept cells ticks acknowledged marks images logs queue → LogsStep logs queue answer next left
-    → IsKept cells ticks (acknowledged_after acknowledged answer) marks images next left
+    → IsKept cells ticks acknowledged images logs queue → LogsStep logs queue answer next left
+    → IsKept cells ticks (acknowledged_after acknowledged answer) images next left
+
+-- the number in a receipt is that of the ended ticks, less those that still wait
+abbrev pub ReceiptIs : LogAnswer → (ticks : List (List Action)) → (left : List Record) → Type 0
+ReceiptIs log_answer.Idle ticks left = Unit {0}
+ReceiptIs log_answer.Working ticks left = Unit {0}
+ReceiptIs (log_answer.Acked number) ticks left = number + length (ticks_in left) ≡ length ticks
+ReceiptIs log_answer.Down ticks left = Unit {0}
+
+-- each step's receipt is exact
+abbrev pub ReceiptIsExact : Type 0
+ReceiptIsExact =
+    (cells : ℕ) (ticks : List (List Action)) (acknowledged : ℕ) (images : Images) (logs : Logs) (queue : List Record)
+    (answer : LogAnswer) (next : Logs) (left : List Record)
+    → IsKept cells ticks acknowledged images logs queue → LogsStep logs queue answer next left → ReceiptIs answer ticks left
 
 -- ---- the events of a start
 
@@ -129,7 +165,7 @@ StartImageStepKeeps {S = S} took =
     → (after : Images) × (next ≡ Newest after) × IsStarting cells ticks acknowledged after from start
 
 -- a step of the log keeper, once the newest image is of the recovered tick: the start goes on, or ends, with its tick
--- as the only mark
+-- as the newest image's and the segment's
 abbrev pub StartLogStepKeeps : Type 0
 StartLogStepKeeps =
     (cells : ℕ) (ticks : List (List Action)) (acknowledged : ℕ) (images : Images) (from : ℕ) (start : Start)
@@ -137,7 +173,7 @@ StartLogStepKeeps =
     → 1 ≤ cells → IsStarting cells ticks acknowledged images from start → images.tick ≡ start.tick → images.round ≡ None
     → StartStep start left answer next
     → ((after : Start) × (next.journal ≡ InStart after) × IsStarting cells ticks acknowledged images from after)
-    ⊎ ((next.journal ≡ Writing (started start.tick)) × IsKept cells ticks acknowledged (start.tick ∷ []) images (started start.tick) [])
+    ⊎ ((next.journal ≡ Writing (started start.tick)) × IsKept cells ticks acknowledged images (started start.tick) [])
 
 -- ---- and of a fresh world's start
 

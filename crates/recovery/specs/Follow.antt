@@ -1,11 +1,10 @@
 -- How the data of the two keepers follow the ticks that have ended, and the law that makes their files sound.
-use Rattle.std.specs.Prelude.{◌≡◌, ℕ, ◌+◌, ◌<◌, ◌≤◌, List, [], ◌++◌, length, take, drop, get_or, true, Option, Some, None, Ok}
+use Rattle.std.specs.Prelude.{◌≡◌, ℕ, ◌+◌, ◌<◌, ◌≤◌, List, [], ◌∷◌, ◌++◌, ◌⊎◌, length, take, drop, Option, Some, None, Ok}
 use Rattle.world_actions.specs.declared.action.Action.{Action}
 use Rattle.world_ticks.specs.After.{after_ticks}
 use Rattle.image_files.specs.Images.{Round, Images, ImagesAre}
 use Rattle.action_log.specs.Segment.{Segment, ClosedSegment, MalformedSegment, OpenSegment}
 use Rattle.action_log.specs.Logs.{Logs, LogsAre}
-use Rattle.recovery.specs.Recovery.{has_base}
 use Rattle.recovery.specs.Sound.{IsWorldAt, HoldsWorld, IsSound}
 
 -- these ticks are those that ended after this one
@@ -24,57 +23,68 @@ pub record ImagesFollow (cells : ℕ) (ticks : List (List Action)) (images : Ima
   pub before : HoldsWorld cells ticks images.tick images.before
   pub round : IsRoundOf cells ticks images.tick images.round
 
--- the other segment is closed, or ends where the current one begins
-abbrev pub LeadsTo : List (List Action) → ℕ → Segment → Type 0
-LeadsTo ticks base ClosedSegment = Unit {0}
-LeadsTo ticks base MalformedSegment = ⊥
-LeadsTo ticks base (OpenSegment earlier before) = (earlier < base) × (earlier + length before ≡ base) × FollowsFrom ticks earlier before
+-- a segment that ends behind this tick leads to the next one's base: no tick is between, or those between are in the
+-- newest image
+abbrev pub Reaches : (end base newest : ℕ) → Type 0
+Reaches end base newest = (end ≡ base) ⊎ ((end ≤ base) × (base ≤ newest))
 
--- a switch comes after all ticks taken, of which there is one, and in no group
-abbrev pub IsSwitchOf : Logs → Option ℕ → Type 0
-IsSwitchOf logs None = Unit {0}
-IsSwitchOf logs (Some tick) = (tick ≡ logs.base + length logs.kept) × (logs.base < tick) × (logs.pending ≡ [])
+-- the other segment is closed, or leads to the current one
+abbrev pub LeadsTo : (ticks : List (List Action)) (newest base : ℕ) → Segment → Type 0
+LeadsTo ticks newest base ClosedSegment = Unit {0}
+LeadsTo ticks newest base MalformedSegment = ⊥
+LeadsTo ticks newest base (OpenSegment earlier before) = (earlier < base) × FollowsFrom ticks earlier before × Reaches (earlier + length before) base newest
 
--- the ticks of both segments are those that have ended, and all acknowledged ones are kept
-pub record LogsFollow (ticks : List (List Action)) (acknowledged : ℕ) (logs : Logs) : Type 0 where
+-- the current segment leads to the switch in work, which comes in no group
+abbrev pub IsSwitchOf : (newest : ℕ) → Logs → Option ℕ → Type 0
+IsSwitchOf newest logs None = Unit {0}
+IsSwitchOf newest logs (Some tick) = (logs.base < tick) × (logs.pending ≡ []) × Reaches (logs.base + length logs.kept) tick newest
+
+-- the ticks of both segments are those that have ended, and all acknowledged ones are kept or in the newest image
+pub record LogsFollow (ticks : List (List Action)) (acknowledged newest : ℕ) (logs : Logs) : Type 0 where
   pub taken : FollowsFrom ticks logs.base (logs.kept ++ logs.pending)
-  pub acknowledges : acknowledged ≤ logs.base + length logs.kept
-  pub before : LeadsTo ticks logs.base logs.before
-  pub switch : IsSwitchOf logs logs.switch
+  pub acknowledges : (acknowledged ≤ logs.base + length logs.kept) ⊎ (acknowledged ≤ newest)
+  pub before : LeadsTo ticks newest logs.base logs.before
+  pub switch : IsSwitchOf newest logs logs.switch
 
--- the tick of the mark at this place; the first is the start's
-abbrev pub mark_at : List ℕ → ℕ → ℕ
-mark_at marks place = get_or marks place 0
+-- the tick of the round in work, if there is one
+abbrev pub round_tick : Option Round → List ℕ
+round_tick None = []
+round_tick (Some round) = round.tick ∷ []
 
--- the round in work is that of the last mark
-abbrev pub IsRoundAt : List ℕ → ℕ → Option Round → Type 0
-IsRoundAt marks opened None = Unit {0}
-IsRoundAt marks opened (Some round) = (opened + 2 ≡ length marks) × (round.tick ≡ mark_at marks (opened + 1))
+-- the base of an open segment
+abbrev pub base_in : Segment → List ℕ
+base_in ClosedSegment = []
+base_in MalformedSegment = []
+base_in (OpenSegment base ticks) = base ∷ []
 
--- the switch in work is that of the next mark
-abbrev pub IsSwitchAt : List ℕ → ℕ → Option ℕ → Type 0
-IsSwitchAt marks switched None = Unit {0}
-IsSwitchAt marks switched (Some tick) = (switched + 1 < length marks) × (tick ≡ mark_at marks (switched + 1))
+-- the switch in work, and those that come later
+abbrev pub coming : Option ℕ → List ℕ → List ℕ
+coming None later = later
+coming (Some tick) later = tick ∷ later
 
--- The newest image is that of the mark at `opened`, the current segment begins with the mark at `switched`. Every
--- mark's image but the last is opened, and the log takes ticks and switches in their order.
-pub record FollowMarks (marks : List ℕ) (images : Images) (logs : Logs) : Type 0 where
-  pub rising : (i j : ℕ) → i < j → j < length marks → mark_at marks i < mark_at marks j
-  pub opened : ℕ
-  pub opened_is : (opened < length marks) × (mark_at marks opened ≡ images.tick)
-  pub all_but_last : length marks ≤ opened + 2
-  pub round : IsRoundAt marks opened images.round
-  pub switched : ℕ
-  pub switched_is : (switched < length marks) × (mark_at marks switched ≡ logs.base)
-  pub in_order : switched + 1 < length marks → logs.base + length (logs.kept ++ logs.pending) ≤ mark_at marks (switched + 1)
-  pub switch : IsSwitchAt marks switched logs.switch
-  pub before : (earlier : ℕ) → earlier + 1 ≡ switched → has_base (mark_at marks earlier) logs.before ≡ true
+-- each of these is greater than the one before it
+abbrev pub RiseFrom : ℕ → List ℕ → Type 0
+RiseFrom low [] = Unit {0}
+RiseFrom low (tick ∷ ticks) = (low < tick) × RiseFrom tick ticks
 
--- where all ended ticks were accepted and the keepers' data follow them and the marks, four files that are as the
+-- the first of these isn't below this one
+abbrev pub BeginFrom : ℕ → List ℕ → Type 0
+BeginFrom low [] = Unit {0}
+BeginFrom low (tick ∷ ticks) = low ≤ tick
+
+-- The bases that the segments have, and will have by the switches to come, rise, and the last of them are the ticks of
+-- the newest image and of the round in work. No switch comes before a tick that the current segment has.
+pub record FollowMarks (later : List ℕ) (images : Images) (logs : Logs) : Type 0 where
+  pub earlier : List ℕ
+  pub bases : base_in logs.before ++ logs.base ∷ coming logs.switch later ≡ earlier ++ images.tick ∷ round_tick images.round
+  pub rising : RiseFrom logs.base (coming logs.switch later)
+  pub in_order : BeginFrom (logs.base + length (logs.kept ++ logs.pending)) (coming logs.switch later)
+
+-- where all ended ticks were accepted, and the keepers' data follow them and one another, four files that are as the
 -- keepers claim are sound
 abbrev pub LawOfRecovery : (image_a image_b log_a log_b : List ℕ → Type 0) → Type 0
 LawOfRecovery image_a image_b log_a log_b =
-    (cells : ℕ) (ticks : List (List Action)) (acknowledged : ℕ) (last : List ℕ) (images : Images) (logs : Logs) (marks : List ℕ)
-    → after_ticks cells ticks ≡ Ok last → ImagesFollow cells ticks images → LogsFollow ticks acknowledged logs → FollowMarks marks images logs
+    (cells : ℕ) (ticks : List (List Action)) (acknowledged : ℕ) (last : List ℕ) (images : Images) (logs : Logs) (later : List ℕ)
+    → after_ticks cells ticks ≡ Ok last → ImagesFollow cells ticks images → LogsFollow ticks acknowledged images.tick logs → FollowMarks later images logs
     → ImagesAre cells images image_a image_b → LogsAre logs log_a log_b
     → IsSound image_a image_b log_a log_b cells ticks acknowledged

@@ -1,5 +1,5 @@
 ghost use Rattle.std.specs.Prelude.{IsTrue};
-ghost use Rattle.recovery.specs.Events.{KeptIsSound, TickEnds, MarkIsMade, ImageStepKeeps, LogStepKeeps, StartingIsSound, StartRoundBegins, StartImageStepKeeps, StartLogStepKeeps, FirstImageStepKeeps};
+ghost use Rattle.recovery.specs.Events.{KeptIsSound, TickEnds, MarkIsMade, ImageStepKeeps, LogStepKeeps, ReceiptIsExact, StartingIsSound, StartRoundBegins, StartImageStepKeeps, StartLogStepKeeps, FirstImageStepKeeps};
 
 use action_log::segments_read_once;
 use capture_core::Taker;
@@ -13,6 +13,7 @@ pub fn events_keep<D: Disk, T: Taker>()
     ensures mark { MarkIsMade }
     ensures image_step { ImageStepKeeps T.took }
     ensures log_step { LogStepKeeps }
+    ensures receipt { ReceiptIsExact }
 {
     segments_read_once();
 }

@@ -6,4 +6,4 @@ pub returns-clause-tick : goal.returns-clause-tick
 returns-clause-tick c = λ keeper queue tick follows few numbered. follows_more keeper.phase keeper.base keeper.count keeper.target queue (records.Tick tick) follows (few, numbered, tt)
 
 pub returns-clause-switch : goal.returns-clause-switch
-returns-clause-switch c = λ keeper queue number follows is. follows_more keeper.phase keeper.base keeper.count keeper.target queue (records.Switch number) follows (is, tt)
+returns-clause-switch c = λ keeper queue number follows le most. follows_more keeper.phase keeper.base keeper.count keeper.target queue (records.Switch number) follows (le, most, tt)

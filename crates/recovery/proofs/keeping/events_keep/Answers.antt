@@ -1,6 +1,6 @@
 use Rattle.recovery.proofs.Law.{SegmentsRead}
 use Rattle.recovery.proofs.Kept.{kept_is_sound, tick_ends, mark_is_made, image_step_keeps}
-use Rattle.recovery.proofs.Steps.{log_step_keeps}
+use Rattle.recovery.proofs.Steps.{log_step_keeps, receipt_is_exact}
 use Rattle.recovery.proofs.keeping.events_keep.Goals as goal
 
 pub returns-clause-sound : goal.returns-clause-sound
@@ -19,4 +19,7 @@ pub returns-clause-image_step : goal.returns-clause-image_step
 returns-clause-image_step g c = image_step_keeps g.T.Taker.took
 
 pub returns-clause-log_step : goal.returns-clause-log_step
-returns-clause-log_step g c = λ cells ticks acknowledged marks images logs queue. log_step_keeps cells ticks acknowledged marks images logs queue
+returns-clause-log_step g c = λ cells ticks acknowledged images logs queue. log_step_keeps cells ticks acknowledged images logs queue
+
+pub returns-clause-receipt : goal.returns-clause-receipt
+returns-clause-receipt g c = λ cells ticks acknowledged images logs queue. receipt_is_exact cells ticks acknowledged images logs queue
