@@ -3,3 +3,4 @@ pub mod OverwrittenLemmas
 pub mod OutcomeLemmas
 pub mod ModelFileLemmas
 pub mod TornLemmas
+pub mod LeavingLemmas

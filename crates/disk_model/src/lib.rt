@@ -13,6 +13,7 @@
 mod disk;
 mod fused;
 mod gated;
+mod leaving;
 mod model_file;
 mod places;
 mod writes;
@@ -20,6 +21,7 @@ mod writes;
 pub use disk::Disk;
 pub use fused::Fused;
 pub use gated::{gated_writes, torn_gates, write_gated};
+pub use leaving::Leaving;
 pub use model_file::ModelFile;
 pub use writes::{overwritten_lists, torn_writes};
 

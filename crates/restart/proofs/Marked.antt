@@ -1,0 +1,70 @@
+-- A mark begins a round, and writes and ticks leave it.
+use Rattle.std.proofs.Common.{◌≡◌, ℕ, suc, ◌⊎◌, inl, inr, List, [], ◌∷◌, ◌++◌, length, drop, get_or, Option, Some, None, refl, sym, ap, ◌∙◌, arith}
+use Rattle.std.specs.Prelude.{slice_get}
+use Rattle.std.proofs.lemmas.List.{length-append, take-append-le}
+use Rattle.std.proofs.lemmas.Option.{get_or_from_slice_get}
+use Rattle.world_actions.specs.declared.action.Action.{Action}
+use Rattle.world_ticks.specs.After.{after_ticks}
+use Rattle.capture_core.specs.Taken.{taken_of}
+use Rattle.capture_core.specs.Content.{Content, Marks, Covers}
+use Rattle.image_files.specs.Taken.{word_of}
+use Rattle.image_files.specs.Images.{Round, ImageFiles, round_in}
+use Rattle.recovery.specs.Sound.{IsWorldAt}
+use Rattle.restart.specs.Rounds.{words_left, StoreFollows, StoreFollowsImages, words_of}
+
+-- ---- a mark
+
+first_word : (entry : Option ℕ) (newest : List ℕ) (word : ℕ) → (Some entry ≡ Some (Some word)) ⊎ ((Some entry ≡ Some None) × (slice_get newest 0 ≡ Some word)) → word_of (taken_of entry) (get_or newest 0 0) ≡ word
+first_word (Some v) newest word (inl e) = cc
+first_word None newest word (inl e) = absurd cc
+first_word (Some v) newest word (inr e) = (let no = e.0 in absurd cc)
+first_word None newest word (inr e) = get_or_from_slice_get newest 0 word 0 e.1
+
+get_past_one : (newest : List ℕ) (i : ℕ) → slice_get newest (suc i) ≡ slice_get (drop 1 newest) i
+get_past_one [] i = refl
+get_past_one (word ∷ newest) i = refl
+
+mark_words : (left : List (Option ℕ)) (live newest : List ℕ) → length left ≡ length live
+    → ((i word : ℕ) → slice_get live i ≡ Some word → (slice_get left i ≡ Some (Some word)) ⊎ ((slice_get left i ≡ Some None) × (slice_get newest i ≡ Some word)))
+    → words_left left newest ≡ live
+mark_words [] [] newest l h = refl
+mark_words [] (word ∷ live) newest l h = absurd (omega (arith, l))
+mark_words (entry ∷ left) [] newest l h = absurd (omega (arith, l))
+mark_words (entry ∷ left) (word ∷ live) newest l h =
+    let rest : words_left left (drop 1 newest) ≡ live = mark_words left live (drop 1 newest) (omega (arith, l))
+    (λ i w at. elim (h (suc i) w at) [ inl e ↦ inl e | inr e ↦ inr (e.0, sym (get_past_one newest i) ∙ e.1) ]) in
+    ap (λ w. w ∷ words_left left (drop 1 newest)) (first_word entry newest word (h 0 word refl)) ∙ ap (λ l. word ∷ l) rest
+
+pub mark_follows : (cells : ℕ) (ticks : List (List Action)) (tick : ℕ) (newest : List ℕ) (old new : Content) → length old.live ≡ cells → IsWorldAt cells ticks tick old.live → Covers newest old → Marks old new
+    → StoreFollows cells ticks new newest (Some (record { tick = tick; taken = [] }))
+mark_follows cells ticks tick newest old new all at covers m = (
+  old.live,
+  at,
+  record {
+    whole = all;
+    words = mark_words new.left old.live newest m.cells (λ i word e. elim (m.left i word e) [ inl h ↦ inl h | inr h ↦ inr (h.0, covers i h.1 ∙ e) ]);
+    covers = λ i none. ap (λ l. slice_get l i) (sym m.live);
+  },
+)
+
+-- ---- writes
+
+writes_store : (cells : ℕ) (ticks : List (List Action)) (old new : Content) (newest : List ℕ) (round : Option Round) → new.left ≡ old.left → ((image : List ℕ) → Covers image old → Covers image new)
+    → StoreFollows cells ticks old newest round → StoreFollows cells ticks new newest round
+writes_store cells ticks old new newest None left covers s = (left ∙ s.0, covers newest s.1)
+writes_store cells ticks old new newest (Some round) left covers s =
+    (s.0, s.1, record { whole = s.2.whole; words = ap (λ l. round.taken ++ words_left l (drop (length round.taken) newest)) left ∙ s.2.words; covers = covers s.0 s.2.covers })
+
+pub writes_follow : (cells : ℕ) (ticks : List (List Action)) (old new : Content) (images : ImageFiles) → new.left ≡ old.left → ((image : List ℕ) → Covers image old → Covers image new)
+    → StoreFollowsImages cells ticks old images → StoreFollowsImages cells ticks new images
+writes_follow cells ticks old new images = writes_store cells ticks old new (words_of images) (round_in images)
+
+-- ---- ticks
+
+ticks_store : (cells : ℕ) (ticks more : List (List Action)) (content : Content) (newest : List ℕ) (round : Option Round) → StoreFollows cells ticks content newest round → StoreFollows cells (ticks ++ more) content newest round
+ticks_store cells ticks more content newest None s = s
+ticks_store cells ticks more content newest (Some round) s =
+    (s.0, record { ended = omega (arith, s.1.ended, length-append ticks more); words_are = ap (after_ticks cells) (take-append-le round.tick ticks more s.1.ended) ∙ s.1.words_are }, s.2)
+
+pub ticks_follow : (cells : ℕ) (ticks more : List (List Action)) (content : Content) (images : ImageFiles) → StoreFollowsImages cells ticks content images → StoreFollowsImages cells (ticks ++ more) content images
+ticks_follow cells ticks more content images = ticks_store cells ticks more content (words_of images) (round_in images)

@@ -1,0 +1,174 @@
+-- Takes and openings keep what is true of the store and the round.
+use Rattle.std.proofs.Common.{◌≡◌, ℕ, ◌+◌, ◌<◌, inl, inr, List, [], ◌∷◌, ◌++◌, length, take, drop, replicate, get_or, Option, Some, None, option_map, Result, Ok, refl, sym, ap, subst, ◌∙◌, append_assoc, arith}
+use Rattle.std.specs.Prelude.{slice_get}
+use Rattle.std.proofs.lemmas.List.{take_all, take_at, length-append, append-nil, drop-drop, get_or-drop}
+use Rattle.world_actions.specs.declared.action.Action.{Action}
+use Rattle.world_actions.specs.declared.refusal.Refusal.{Refusal}
+use Rattle.world_ticks.specs.After.{after_ticks}
+use Rattle.capture_core.specs.declared.taker.Taken.{Taken}
+use Rattle.capture_core.specs.Taken.{taken_of}
+use Rattle.capture_core.specs.Content.{Content, Takes, Covers}
+use Rattle.image_files.specs.declared.phase.ImageAnswer.{ImageAnswer}
+use Rattle.image_files.specs.declared.phase.ImageAnswer.TheVariants as answer
+use Rattle.image_files.specs.Taken.{word_of}
+use Rattle.image_files.specs.Images.{Round, Images, FirstImages, ImageFiles, NoneYet, Newest, round_in, with_cell, with_taken, with_opened, StepsImages}
+use Rattle.recovery.specs.Sound.{IsWorldAt}
+use Rattle.recovery.specs.Follow.{IsRoundOf}
+use Rattle.recovery.specs.Start.{IsFirstRound}
+use Rattle.restart.specs.Rounds.{words_left, IsRoundOver, StoreFollows, StoreFollowsImages, words_of}
+
+-- a front of the whole length is the whole
+whole_front : {A : Type 0} (front rest whole : List A) → front ++ rest ≡ whole → length front ≡ length whole → front ≡ whole
+whole_front front rest whole e l = sym (take_at front rest (length front) refl) ∙ ap (take (length front)) e ∙ take_all (length front) whole (omega (arith, l))
+
+-- ---- a cell is taken
+
+head_taken : (left : List (Option ℕ)) (cell : Taken) (newest : List ℕ) → Some cell ≡ option_map taken_of (slice_get left 0) → words_left left newest ≡ word_of cell (get_or newest 0 0) ∷ words_left (drop 1 left) (drop 1 newest)
+head_taken [] cell newest e = absurd (let h = e in cc)
+head_taken (entry ∷ left) cell newest e =
+    let same : taken_of entry ≡ cell = cc in
+    ap (λ c. word_of c (get_or newest 0 0) ∷ words_left left (drop 1 newest)) same
+
+takes_round : (cells : ℕ) (newest taken marked : List ℕ) (old new : Content) (cell : Taken) → Takes old (Some cell) new → IsRoundOver cells newest taken marked old
+    → IsRoundOver cells newest (taken ++ word_of cell (get_or newest (length taken) 0) ∷ []) marked new
+takes_round cells newest taken marked old new cell t r =
+    let word = word_of cell (get_or newest (length taken) 0) in
+    let rest = drop (length taken) newest in
+    let one : length (taken ++ word ∷ []) ≡ length taken + 1 = length-append taken (word ∷ []) in
+    let first : get_or rest 0 0 ≡ get_or newest (length taken) 0 = get_or-drop (length taken) newest 0 0 ∙ ap (λ n. get_or newest n 0) (let e : length taken + 0 ≡ length taken = omega arith in e) in
+    let after : drop 1 rest ≡ drop (length (taken ++ word ∷ [])) newest = drop-drop 1 (length taken) newest ∙ ap (λ n. drop n newest) (sym one) in
+    let split : words_left old.left rest ≡ word ∷ words_left new.left (drop (length (taken ++ word ∷ [])) newest) =
+    head_taken old.left cell rest t.gives
+    ∙ ap (λ w. word_of cell w ∷ words_left (drop 1 old.left) (drop 1 rest)) first
+    ∙ ap (λ (c : Content). word ∷ words_left c.left (drop 1 rest)) (sym t.rest)
+    ∙ ap (λ l. word ∷ words_left new.left l) after in
+    record {
+      whole = r.whole;
+      words = append_assoc taken (word ∷ []) (words_left new.left (drop (length (taken ++ word ∷ [])) newest)) ∙ ap (λ l. taken ++ l) (sym split) ∙ r.words;
+      covers = subst (Covers marked) (sym t.rest) r.covers;
+    }
+
+takes_store : (cells : ℕ) (ticks : List (List Action)) (old new : Content) (cell : Taken) (newest : List ℕ) (round : Option Round) → Takes old (Some cell) new → StoreFollows cells ticks old newest round → StoreFollows cells ticks new newest (option_map (with_cell cell newest) round)
+takes_store cells ticks old new cell newest None t s = (let no : Some cell ≡ None = t.gives ∙ ap (λ l. option_map taken_of (slice_get l 0)) s.0 in absurd cc)
+takes_store cells ticks old new cell newest (Some round) t s = (s.0, s.1, takes_round cells newest round.taken s.0 old new cell t s.2)
+
+taken_follows : (cells : ℕ) (ticks : List (List Action)) (old new : Content) (cell : Taken) (images : ImageFiles) → Takes old (Some cell) new → StoreFollowsImages cells ticks old images → StoreFollowsImages cells ticks new (with_taken cell images)
+taken_follows cells ticks old new cell (NoneYet images) t s = takes_store cells ticks old new cell [] images.round t s
+taken_follows cells ticks old new cell (Newest images) t s = takes_store cells ticks old new cell images.words images.round t s
+
+-- ---- all cells are taken
+
+none_left : (left : List (Option ℕ)) (newest : List ℕ) → words_left left newest ≡ [] → left ≡ []
+none_left [] newest e = refl
+none_left (entry ∷ left) newest e = absurd (let h = e in cc)
+
+append_nothing : {A : Type 0} (front rest : List A) → front ++ rest ≡ front → rest ≡ []
+append_nothing [] rest e = e
+append_nothing (x ∷ front) rest e = append_nothing front rest (let h = e in cc)
+
+taken_whole : (cells : ℕ) (newest taken marked : List ℕ) (content : Content) → IsRoundOver cells newest taken marked content → length taken ≡ cells → taken ≡ marked
+taken_whole cells newest taken marked content r full = whole_front taken (words_left content.left (drop (length taken) newest)) marked r.words (full ∙ sym r.whole)
+
+opened_store : (cells : ℕ) (ticks : List (List Action)) (content : Content) (newest : List ℕ) (round : Round) → length round.taken ≡ cells → StoreFollows cells ticks content newest (Some round) → StoreFollows cells ticks content round.taken None
+opened_store cells ticks content newest round full s =
+    let same = taken_whole cells newest round.taken s.0 content s.2 full in
+    let rest : words_left content.left (drop (length round.taken) newest) ≡ [] = append_nothing round.taken (words_left content.left (drop (length round.taken) newest)) (s.2.words ∙ sym same) in
+    (none_left content.left (drop (length round.taken) newest) rest, subst (λ w. Covers w content) (sym same) s.2.covers)
+
+opened_follows : (cells : ℕ) (ticks : List (List Action)) (content : Content) (round : Round) (images : ImageFiles) → round_in images ≡ Some round → length round.taken ≡ cells → StoreFollowsImages cells ticks content images
+    → StoreFollowsImages cells ticks content (with_opened round images)
+opened_follows cells ticks content round (NoneYet images) is full s = opened_store cells ticks content [] round full (subst (StoreFollows cells ticks content []) is s)
+opened_follows cells ticks content round (Newest images) is full s = opened_store cells ticks content images.words round full (subst (StoreFollows cells ticks content images.words) is s)
+
+missing_none : (cells : ℕ) (ticks : List (List Action)) (content : Content) (newest : List ℕ) (round : Option Round) (r : Round) → round ≡ Some r → content.left ≡ [] → StoreFollows cells ticks content newest round → length r.taken ≡ cells
+missing_none cells ticks content newest round r is none s =
+    let f : StoreFollows cells ticks content newest (Some r) = subst (StoreFollows cells ticks content newest) is s in
+    let whole : r.taken ≡ f.0 = sym (append-nil r.taken) ∙ ap (λ l. r.taken ++ words_left l (drop (length r.taken) newest)) (sym none) ∙ f.2.words in
+    ap length whole ∙ f.2.whole
+
+pub all_are_taken : (cells : ℕ) (ticks : List (List Action)) (content : Content) (images : ImageFiles) (round : Round) → round_in images ≡ Some round → content.left ≡ [] → StoreFollowsImages cells ticks content images → length round.taken ≡ cells
+all_are_taken cells ticks content images round = missing_none cells ticks content (words_of images) (round_in images) round
+
+-- ---- a step of the image keeper
+
+module _ (cells : ℕ) (ticks : List (List Action)) where
+  same_follows : (images next : ImageFiles) (old new : Content) → next ≡ images → new ≡ old → StoreFollowsImages cells ticks old images → StoreFollowsImages cells ticks new next
+  same_follows images next old new i c s = subst (StoreFollowsImages cells ticks new) (sym i) (subst (λ (k : Content). StoreFollowsImages cells ticks k images) (sym c) s)
+
+  pub step_follows : (images : ImageFiles) (given : ImageAnswer) (next : ImageFiles) (old new : Content) → StepsImages Takes cells images given next old new → StoreFollowsImages cells ticks old images → StoreFollowsImages cells ticks new next
+  step_follows images answer.Idle next old new s f = same_follows images next old new s.1 s.2 f
+  step_follows images answer.Working next old new s f = elim s.2 [
+    | inl same ↦ same_follows images next old new same.0 same.1 f
+    | inr cell ↦ subst (StoreFollowsImages cells ticks new) (sym cell.2) (taken_follows cells ticks old new cell.0 images cell.1 f)
+  ]
+  step_follows images (answer.Opened tick) next old new s f = same_follows (with_opened s.0 images) next old new s.4 s.5 (opened_follows cells ticks old s.0 images s.1 s.3 f)
+  step_follows images answer.Down next old new s f = same_follows images next old new s.2 s.3 f
+
+-- ---- the round in work
+
+abbrev tick_of : Option Round → ℕ
+tick_of None = 0
+tick_of (Some round) = round.tick
+
+-- the round keeps its tick, or ends
+RoundTicks : (tick : ℕ) → Option Round → Type 0
+RoundTicks tick round = (r : Round) → round ≡ Some r → r.tick ≡ tick
+
+same_ticks : (round : Round) (now : Option Round) → now ≡ Some round → (r : Round) → now ≡ Some r → r.tick ≡ round.tick
+same_ticks round now is r e = ap tick_of (sym e ∙ is)
+
+taken_ticks : (cell : Taken) (newest : List ℕ) (round : Round) (now : Option Round) → now ≡ Some round → (r : Round) → option_map (with_cell cell newest) now ≡ Some r → r.tick ≡ round.tick
+taken_ticks cell newest round now is r e = ap tick_of (sym e ∙ ap (option_map (with_cell cell newest)) is)
+
+with_taken_ticks : (cell : Taken) (images : ImageFiles) (round : Round) → round_in images ≡ Some round → (r : Round) → round_in (with_taken cell images) ≡ Some r → r.tick ≡ round.tick
+with_taken_ticks cell (NoneYet images) round is = taken_ticks cell [] round images.round is
+with_taken_ticks cell (Newest images) round is = taken_ticks cell images.words round images.round is
+
+with_opened_none : (round : Round) (images : ImageFiles) → round_in (with_opened round images) ≡ None
+with_opened_none round (NoneYet images) = refl
+with_opened_none round (Newest images) = refl
+
+-- a round that is in work after a step was in work before it, with the same tick
+step_ticks : (cells : ℕ) (old new : Content) (images : ImageFiles) (given : ImageAnswer) (next : ImageFiles) → StepsImages Takes cells images given next old new
+    → (r : Round) → round_in next ≡ Some r → (was : Round) × (round_in images ≡ Some was) × (r.tick ≡ was.tick)
+step_ticks cells old new images answer.Idle next s r e = (r, ap round_in (sym s.1) ∙ e, refl)
+step_ticks cells old new images answer.Working next s r e = (
+  s.0,
+  s.1,
+  elim s.2 [
+    | inl same ↦ same_ticks s.0 (round_in images) s.1 r (ap round_in (sym same.0) ∙ e)
+    | inr cell ↦ with_taken_ticks cell.0 images s.0 s.1 r (ap round_in (sym cell.2) ∙ e)
+  ],
+)
+step_ticks cells old new images (answer.Opened tick) next s r e = absurd (let g : None ≡ Some r = sym (with_opened_none s.0 images) ∙ ap round_in (sym s.4) ∙ e in cc)
+step_ticks cells old new images answer.Down next s r e = (s.0, s.1, same_ticks s.0 (round_in images) s.1 r (ap round_in (sym s.2) ∙ e))
+
+round_above : (cells : ℕ) (ticks : List (List Action)) (tick : ℕ) (round : Option Round) (r : Round) → round ≡ Some r → IsRoundOf cells ticks tick round → tick < r.tick
+round_above cells ticks tick round r is h = (let g : IsRoundOf cells ticks tick (Some r) = subst (IsRoundOf cells ticks tick) is h in g.0)
+
+round_store : (cells : ℕ) (ticks : List (List Action)) (tick : ℕ) (content : Content) (newest : List ℕ) (round : Option Round) → ((r : Round) → round ≡ Some r → tick < r.tick) → StoreFollows cells ticks content newest round → IsRoundOf cells ticks tick round
+round_store cells ticks tick content newest None above s = tt
+round_store cells ticks tick content newest (Some round) above s =
+    (above round refl, λ full. subst (IsWorldAt cells ticks round.tick) (sym (taken_whole cells newest round.taken s.0 content s.2 full)) s.1)
+
+pub round_follows : (cells : ℕ) (ticks : List (List Action)) (images : Images) (given : ImageAnswer) (next : ImageFiles) (old new : Content) → StepsImages Takes cells (Newest images) given next old new → IsRoundOf cells ticks images.tick images.round
+    → StoreFollowsImages cells ticks new next → IsRoundOf cells ticks images.tick (round_in next)
+round_follows cells ticks images given next old new s h = round_store cells ticks images.tick new (words_of next) (round_in next)
+    (λ r e. let was = step_ticks cells old new (Newest images) given next s r e in let above = round_above cells ticks images.tick images.round was.0 was.1 h in omega (arith, was.2, above))
+
+ok_injective : (v w : List ℕ) → ◌≡◌ {A = Result (List ℕ) Refusal} (Ok v) (Ok w) → v ≡ w
+ok_injective v w e = cc
+
+first_store : (cells : ℕ) (content : Content) (newest : List ℕ) (round : Option Round) → ((r : Round) → round ≡ Some r → r.tick ≡ 0) → StoreFollows cells [] content newest round → IsFirstRound cells round
+first_store cells content newest None zero s = tt
+first_store cells content newest (Some round) zero s =
+    let zeros : s.0 ≡ replicate cells 0 = ok_injective s.0 (replicate cells 0) (sym s.1.words_are ∙ ap (after_ticks cells) (take_all round.tick [] (omega arith))) in
+    (zero round refl, λ full. taken_whole cells newest round.taken s.0 content s.2 full ∙ zeros)
+
+round_zero : (cells : ℕ) (round : Option Round) (r : Round) → round ≡ Some r → IsFirstRound cells round → r.tick ≡ 0
+round_zero cells round r is h = (let g : IsFirstRound cells (Some r) = subst (IsFirstRound cells) is h in g.0)
+
+pub first_round_follows : (cells : ℕ) (images : FirstImages) (given : ImageAnswer) (next : ImageFiles) (old new : Content) → StepsImages Takes cells (NoneYet images) given next old new → IsFirstRound cells images.round
+    → StoreFollowsImages cells [] new next → IsFirstRound cells (round_in next)
+first_round_follows cells images given next old new s h = first_store cells new (words_of next) (round_in next)
+    (λ r e. let was = step_ticks cells old new (NoneYet images) given next s r e in was.2 ∙ round_zero cells images.round was.0 was.1 h)

@@ -1,0 +1,96 @@
+-- How a store follows the images: the round in work is of the words at its mark.
+use Rattle.std.specs.Prelude.{◌≡◌, ℕ, Bool, List, [], ◌++◌, length, drop, map, Option, Some, None}
+use Rattle.world_actions.specs.declared.action.Action.{Action}
+use Rattle.capture_core.specs.Content.{Content, Marks, Takes, Covers}
+use Rattle.capture_core.specs.Taken.{taken_of}
+use Rattle.image_files.specs.declared.phase.ImageAnswer.{ImageAnswer}
+use Rattle.image_files.specs.Taken.{filled_words}
+use Rattle.image_files.specs.Images.{Round, Images, FirstImages, ImageFiles, NoneYet, Newest, round_in, StepsImages}
+use Rattle.recovery.specs.Sound.{IsWorldAt}
+use Rattle.recovery.specs.Follow.{IsRoundOf}
+use Rattle.recovery.specs.Start.{IsFirstRound}
+use Rattle.restart.specs.Start.{IsBuilt, images_begun}
+
+-- the words of what a round has left: of a cell that is the same the newest image's
+abbrev pub words_left : List (Option ℕ) → (newest : List ℕ) → List ℕ
+words_left left newest = filled_words (map taken_of left) newest
+
+-- the words taken and those that are left are the words at the mark, which has those of the cells untouched since
+pub record IsRoundOver (cells : ℕ) (newest taken marked : List ℕ) (content : Content) : Type 0 where
+  pub whole : length marked ≡ cells
+  pub words : taken ++ words_left content.left (drop (length taken) newest) ≡ marked
+  pub covers : Covers marked content
+
+-- With no round in work nothing is left, and the newest image has the words of untouched cells. The words at the mark of
+-- a round in work are the world at its tick.
+abbrev pub StoreFollows : (cells : ℕ) → List (List Action) → Content → (newest : List ℕ) → Option Round → Type 0
+StoreFollows cells ticks content newest None = (content.left ≡ []) × Covers newest content
+StoreFollows cells ticks content newest (Some round) =
+    (marked : List ℕ) × IsWorldAt cells ticks round.tick marked × IsRoundOver cells newest round.taken marked content
+
+-- the words of the newest image, none before the first
+abbrev pub words_of : ImageFiles → List ℕ
+words_of (NoneYet images) = []
+words_of (Newest images) = images.words
+
+-- the same, of the images as they are
+abbrev pub StoreFollowsImages : (cells : ℕ) → List (List Action) → Content → ImageFiles → Type 0
+StoreFollowsImages cells ticks content images = StoreFollows cells ticks content (words_of images) (round_in images)
+
+-- ---- what keeps it
+
+-- a mark begins the round of the live words
+abbrev pub MarkFollows : Type 0
+MarkFollows =
+    (cells : ℕ) (ticks : List (List Action)) (tick : ℕ) (newest : List ℕ) (old new : Content)
+    → length old.live ≡ cells → IsWorldAt cells ticks tick old.live → Covers newest old → Marks old new
+    → StoreFollows cells ticks new newest (Some (record { tick = tick; taken = [] }))
+
+-- a store that was built for a start follows its images, with the start's round or with none
+abbrev pub BuiltFollows : Type 0
+BuiltFollows =
+    (cells : ℕ) (ticks : List (List Action)) (tick : ℕ) (words : List ℕ) (round : Bool) (content : Content) (images : ImageFiles)
+    → length words ≡ cells → IsWorldAt cells ticks tick words → round_in images ≡ None → IsBuilt words round content
+    → StoreFollowsImages cells ticks content (images_begun round tick images)
+
+-- writes leave what is left of the round
+abbrev pub WritesFollow : Type 0
+WritesFollow =
+    (cells : ℕ) (ticks : List (List Action)) (old new : Content) (images : ImageFiles)
+    → new.left ≡ old.left → ((image : List ℕ) → Covers image old → Covers image new)
+    → StoreFollowsImages cells ticks old images → StoreFollowsImages cells ticks new images
+
+-- more ticks end
+abbrev pub TicksFollow : Type 0
+TicksFollow =
+    (cells : ℕ) (ticks more : List (List Action)) (content : Content) (images : ImageFiles)
+    → StoreFollowsImages cells ticks content images → StoreFollowsImages cells (ticks ++ more) content images
+
+-- a step of the image keeper takes a cell, opens the image of the round, or leaves both
+abbrev pub StepFollows : Type 0
+StepFollows =
+    (cells : ℕ) (ticks : List (List Action)) (images : ImageFiles) (answer : ImageAnswer) (next : ImageFiles) (old new : Content)
+    → StepsImages Takes cells images answer next old new
+    → StoreFollowsImages cells ticks old images → StoreFollowsImages cells ticks new next
+
+-- ---- what it gives
+
+-- behind that step the round is what recovery's law asks for
+abbrev pub RoundFollows : Type 0
+RoundFollows =
+    (cells : ℕ) (ticks : List (List Action)) (images : Images) (answer : ImageAnswer) (next : ImageFiles) (old new : Content)
+    → StepsImages Takes cells (Newest images) answer next old new → IsRoundOf cells ticks images.tick images.round
+    → StoreFollowsImages cells ticks new next → IsRoundOf cells ticks images.tick (round_in next)
+
+-- the same before there is an image
+abbrev pub FirstRoundFollows : Type 0
+FirstRoundFollows =
+    (cells : ℕ) (images : FirstImages) (answer : ImageAnswer) (next : ImageFiles) (old new : Content)
+    → StepsImages Takes cells (NoneYet images) answer next old new → IsFirstRound cells images.round
+    → StoreFollowsImages cells [] new next → IsFirstRound cells (round_in next)
+
+-- where nothing is left of a round all its cells are taken
+abbrev pub AllAreTaken : Type 0
+AllAreTaken =
+    (cells : ℕ) (ticks : List (List Action)) (content : Content) (images : ImageFiles) (round : Round)
+    → round_in images ≡ Some round → content.left ≡ [] → StoreFollowsImages cells ticks content images → length round.taken ≡ cells

@@ -1,0 +1,14 @@
+ghost use Rattle.restart.specs.Rounds.{MarkFollows, BuiltFollows, WritesFollow, TicksFollow, StepFollows, RoundFollows, FirstRoundFollows, AllAreTaken};
+
+/// Laws: a store goes on to follow the images through marks, writes, ticks, takes and openings, and
+/// so a round's words are the world at its tick once all its cells are taken.
+pub fn stores_follow()
+    ensures mark { MarkFollows }
+    ensures built { BuiltFollows }
+    ensures writes { WritesFollow }
+    ensures ticks { TicksFollow }
+    ensures step { StepFollows }
+    ensures round { RoundFollows }
+    ensures first_round { FirstRoundFollows }
+    ensures all_taken { AllAreTaken }
+{}

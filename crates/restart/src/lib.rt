@@ -1,0 +1,14 @@
+//! What a start begins with, and how a store of words follows the images that are written of it.
+//!
+//! After a recovery, and for a fresh world, store and keepers are built new: the store from the words,
+//! marked where the start has a round; the image keeper with that round begun; the log keeper with the
+//! start as its first job. From then on the words taken in a round and those that it has left are the
+//! words at its mark, whatever is written in between, so its image is the world at its tick
+//! (`stores_follow`).
+#![tactic(auto)]
+
+mod following;
+mod start;
+
+pub use following::stores_follow;
+pub use start::{has_round, images_of, log_of, store_of, zeros};

@@ -1,0 +1,85 @@
+ghost use Rattle.std.specs.Prelude.{◌≡◌, ◌≤◌, All, replicate, IfOk, IfErr};
+ghost use Rattle.world_actions.specs.World.{IsWord};
+ghost use Rattle.world_actions.specs.declared.world.TheConstants.{CELLS};
+ghost use Rattle.world_ticks.specs.declared.tick.TheConstants.{TICK_MAX};
+ghost use Rattle.image_files.specs.Progress.{made_keeper};
+ghost use Rattle.action_log.specs.Progress.{begun};
+ghost use Rattle.restart.specs.Start.{has_round, started_keeper, IsBuilt, is_shut as is_shut_file};
+
+use action_log::LogKeeper;
+use capture_core::Capture;
+use image_files::{ImageKeeper, Slot, is_shut};
+use std::alloc::Global;
+use world_actions::Refusal;
+
+/// Whether a start at this tick has a round, where the newest image is of that file and tick.
+pub fn has_round(newest: Option<(Slot, u64)>, tick: u64) -> bool
+    ensures { result ≡ has_round newest tick }
+{
+    match newest {
+        None => true,
+        Some((_, from)) => from < tick,
+    }
+}
+
+/// The store of a start, marked where the start has a round.
+pub fn store_of<C: Capture>(alloc: Global, words: &[u64], round: bool) -> Result<C, Refusal>
+    requires { All IsWord words.now }
+    ensures built { IfOk result (λ store. IsBuilt words.now round (C.content store)) }
+    ensures memory { IfErr result (λ refusal. refusal ≡ Refusal.NoMemory) }
+{
+    let mut store = C::build(alloc, words)?;
+    if round {
+        store.mark();
+    }
+    Ok(store)
+}
+
+/// The image keeper of a start on files with these bytes, with its round begun where the start has one.
+pub fn images_of(
+    alloc: Global,
+    cells: u32,
+    newest: Option<(Slot, u64)>,
+    tick: u64,
+    round: bool,
+    image_a: &[u8],
+    image_b: &[u8],
+) -> Result<ImageKeeper, Refusal>
+    requires some { 1 ≤ cells }
+    requires few { cells ≤ CELLS }
+    requires numbered { tick ≤ TICK_MAX }
+    ensures made { IfOk result (λ keeper. keeper ≡ started_keeper round tick
+        (made_keeper cells newest (is_shut_file image_a.now) (is_shut_file image_b.now))) }
+    ensures memory { IfErr result (λ refusal. refusal ≡ Refusal.NoMemory) }
+{
+    let shut = [known_shut(image_a), known_shut(image_b)];
+    let mut images = ImageKeeper::new(alloc, cells, newest, shut)?;
+    if round {
+        images.begin(tick);
+    }
+    Ok(images)
+}
+
+/// The log keeper of a start at this tick, on files with these bytes.
+pub fn log_of(alloc: Global, tick: u64, log_a: &[u8], log_b: &[u8]) -> Result<LogKeeper, Refusal>
+    requires { tick ≤ TICK_MAX }
+    ensures made { IfOk result (λ keeper. keeper
+        ≡ begun tick (is_shut_file log_a.now) (is_shut_file log_b.now)) }
+    ensures memory { IfErr result (λ refusal. refusal ≡ Refusal.NoMemory) }
+{
+    LogKeeper::new(alloc, tick, [known_shut(log_a), known_shut(log_b)])
+}
+
+fn known_shut(file: &[u8]) -> bool
+    ensures { result ≡ is_shut_file file.now }
+{
+    is_shut(file)
+}
+
+/// The words of a fresh world.
+pub fn zeros(alloc: Global, cells: u32) -> Result<Vec<u64>, Refusal>
+    ensures zeros { IfOk result (λ words. words.items ≡ replicate cells 0) }
+    ensures memory { IfErr result (λ refusal. refusal ≡ Refusal.NoMemory) }
+{
+    Ok(vec![in alloc; 0; cells as usize]?)
+}

@@ -1,0 +1,87 @@
+-- The folds of the headline are those of the past.
+use Rattle.std.proofs.Common.{◌≡◌, ℕ, List, [], ◌∷◌, ◌++◌, length, refl, sym, ap, subst, ◌∙◌, arith}
+use Rattle.std.proofs.lemmas.List.{length-append}
+use Rattle.world_core.specs.declared.moves.Move.{Move}
+use Rattle.world_core.specs.declared.moves.Answer.{Answer}
+use Rattle.world_core.specs.History.{History, history_of, acknowledged_of, opened_of, ended, acked}
+use Rattle.world_core.specs.Past.{Past, past_after, past_of, fresh_past}
+use Rattle.world_core.specs.State.{State}
+use Rattle.world_core.specs.Starting.{BeginsFresh}
+use Rattle.world_core.specs.Laws.{SafetyLaws}
+use Rattle.world_core.specs.Facts.{IsCoreAt}
+use Rattle.world_core.specs.Headline.{AreSafe, Headline, Answers, Runs, HasRun}
+use Rattle.world_core.proofs.Safe.{core_is_safe}
+
+pub past_of-more : (past : Past) (moves : List Move) (answers : List Answer) (asked : Move) (given : Answer) → length answers ≡ length moves → past_of past (moves ++ asked ∷ []) (answers ++ given ∷ []) ≡ past_after (past_of past moves answers) asked given
+past_of-more past [] [] asked given e = refl
+past_of-more past [] (first ∷ answers) asked given e = absurd (omega (arith, e))
+past_of-more past (first ∷ moves) [] asked given e = absurd (omega (arith, e))
+past_of-more past (move ∷ moves) (first ∷ answers) asked given e = past_of-more (past_after past move first) moves answers asked given (omega (arith, e))
+
+past_of-history : (past : Past) (moves : List Move) (answers : List Answer) → (past_of past moves answers).history ≡ history_of past.history moves answers
+past_of-history past [] answers = refl
+past_of-history past (asked ∷ moves) [] = refl
+past_of-history past (asked ∷ moves) (given ∷ answers) = past_of-history (past_after past asked given) moves answers
+
+past_of-acknowledged : (past : Past) (moves : List Move) (answers : List Answer) → length answers ≡ length moves → (past_of past moves answers).acknowledged ≡ acknowledged_of past.acknowledged answers
+past_of-acknowledged past [] [] e = refl
+past_of-acknowledged past [] (given ∷ answers) e = absurd (omega (arith, e))
+past_of-acknowledged past (asked ∷ moves) [] e = absurd (omega (arith, e))
+past_of-acknowledged past (asked ∷ moves) (given ∷ answers) e = past_of-acknowledged (past_after past asked given) moves answers (omega (arith, e))
+
+past_of-opened : (past : Past) (moves : List Move) (answers : List Answer) → length answers ≡ length moves → (past_of past moves answers).has_image ≡ opened_of past.has_image answers
+past_of-opened past [] [] e = refl
+past_of-opened past [] (given ∷ answers) e = absurd (omega (arith, e))
+past_of-opened past (asked ∷ moves) [] e = absurd (omega (arith, e))
+past_of-opened past (asked ∷ moves) (given ∷ answers) e = past_of-opened (past_after past asked given) moves answers (omega (arith, e))
+
+headline : SafetyLaws → (moves : List Move) (answers : List Answer) (state : State) → length answers ≡ length moves → IsCoreAt (past_of fresh_past moves answers) state → Headline moves answers state
+headline laws moves answers state e c =
+    let past = past_of fresh_past moves answers in
+    let safe = core_is_safe laws past state c in (
+      e,
+      subst (λ h. AreSafe h state (ended moves answers) (acked answers)) (past_of-opened fresh_past moves answers e)
+          (subst (λ k. AreSafe past.has_image state (ended moves answers) k) (past_of-acknowledged fresh_past moves answers e)
+          (subst (λ (h : History). AreSafe past.has_image state h.ticks past.acknowledged) (past_of-history fresh_past moves answers) safe)),
+    )
+
+one_longer : {A B : Type 0} (xs : List A) (ys : List B) (x : A) (y : B) → length xs ≡ length ys → length (xs ++ x ∷ []) ≡ length (ys ++ y ∷ [])
+one_longer xs ys x y e = omega (arith, e, length-append xs (x ∷ []), length-append ys (y ∷ []))
+
+-- one more move
+pub runs-more : (past : Past) (first mid last : State) (moves : List Move) (answers : List Answer) (asked : Move) (given : Answer) → Runs past first moves answers mid → Answers (past_of past moves answers) mid asked given last
+    → Runs past first (moves ++ asked ∷ []) (answers ++ given ∷ []) last
+runs-more past first mid last [] [] asked given r a = (last, subst (λ s. Answers past s asked given last) r a, refl)
+runs-more past first mid last [] (other ∷ answers) asked given r a = absurd r
+runs-more past first mid last (other ∷ moves) [] asked given r a = absurd r
+runs-more past first mid last (other ∷ moves) (answer ∷ answers) asked given r a =
+    (r.0, r.1, runs-more (past_after past other answer) r.0 mid last moves answers asked given r.2 a)
+
+pub has_begun : (cells : ℕ) (answers : List Answer) (state : State) → IsCoreAt fresh_past state → BeginsFresh cells state → answers ≡ [] → HasRun cells [] answers state
+unfolding HasRun
+has_begun cells answers state c b none = (c, ap length none, b.cells_are, (state, b, subst (λ a. Runs fresh_past state [] a state) (sym none) refl))
+
+pub has_run_more : (cells : ℕ) (old new : State) (moves : List Move) (answers now : List Answer) (asked : Move) (given : Answer) → HasRun cells moves answers old
+    → ((past : Past) → IsCoreAt past old → IsCoreAt (past_after past asked given) new × Answers past old asked given new) → new.cells ≡ old.cells → now ≡ answers ++ given ∷ []
+    → HasRun cells (moves ++ asked ∷ []) now new
+unfolding HasRun
+has_run_more cells old new moves answers now asked given h step same e =
+    let past = past_of fresh_past moves answers in
+    let one = step past h.0 in (
+      subst (λ a. IsCoreAt (past_of fresh_past (moves ++ asked ∷ []) a) new) (sym e) (subst (λ p. IsCoreAt p new) (sym (past_of-more fresh_past moves answers asked given h.1)) one.0),
+      ap length e ∙ one_longer answers moves given asked h.1,
+      same ∙ h.2,
+      (h.3.0, h.3.1, subst (λ a. Runs fresh_past h.3.0 (moves ++ asked ∷ []) a new) (sym e) (runs-more fresh_past h.3.0 old new moves answers asked given h.3.2 one.1)),
+    )
+
+pub run_safe : SafetyLaws → (cells : ℕ) (moves : List Move) (answers : List Answer) (state : State) → HasRun cells moves answers state → Headline moves answers state
+unfolding HasRun
+run_safe laws cells moves answers state h = headline laws moves answers state h.1 h.0
+
+pub run_cells : (cells : ℕ) (moves : List Move) (answers : List Answer) (state : State) → HasRun cells moves answers state → state.cells ≡ cells
+unfolding HasRun
+run_cells cells moves answers state h = h.2
+
+pub run_answers : (cells : ℕ) (moves : List Move) (answers : List Answer) (state : State) → HasRun cells moves answers state → (first : State) × BeginsFresh cells first × Runs fresh_past first moves answers state
+unfolding HasRun
+run_answers cells moves answers state h = h.3

@@ -1,0 +1,12 @@
+pub mod Bridging
+pub mod Playing
+pub mod Imaging
+pub mod Logging
+pub mod LogExact
+pub mod Exact
+pub mod Safe
+pub mod Marking
+pub mod Crashing
+pub mod Recovering
+pub mod Headline
+pub mod Repeating

@@ -1,0 +1,13 @@
+use Rattle.world_core.proofs.laws.keeper_laws.Goals as goal
+
+pub returns : goal.returns
+returns c = record {
+  made = c.images_stay.ensures.made;
+  begun = c.images_stay.ensures.begun;
+  newest = c.images_stay.ensures.newest;
+  idle = c.images_stay.ensures.idle;
+  round = c.images_stay.ensures.round;
+  left = λ keeper a b place stands. (c.log_outcomes.ensures.left keeper a b place stands).0;
+  begins = λ tick shut_a shut_b a b before_a before_b few only_a only_b tells_a tells_b.
+      c.log_outcomes.ensures.begins tick shut_a shut_b a b before_a before_b few only_a only_b tells_a.yes tells_a.no tells_b.yes tells_b.no;
+}

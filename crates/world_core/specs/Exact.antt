@@ -1,0 +1,88 @@
+-- What is answered to each move, by what moves and answers tell and by what the core holds.
+use Rattle.std.specs.Prelude.{◌<◌, ◌≡◌, ◌≢◌, ◌⊎◌, ℕ, ◌+◌, List, length, true, false, Option, Some, None, Result, Ok, Err, IsOk}
+use Rattle.world_actions.specs.declared.action.Action.{Action}
+use Rattle.world_actions.specs.declared.refusal.Refusal.{Refusal}
+use Rattle.world_actions.specs.declared.refusal.Refusal.TheVariants.{NoMemory, NoImage, Impossible}
+use Rattle.disk_model.specs.CrashOutcome.{IsCrashOutcome}
+use Rattle.recovery.specs.Recovery.{Recovery, recovery_in}
+use Rattle.recovery.specs.Events.{ticks_in}
+use Rattle.world_ticks.specs.Tick.{decision}
+use Rattle.world_core.specs.declared.moves.Move.{Move}
+use Rattle.world_core.specs.declared.moves.Move.TheVariants as move
+use Rattle.world_core.specs.declared.moves.Answer.{Answer}
+use Rattle.world_core.specs.declared.moves.Answer.TheVariants as answer
+use Rattle.image_files.specs.declared.phase.ImageAnswer.{ImageAnswer}
+use Rattle.image_files.specs.declared.phase.ImageAnswer.TheVariants as image_answer
+use Rattle.image_files.specs.Progress.{left_of}
+use Rattle.action_log.specs.declared.record.LogAnswer.{LogAnswer}
+use Rattle.action_log.specs.declared.record.LogAnswer.TheVariants as log_answer
+use Rattle.action_log.specs.Progress.{work_of}
+use Rattle.world_core.specs.Standing.{Standing, is_starting, is_round_open, is_log_waiting, unless_refused, action_answer, get_answer, end_answer, tick_refusal_at, mark_refusal_at}
+use Rattle.world_core.specs.Past.{Past}
+use Rattle.world_core.specs.State.{State}
+
+-- why no tick can be added to
+abbrev pub tick_refusal_in : Past → Option Refusal
+tick_refusal_in past = tick_refusal_at past.standing (length past.history.ticks)
+
+-- what is decided on an action
+abbrev pub decision_in : Past → State → Action → Result (List ℕ) Refusal
+decision_in past state action = decision state.content.live past.history.running action
+
+-- a crash may leave these bytes of the four files
+abbrev pub MayLeave : State → (image_a image_b log_a log_b : List ℕ) → Type 0
+MayLeave state image_a image_b log_a log_b =
+    IsCrashOutcome state.image_a.inner image_a × IsCrashOutcome state.image_b.inner image_b × IsCrashOutcome state.log_a.inner log_a × IsCrashOutcome state.log_b.inner log_b
+
+-- what is answered to a crash that leaves these bytes
+abbrev pub IsCrashAnswer : State → (image_a image_b log_a log_b : List ℕ) → Answer → Type 0
+IsCrashAnswer state image_a image_b log_a log_b (answer.Refused refusal) =
+    ((refusal ≡ Impossible) × ¬ MayLeave state image_a image_b log_a log_b) ⊎ ((refusal ≡ NoMemory) × MayLeave state image_a image_b log_a log_b)
+IsCrashAnswer state image_a image_b log_a log_b (answer.Recovered tick from) =
+    MayLeave state image_a image_b log_a log_b × ((r : Recovery) × (recovery_in image_a image_b log_a log_b ≡ Ok r) × (tick ≡ r.tick) × (from ≡ r.from))
+IsCrashAnswer state image_a image_b log_a log_b answer.Blank = MayLeave state image_a image_b log_a log_b × (recovery_in image_a image_b log_a log_b ≡ Err NoImage)
+IsCrashAnswer state image_a image_b log_a log_b given = ⊥
+
+-- what is answered to a step of the image keeper: Idle exactly with no round open, and once it is down only Down; the
+-- round's own tick is opened
+abbrev pub IsImageAnswer : Standing → ImageAnswer → Type 0
+IsImageAnswer standing image_answer.Idle = standing.round ≡ None
+IsImageAnswer standing image_answer.Working = (is_round_open standing ≡ true) × (standing.is_image_down ≡ false)
+IsImageAnswer standing (image_answer.Opened tick) = (standing.round ≡ Some tick) × (standing.is_image_down ≡ false)
+IsImageAnswer standing image_answer.Down = is_round_open standing ≡ true
+
+-- What is answered to a step of the log keeper: Idle exactly where the start waits for its image, or the keeper isn't down
+-- and has no work. A receipt's number is that of the last ended tick that doesn't wait in the queue.
+abbrev pub IsLogAnswer : Past → State → LogAnswer → Type 0
+IsLogAnswer past state log_answer.Idle =
+    (is_log_waiting past.standing ≡ true) ⊎ ((past.standing.is_log_down ≡ false) × (work_of state.log state.queue ≡ 0))
+IsLogAnswer past state log_answer.Working =
+    (is_log_waiting past.standing ≡ false) × (past.standing.is_log_down ≡ false) × (0 < work_of state.log state.queue)
+IsLogAnswer past state (log_answer.Acked number) =
+    (is_starting past.standing ≡ false) × (past.standing.is_log_down ≡ false) × (0 < work_of state.log state.queue)
+    × (number + length (ticks_in state.queue) ≡ length past.history.ticks)
+IsLogAnswer past state log_answer.Down = is_log_waiting past.standing ≡ false
+
+-- what is answered, want of memory apart
+abbrev pub IsExact : Past → State → Move → Answer → Type 0
+IsExact past state (move.Act action) given =
+    (given ≢ answer.Refused NoMemory → given ≡ unless_refused (tick_refusal_in past) (action_answer (decision_in past state action)))
+    × (given ≡ answer.Refused NoMemory → (tick_refusal_in past ≡ None) × IsOk (decision_in past state action))
+IsExact past state (move.Get cell) given = given ≡ get_answer state.content.live cell
+IsExact past state move.End given = given ≡ end_answer (tick_refusal_in past) (length past.history.ticks) (length state.queue)
+IsExact past state move.Mark given =
+    given ≡ unless_refused (mark_refusal_at past.standing (length past.history.ticks) (length state.queue) past.history.running) (answer.Started (length past.history.ticks))
+IsExact past state (move.Image fate) (answer.Image given) = IsImageAnswer past.standing given
+IsExact past state (move.Image fate) given = ⊥
+IsExact past state (move.Log fate) (answer.Log given) = IsLogAnswer past state given
+IsExact past state (move.Log fate) given = ⊥
+IsExact past state (move.Crash left) given =
+    IsCrashAnswer state left.image_a.items left.image_b.items left.log_a.items left.log_b.items given
+
+-- a step of a keeper that does its work leaves less to do, and the one that opens an image nothing of the round
+abbrev pub Progresses : Move → Answer → (old new : State) → Type 0
+Progresses (move.Image fate) (answer.Image image_answer.Working) old new = left_of new.images < left_of old.images
+Progresses (move.Image fate) (answer.Image (image_answer.Opened tick)) old new = (left_of new.images ≡ 0) × (0 < left_of old.images)
+Progresses (move.Log fate) (answer.Log log_answer.Working) old new = work_of new.log new.queue < work_of old.log old.queue
+Progresses (move.Log fate) (answer.Log (log_answer.Acked number)) old new = work_of new.log new.queue < work_of old.log old.queue
+Progresses asked given old new = Unit {0}

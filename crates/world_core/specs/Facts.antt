@@ -1,0 +1,85 @@
+-- What is always true of a core, by what moves and their answers tell of it.
+use Rattle.std.specs.Prelude.{◌≡◌, ℕ, ◌-◌, ◌≤◌, List, [], ◌++◌, length, map, Bool, true, false, Some, None, option_map, Ok}
+use Rattle.world_actions.specs.declared.world.TheConstants.{CELLS}
+use Rattle.world_ticks.specs.declared.tick.TheConstants.{TICK_MAX}
+use Rattle.world_ticks.specs.After.{after_actions, after_ticks}
+use Rattle.image_files.specs.Images.{Round, Images, FirstImages, ImageFiles, NoneYet, Newest, round_in, newest_in}
+use Rattle.action_log.specs.declared.format.TheConstants.{SEGMENT_TICKS}
+use Rattle.action_log.specs.Progress.{QueueFollows, end_of}
+use Rattle.action_log.specs.Logs.{Start, Journal, InStart, Writing, LogPlace}
+use Rattle.recovery.specs.Start.{IsStarting, FirstFollows}
+use Rattle.recovery.specs.Events.{IsKept}
+use Rattle.restart.specs.Rounds.{StoreFollowsImages}
+use Rattle.world_core.specs.Standing.{Queued, queued_of}
+use Rattle.world_core.specs.Past.{Past}
+use Rattle.world_core.specs.State.{State, HasImages, HasLog, is_down, newest_tick}
+
+-- in the start of a fresh world, before its first image is open
+pub record IsBeforeFirst (cells : ℕ) (past : Past) (state : State) (images : FirstImages) (start : Start) : Type 0 where
+  pub no_ticks : past.history.ticks ≡ []
+  pub none_acknowledged : past.acknowledged ≡ 0
+  pub follows : FirstFollows cells images start
+  pub in_work : (round : Round) × (images.round ≡ Some round)
+
+-- in a start, once there is an image: the log's part waits for the image of the recovered tick
+pub record IsInStart (cells : ℕ) (past : Past) (state : State) (images : Images) (start : Start) : Type 0 where
+  pub from : ℕ
+  pub starting : IsStarting cells past.history.ticks past.acknowledged images from start
+  pub caught_up : images.round ≡ None → images.tick ≡ start.tick
+
+abbrev pub HasPhase : (cells : ℕ) → Past → State → ImageFiles → Journal → Type 0
+HasPhase cells past state (NoneYet images) (InStart start) = IsBeforeFirst cells past state images start
+HasPhase cells past state (Newest images) (InStart start) = IsInStart cells past state images start
+HasPhase cells past state (NoneYet images) (Writing logs) = ⊥
+HasPhase cells past state (Newest images) (Writing logs) = IsKept cells past.history.ticks past.acknowledged images logs state.queue
+
+-- in the start the running tick and the queue are empty
+abbrev pub IsAtRest : Journal → State → Type 0
+IsAtRest (InStart start) state = (state.running ≡ []) × (state.queue ≡ [])
+IsAtRest (Writing logs) state = Unit {0}
+
+abbrev pub is_known : ImageFiles → Bool
+is_known (NoneYet images) = false
+is_known (Newest images) = true
+
+-- the numbers
+pub record IsCounted (past : Past) (state : State) : Type 0 where
+  pub ended : state.ended ≡ length past.history.ticks
+  pub since : state.since ≡ past.standing.since
+  pub numbered : state.ended ≤ TICK_MAX
+  pub few : state.since ≤ SEGMENT_TICKS
+  pub within : state.since ≤ state.ended
+  pub queue_follows : QueueFollows state.log state.queue
+  pub queue_end : end_of state.log state.queue ≡ record { base = state.ended - state.since; count = state.since }
+  pub taken : List Queued
+  pub records : past.standing.records ≡ taken ++ map queued_of state.queue
+
+-- the words
+pub record IsLive (past : Past) (state : State) : Type 0 where
+  pub last : List ℕ
+  pub after_ended : after_ticks state.cells past.history.ticks ≡ Ok last
+  pub live : after_actions last past.history.running ≡ Ok state.content.live
+  pub all : length state.content.live ≡ state.cells
+  pub running : state.running ≡ past.history.running
+
+pub record IsCoreAt (past : Past) (state : State) : Type 0 where
+  pub some_cells : 1 ≤ state.cells
+  pub few_cells : state.cells ≤ CELLS
+  pub keeper_cells : state.images.cells ≡ state.cells
+  pub live : IsLive past state
+  pub counted : IsCounted past state
+  -- what the keepers stand for
+  pub images : ImageFiles
+  pub place : LogPlace
+  pub has_images : HasImages state images
+  pub has_log : HasLog state place
+  pub store : StoreFollowsImages state.cells past.history.ticks state.content images
+  pub phase : HasPhase state.cells past state images place.journal
+  pub at_rest : IsAtRest place.journal state
+  -- what moves and answers tell of them
+  pub is_image_known : past.has_image ≡ is_known images
+  pub start_left : past.standing.start_left ≡ place.left
+  pub image_down : past.standing.is_image_down ≡ is_down state.images.phase
+  pub log_down : past.standing.is_log_down ≡ state.log.down
+  pub round : past.standing.round ≡ option_map (λ (round : Round). round.tick) (round_in images)
+  pub newest : past.standing.newest ≡ newest_tick (newest_in images)

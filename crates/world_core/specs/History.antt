@@ -1,0 +1,61 @@
+-- What moves and their answers tell of ticks: those that ended and stand, the running one, and what is acknowledged.
+use Rattle.std.specs.Prelude.{ℕ, max, List, [], ◌∷◌, ◌++◌, take, Bool, true, false, ◌||◌}
+use Rattle.world_actions.specs.declared.action.Action.{Action}
+use Rattle.action_log.specs.declared.record.LogAnswer.TheVariants as log_answer
+use Rattle.image_files.specs.declared.phase.ImageAnswer.TheVariants as image_answer
+use Rattle.world_core.specs.declared.moves.Move.{Move}
+use Rattle.world_core.specs.declared.moves.Move.TheVariants as move
+use Rattle.world_core.specs.declared.moves.Answer.{Answer}
+use Rattle.world_core.specs.declared.moves.Answer.TheVariants as answer
+
+-- the ended ticks in order, and the running one
+pub record History : Type 0 where
+  pub ticks : List (List Action)
+  pub running : List Action
+
+-- a history in which nothing has happened
+abbrev pub no_history : History
+no_history = record { ticks = []; running = [] }
+
+-- the history after a move and its answer: a recovery keeps the first ticks, and with no image none stays
+abbrev pub history_after : History → Move → Answer → History
+history_after history (move.Act action) answer.Did = record history { running = history.running ++ action ∷ [] }
+history_after history move.End (answer.Ended tick) = record { ticks = history.ticks ++ history.running ∷ []; running = [] }
+history_after history (move.Crash left) (answer.Recovered tick from) = record { ticks = take tick history.ticks; running = [] }
+history_after history (move.Crash left) answer.Blank = no_history
+history_after history asked given = history
+
+-- of moves and their answers, one after another
+abbrev pub history_of : History → List Move → List Answer → History
+history_of history [] answers = history
+history_of history (asked ∷ moves) [] = history
+history_of history (asked ∷ moves) (given ∷ answers) = history_of (history_after history asked given) moves answers
+
+-- the ticks that have ended and stand
+abbrev pub ended : List Move → List Answer → List (List Action)
+ended moves answers = (history_of no_history moves answers).ticks
+
+-- the greatest number in an answered receipt
+abbrev pub acknowledged_after : ℕ → Answer → ℕ
+acknowledged_after number (answer.Log (log_answer.Acked receipt)) = max number receipt
+acknowledged_after number given = number
+
+abbrev pub acknowledged_of : ℕ → List Answer → ℕ
+acknowledged_of number [] = number
+acknowledged_of number (given ∷ answers) = acknowledged_of (acknowledged_after number given) answers
+
+abbrev pub acked : List Answer → ℕ
+acked answers = acknowledged_of 0 answers
+
+-- an image is known to be open durably: Opened was answered, or a crash Recovered
+abbrev pub opens : Answer → Bool
+opens (answer.Image (image_answer.Opened tick)) = true
+opens (answer.Recovered tick from) = true
+opens given = false
+
+abbrev pub opened_of : Bool → List Answer → Bool
+opened_of before [] = before
+opened_of before (given ∷ answers) = opened_of (opens given || before) answers
+
+abbrev pub has_opened : List Answer → Bool
+has_opened answers = opened_of false answers

@@ -1,0 +1,88 @@
+-- What the crates below say of ticks, stores, keepers and recovery, over the files of a core.
+use Rattle.std.specs.Prelude.{◌≡◌, ◌<◌, ◌≤◌, ◌↔◌, ℕ, ◌+◌, List, [], ◌∷◌, ◌++◌, length, Bool, Option, Some, None, IsTrue}
+use Rattle.world_actions.specs.declared.action.Action.{Action}
+use Rattle.world_actions.specs.declared.world.TheConstants.{CELLS}
+use Rattle.world_ticks.specs.declared.tick.TheConstants.{TICK_MAX}
+use Rattle.world_ticks.specs.Tick.{Actions}
+use Rattle.world_ticks.specs.After.{and_then, after_actions}
+use Rattle.file_format.specs.declared.slot.Slot.{Slot}
+use Rattle.capture_core.specs.Content.{Takes}
+use Rattle.disk_model.specs.Disk.{Only}
+use Rattle.disk_model.specs.CrashOutcome.{IsCrashOutcome}
+use Rattle.image_files.specs.declared.phase.Phase.TheVariants.{Idle}
+use Rattle.image_files.specs.Images.{Round, ImageFiles, Images, FirstImages, NoneYet, Newest, newest_in, round_in, with_round}
+use Rattle.image_files.specs.Progress.{Progress as ImageProgress, made_keeper, begun_keeper, cells_taken}
+use Rattle.image_files.specs.Files.{TellsShut, IsTold}
+use Rattle.action_log.specs.declared.record.Record.{Record}
+use Rattle.action_log.specs.declared.record.Record.TheVariants as records
+use Rattle.action_log.specs.declared.progress.Progress.{Progress as LogProgress}
+use Rattle.action_log.specs.declared.format.TheConstants.{SEGMENT_TICKS}
+use Rattle.action_log.specs.Segment.{Segment, IsSegment}
+use Rattle.action_log.specs.Progress.{begun as begun_log, QueueFollows, end_of}
+use Rattle.action_log.specs.Logs.{Logs, Start, LogPlace, InStart, Writing, start_of, start_moves}
+use Rattle.recovery.specs.Events.{TickEnds, MarkIsMade, ImageStepKeeps, LogStepKeeps, ReceiptIsExact, StartRoundBegins, StartImageStepKeeps, StartLogStepKeeps, FirstImageStepKeeps, IsKept}
+use Rattle.recovery.specs.Sound.{IsSound, IsFresh}
+use Rattle.recovery.specs.Start.{IsStarting, FirstFollows}
+use Rattle.recovery.specs.Restart.{SoundRestarts, FreshRestarts}
+use Rattle.restart.specs.Rounds.{MarkFollows, BuiltFollows, WritesFollow, TicksFollow, StepFollows, RoundFollows, FirstRoundFollows, AllAreTaken}
+use Rattle.world_core.specs.State.{File, ImagesIn, LogIn}
+
+pub record EventLaws : Type 0 where
+  pub append : (world : List ℕ) (before after : List Action) → after_actions world (before ++ after) ≡ and_then (after_actions world before) (λ next. after_actions next after)
+  pub tick_ends : TickEnds
+  pub mark : MarkIsMade
+  pub image_step : ImageStepKeeps Takes
+  pub log_step : LogStepKeeps
+  pub receipt : ReceiptIsExact
+  pub round_begins : StartRoundBegins
+  pub start_image_step : StartImageStepKeeps Takes
+  pub start_log_step : StartLogStepKeeps
+  pub first_image_step : FirstImageStepKeeps Takes
+
+pub record QueueLaws : Type 0 where
+  pub begins : (tick : ℕ) (shut_a shut_b : Bool) → QueueFollows (begun_log tick shut_a shut_b) [] × (end_of (begun_log tick shut_a shut_b) [] ≡ record { base = tick; count = 0 })
+  pub tick : (keeper : LogProgress) (queue : List Record) (tick : Actions) → QueueFollows keeper queue
+      → (end_of keeper queue).count < SEGMENT_TICKS → (end_of keeper queue).base + (end_of keeper queue).count < TICK_MAX
+      → QueueFollows keeper (queue ++ records.Tick tick ∷ []) × (end_of keeper (queue ++ records.Tick tick ∷ []) ≡ record { base = (end_of keeper queue).base; count = (end_of keeper queue).count + 1 })
+  pub switch : (keeper : LogProgress) (queue : List Record) (number : ℕ) → QueueFollows keeper queue → (end_of keeper queue).base + (end_of keeper queue).count ≤ number → number ≤ TICK_MAX
+      → QueueFollows keeper (queue ++ records.Switch number ∷ []) × (end_of keeper (queue ++ records.Switch number ∷ []) ≡ record { base = number; count = 0 })
+
+pub record KeeperLaws : Type 0 where
+  pub made : (cells : ℕ) (newest : Option (Slot × ℕ)) (shut_a shut_b : Bool) (images : ImageFiles) (image_a image_b : File) → 1 ≤ cells → cells ≤ CELLS
+      → Only image_a.inner.content (IsCrashOutcome image_a.inner) → Only image_b.inner.content (IsCrashOutcome image_b.inner)
+      → TellsShut shut_a image_a.inner.content → TellsShut shut_b image_b.inner.content → IsTold cells newest images image_a.inner.content image_b.inner.content
+      → ImagesIn (made_keeper cells newest shut_a shut_b) images image_a image_b
+  pub begun : (keeper : ImageProgress) (tick : ℕ) (images : ImageFiles) (image_a image_b : File) → keeper.phase ≡ Idle → tick ≤ TICK_MAX
+      → ImagesIn keeper images image_a image_b → ImagesIn (begun_keeper tick keeper) (with_round tick images) image_a image_b
+  pub newest : (keeper : ImageProgress) (images : ImageFiles) (image_a image_b : File) → ImagesIn keeper images image_a image_b → keeper.newest ≡ newest_in images
+  pub idle : (keeper : ImageProgress) (images : ImageFiles) (image_a image_b : File) → ImagesIn keeper images image_a image_b → keeper.phase ≡ Idle → round_in images ≡ None
+  pub round : (keeper : ImageProgress) (images : ImageFiles) (image_a image_b : File) → ImagesIn keeper images image_a image_b → (keeper.phase ≡ Idle → ⊥)
+      → (round : Round) × (round_in images ≡ Some round) × (round.tick ≡ keeper.tick) × (length round.taken ≡ cells_taken keeper)
+  pub left : (keeper : LogProgress) (log_a log_b : File) (place : LogPlace) → LogIn keeper place log_a log_b → IsTrue keeper.starting ↔ (0 < place.left)
+  pub begins : (tick : ℕ) (shut_a shut_b : Bool) (log_a log_b : File) (before_a before_b : Segment) → tick ≤ TICK_MAX
+      → Only log_a.inner.content (IsCrashOutcome log_a.inner) → Only log_b.inner.content (IsCrashOutcome log_b.inner) → TellsShut shut_a log_a.inner.content → TellsShut shut_b log_b.inner.content
+      → IsSegment log_a.inner.content before_a → IsSegment log_b.inner.content before_b
+      → LogIn (begun_log tick shut_a shut_b) (start_of tick before_a before_b (start_moves shut_a shut_b)) log_a log_b
+
+pub record SafetyLaws : Type 0 where
+  pub after_start : (images : ImageProgress) (logs : LogProgress) (image_a image_b log_a log_b : File) (ticks : List (List Action)) (acknowledged : ℕ) (newest : Images) (current : Logs) (left : ℕ) (queue : List Record)
+      → ImagesIn images (Newest newest) image_a image_b → LogIn logs (record { journal = Writing current; left = left }) log_a log_b → IsKept images.cells ticks acknowledged newest current queue
+      → IsSound (IsCrashOutcome image_a.inner) (IsCrashOutcome image_b.inner) (IsCrashOutcome log_a.inner) (IsCrashOutcome log_b.inner) images.cells ticks acknowledged
+  pub in_start : (images : ImageProgress) (logs : LogProgress) (image_a image_b log_a log_b : File) (ticks : List (List Action)) (acknowledged : ℕ) (newest : Images) (from : ℕ) (start : Start) (left : ℕ)
+      → ImagesIn images (Newest newest) image_a image_b → LogIn logs (record { journal = InStart start; left = left }) log_a log_b → IsStarting images.cells ticks acknowledged newest from start
+      → IsSound (IsCrashOutcome image_a.inner) (IsCrashOutcome image_b.inner) (IsCrashOutcome log_a.inner) (IsCrashOutcome log_b.inner) images.cells ticks acknowledged
+  pub before_image : (images : ImageProgress) (logs : LogProgress) (image_a image_b log_a log_b : File) (first : FirstImages) (start : Start) (left : ℕ)
+      → ImagesIn images (NoneYet first) image_a image_b → LogIn logs (record { journal = InStart start; left = left }) log_a log_b → FirstFollows images.cells first start
+      → IsFresh (IsCrashOutcome image_a.inner) (IsCrashOutcome image_b.inner) (IsCrashOutcome log_a.inner) (IsCrashOutcome log_b.inner) images.cells
+  pub sound : SoundRestarts
+  pub fresh : FreshRestarts
+
+pub record StoreLaws : Type 0 where
+  pub mark : MarkFollows
+  pub built : BuiltFollows
+  pub writes : WritesFollow
+  pub ticks : TicksFollow
+  pub step : StepFollows
+  pub round : RoundFollows
+  pub first_round : FirstRoundFollows
+  pub all_taken : AllAreTaken

@@ -1,0 +1,11 @@
+pub mod History
+pub mod Standing
+pub mod Past
+pub mod State
+pub mod Starting
+pub mod Moving
+pub mod Exact
+pub mod Facts
+pub mod Headline
+pub mod Repeating
+pub mod Laws

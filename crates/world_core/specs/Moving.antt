@@ -1,0 +1,104 @@
+-- What each move does to the state of a core.
+use Rattle.std.specs.Prelude.{◌≡◌, ◌↔◌, ◌⊎◌, ◌<◌, Option, Some, None, ℕ, ◌+◌, List, [], ◌∷◌, ◌++◌, length, true, false, ◌&&◌, Ok}
+use Rattle.world_actions.specs.declared.action.Action.{Action}
+use Rattle.world_actions.specs.Effect.{writes_of}
+use Rattle.world_ticks.specs.Tick.{Actions, decision}
+use Rattle.capture_core.specs.Content.{content_after, Marks, Takes, Covers}
+use Rattle.disk_model.specs.Disk.{last_count}
+use Rattle.image_files.specs.declared.phase.Phase.TheVariants.{Idle, Down}
+use Rattle.image_files.specs.declared.phase.ImageAnswer.{ImageAnswer}
+use Rattle.image_files.specs.declared.phase.ImageAnswer.TheVariants as image_answer
+use Rattle.image_files.specs.Progress.{begun_keeper, opened_keeper, left_of, cells_taken}
+use Rattle.image_files.specs.Steps.{IfOpened, OnWorking}
+use Rattle.image_files.specs.Images.{ImageFiles, StepsImages}
+use Rattle.action_log.specs.declared.phase.Phase.TheVariants.{Ready}
+use Rattle.action_log.specs.declared.record.LogAnswer.{LogAnswer}
+use Rattle.action_log.specs.declared.record.LogAnswer.TheVariants as log_answer
+use Rattle.action_log.specs.declared.record.Record.TheVariants as records
+use Rattle.action_log.specs.Progress.{QueueFollows, end_of, work_of, answer_of, stepped, taken}
+use Rattle.action_log.specs.Logs.{LogPlace}
+use Rattle.action_log.specs.LogSteps.{JournalStep}
+use Rattle.world_core.specs.declared.moves.Fate.{Fate}
+use Rattle.world_core.specs.declared.moves.Fate.TheVariants as fate_
+use Rattle.world_core.specs.declared.moves.Move.{Move}
+use Rattle.world_core.specs.declared.moves.Move.TheVariants as move
+use Rattle.world_core.specs.declared.moves.Answer.{Answer}
+use Rattle.world_core.specs.declared.moves.Answer.TheVariants as answer
+use Rattle.world_core.specs.State.{File, State, HasImages, HasLog, failures, HasFailed, is_in_round}
+use Rattle.world_core.specs.Starting.{StandsOn}
+
+-- an action is done
+pub record DoesAction (old : State) (action : Action) (new : State) : Type 0 where
+  pub decided : decision old.content.live old.running action ≡ Ok new.content.live
+  pub content : new.content ≡ content_after old.content (writes_of old.content.live action)
+  pub rest : new ≡ record old { content = new.content; running = old.running ++ action ∷ [] }
+  pub cells : length new.content.live ≡ length old.content.live
+  pub covers : (image : List ℕ) → Covers image old.content → Covers image new.content
+
+-- the running tick ends, and is queued
+abbrev pub EndsTick : (old new : State) → Type 0
+EndsTick old new = (tick : Actions) × (tick.list ≡ old.running)
+    × (new ≡ record old { running = []; ended = old.ended + 1; since = old.since + 1; queue = old.queue ++ records.Tick tick ∷ [] })
+
+-- the store is marked, and the round of the ended ticks begins
+abbrev pub BeginsRound : (old new : State) → Type 0
+BeginsRound old new = Marks old.content new.content
+    × (new ≡ record old { content = new.content; since = 0; images = begun_keeper old.ended old.images; queue = old.queue ++ records.Switch old.ended ∷ [] })
+
+-- how many calls of a file go as it lets them before one fails
+abbrev pub calls_before_failure : Fate → Option ℕ
+calls_before_failure fate_.Done = None
+calls_before_failure fate_.Failed = Some 0
+
+-- Which calls of two files fail: with Done none but by the file itself; with Failed the one that is made, as long as its
+-- failures can be counted.
+abbrev pub FailsBy : Fate → (is_down : Type 0) → (a b new_a new_b : File) → Type 0
+FailsBy fate_.Done is_down a b new_a new_b = (new_a.faults ≡ a.faults) × (new_b.faults ≡ b.faults)
+FailsBy fate_.Failed is_down a b new_a new_b =
+    failures a < last_count → failures b < last_count → is_down ⊎ ((new_a ≡ a) × (new_b ≡ b))
+
+-- a step of the image keeper
+pub record StepsImageKeeper (fate : Fate) (old : State) (given : ImageAnswer) (new : State) : Type 0 where
+  pub rest : new ≡ record old { content = new.content; images = new.images; image_a = new.image_a; image_b = new.image_b }
+  pub stands : (images : ImageFiles) → HasImages old images → (next : ImageFiles) × HasImages new next × StepsImages Takes old.images.cells images given next old.content new.content
+  pub cells : new.images.cells ≡ old.images.cells
+  pub idle : (given ≡ image_answer.Idle) ↔ (old.images.phase ≡ Idle)
+  pub down : (given ≡ image_answer.Down) ↔ (new.images.phase ≡ Down)
+  pub stays_down : old.images.phase ≡ Down → given ≡ image_answer.Down
+  pub cause : given ≡ image_answer.Down → (old.images.phase ≡ Down) ⊎ HasFailed old.image_a new.image_a old.image_b new.image_b
+  pub fails : FailsBy fate (given ≡ image_answer.Down) old.image_a old.image_b new.image_a new.image_b
+  -- it goes on, but where a take gave no cell with cells still to be taken
+  pub working : OnWorking given ((left_of new.images < left_of old.images) ⊎ ((cells_taken old.images < old.images.cells) × Takes old.content None new.content))
+  pub opened : IfOpened given (new.images ≡ opened_keeper old.images) (Unit {0})
+
+-- a step of the log keeper
+pub record StepsLogKeeper (fate : Fate) (old : State) (given : LogAnswer) (new : State) : Type 0 where
+  pub rest : new ≡ record old { queue = new.queue; log = new.log; log_a = new.log_a; log_b = new.log_b }
+  pub answer : given ≡ answer_of old.log old.queue new.log.down
+  pub keeper : new.log ≡ stepped old.log old.queue new.log.down
+  pub front : old.queue ≡ taken old.log old.queue ++ new.queue
+  pub stands : (place : LogPlace) → HasLog old place → (next : LogPlace) × HasLog new next × JournalStep place old.queue given next new.queue
+  pub follows : QueueFollows new.log new.queue
+  pub end : end_of new.log new.queue ≡ end_of old.log old.queue
+  pub idle : (given ≡ log_answer.Idle) ↔ ((old.log.down ≡ false) × (old.log.phase ≡ Ready) × (old.queue ≡ []))
+  pub down : (given ≡ log_answer.Down) ↔ (new.log.down ≡ true)
+  pub stays_down : old.log.down ≡ true → given ≡ log_answer.Down
+  pub cause : given ≡ log_answer.Down → (old.log.down ≡ true) ⊎ HasFailed old.log_a new.log_a old.log_b new.log_b
+  pub fails : FailsBy fate (given ≡ log_answer.Down) old.log_a old.log_b new.log_a new.log_b
+  pub lowers : new.log.down ≡ false → 0 < work_of old.log old.queue → work_of new.log new.queue < work_of old.log old.queue
+
+-- the log's part of a start waits for the image
+abbrev pub Waits : State → Type 0
+Waits state = (state.log.starting && is_in_round state.images.phase) ≡ true
+
+-- what a move does to the state by its answer: a refused move nothing, nor a read, nor a Log move that waits
+abbrev pub Does : Move → (old : State) → Answer → (new : State) → Type 0
+Does (move.Act action) old answer.Did new = DoesAction old action new
+Does move.End old (answer.Ended tick) new = EndsTick old new
+Does move.Mark old (answer.Started tick) new = BeginsRound old new
+Does (move.Image fate) old (answer.Image given) new = StepsImageKeeper fate old given new
+Does (move.Log fate) old (answer.Log given) new = (Waits old × (given ≡ log_answer.Idle) × (new ≡ old)) ⊎ StepsLogKeeper fate old given new
+Does (move.Crash left) old (answer.Recovered tick from) new =
+    StandsOn old.cells left.image_a.items left.image_b.items left.log_a.items left.log_b.items (answer.Recovered tick from) new
+Does (move.Crash left) old answer.Blank new = StandsOn old.cells left.image_a.items left.image_b.items left.log_a.items left.log_b.items answer.Blank new
+Does asked old given new = new ≡ old

@@ -1,0 +1,111 @@
+-- Moves of one keeper until it is idle or down, and the start, which is such moves of both.
+use Rattle.std.specs.Prelude.{◌≡◌, ℕ, ◌+◌, ◌≤◌, List, [], ◌∷◌, ◌++◌, length, replicate}
+use Rattle.disk_model.specs.declared.leaving.Leaving.{Leaving}
+use Rattle.disk_model.specs.Leaving.{left_by}
+use Rattle.disk_model.specs.FileState.{FileState}
+use Rattle.image_files.specs.declared.phase.ImageAnswer.{ImageAnswer}
+use Rattle.image_files.specs.declared.phase.ImageAnswer.TheVariants as image_answer
+use Rattle.image_files.specs.Progress.{left_of}
+use Rattle.action_log.specs.declared.record.LogAnswer.{LogAnswer}
+use Rattle.action_log.specs.declared.record.LogAnswer.TheVariants as log_answer
+use Rattle.action_log.specs.Progress.{work_of}
+use Rattle.world_core.specs.declared.moves.Fate.{Fate}
+use Rattle.world_core.specs.declared.moves.Fate.TheVariants.{Done}
+use Rattle.world_core.specs.declared.moves.Move.{Move}
+use Rattle.world_core.specs.declared.moves.Move.TheVariants as move
+use Rattle.world_core.specs.declared.moves.Remains.{Remains}
+use Rattle.world_core.specs.declared.moves.FileName.{FileName}
+use Rattle.world_core.specs.declared.moves.FileName.TheVariants.{ImageA, ImageB, LogA, LogB}
+use Rattle.world_core.specs.declared.moves.Answer.{Answer}
+use Rattle.world_core.specs.declared.moves.Answer.TheVariants as answer
+use Rattle.world_core.specs.Past.{Past, past_of}
+use Rattle.world_core.specs.State.{State}
+use Rattle.world_core.specs.Facts.{IsCoreAt}
+use Rattle.world_core.specs.Headline.{Runs}
+
+-- the keeper goes on after this answer
+abbrev pub GoesOn : Answer → Type 0
+GoesOn (answer.Image image_answer.Working) = Unit {0}
+GoesOn (answer.Image (image_answer.Opened tick)) = Unit {0}
+GoesOn (answer.Log log_answer.Working) = Unit {0}
+GoesOn (answer.Log (log_answer.Acked number)) = Unit {0}
+GoesOn given = ⊥
+
+-- after each of these
+abbrev pub AllGoOn : List Answer → Type 0
+AllGoOn [] = Unit {0}
+AllGoOn (given ∷ answers) = GoesOn given × AllGoOn answers
+
+-- what is told after this answer: an opened image or a receipt is news
+abbrev pub told_by : Answer → Answer → Answer
+told_by told (answer.Image (image_answer.Opened tick)) = answer.Image (image_answer.Opened tick)
+told_by told (answer.Log (log_answer.Acked number)) = answer.Log (log_answer.Acked number)
+told_by told given = told
+
+abbrev pub told_of : Answer → List Answer → Answer
+told_of told [] = told
+told_of told (given ∷ answers) = told_of (told_by told given) answers
+
+-- what is told in the end: Down, or with Idle the last news
+abbrev pub IsToldAtEnd : (last told result : Answer) → Type 0
+IsToldAtEnd (answer.Image image_answer.Idle) told result = result ≡ told
+IsToldAtEnd (answer.Image image_answer.Down) told result = result ≡ answer.Image image_answer.Down
+IsToldAtEnd (answer.Log log_answer.Idle) told result = result ≡ told
+IsToldAtEnd (answer.Log log_answer.Down) told result = result ≡ answer.Log log_answer.Down
+IsToldAtEnd last told result = ⊥
+
+-- the same move again and again, until its keeper is idle or down
+pub record AreRepeats (asked : Move) (moves : List Move) (answers : List Answer) (idle result : Answer) : Type 0 where
+  pub front : List Answer
+  pub last : Answer
+  pub moves_are : moves ≡ replicate (length front + 1) asked
+  pub answers_are : answers ≡ front ++ last ∷ []
+  pub going : AllGoOn front
+  pub told : IsToldAtEnd last (told_of idle front) result
+
+-- moves lead from a core of this past to one of that past
+pub record RunsOn (past : Past) (old : State) (moves : List Move) (answers : List Answer) (next : Past) (new : State) : Type 0 where
+  pub runs : Runs past old moves answers new
+  pub next_is : next ≡ past_of past moves answers
+  pub stands : IsCoreAt next new
+
+-- one move is made at most so often, and one time more, until its keeper is idle or down
+pub record Repeats (asked : Move) (idle : Answer) (most : ℕ) (past : Past) (old : State) (told : Answer) (next : Past) (new : State) : Type 0 where
+  pub moves : List Move
+  pub answers : List Answer
+  pub all : AreRepeats asked moves answers idle told
+  pub few : length moves ≤ most + 1
+  pub on : RunsOn past old moves answers next new
+
+-- steps of the image keeper: no more than the open round has left, and one
+abbrev pub RepeatsImages : Fate → Past → State → (told : ImageAnswer) → Past → State → Type 0
+RepeatsImages fate past old told next new = Repeats (move.Image fate) (answer.Image image_answer.Idle) (left_of old.images) past old (answer.Image told) next new
+
+-- steps of the log keeper: no more than its job and its queue want, and one
+abbrev pub RepeatsLog : Fate → Past → State → (told : LogAnswer) → Past → State → Type 0
+RepeatsLog fate past old told next new = Repeats (move.Log fate) (answer.Log log_answer.Idle) (work_of old.log old.queue) past old (answer.Log told) next new
+
+-- a start: steps of the image keeper, and then of the log keeper
+pub record RunsStart (past : Past) (old : State) (next : Past) (new : State) : Type 0 where
+  pub image_told : ImageAnswer
+  pub log_told : LogAnswer
+  pub mid_past : Past
+  pub mid : State
+  pub images : RepeatsImages Done past old image_told mid_past mid
+  pub log : RepeatsLog Done mid_past mid log_told next new
+
+-- ---- files
+
+-- the file of this name
+abbrev pub file_in : FileName → State → FileState
+file_in ImageA state = state.image_a.inner
+file_in ImageB state = state.image_b.inner
+file_in LogA state = state.log_a.inner
+file_in LogB state = state.log_b.inner
+
+-- what a crash that leaves so leaves of each file
+pub record AreLeft (leaving : Leaving) (state : State) (left : Remains) : Type 0 where
+  pub image_a : left.image_a.items ≡ left_by leaving state.image_a.inner
+  pub image_b : left.image_b.items ≡ left_by leaving state.image_b.inner
+  pub log_a : left.log_a.items ≡ left_by leaving state.log_a.inner
+  pub log_b : left.log_b.items ≡ left_by leaving state.log_b.inner

@@ -1,0 +1,94 @@
+-- What contracts see of a core's parts.
+use Rattle.std.specs.Prelude.{◌⊎◌, ℕ, List, Bool, true, false, Option, Some, None, min}
+use Rattle.world_actions.specs.declared.action.Action.{Action}
+use Rattle.capture_core.specs.Content.{Content}
+use Rattle.disk_model.specs.Disk.{last_count, Grew}
+use Rattle.disk_model.specs.FileState.{FileState}
+use Rattle.disk_model.specs.Fused.{Fuse, fault_count}
+use Rattle.disk_model.specs.CrashOutcome.{IsCrashOutcome}
+use Rattle.file_format.specs.declared.slot.Slot.{Slot}
+use Rattle.image_files.specs.declared.phase.Phase.{Phase}
+use Rattle.image_files.specs.declared.phase.Phase.TheVariants.{Idle, Closing, ClosingSync, Header, Taking, Reading, Writing, BodySync, Opening, OpeningSync, Down}
+use Rattle.image_files.specs.Images.{ImageFiles}
+use Rattle.image_files.specs.Files.{Stands as ImagesStand}
+use Rattle.image_files.specs.Progress.{Progress as ImageProgress}
+use Rattle.action_log.specs.declared.progress.Progress.{Progress as LogProgress}
+use Rattle.action_log.specs.declared.record.Record.{Record}
+use Rattle.action_log.specs.Logs.{LogPlace}
+use Rattle.action_log.specs.Stands.{Stands as LogStands}
+
+-- a file in memory whose calls can be let fail
+abbrev pub File : Type 0
+File = Fuse FileState
+
+-- the store, the actions of the running tick, how many ticks have ended, and how many since the last mark or start; the
+-- records that wait for the log; the two keepers, and the four files
+pub record State : Type 0 where
+  pub cells : ℕ
+  pub content : Content
+  pub running : List Action
+  pub ended : ℕ
+  pub since : ℕ
+  pub queue : List Record
+  pub images : ImageProgress
+  pub log : LogProgress
+  pub image_a : File
+  pub image_b : File
+  pub log_a : File
+  pub log_b : File
+
+-- a call of the image keeper failed
+abbrev pub is_down : Phase → Bool
+is_down Idle = false
+is_down Closing = false
+is_down ClosingSync = false
+is_down Header = false
+is_down Taking = false
+is_down Reading = false
+is_down Writing = false
+is_down BodySync = false
+is_down Opening = false
+is_down OpeningSync = false
+is_down Down = true
+
+-- a round is in work, or was when a call failed
+abbrev pub is_in_round : Phase → Bool
+is_in_round Idle = false
+is_in_round Closing = true
+is_in_round ClosingSync = true
+is_in_round Header = true
+is_in_round Taking = true
+is_in_round Reading = true
+is_in_round Writing = true
+is_in_round BodySync = true
+is_in_round Opening = true
+is_in_round OpeningSync = true
+is_in_round Down = true
+
+-- the tick of the newest image, 0 before the first
+abbrev pub newest_tick : Option (Slot × ℕ) → ℕ
+newest_tick None = 0
+newest_tick (Some image) = image.1
+
+-- how often a call of a file failed
+abbrev pub failures : File → ℕ
+failures file = fault_count (λ (below : FileState). min below.faults last_count) file
+
+-- a call of one of two files failed
+abbrev pub HasFailed : (one_before one_after other_before other_after : File) → Type 0
+HasFailed one_before one_after other_before other_after = Grew (failures one_before) (failures one_after) ⊎ Grew (failures other_before) (failures other_after)
+
+-- what an image keeper and its files stand for
+abbrev pub ImagesIn : ImageProgress → ImageFiles → (image_a image_b : File) → Type 0
+ImagesIn keeper images image_a image_b =
+    ImagesStand keeper images image_a.inner.content image_b.inner.content (IsCrashOutcome image_a.inner) (IsCrashOutcome image_b.inner)
+
+abbrev pub HasImages : State → ImageFiles → Type 0
+HasImages state images = ImagesIn state.images images state.image_a state.image_b
+
+-- what a log keeper and its files stand for
+abbrev pub LogIn : LogProgress → LogPlace → (log_a log_b : File) → Type 0
+LogIn keeper place log_a log_b = LogStands keeper log_a.inner.content log_b.inner.content (IsCrashOutcome log_a.inner) (IsCrashOutcome log_b.inner) place
+
+abbrev pub HasLog : State → LogPlace → Type 0
+HasLog state place = LogIn state.log place state.log_a state.log_b

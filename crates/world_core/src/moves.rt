@@ -1,0 +1,96 @@
+use action_log::LogAnswer;
+use image_files::ImageAnswer;
+use std::alloc::Global;
+use world_actions::{Action, Refusal};
+
+/// What becomes of the device call that a move makes, if it makes one.
+#[derive(Clone, Copy, Debug, PartialEq, Eq)]
+pub enum Fate {
+    /// The call goes as the device lets it.
+    Done,
+    /// The call fails.
+    Failed,
+}
+
+/// One thing that a core may be asked to do.
+#[derive(Drop)]
+pub enum Move {
+    /// An action of the running tick.
+    Act(Action),
+    /// The word of a cell.
+    Get(u32),
+    /// The end of the running tick.
+    End,
+    /// Opens a round: the words as they are now are to be written as an image.
+    Mark,
+    /// A step of the image keeper: a take, or at most one call of a device.
+    Image(Fate),
+    /// A step of the log keeper: at most one call of a device.
+    Log(Fate),
+    /// A crash that leaves these bytes of the four files, and the restart.
+    Crash(Remains),
+}
+
+/// One of the four files.
+#[derive(Clone, Copy, Debug, PartialEq, Eq)]
+pub enum FileName {
+    /// image.a
+    ImageA,
+    /// image.b
+    ImageB,
+    /// log.a
+    LogA,
+    /// log.b
+    LogB,
+}
+
+/// What a crash leaves of the four files.
+#[derive(Drop)]
+pub struct Remains {
+    pub image_a: Vec<u8>,
+    pub image_b: Vec<u8>,
+    pub log_a: Vec<u8>,
+    pub log_b: Vec<u8>,
+}
+
+impl Remains {
+    ghost use Rattle.std.specs.Prelude.{◌≡◌, []};
+
+    /// Four empty files.
+    pub fn none(alloc: Global) -> Self
+        ensures image_a { result.image_a.items ≡ [] }
+        ensures image_b { result.image_b.items ≡ [] }
+        ensures log_a { result.log_a.items ≡ [] }
+        ensures log_b { result.log_b.items ≡ [] }
+    {
+        Remains {
+            image_a: Vec::new(alloc),
+            image_b: Vec::new(alloc),
+            log_a: Vec::new(alloc),
+            log_b: Vec::new(alloc),
+        }
+    }
+}
+
+/// What is answered to one move.
+#[derive(Clone, Copy, Debug, PartialEq, Eq)]
+pub enum Answer {
+    /// The action was accepted.
+    Did,
+    /// The word of a cell.
+    Word(u64),
+    /// The running tick has ended, with this number.
+    Ended(u64),
+    /// A round of this tick is open.
+    Started(u64),
+    /// What came of a step of the image keeper.
+    Image(ImageAnswer),
+    /// What came of a step of the log keeper.
+    Log(LogAnswer),
+    /// The world after this tick stands, built from the image of that one.
+    Recovered { tick: u64, from: u64 },
+    /// No image stands: the world is of zeros at tick 0.
+    Blank,
+    /// The move was refused, and nothing changed.
+    Refused(Refusal),
+}

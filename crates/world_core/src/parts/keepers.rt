@@ -1,0 +1,56 @@
+ghost use Rattle.std.specs.Prelude.{◌≡◌};
+ghost use Rattle.image_files.specs.Images.{ImageFiles};
+ghost use Rattle.action_log.specs.Logs.{LogPlace};
+ghost use Rattle.action_log.specs.Progress.{QueueFollows};
+ghost use Rattle.world_core.specs.State.{HasImages, HasLog};
+ghost use Rattle.world_core.specs.Moving.{calls_before_failure, StepsImageKeeper, StepsLogKeeper};
+
+use crate::moves::Fate;
+use crate::parts::Parts;
+use action_log::LogAnswer;
+use capture_core::Capture;
+use disk_model::{Fused, ModelFile};
+use image_files::ImageAnswer;
+
+impl<C: Capture> Parts<C> {
+    /// A step of the image keeper, whose call of a device fails where that is asked.
+    pub fn move_images(&mut self, fate: Fate) -> ImageAnswer
+        requires { (images : ImageFiles) × HasImages self.old images }
+        ensures steps { StepsImageKeeper fate self.old result self.new }
+    {
+        arm(&mut self.image_a, fate);
+        arm(&mut self.image_b, fate);
+        let answer = self
+            .images
+            .step_files(&mut self.store, &mut self.image_a, &mut self.image_b);
+        self.image_a.disarm();
+        self.image_b.disarm();
+        answer
+    }
+
+    /// A step of the log keeper, whose call of a device fails where that is asked.
+    pub fn move_log(&mut self, fate: Fate) -> LogAnswer
+        requires stands { (place : LogPlace) × HasLog self.old place }
+        requires queue { QueueFollows self.old.log self.old.queue }
+        ensures steps { StepsLogKeeper fate self.old result self.new }
+    {
+        arm(&mut self.log_a, fate);
+        arm(&mut self.log_b, fate);
+        let answer = self
+            .log
+            .step(&mut self.queue, &mut self.log_a, &mut self.log_b);
+        self.log_a.disarm();
+        self.log_b.disarm();
+        answer
+    }
+}
+
+// Lets the next call of a file fail, where that is asked.
+fn arm(file: &mut Fused<ModelFile>, fate: Fate)
+    ensures { file.new ≡ record file.old { left = calls_before_failure fate } }
+{
+    match fate {
+        Fate::Done => file.disarm(),
+        Fate::Failed => file.arm(1),
+    }
+}

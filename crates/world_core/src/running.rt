@@ -1,0 +1,50 @@
+ghost use Rattle.std.specs.Prelude.{◌≡◌, ◌≤◌, IfOk, IfErr};
+ghost use Rattle.world_actions.specs.declared.world.TheConstants.{CELLS};
+ghost use Rattle.world_core.specs.Past.{fresh_past};
+ghost use Rattle.world_core.specs.State.{State};
+ghost use Rattle.world_core.specs.Starting.{BeginsFresh};
+ghost use Rattle.world_core.specs.Headline.{Headline, Runs, HasRun};
+
+use crate::laws::safety_laws;
+use crate::moves::{Answer, Move};
+use crate::world_core::Core;
+use capture_core::Capture;
+use std::alloc::Global;
+use world_actions::Refusal;
+
+/// Runs moves over a fresh world: the answers, one for each, and the core after them. Whatever a crash
+/// leaves of its files then, recovery gives the world after the first ended ticks, all acknowledged ones
+/// among them, and each open image is the world after exactly its tick.
+pub fn run<C: Capture>(
+    alloc: Global,
+    cells: u32,
+    moves: Vec<Move>,
+) -> Result<(Vec<Answer>, Core<C>), Refusal>
+    requires { (1 ≤ cells) × (cells ≤ CELLS) }
+    ensures headline { IfOk result (λ r. Headline moves.items r.0.items r.1) }
+    ensures cells { IfOk result (λ r. r.1.cells ≡ cells) }
+    ensures answers { IfOk result (λ r. (first : State) × BeginsFresh cells first
+        × Runs fresh_past first moves.items r.0.items r.1) }
+    ensures memory { IfErr result (λ refusal. refusal ≡ Refusal.NoMemory) }
+{
+    safety_laws();
+    run_all(alloc, cells, moves)
+}
+
+fn run_all<C: Capture>(
+    alloc: Global,
+    cells: u32,
+    moves: Vec<Move>,
+) -> Result<(Vec<Answer>, Core<C>), Refusal>
+    requires { (1 ≤ cells) × (cells ≤ CELLS) }
+    ensures has_run { IfOk result (λ r. HasRun cells moves.items r.0.items r.1) }
+    ensures memory { IfErr result (λ refusal. refusal ≡ Refusal.NoMemory) }
+{
+    let mut core = Core::fresh(alloc, cells)?;
+    let mut answers = Vec::new(alloc);
+    for asked in moves {
+        let given = core.step(asked);
+        answers.push(given)?;
+    }
+    Ok((answers, core))
+}

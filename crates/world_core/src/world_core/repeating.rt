@@ -1,0 +1,56 @@
+ghost use Rattle.world_core.specs.Past.{Past};
+ghost use Rattle.world_core.specs.Facts.{IsCoreAt};
+ghost use Rattle.world_core.specs.Repeating.{RepeatsImages, RepeatsLog, RunsStart};
+
+use crate::moves::Fate;
+use crate::world_core::Core;
+use action_log::LogAnswer;
+use capture_core::Capture;
+use image_files::ImageAnswer;
+
+impl<C: Capture> Core<C> {
+    /// Steps of the image keeper until it is idle or down: `Down`, or the last image that was opened, or
+    /// `Idle` where none was.
+    pub fn run_images(&mut self, fate: Fate) -> ImageAnswer
+        ensures repeats { (past : Past) → IsCoreAt past self.old
+            → (next : Past) × RepeatsImages fate past self.old result next self.new }
+    {
+        let mut told = ImageAnswer::Idle;
+        loop {
+            let given = self.image(fate);
+            match given {
+                ImageAnswer::Idle => return told,
+                ImageAnswer::Working => {}
+                ImageAnswer::Opened(_) => told = given,
+                ImageAnswer::Down => return given,
+            }
+        }
+    }
+
+    /// Steps of the log keeper until it is idle or down: `Down`, or the last receipt, or `Idle` where
+    /// there was none.
+    pub fn run_log(&mut self, fate: Fate) -> LogAnswer
+        ensures repeats { (past : Past) → IsCoreAt past self.old
+            → (next : Past) × RepeatsLog fate past self.old result next self.new }
+    {
+        let mut told = LogAnswer::Idle;
+        loop {
+            let given = self.log(fate);
+            match given {
+                LogAnswer::Idle => return told,
+                LogAnswer::Working => {}
+                LogAnswer::Acked(_) => told = given,
+                LogAnswer::Down => return given,
+            }
+        }
+    }
+
+    /// Runs the start to its end, or until a keeper is down.
+    pub fn run_start(&mut self)
+        ensures starts { (past : Past) → IsCoreAt past self.old
+            → (next : Past) × RunsStart past self.old next self.new }
+    {
+        self.run_images(Fate::Done);
+        self.run_log(Fate::Done);
+    }
+}
