@@ -10,3 +10,4 @@ pub mod Crashing
 pub mod Recovering
 pub mod Headline
 pub mod Repeating
+pub mod Settling

@@ -46,7 +46,7 @@ work_in HeaderSync shut queue h = omega arith
 work_in Opening shut queue h = omega arith
 work_in OpeningSync shut queue h = omega arith
 
-no_work : (keeper : Progress) (queue : List Record) → keeper.phase ≡ Ready → queue ≡ [] → work_of keeper queue ≡ 0
+pub no_work : (keeper : Progress) (queue : List Record) → keeper.phase ≡ Ready → queue ≡ [] → work_of keeper queue ≡ 0
 no_work keeper queue ready empty = λ i. rest_in (ready i) keeper.other_shut + queue_work (empty i)
 
 module _ (old new : State) (fate : Fate) (given : LogAnswer) (d : StepsLogKeeper fate old given new) (live : given ≡ given_.Down → ⊥) where

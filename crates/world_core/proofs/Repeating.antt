@@ -37,7 +37,7 @@ all_more : (front : List Answer) (given : Answer) → AllGoOn front → GoesOn g
 all_more [] given h g = (g, tt)
 all_more (first ∷ front) given h g = (h.0, all_more front given h.1 g)
 
-replicate_more : (asked : Move) (front : List Answer) (given : Answer) → replicate (length front) asked ++ asked ∷ [] ≡ replicate (length (front ++ given ∷ [])) asked
+pub replicate_more : (asked : Move) (front : List Answer) (given : Answer) → replicate (length front) asked ++ asked ∷ [] ≡ replicate (length (front ++ given ∷ [])) asked
 replicate_more asked [] given = refl
 replicate_more asked (first ∷ front) given = ap (λ l. asked ∷ l) (replicate_more asked front given)
 

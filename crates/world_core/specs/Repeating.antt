@@ -1,5 +1,5 @@
 -- Moves of one keeper until it is idle or down, and the start, which is such moves of both.
-use Rattle.std.specs.Prelude.{◌≡◌, ℕ, ◌+◌, ◌≤◌, List, [], ◌∷◌, ◌++◌, length, replicate}
+use Rattle.std.specs.Prelude.{◌≡◌, ◌⊎◌, ℕ, ◌+◌, ◌≤◌, true, false, None, List, [], ◌∷◌, ◌++◌, length, replicate}
 use Rattle.disk_model.specs.declared.leaving.Leaving.{Leaving}
 use Rattle.disk_model.specs.Leaving.{left_by}
 use Rattle.disk_model.specs.FileState.{FileState}
@@ -18,6 +18,7 @@ use Rattle.world_core.specs.declared.moves.FileName.{FileName}
 use Rattle.world_core.specs.declared.moves.FileName.TheVariants.{ImageA, ImageB, LogA, LogB}
 use Rattle.world_core.specs.declared.moves.Answer.{Answer}
 use Rattle.world_core.specs.declared.moves.Answer.TheVariants as answer
+use Rattle.world_core.specs.Standing.{Standing, is_starting, is_log_waiting}
 use Rattle.world_core.specs.Past.{Past, past_of}
 use Rattle.world_core.specs.State.{State}
 use Rattle.world_core.specs.Facts.{IsCoreAt}
@@ -93,6 +94,21 @@ pub record RunsStart (past : Past) (old : State) (next : Past) (new : State) : T
   pub mid : State
   pub images : RepeatsImages Done past old image_told mid_past mid
   pub log : RepeatsLog Done mid_past mid log_told next new
+
+-- ---- when they have ended
+
+-- no round is open, or the image keeper is down
+abbrev pub ImagesSettled : Standing → Type 0
+ImagesSettled standing = (standing.round ≡ None) ⊎ (standing.is_image_down ≡ true)
+
+-- the log keeper is down, or waits for the start's image, or has no work and isn't in a start
+abbrev pub LogSettled : Standing → State → Type 0
+LogSettled standing state =
+    (standing.is_log_down ≡ true) ⊎ ((is_log_waiting standing ≡ true) ⊎ ((work_of state.log state.queue ≡ 0) × (is_starting standing ≡ false)))
+
+-- the start has ended, or a keeper is down
+abbrev pub StartSettled : Standing → Type 0
+StartSettled standing = (is_starting standing ≡ false) ⊎ ((standing.is_image_down ≡ true) ⊎ (standing.is_log_down ≡ true))
 
 -- ---- files
 

@@ -1,6 +1,6 @@
 ghost use Rattle.world_core.specs.Past.{Past};
 ghost use Rattle.world_core.specs.Facts.{IsCoreAt};
-ghost use Rattle.world_core.specs.Repeating.{RepeatsImages, RepeatsLog, RunsStart};
+ghost use Rattle.world_core.specs.Repeating.{RepeatsImages, RepeatsLog, RunsStart, ImagesSettled, LogSettled, StartSettled};
 
 use crate::moves::Fate;
 use crate::world_core::Core;
@@ -13,7 +13,8 @@ impl<C: Capture> Core<C> {
     /// `Idle` where none was.
     pub fn run_images(&mut self, fate: Fate) -> ImageAnswer
         ensures repeats { (past : Past) → IsCoreAt past self.old
-            → (next : Past) × RepeatsImages fate past self.old result next self.new }
+            → (next : Past) × RepeatsImages fate past self.old result next self.new
+            × ImagesSettled next.standing }
     {
         let mut told = ImageAnswer::Idle;
         loop {
@@ -31,7 +32,8 @@ impl<C: Capture> Core<C> {
     /// there was none.
     pub fn run_log(&mut self, fate: Fate) -> LogAnswer
         ensures repeats { (past : Past) → IsCoreAt past self.old
-            → (next : Past) × RepeatsLog fate past self.old result next self.new }
+            → (next : Past) × RepeatsLog fate past self.old result next self.new
+            × LogSettled next.standing self.new }
     {
         let mut told = LogAnswer::Idle;
         loop {
@@ -48,7 +50,7 @@ impl<C: Capture> Core<C> {
     /// Runs the start to its end, or until a keeper is down.
     pub fn run_start(&mut self)
         ensures starts { (past : Past) → IsCoreAt past self.old
-            → (next : Past) × RunsStart past self.old next self.new }
+            → (next : Past) × RunsStart past self.old next self.new × StartSettled next.standing }
     {
         self.run_images(Fate::Done);
         self.run_log(Fate::Done);

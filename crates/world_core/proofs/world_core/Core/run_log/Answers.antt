@@ -4,18 +4,23 @@ use Rattle.action_log.specs.Progress.{work_of}
 use Rattle.world_core.specs.declared.moves.Move.TheVariants as move
 use Rattle.world_core.specs.declared.moves.Answer.TheVariants as answer
 use Rattle.world_core.proofs.Repeating.{SoFar, as_log, step_goes_on, step_ends}
+use Rattle.world_core.proofs.Settling.{log_settles}
 use Rattle.world_core.proofs.world_core.Core.run_log.Goals as goal
 
 pub returns-in-Idle : goal.returns-in-Idle
 returns-in-Idle g c = record {
-  repeats = λ past h. step_ends (move.Log c.args.fate) (answer.Log log_answer.Idle) (work_of c.args.self.now.log c.args.self.now.queue) (work_of c.loop-told.self.log c.loop-told.self.queue) past c.args.self.now (answer.Log c.loop-told.told) c.loop-told.self (c.loop-told.invariant past h)
-      (answer.Log log_answer.Idle) c.log-given.new.self (as_log c.args.fate c.loop-told.self c.log-given.new.self c.log-given.result log_answer.Idle (record { keeps = c.log-given.ensures.keeps; exact = c.log-given.ensures.exact; does = c.log-given.ensures.does; progress = c.log-given.ensures.progress }) c.in-Idle.is) (answer.Log c.loop-told.told) refl;
+  repeats = λ past h.
+      (let e = step_ends (move.Log c.args.fate) (answer.Log log_answer.Idle) (work_of c.args.self.now.log c.args.self.now.queue) (work_of c.loop-told.self.log c.loop-told.self.queue) past c.args.self.now (answer.Log c.loop-told.told) c.loop-told.self (c.loop-told.invariant past h)
+      (answer.Log log_answer.Idle) c.log-given.new.self (as_log c.args.fate c.loop-told.self c.log-given.new.self c.log-given.result log_answer.Idle (record { keeps = c.log-given.ensures.keeps; exact = c.log-given.ensures.exact; does = c.log-given.ensures.does; progress = c.log-given.ensures.progress }) c.in-Idle.is) (answer.Log c.loop-told.told) refl in
+      (e.0, e.1, log_settles c.args.fate past c.args.self.now c.loop-told.told e.0 c.log-given.new.self e.1));
 }
 
 pub returns-in-Down : goal.returns-in-Down
 returns-in-Down g c = record {
-  repeats = λ past h. step_ends (move.Log c.args.fate) (answer.Log log_answer.Idle) (work_of c.args.self.now.log c.args.self.now.queue) (work_of c.loop-told.self.log c.loop-told.self.queue) past c.args.self.now (answer.Log c.loop-told.told) c.loop-told.self (c.loop-told.invariant past h)
-      (answer.Log log_answer.Down) c.log-given.new.self (as_log c.args.fate c.loop-told.self c.log-given.new.self c.log-given.result log_answer.Down (record { keeps = c.log-given.ensures.keeps; exact = c.log-given.ensures.exact; does = c.log-given.ensures.does; progress = c.log-given.ensures.progress }) c.in-Down.is) (answer.Log c.log-given.result) (ap (λ r. answer.Log r) c.in-Down.is);
+  repeats = λ past h.
+      (let e = step_ends (move.Log c.args.fate) (answer.Log log_answer.Idle) (work_of c.args.self.now.log c.args.self.now.queue) (work_of c.loop-told.self.log c.loop-told.self.queue) past c.args.self.now (answer.Log c.loop-told.told) c.loop-told.self (c.loop-told.invariant past h)
+      (answer.Log log_answer.Down) c.log-given.new.self (as_log c.args.fate c.loop-told.self c.log-given.new.self c.log-given.result log_answer.Down (record { keeps = c.log-given.ensures.keeps; exact = c.log-given.ensures.exact; does = c.log-given.ensures.does; progress = c.log-given.ensures.progress }) c.in-Down.is) (answer.Log c.log-given.result) (ap (λ r. answer.Log r) c.in-Down.is) in
+      (e.0, e.1, log_settles c.args.fate past c.args.self.now c.log-given.result e.0 c.log-given.new.self e.1));
 }
 
 pub loop-told-preserved-in-Working : goal.loop-told-preserved-in-Working
