@@ -1,7 +1,7 @@
 pub mod LineLemmas
 pub mod TextLemmas
+pub mod WordsLemmas
+pub mod LeadsLemmas
 pub mod ScriptLemmas
 pub mod ProgressLemmas
 pub mod StreamLemmas
-pub mod HistoryLemmas
-pub mod TakeLemmas

@@ -5,15 +5,17 @@ use Rattle.std.proofs.lemmas.Bool.{cases_lt}
 use Rattle.std.proofs.lemmas.List.{length-append, length-take-le, take-append-le, take_all, take-append-drop}
 use Rattle.world_actions.specs.declared.refusal.Refusal.{Refusal}
 use Rattle.world_actions.specs.declared.refusal.Refusal.TheVariants.{NoMemory}
+use Rattle.world_core.specs.State.{State}
 use Rattle.steps.specs.declared.line.Line.{Line}
 use Rattle.steps.specs.Line.{LineMeans}
-use Rattle.steps.specs.Script.{reply, core_after, lines_of, Replies, IsFront, IsCutOff}
-use Rattle.steps.specs.Progress.{ScriptState, HasNoNewline, kept_of, KeptMeans, Stands, LeadsOn, Completes, BreaksOff}
+use Rattle.steps.specs.Played.{Played}
+use Rattle.steps.specs.Script.{lines_of, Replies, IsFront, IsCutOff}
+use Rattle.steps.specs.Progress.{ScriptState, HasNoNewline, kept_of, KeptMeans, IsAt, LineLeads, IsFrontOf, Stands, LeadsOn, Completes, BreaksOff}
 use Rattle.steps.proofs.ScriptLemmas.{lines_of-line, lines_of-last, HasNoNewline-snoc, Replies-snoc}
 
 -- before anything is read
 pub stands_fresh : (input : List ℕ) → Stands input (record { core = None; kept = [] }) input []
-stands_fresh input = record { answered = []; line = []; split = refl; replies = (refl, refl); unbroken = tt; kept_is = refl }
+stands_fresh input = record { answered = []; line = []; split = refl; played = None; is_at = record { state = refl; stands = tt }; replies = (refl, refl); unbroken = tt; kept_is = refl }
 
 -- what is kept of a line with one byte more
 kept_of-snoc : (line : List ℕ) (b : ℕ) → kept_of (line ++ b ∷ []) ≡ kept_of (kept_of line ++ b ∷ [])
@@ -53,54 +55,68 @@ leads_kept old new b other core kept = record {
     answered = stands.answered;
     line = stands.line ++ b ∷ [];
     split = rw (append_assoc stands.line (b ∷ []) left) stands.split;
-    replies = rw (append-nil, core) stands.replies;
+    played = stands.played;
+    is_at = rw (core) stands.is_at;
+    replies = rw (append-nil) stands.replies;
     unbroken = HasNoNewline-snoc stands.line b stands.unbroken other;
     kept_is = kept ∙ (ap (λ k. kept_of (k ++ b ∷ [])) stands.kept_is ∙ sym (kept_of-snoc stands.line b));
   };
 }
 
 -- the end of the line
-pub leads_answered : (old new : ScriptState) (b : ℕ) (meaning : Option Line) → b ≡ 10 → KeptMeans old.kept meaning
-    → new.core ≡ core_after old.core meaning → new.kept ≡ [] → LeadsOn old (b ∷ []) new (reply old.core meaning ++ 10 ∷ [])
-leads_answered old new b meaning newline means core empty = record {
+pub leads_answered : (old new : ScriptState) (b : ℕ) (meaning : Option Line) (said : List ℕ) → b ≡ 10 → KeptMeans old.kept meaning
+    → LineLeads meaning old.core said new.core → new.kept ≡ [] → LeadsOn old (b ∷ []) new (said ++ 10 ∷ [])
+leads_answered old new b meaning said newline means leads empty = record {
   on = λ input left prior stands.
       let line_means : LineMeans stands.line meaning = means stands.line (sym stands.kept_is) in
+      let run = leads.on stands.played stands.is_at in
       record {
         answered = stands.answered ++ stands.line ∷ [];
         line = [];
         split = stands.split ∙ (ap (λ c. stands.answered ++ lines_of (stands.line ++ (c ∷ left))) newline
             ∙ (ap (λ lines. stands.answered ++ lines) (lines_of-line stands.line left stands.unbroken) ∙ sym (append_assoc stands.answered (stands.line ∷ []) (lines_of left))));
-        replies = rw (core) (Replies-snoc None old.core stands.answered prior stands.line meaning stands.replies line_means);
+        played = run.0;
+        is_at = run.1;
+        replies = Replies-snoc None stands.played run.0 stands.answered prior stands.line said meaning stands.replies line_means run.2;
         unbroken = tt;
         kept_is = empty;
       };
 }
 
+-- of the answer to the next line nothing is written, or a front
+next_part : (core : Option State) (played : Option Played) (line : List ℕ) (later : List (List ℕ)) (meaning : Option Line) (front : List ℕ) → IsAt played core → LineMeans line meaning
+    → (front ≡ []) ⊎ IsFrontOf meaning core front
+    → (front ≡ []) ⊎ ((text : List ℕ) × (last : Option Played) × Replies played (take 1 (line ∷ later)) text last × IsFront front text)
+next_part core played line later meaning front at means (inl none) = inl none
+next_part core played line later meaning front at means (inr part) =
+    let run = part.leads.on played at in
+    inr (part.said ++ 10 ∷ [], run.0, (meaning, part.said, run.0, [], means, run.2, (refl, refl), refl), part.is_front)
+
 -- a fault in the answer to a line that is next
-cut_line : (input : List ℕ) (script : ScriptState) (answered later : List (List ℕ)) (line prior front : List ℕ) (meaning : Option Line) (refusal : Refusal)
-    → lines_of input ≡ answered ++ (line ∷ later) → Replies None answered prior script.core → LineMeans line meaning
-    → IsFront front (reply script.core meaning ++ 10 ∷ []) → (refusal ≡ NoMemory → front ≡ []) → IsCutOff input (prior ++ front) refusal
-cut_line input script answered later line prior front meaning refusal split replies means is_front memory = record {
+cut_line : (input : List ℕ) (script : ScriptState) (played : Option Played) (answered later : List (List ℕ)) (line prior front : List ℕ) (meaning : Option Line) (refusal : Refusal)
+    → lines_of input ≡ answered ++ (line ∷ later) → IsAt played script.core → Replies None answered prior played → LineMeans line meaning
+    → (front ≡ []) ⊎ IsFrontOf meaning script.core front → (refusal ≡ NoMemory → front ≡ []) → IsCutOff input (prior ++ front) refusal
+cut_line input script played answered later line prior front meaning refusal split at replies means part memory = record {
   answered = answered;
   later = line ∷ later;
   split = split;
-  core = script.core;
+  core = played;
   whole = prior;
   replies = replies;
   part = front;
   are_written = refl;
-  next = inr (reply script.core meaning ++ 10 ∷ [], core_after script.core meaning, (meaning, [], means, (refl, refl), refl), is_front);
+  next = next_part script.core played line later meaning front at means part;
   in_memory = memory;
 }
 
 -- a fault at the end of a line
 pub breaks_line : (old : ScriptState) (b : ℕ) (meaning : Option Line) (front : List ℕ) (refusal : Refusal) → b ≡ 10 → KeptMeans old.kept meaning
-    → IsFront front (reply old.core meaning ++ 10 ∷ []) → (refusal ≡ NoMemory → front ≡ []) → (left : List ℕ) → BreaksOff old (b ∷ left) front refusal
-breaks_line old b meaning front refusal newline means is_front memory left = record {
+    → (front ≡ []) ⊎ IsFrontOf meaning old.core front → (refusal ≡ NoMemory → front ≡ []) → (left : List ℕ) → BreaksOff old (b ∷ left) front refusal
+breaks_line old b meaning front refusal newline means part memory left = record {
   on = λ input prior stands.
-      cut_line input old stands.answered (lines_of left) stands.line prior front meaning refusal
+      cut_line input old stands.played stands.answered (lines_of left) stands.line prior front meaning refusal
       (stands.split ∙ (ap (λ c. stands.answered ++ lines_of (stands.line ++ (c ∷ left))) newline ∙ ap (λ lines. stands.answered ++ lines) (lines_of-line stands.line left stands.unbroken)))
-      stands.replies (means stands.line (sym stands.kept_is)) is_front memory;
+      stands.is_at stands.replies (means stands.line (sym stands.kept_is)) part memory;
 }
 
 -- a fault that has nothing to do with a line
@@ -109,7 +125,7 @@ cut_between input left written script refusal stands = record {
   answered = stands.answered;
   later = lines_of (stands.line ++ left);
   split = stands.split;
-  core = script.core;
+  core = stands.played;
   whole = written;
   replies = stands.replies;
   part = [];
@@ -134,26 +150,27 @@ some_line : (script : ScriptState) (line : List ℕ) → script.kept ≡ kept_of
 some_line script line kept some none = some (kept ∙ ap kept_of none)
 
 -- the input ends in a line with no newline
-pub completes_answered : (script : ScriptState) (meaning : Option Line) → script.kept ≢ [] → KeptMeans script.kept meaning
-    → Completes script (reply script.core meaning ++ 10 ∷ [])
-completes_answered script meaning some means = record {
+pub completes_answered : (script : ScriptState) (new : Option State) (meaning : Option Line) (said : List ℕ) → script.kept ≢ [] → KeptMeans script.kept meaning
+    → LineLeads meaning script.core said new → Completes script (said ++ 10 ∷ [])
+completes_answered script new meaning said some means leads = record {
   on = λ input prior stands.
       let last = last_line stands.line stands.unbroken (some_line script stands.line stands.kept_is some) in
+      let run = leads.on stands.played stands.is_at in
       record {
-        last = core_after script.core meaning;
+        last = run.0;
         replies = rw (stands.split, last)
-            (Replies-snoc None script.core stands.answered prior stands.line meaning stands.replies (means stands.line (sym stands.kept_is)));
+            (Replies-snoc None stands.played run.0 stands.answered prior stands.line said meaning stands.replies (means stands.line (sym stands.kept_is)) run.2);
       };
 }
 
 pub breaks_last : (script : ScriptState) (meaning : Option Line) (front : List ℕ) (refusal : Refusal) → script.kept ≢ [] → KeptMeans script.kept meaning
-    → IsFront front (reply script.core meaning ++ 10 ∷ []) → (refusal ≡ NoMemory → front ≡ []) → BreaksOff script [] front refusal
-breaks_last script meaning front refusal some means is_front memory = record {
+    → (front ≡ []) ⊎ IsFrontOf meaning script.core front → (refusal ≡ NoMemory → front ≡ []) → BreaksOff script [] front refusal
+breaks_last script meaning front refusal some means part memory = record {
   on = λ input prior stands.
       let last = last_line stands.line stands.unbroken (some_line script stands.line stands.kept_is some) in
-      cut_line input script stands.answered [] stands.line prior front meaning refusal
-      (stands.split ∙ ap (λ lines. stands.answered ++ lines) last) stands.replies
-      (means stands.line (sym stands.kept_is)) is_front memory;
+      cut_line input script stands.played stands.answered [] stands.line prior front meaning refusal
+      (stands.split ∙ ap (λ lines. stands.answered ++ lines) last) stands.is_at stands.replies
+      (means stands.line (sym stands.kept_is)) part memory;
 }
 
 -- a piece, at one of its bytes

@@ -1,5 +1,5 @@
 -- Words with one space between.
-use Rattle.std.proofs.Common.{add-one, arith, refl, ap, sym, ◌∙◌, ◌≡◌, ℕ, zero, suc, ◌+◌, ◌<◌, List, [], ◌∷◌, ◌++◌, append_assoc, length, get_or, take, map, decimal}
+use Rattle.std.proofs.Common.{add-one, arith, refl, ap, sym, ◌≡◌, ℕ, zero, suc, ◌+◌, ◌<◌, List, [], ◌∷◌, ◌++◌, append_assoc, length, get_or, take, map, decimal}
 use Rattle.std.proofs.Math.Seq.{take-suc}
 use Rattle.std.specs.List.{join_with_byte}
 
@@ -17,7 +17,7 @@ words_first [] some = absurd (omega arith)
 words_first (w ∷ ws) some = refl
 
 -- one more word after the first
-words_more : (ws : List ℕ) (i : ℕ) → 0 < i → i < length ws
+pub words_more : (ws : List ℕ) (i : ℕ) → 0 < i → i < length ws
     → join_with_byte 32 (map decimal (take (i + 1) ws)) ≡ join_with_byte 32 (map decimal (take i ws)) ++ (32 ∷ decimal (get_or ws i 0))
 words_more [] i some below = absurd (omega arith)
 words_more (w ∷ ws) zero some below = absurd (omega arith)
@@ -26,14 +26,3 @@ words_more (w ∷ ws) (suc i) some below = more ws i (omega arith)
     more : (rest : List ℕ) (k : ℕ) → k < length rest
         → join_with_byte 32 (map decimal (take (suc k + 1) (w ∷ rest))) ≡ join_with_byte 32 (map decimal (take (suc k) (w ∷ rest))) ++ (32 ∷ decimal (get_or (w ∷ rest) (suc k) 0))
     more rest k inside = rw (add-one, take-suc rest k 0 inside, map_more (take k rest) (get_or rest k 0)) (join_more 32 (decimal w) (map decimal (take k rest)) (decimal (get_or rest k 0)))
-
--- a space and a word on top of a text that has the words before
-pub text_more : (front text spaced whole : List ℕ) (ws : List ℕ) (i word : ℕ) → 0 < i → i < length ws → word ≡ get_or ws i 0
-    → text ≡ front ++ join_with_byte 32 (map decimal (take i ws)) → spaced ≡ text ++ 32 ∷ [] → whole ≡ spaced ++ decimal word
-    → whole ≡ front ++ join_with_byte 32 (map decimal (take (i + 1) ws))
-text_more front text spaced whole ws i word some below is so_far space number =
-    number
-    ∙ (ap (λ before. before ++ decimal word) (space ∙ ap (λ before. before ++ 32 ∷ []) so_far)
-    ∙ (append_assoc (front ++ join_with_byte 32 (map decimal (take i ws))) (32 ∷ []) (decimal word)
-    ∙ (append_assoc front (join_with_byte 32 (map decimal (take i ws))) (32 ∷ decimal word)
-    ∙ ap (λ more. front ++ more) (ap (λ w. join_with_byte 32 (map decimal (take i ws)) ++ (32 ∷ decimal w)) is ∙ sym (words_more ws i some below)))))

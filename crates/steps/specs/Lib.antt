@@ -1,7 +1,6 @@
-pub mod Move
 pub mod Line
-pub mod Core
-pub mod History
+pub mod Text
+pub mod Played
 pub mod OpenCore
 pub mod Script
 pub mod Progress

@@ -1,12 +1,17 @@
 -- What contracts see of an open core: its state, and by which method its words are captured.
-use Rattle.std.specs.Prelude.{Option, Some, None}
+use Rattle.std.specs.Prelude.{Option, Some, None, ℕ, List}
+use Rattle.world_core.specs.declared.moves.Move.{Move}
+use Rattle.world_core.specs.declared.moves.Answer.{Answer}
+use Rattle.world_core.specs.Past.{Past, past_after}
+use Rattle.world_core.specs.State.{State}
+use Rattle.world_core.specs.Facts.{IsCoreAt}
 use Rattle.steps.specs.declared.line.Method.{Method}
 use Rattle.steps.specs.declared.line.Method.TheVariants as method
 use Rattle.steps.specs.declared.line.Line.{Line}
 use Rattle.steps.specs.declared.line.Line.TheVariants as line
 use Rattle.steps.specs.declared.open_core.OpenCore.{OpenCore}
 use Rattle.steps.specs.declared.open_core.OpenCore.TheVariants.{Plain, Zigzag, PingPong}
-use Rattle.steps.specs.Core.{State}
+use Rattle.steps.specs.Played.{Moves, Runs}
 
 -- the state of the core, over whichever store
 abbrev pub state_of : OpenCore → State
@@ -24,6 +29,25 @@ method_of (PingPong core) = method.PingPong
 abbrev pub method_after : Option Method → Option Line → Option Method
 method_after chosen None = chosen
 method_after chosen (Some (line.Open method cells)) = Some method
-method_after chosen (Some (line.Play move)) = chosen
-method_after chosen (Some line.WholeImage) = chosen
-method_after chosen (Some line.World) = chosen
+method_after chosen (Some line) = chosen
+
+-- of a core in the one state the line says this and leaves the other, whatever was told before
+pub record Leads (line : Line) (old : State) (said : List ℕ) (new : State) : Type 0 where
+  pub on : (past : Past) → IsCoreAt past old
+      → (next : Past) × IsCoreAt next new × Runs line (record { past = past; state = old }) said (record { past = next; state = new })
+
+-- of a core in the one state the move is answered so, leaving the other, whatever was told before
+pub record MovesOn (old : State) (asked : Move) (given : Answer) (new : State) : Type 0 where
+  pub on : (past : Past) → IsCoreAt past old
+      → Moves (record { past = past; state = old }) asked given (record { past = past_after past asked given; state = new })
+
+-- the line opens no core
+abbrev pub IsNoOpening : Line → Type 0
+IsNoOpening (line.Open method cells) = ⊥
+IsNoOpening line = Unit {0}
+
+-- the line is answered by one answer: it opens no core, and isn't `world`
+abbrev pub IsAnswered : Line → Type 0
+IsAnswered (line.Open method cells) = ⊥
+IsAnswered line.World = ⊥
+IsAnswered line = Unit {0}

@@ -1,12 +1,14 @@
 -- How far a script has come, for the functions that run it byte by byte.
-use Rattle.std.specs.Prelude.{◌≡◌, ◌≢◌, ℕ, ◌+◌, List, [], ◌∷◌, ◌++◌, Option, None, take, ◌⊎◌}
+use Rattle.std.specs.Prelude.{◌≡◌, ◌≢◌, ℕ, ◌+◌, List, [], ◌∷◌, ◌++◌, Option, Some, None, option_map, take, ◌⊎◌}
 use Rattle.world_actions.specs.declared.refusal.Refusal.{Refusal}
 use Rattle.world_actions.specs.declared.refusal.Refusal.TheVariants.{NoMemory, Device}
 use Rattle.line_grammar.specs.declared.command.TheConstants.{LINE_BYTES}
 use Rattle.steps.specs.declared.line.Line.{Line}
-use Rattle.steps.specs.Core.{State}
+use Rattle.world_core.specs.State.{State}
+use Rattle.world_core.specs.Facts.{IsCoreAt}
 use Rattle.steps.specs.Line.{LineMeans}
-use Rattle.steps.specs.Script.{lines_of, Replies, IsScriptText, IsCutOff}
+use Rattle.steps.specs.Played.{Played}
+use Rattle.steps.specs.Script.{lines_of, LineRuns, Replies, IsScriptText, IsFront, IsCutOff}
 
 -- the open core, and the bytes that are kept of the line that has not ended
 pub record ScriptState : Type 0 where
@@ -26,12 +28,35 @@ kept_of line = take (LINE_BYTES + 1) line
 abbrev pub KeptMeans : List ℕ → Option Line → Type 0
 KeptMeans kept meaning = (line : List ℕ) → kept_of line ≡ kept → LineMeans line meaning
 
+-- a core stands
+abbrev pub Stand : Option Played → Type 0
+Stand None = Unit {0}
+Stand (Some played) = IsCoreAt played.past played.state
+
+-- what is open was played so
+pub record IsAt (played : Option Played) (core : Option State) : Type 0 where
+  pub state : core ≡ option_map (λ (p : Played). p.state) played
+  pub stands : Stand played
+
+-- with the one core open, a line with this meaning says this and leaves the other, however it was played
+pub record LineLeads (meaning : Option Line) (old : Option State) (said : List ℕ) (new : Option State) : Type 0 where
+  pub on : (from : Option Played) → IsAt from old → (to : Option Played) × IsAt to new × LineRuns meaning from said to
+
+-- a front of what a line says with this core open, and of its newline
+pub record IsFrontOf (meaning : Option Line) (old : Option State) (front : List ℕ) : Type 0 where
+  pub said : List ℕ
+  pub new : Option State
+  pub leads : LineLeads meaning old said new
+  pub is_front : IsFront front (said ++ 10 ∷ [])
+
 -- the lines that ended are answered, the line that has not is kept, and these bytes are left of the input
 pub record Stands (input : List ℕ) (script : ScriptState) (left written : List ℕ) : Type 0 where
   pub answered : List (List ℕ)
   pub line : List ℕ
   pub split : lines_of input ≡ answered ++ lines_of (line ++ left)
-  pub replies : Replies None answered written script.core
+  pub played : Option Played
+  pub is_at : IsAt played script.core
+  pub replies : Replies None answered written played
   pub unbroken : HasNoNewline line
   pub kept_is : script.kept ≡ kept_of line
 

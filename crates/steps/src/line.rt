@@ -1,6 +1,7 @@
-use crate::moves::Move;
-use line_grammar::{after, read_cell, read_command};
+use disk_model::Leaving;
+use line_grammar::{Command, after, one_reading, read_cell, read_command};
 use world_actions::CELLS;
+use world_core::Fate;
 
 /// How a world's words are captured at a mark.
 #[derive(Clone, Copy, Debug, PartialEq, Eq)]
@@ -16,19 +17,31 @@ pub enum Method {
 /// What one line of a script asks for.
 #[derive(Clone, Copy, Debug, PartialEq, Eq)]
 pub enum Line {
-    /// `open METHOD N`: a fresh core of this many cells, 1 to `CELLS`.
+    /// `open METHOD N`: a fresh core of this many cells, 1 to `CELLS`, and its start.
     Open(Method, u32),
-    /// A move of the open core.
-    Play(Move),
-    /// `image*`: moves of the image until it is idle.
-    WholeImage,
+    /// A client's line: an action, a read or the end of the tick.
+    Command(Command),
+    /// `mark`: opens a round.
+    Mark,
+    /// `image`: one step of the image keeper.
+    Image,
+    /// `log`: one step of the log keeper.
+    Log,
+    /// `image*`, or `fail image` whose calls fail: steps of the image keeper until it is idle or down.
+    Images(Fate),
+    /// `log*`, or `fail log` whose calls fail: steps of the log keeper until it is idle or down.
+    Logs(Fate),
+    /// `crash lose`, `crash keep` or `crash fill HH`: a crash, and the start after it.
+    Crash(Leaving),
     /// `world`: all words.
     World,
 }
 
-ghost use Rattle.std.specs.Prelude.{◌≡◌, ◌≢◌, ℕ, List, ◌∷◌, ◌++◌, codes, IfSome, IfNone};
+ghost use Rattle.std.specs.Prelude.{◌≡◌, ◌≢◌, ◌<◌, ℕ, List, ◌∷◌, ◌++◌, codes, IfSome, IfNone, Option};
+ghost use Rattle.line_grammar.specs.Reading.{IsReading};
 ghost use Rattle.steps.specs.declared.line.Method.{Method};
-ghost use Rattle.steps.specs.Line.{LineMeans, method_word};
+ghost use Rattle.steps.specs.declared.line.Line.{Line};
+ghost use Rattle.steps.specs.Line.{LineMeans, IsWord, IsLongWord, line_spelling, method_word, hex_digit, hex_text};
 
 /// What a line asks for, unless it isn't of the grammar. Its newline is not part of it.
 pub fn read_line(line: &[u8]) -> Option<Line>
@@ -37,20 +50,20 @@ pub fn read_line(line: &[u8]) -> Option<Line>
     if let Some(words) = after(line, b"open ") {
         return read_open(words);
     }
-    if line == b"mark".as_slice() {
-        return Some(Line::Play(Move::Mark));
+    if let Some(byte) = after(line, b"crash fill ") {
+        return Some(Line::Crash(Leaving::Fill(read_byte(byte)?)));
     }
-    if line == b"image".as_slice() {
-        return Some(Line::Play(Move::Image));
+    if let Some(word) = read_word(line) {
+        return Some(word);
     }
-    if line == b"image*".as_slice() {
-        return Some(Line::WholeImage);
-    }
-    if line == b"world".as_slice() {
-        return Some(Line::World);
-    }
-    let command = read_command(line)?;
-    Some(Line::Play(Move::from(command)))
+    Some(Line::Command(read_command(line)?))
+}
+
+/// A law: no line has two meanings.
+pub fn line_has_one_meaning()
+    ensures { (line : List ℕ) (a b : Option Line) → LineMeans line a → LineMeans line b → a ≡ b }
+{
+    one_reading();
 }
 
 fn read_open(words: &[u8]) -> Option<Line>
@@ -78,4 +91,73 @@ fn read_method(words: &[u8]) -> Option<(Method, &[u8])>
     }
     let rest = after(words, b"pingpong ")?;
     Some((Method::PingPong, rest))
+}
+
+// A byte of two digits.
+fn read_byte(text: &[u8]) -> Option<u8>
+    ensures { IsReading hex_text (λ byte. byte < 256) text.now result }
+{
+    if text.len() != 2 {
+        return None;
+    }
+    let high = read_digit(text[0])?;
+    let low = read_digit(text[1])?;
+    Some(high * 16 + low)
+}
+
+fn read_digit(byte: u8) -> Option<u8>
+    ensures digit { IfSome result (λ digit. (digit < 16) × (byte ≡ hex_digit digit)) }
+    ensures none { IfNone result ((digit : ℕ) → digit < 16 → byte ≢ hex_digit digit) }
+{
+    match byte {
+        b'0'..=b'9' => Some(byte - b'0'),
+        b'a'..=b'f' => Some(byte - b'a' + 10),
+        _ => None,
+    }
+}
+
+// A line that has no number in it, but for a client's.
+fn read_word(line: &[u8]) -> Option<Line>
+    ensures found { IfSome result (λ word. IsWord word × (line.now ≡ line_spelling word)) }
+    ensures none { IfNone result ((word : Line) → IsWord word → line.now ≢ line_spelling word) }
+{
+    if line == b"mark".as_slice() {
+        return Some(Line::Mark);
+    }
+    if line == b"image".as_slice() {
+        return Some(Line::Image);
+    }
+    if line == b"log".as_slice() {
+        return Some(Line::Log);
+    }
+    if line == b"world".as_slice() {
+        return Some(Line::World);
+    }
+    read_long_word(line)
+}
+
+// Those that ask for many steps, or a crash.
+fn read_long_word(line: &[u8]) -> Option<Line>
+    ensures found { IfSome result (λ word. IsLongWord word × (line.now ≡ line_spelling word)) }
+    ensures none { IfNone result ((word : Line) → IsLongWord word → line.now ≢ line_spelling word) }
+{
+    if line == b"image*".as_slice() {
+        return Some(Line::Images(Fate::Done));
+    }
+    if line == b"fail image".as_slice() {
+        return Some(Line::Images(Fate::Failed));
+    }
+    if line == b"log*".as_slice() {
+        return Some(Line::Logs(Fate::Done));
+    }
+    if line == b"fail log".as_slice() {
+        return Some(Line::Logs(Fate::Failed));
+    }
+    if line == b"crash lose".as_slice() {
+        return Some(Line::Crash(Leaving::Lose));
+    }
+    if line == b"crash keep".as_slice() {
+        return Some(Line::Crash(Leaving::Keep));
+    }
+    None
 }

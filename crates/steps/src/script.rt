@@ -1,22 +1,21 @@
-ghost use Rattle.std.specs.Prelude.{◌≡◌, ◌++◌, ◌∷◌, ℕ, List, [], Option, OnOk, IfOk, IfErr, IfSome, None, Some, Err, option_map};
+ghost use Rattle.std.specs.Prelude.{◌≡◌, ◌++◌, ◌∷◌, ℕ, List, [], Option, OnOk, IfOk, IfErr, IfSome, None, Some, ◌⊎◌, option_map};
 ghost use Rattle.std.specs.Io.KnownBytes.{Appends, IsAtEnd};
-ghost use Rattle.world_actions.specs.declared.refusal.Refusal.{Refusal};
 ghost use Rattle.steps.specs.declared.line.Line.{Line};
-ghost use Rattle.steps.specs.Line.{LineIsInBounds, IsNoOpening};
+ghost use Rattle.steps.specs.Line.{LineIsInBounds};
 ghost use Rattle.steps.specs.OpenCore.{state_of, method_of, method_after};
-ghost use Rattle.steps.specs.Script.{answer_text, reply, core_after, IsScriptText, IsFront, IsCutOff};
-ghost use Rattle.steps.specs.Progress.{kept_of, KeptMeans, LeadsOn, Completes, BreaksOff, IsFault};
+ghost use Rattle.steps.specs.Script.{IsScriptText, IsCutOff, AnswersEach};
+ghost use Rattle.steps.specs.Progress.{kept_of, KeptMeans, LineLeads, IsFrontOf, LeadsOn, Completes, BreaksOff, IsFault};
 
 use crate::line::{Line, read_line};
-use crate::moves::Answer;
 use crate::open_core::OpenCore;
 use crate::stream::{read_some, write_whole};
 use crate::text::{push_answer, push_bytes};
-use line_grammar::{LINE_BYTES, command_length, one_reading};
+use line_grammar::{LINE_BYTES, command_length};
 use std::alloc::Global;
 use std::io::{Read, Write};
 use std::marker::Model;
 use world_actions::Refusal;
+use world_core::Answer;
 
 /// How many bytes are read at once.
 const PIECE_BYTES: usize = 512;
@@ -44,15 +43,10 @@ pub fn run_script<R: Read, W: Write>(alloc: Global, r: &mut R, w: &mut W) -> Res
     Err(Refusal::Device)
 }
 
-/// Laws: a script has one text, and what stands after a fault is a front of it.
-pub fn script_has_one_text()
-    ensures some { (input : List ℕ) → (text : List ℕ) × IsScriptText input text }
-    ensures one { (input a b : List ℕ) → IsScriptText input a → IsScriptText input b → a ≡ b }
-    ensures front { (input written text : List ℕ) (refusal : Refusal) → IsCutOff input written refusal
-        → IsScriptText input text → IsFront written text }
-{
-    one_reading();
-}
+/// A law: a script's text is answers, one for each line of its input.
+pub fn script_answers_each_line()
+    ensures { (input text : List ℕ) → IsScriptText input text → AnswersEach input text }
+{}
 
 /// The open core, the bytes that are kept of the line that has not ended, and a buffer for answers.
 #[derive(Drop)]
@@ -148,11 +142,11 @@ impl Script {
     // Answers the kept line, and keeps nothing of it.
     fn answer_line<W: Write>(&mut self, w: &mut W) -> Result<(), Refusal>
         ensures done { OnOk result ((meaning : Option Line) × KeptMeans self.old.kept meaning
-            × (self.new.core ≡ core_after self.old.core meaning) × (self.new.kept ≡ [])
-            × Appends (W.contents w.old) (W.contents w.new) (reply self.old.core meaning ++ 10 ∷ [])) }
+            × (said : List ℕ) × LineLeads meaning self.old.core said self.new.core × (self.new.kept ≡ [])
+            × Appends (W.contents w.old) (W.contents w.new) (said ++ 10 ∷ [])) }
         ensures fault { IfErr result (λ refusal. IsFault refusal
             × (meaning : Option Line) × KeptMeans self.old.kept meaning
-            × (front : List ℕ) × IsFront front (reply self.old.core meaning ++ 10 ∷ [])
+            × (front : List ℕ) × ((front ≡ []) ⊎ IsFrontOf meaning self.old.core front)
             × (refusal ≡ Refusal.NoMemory → front ≡ [])
             × Appends (W.contents w.old) (W.contents w.new) front) }
     {
@@ -183,8 +177,8 @@ fn push_reply(
     text: &mut Vec<u8>,
 ) -> Result<(), Refusal>
     requires { IfSome meaning LineIsInBounds }
-    ensures text { OnOk result (text.new.items ≡ text.old.items ++ reply (option_map state_of core.old) meaning) }
-    ensures core { OnOk result (option_map state_of core.new ≡ core_after (option_map state_of core.old) meaning) }
+    ensures says { OnOk result ((said : List ℕ) × (text.new.items ≡ text.old.items ++ said)
+        × LineLeads meaning (option_map state_of core.old) said (option_map state_of core.new)) }
     ensures method { OnOk result (option_map method_of core.new ≡ method_after (option_map method_of core.old) meaning) }
     ensures memory { IfErr result (λ refusal. refusal ≡ Refusal.NoMemory) }
 {
@@ -192,41 +186,20 @@ fn push_reply(
         return push_answer(text, Answer::Refused(Refusal::BadLine));
     };
     if let Line::Open(method, cells) = line {
-        *core = Some(OpenCore::fresh(alloc, method, cells)?);
+        put(core, OpenCore::fresh(alloc, method, cells)?);
         return push_bytes(text, b"ready 0");
     }
     match core {
         None => push_answer(text, Answer::Refused(Refusal::BadLine)),
-        Some(opened) => push_open_reply(opened, line, text),
+        Some(opened) => opened.say(line, text),
     }
 }
 
-// Runs a line on an open core, and adds the reply to it.
-fn push_open_reply(opened: &mut OpenCore, line: Line, text: &mut Vec<u8>) -> Result<(), Refusal>
-    requires { IsNoOpening line }
-    ensures text { OnOk result (text.new.items ≡ text.old.items ++ reply (Some (state_of opened.old)) (Some line)) }
-    ensures core { OnOk result (Some (state_of opened.new) ≡ core_after (Some (state_of opened.old)) (Some line)) }
-    ensures method { method_of opened.new ≡ method_of opened.old }
-    ensures memory { IfErr result (λ refusal. refusal ≡ Refusal.NoMemory) }
+// The core takes the place of the one that was open.
+fn put(core: &mut Option<OpenCore>, opened: OpenCore)
+    ensures { core.new ≡ Some opened }
 {
-    match line {
-        Line::Open(_, _) => unreachable!(),
-        Line::Play(chosen) => push_move_answer(text, opened.step(chosen)),
-        Line::WholeImage => push_answer(text, Answer::Image(opened.take_round())),
-        Line::World => opened.push_words(text),
-    }
-}
-
-// Adds the answer to a move, but for want of memory, which ends the script.
-fn push_move_answer(text: &mut Vec<u8>, answer: Answer) -> Result<(), Refusal>
-    ensures text { OnOk result (text.new.items ≡ text.old.items ++ answer_text answer) }
-    ensures memory { IfErr result (λ refusal. refusal ≡ Refusal.NoMemory) }
-    ensures ends { answer ≡ Answer.Refused Refusal.NoMemory → result ≡ Err Refusal.NoMemory }
-{
-    if answer == Answer::Refused(Refusal::NoMemory) {
-        return Err(Refusal::NoMemory);
-    }
-    push_answer(text, answer)
+    *core = Some(opened);
 }
 
 #[cfg(test)]

@@ -26,15 +26,26 @@ Each line of the script gets one line of answer:
   get CELL             `= VALUE`
   end                  ends the running tick: `tick NUMBER`
   mark                 opens a round of the words as they are: `mark NUMBER`
-  image                takes the round's next cell: `working`,
-                       `image open NUMBER` at the last one, `idle` with no round
-  image*               takes all that the round has left
+  image                one step of the image keeper: `working`,
+                       `image open NUMBER` at its last one, `idle` with no round,
+                       `image down` once a call has failed
+  log                  one step of the log keeper: `working`, `acked NUMBER` where a
+                       group of ticks is durable, `idle`, `log down`
+  image*, log*         steps until the keeper is idle or down: `image down` or
+                       `log down`, else the last `image open NUMBER` or
+                       `acked NUMBER`, else `idle`
+  fail image, fail log the same, and each call of a device fails
+  crash lose           a crash that leaves the durable bytes of each file, and the
+                       restart: `recovered NUMBER from NUMBER`, or `blank`
+  crash keep           the same, and the bytes that reads show are left
+  crash fill HH        the same, and each uncertain byte is HH, from 00 to ff
   world                all values, one space between
 A line that is refused gets `- CODE`, and changes nothing:
   1 no such cell, 2 a number out of range, 3 a result out of range,
-  4 one cell named twice, 5 the tick is full, 8 the tick has an action,
-  9 a round is open, 10 nothing is new, 16 the line isn't understood,
-  21 no tick numbers are left";
+  4 one cell named twice, 5 the tick is full, 6 too many ticks since a mark,
+  7 too many ticks wait for the log, 8 the tick has an action, 9 a round is open,
+  10 nothing is new, 11 the image keeper is down, 12 the log keeper is down,
+  16 the line isn't understood, 19 the start lasts, 21 no tick numbers are left";
 
 fn main(rt: HostRuntime) -> ExitCode {
     let words = match command_words(&rt) {

@@ -117,7 +117,7 @@ fn run(rt: &HostRuntime, input: &[u8], most: usize) -> (Result<(), Refusal>, Pag
 
 #[test]
 fn scripts_have_their_text(rt: HostRuntime) {
-    let scripts: [(&[u8], &[u8]); 14] = [
+    let scripts: [(&[u8], &[u8]); 15] = [
         (b"", b""),
         (TRANSFERS, TRANSFERS_TEXT),
         (
@@ -140,17 +140,20 @@ fn scripts_have_their_text(rt: HostRuntime) {
         (b"open zigzag 1\nget 0\n", b"ready 0\n= 0\n"),
         // Marks are refused in their order: an open tick, an open round, nothing new.
         (
-            b"open zigzag 1\nmark\nset 0 1\nmark\nend\nmark\nmark\nend\nimage*\nmark\nimage*\nmark\n",
-            b"ready 0\n- 10\n+\n- 8\ntick 1\nmark 1\n- 9\ntick 2\nimage open 1\nmark 2\nimage open 2\n- 10\n",
-        ),
-        // A round goes on while play does, and is taken cell by cell.
-        (
-            b"open pingpong 2\nset 0 5\nend\nmark\nimage\nset 1 9\nimage\nimage\nworld\n",
-            b"ready 0\n+\ntick 1\nmark 1\nworking\n+\nimage open 1\nidle\n5 9\n",
+            b"open zigzag 1\nmark\nset 0 1\nmark\nend\nmark\nmark\n",
+            b"ready 0\n- 10\n+\n- 8\ntick 1\nmark 1\n- 9\n",
         ),
         (
-            b"open plain 2\nimage\nimage*\nend\nmark\nimage*\nimage*\n",
-            b"ready 0\nidle\nidle\ntick 1\nmark 1\nimage open 1\nidle\n",
+            b"open plain 1\nimage\nlog\nimage*\nlog*\nfail image\nfail log\nimage\n",
+            b"ready 0\nidle\nidle\nidle\nidle\nidle\nidle\nidle\n",
+        ),
+        (
+            b"mark\nimage\nlog\nimage*\nlog*\nfail image\nfail log\ncrash lose\ncrash keep\ncrash fill 00\n",
+            b"- 16\n- 16\n- 16\n- 16\n- 16\n- 16\n- 16\n- 16\n- 16\n- 16\n",
+        ),
+        (
+            b"open plain 1\ncrash\ncrash lose \ncrash fill 0\ncrash fill 000\ncrash fill 0A\ncrash fill g0\ncrash fill +1\nfail\nfail mark\nlog *\nmark \n",
+            b"ready 0\n- 16\n- 16\n- 16\n- 16\n- 16\n- 16\n- 16\n- 16\n- 16\n- 16\n- 16\n",
         ),
         // A world that is opened later takes the place of the first; a bad opening leaves it.
         (
@@ -187,6 +190,129 @@ fn a_full_tick_takes_no_more(rt: HostRuntime) -> Result<(), Fail> {
     }
     input.extend_from_slice(b"add 0 1\nget 0\n")?;
     text.extend_from_slice(b"- 5\n= 256\n")?;
+    let mut reader = input.as_slice();
+    let mut out = Vec::new(rt.alloc());
+    run_script(rt.alloc(), &mut reader, &mut out)?;
+    assert_eq!(rt; out.as_slice(), text.as_slice());
+    Ok(())
+}
+
+// Scripts whose text is the same for every store: `METHOD` stands for its name.
+#[test]
+fn stores_answer_the_same(rt: HostRuntime) -> Result<(), Fail> {
+    let scripts: [(&[u8], &[u8]); 14] = [
+        // An empty tick counts.
+        (
+            b"1\nend\nlog*\ncrash lose\n",
+            b"ready 0\ntick 1\nacked 1\nrecovered 1 from 0\n",
+        ),
+        (
+            b"1\nset 0 5\nend\ncrash keep\nget 0\n",
+            b"ready 0\n+\ntick 1\nrecovered 0 from 0\n= 0\n",
+        ),
+        // A torn group, by how many of its calls went.
+        (
+            b"1\nset 0 5\nend\nlog\ncrash fill 01\n",
+            b"ready 0\n+\ntick 1\nworking\nrecovered 0 from 0\n",
+        ),
+        (
+            b"1\nset 0 5\nend\nlog\nlog\nlog\ncrash fill 01\n",
+            b"ready 0\n+\ntick 1\nworking\nworking\nworking\nrecovered 1 from 0\n",
+        ),
+        (
+            b"1\nset 0 5\nend\nlog\nlog\nlog\ncrash fill 00\n",
+            b"ready 0\n+\ntick 1\nworking\nworking\nworking\nrecovered 0 from 0\n",
+        ),
+        (
+            b"1\nset 0 5\nend\nlog\nlog\nlog\nlog\ncrash fill 00\n",
+            b"ready 0\n+\ntick 1\nworking\nworking\nworking\nacked 1\nrecovered 1 from 0\n",
+        ),
+        // The image is ahead of the log.
+        (
+            b"1\nset 0 5\nend\nmark\nset 0 9\nend\nimage*\ncrash lose\nget 0\n",
+            b"ready 0\n+\ntick 1\nmark 1\n+\ntick 2\nimage open 1\nrecovered 1 from 1\n= 5\n",
+        ),
+        // A word that was not written since the newest image.
+        (
+            b"2\nset 0 5\nset 1 7\nend\nmark\nimage*\nset 1 8\nend\nmark\nimage*\ncrash lose\nworld\n",
+            b"ready 0\n+\n+\ntick 1\nmark 1\nimage open 1\n+\ntick 2\nmark 2\nimage open 2\nrecovered 2 from 2\n5 8\n",
+        ),
+        (
+            b"1\nset 0 1\nend\nmark\nimage*\nset 0 2\nend\nmark\nimage*\nset 0 3\nend\nmark\nimage*\nlog*\ncrash lose\nget 0\n",
+            b"ready 0\n+\ntick 1\nmark 1\nimage open 1\n+\ntick 2\nmark 2\nimage open 2\n+\ntick 3\nmark 3\nimage open 3\nacked 3\nrecovered 3 from 3\n= 3\n",
+        ),
+        // The image keeper is down, and the log goes on.
+        (
+            b"1\nset 0 1\nend\nmark\nfail image\nmark\nset 0 2\nend\nlog*\ncrash lose\n",
+            b"ready 0\n+\ntick 1\nmark 1\nimage down\n- 11\n+\ntick 2\nacked 2\nrecovered 2 from 0\n",
+        ),
+        // The log keeper is down until the restart.
+        (
+            b"1\nset 0 1\nend\nfail log\nlog\nlog*\nset 0 2\nend\nmark\ncrash lose\nset 0 3\n",
+            b"ready 0\n+\ntick 1\nlog down\nlog down\nlog down\n- 12\n- 12\n- 12\nrecovered 0 from 0\n+\n",
+        ),
+        (
+            b"1\nset 0 5\nend\nlog*\ncrash lose\ncrash lose\nget 0\nend\n",
+            b"ready 0\n+\ntick 1\nacked 1\nrecovered 1 from 0\nrecovered 1 from 1\n= 5\ntick 2\n",
+        ),
+        (
+            b"3\nset 1 7\nworld\nset 2 1\nend\nset 0 4\nworld\ncrash fill ff\nworld\n",
+            b"ready 0\n+\n0 7 0\n+\ntick 1\n+\n4 7 1\nrecovered 0 from 0\n0 0 0\n",
+        ),
+        (b"1\nget 0\n", b"ready 0\n= 0\n"),
+    ];
+    let methods: [&[u8]; 3] = [b"plain", b"zigzag", b"pingpong"];
+    for (rest, text) in scripts {
+        for method in methods {
+            let input = opening(&rt, method, rest)?;
+            let (ended, page) = run(&rt, &input, 512);
+            assert!(rt; ended == Ok(()));
+            assert_eq!(rt; page.written(), text);
+        }
+    }
+    Ok(())
+}
+
+// `open`, the method, and the rest of the script.
+fn opening(rt: &HostRuntime, method: &[u8], rest: &[u8]) -> Result<Vec<u8>, Fail> {
+    let mut input = b"open ".to_vec(rt.alloc())?;
+    input.extend_from_slice(method)?;
+    input.extend_from_slice(b" ")?;
+    input.extend_from_slice(rest)?;
+    Ok(input)
+}
+
+// A round of the second store over two cells, stopped by a crash before its gate is open, or not.
+#[test]
+fn a_round_is_cut_off_or_whole(rt: HostRuntime) {
+    let scripts: [(&[u8], &[u8]); 2] = [
+        (
+            b"open pingpong 2\nset 0 5\nset 1 7\nend\nmark\nimage*\nset 1 8\nend\nmark\nimage\nimage\nimage\nimage\nimage\nimage\ncrash fill 01\nworld\n",
+            b"ready 0\n+\n+\ntick 1\nmark 1\nimage open 1\n+\ntick 2\nmark 2\nworking\nworking\nworking\nworking\nworking\nworking\nrecovered 1 from 1\n5 7\n",
+        ),
+        (
+            b"open pingpong 2\nset 0 5\nset 1 7\nend\nmark\nimage*\nset 1 8\nend\nmark\nimage\nimage\nimage\nimage\nimage\nimage\nimage\nimage\nimage\nimage\ncrash lose\nworld\n",
+            b"ready 0\n+\n+\ntick 1\nmark 1\nimage open 1\n+\ntick 2\nmark 2\nworking\nworking\nworking\nworking\nworking\nworking\nworking\nworking\nworking\nimage open 2\nrecovered 2 from 2\n5 8\n",
+        ),
+    ];
+    for (input, text) in scripts {
+        let (ended, page) = run(&rt, input, 512);
+        assert!(rt; ended == Ok(()));
+        assert_eq!(rt; page.written(), text);
+    }
+}
+
+// So many ticks may wait for the log.
+#[test]
+fn a_full_queue_takes_no_more(rt: HostRuntime) -> Result<(), Fail> {
+    let mut input = b"open zigzag 1\n".to_vec(rt.alloc())?;
+    let mut text = b"ready 0\n".to_vec(rt.alloc())?;
+    for tick in 1..=64u64 {
+        input.extend_from_slice(b"end\n")?;
+        text.extend_from_slice(format!(in rt.alloc(); "tick {tick}\n")?.as_bytes())?;
+    }
+    input.extend_from_slice(b"end\nlog*\nend\n")?;
+    text.extend_from_slice(b"- 7\nacked 64\ntick 65\n")?;
     let mut reader = input.as_slice();
     let mut out = Vec::new(rt.alloc());
     run_script(rt.alloc(), &mut reader, &mut out)?;

@@ -1,13 +1,6 @@
 use Rattle.std.proofs.Common.{rules, arith, inl, inr, ◌<◌, ◌^◌}
-use Rattle.steps.proofs.LineLemmas.{none_method, none_number, none_size}
+use Rattle.steps.proofs.LineLemmas.{none_size}
 use Rattle.steps.proofs.line.read_open.Goals as goal
-
-pub returns-in_err-method : goal.returns-in_err-method
-returns-in_err-method c = rw c.from_residual.ensures (none_method _ c.in_err-method.ensures.none)
-
-pub returns-in_err-cells : goal.returns-in_err-cells
-returns-in_err-cells c =
-    rw c.from_residual-in_err-cells.ensures (none_number _ _ c.in_ok-method.method c.in_ok-method.ensures.found c.in_err-cells.ensures)
 
 pub returns-else-cells-ge1 : goal.returns-else-cells-ge1
 returns-else-cells-ge1 c =

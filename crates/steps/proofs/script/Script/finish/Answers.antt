@@ -1,6 +1,5 @@
 use Rattle.std.proofs.Common.{rules, ◌≢◌, [], ◌++◌, ◌∷◌}
 use Rattle.std.proofs.lemmas.Result.{err_from_is_err_and}
-use Rattle.steps.specs.Script.{reply}
 use Rattle.steps.proofs.ProgressLemmas.{completes_answered, breaks_last}
 use Rattle.steps.proofs.script.Script.finish.Goals as goal
 
@@ -17,4 +16,4 @@ returns-clause-done g c =
     let nonempty : c.self.inside.line.items ≢ [] = search (rules, c.is_empty.ensures, c.if-is_empty.false) in
     let some : c.args.self.now.kept ≢ [] = rw (← c.self.view_is) nonempty in
     let done = c.in_ok-answer_line.ensures.done in
-    (reply c.args.self.now.core done.0 ++ 10 ∷ [], done.4, completes_answered _ done.0 some done.1)
+    (done.2 ++ 10 ∷ [], done.5, completes_answered _ _ done.0 done.2 some done.1 done.3)

@@ -1,6 +1,5 @@
 use Rattle.std.proofs.Common.{rules, [], ◌++◌, ◌∷◌}
 use Rattle.std.proofs.lemmas.Result.{err_from_is_err_and}
-use Rattle.steps.specs.Script.{reply}
 use Rattle.steps.proofs.StreamLemmas.{Appends-none}
 use Rattle.steps.proofs.ProgressLemmas.{leads_kept, leads_answered, breaks_line}
 use Rattle.steps.proofs.script.Script.take_byte.Goals as goal
@@ -14,7 +13,7 @@ returns-in_err-answer_line-clause-fault g c =
 pub returns-then-byte-eq10-clause-done : goal.returns-then-byte-eq10-clause-done
 returns-then-byte-eq10-clause-done g c =
     let done = c.in_ok-answer_line.ensures.done in
-    (reply c.args.self.now.core done.0 ++ 10 ∷ [], done.4, leads_answered _ _ _ done.0 c.if-byte-eq10.true done.1 done.2 done.3)
+    (done.2 ++ 10 ∷ [], done.5, leads_answered _ _ _ done.0 done.2 c.if-byte-eq10.true done.1 done.3 done.4)
 
 pub returns-clause-done : goal.returns-clause-done
 returns-clause-done g c = ([], Appends-none _, leads_kept _ _ _ (search rules) c.keep.ensures.core c.keep.ensures.kept)

@@ -1,0 +1,38 @@
+use world_actions::Action;
+use world_core::{Fate, Move};
+
+/// A move as the model sees it.
+#[derive(Clone, Copy, Debug, PartialEq, Eq)]
+pub enum Asked {
+    /// An action of the running tick.
+    Act(Action),
+    /// The word of a cell.
+    Get(u32),
+    /// The end of the running tick.
+    End,
+    /// The begin of a round.
+    Mark,
+    /// A step of the images.
+    Image(Fate),
+    /// A step of the log.
+    Log(Fate),
+    /// A crash that leaves bytes which it may leave.
+    Crash,
+    /// A crash that leaves bytes which none may leave.
+    ImpossibleCrash,
+}
+
+impl Asked {
+    /// As the core takes it, where it is no crash.
+    pub fn as_move(self) -> Option<Move> {
+        match self {
+            Asked::Act(action) => Some(Move::Act(action)),
+            Asked::Get(cell) => Some(Move::Get(cell)),
+            Asked::End => Some(Move::End),
+            Asked::Mark => Some(Move::Mark),
+            Asked::Image(fate) => Some(Move::Image(fate)),
+            Asked::Log(fate) => Some(Move::Log(fate)),
+            Asked::Crash | Asked::ImpossibleCrash => None,
+        }
+    }
+}

@@ -1,0 +1,107 @@
+use crate::told::Told;
+use crate::wrong::{Rule, Wrong, expect, hold};
+use world_core::Fate;
+
+/// A round that is open.
+#[derive(Clone, Copy)]
+struct Round {
+    tick: u64,
+    steps: u64,
+}
+
+/// What moves and answers tell of the images.
+#[derive(Clone, Copy)]
+pub struct ImageModel {
+    cells: u64,
+    newest: Option<u64>,
+    round: Option<Round>,
+    down: bool,
+}
+
+impl ImageModel {
+    /// At the beginning of a start at this tick, from the image of that one: with none, or with one of
+    /// an earlier tick, the start has a round.
+    pub fn new(cells: u32, newest: Option<u64>, tick: u64) -> Self {
+        let mut images = ImageModel {
+            cells: u64::from(cells),
+            newest,
+            round: None,
+            down: false,
+        };
+        if newest != Some(tick) {
+            images.begin(tick);
+        }
+        images
+    }
+
+    /// The tick of the newest image.
+    pub fn newest(&self) -> Option<u64> {
+        self.newest
+    }
+
+    /// The tick of the open round.
+    pub fn round(&self) -> Option<u64> {
+        self.round.map(|round| round.tick)
+    }
+
+    /// Whether a call failed.
+    pub fn is_down(&self) -> bool {
+        self.down
+    }
+
+    /// Opens a round.
+    pub fn begin(&mut self, tick: u64) {
+        self.round = Some(Round { tick, steps: 0 });
+    }
+
+    /// Judges the answer to a step, and follows it.
+    pub fn step(&mut self, fate: Fate, given: Told) -> Result<(), Wrong> {
+        let Some(round) = self.round else {
+            return expect(Told::ImageIdle, given);
+        };
+        if self.down {
+            return expect(Told::ImageDown, given);
+        }
+        match given {
+            Told::ImageWorking => self.work(round),
+            Told::ImageOpened(tick) => self.open(round, fate, tick),
+            Told::ImageDown => {
+                self.down = true;
+                hold(fate == Fate::Failed, Rule::ImagesDownByFailure)
+            }
+            _ => hold(false, Rule::OpenRoundGoesOn),
+        }
+    }
+
+    fn work(&mut self, round: Round) -> Result<(), Wrong> {
+        let steps = round.steps.saturating_add(1);
+        self.round = Some(Round { steps, ..round });
+        hold(steps < self.most_steps(), Rule::RoundSteps)
+    }
+
+    fn open(&mut self, round: Round, fate: Fate, tick: u64) -> Result<(), Wrong> {
+        let steps = round.steps.saturating_add(1);
+        self.newest = Some(tick);
+        self.round = None;
+        hold(
+            tick == round.tick && fate == Fate::Done,
+            Rule::OpensItsRound,
+        )?;
+        let is_within = self.least_steps() <= steps && steps <= self.most_steps();
+        hold(is_within, Rule::RoundSteps)
+    }
+
+    // A take for each cell, a write for each chunk, the header, the sync, the gate and its sync.
+    fn least_steps(&self) -> u64 {
+        self.cells
+            .saturating_add(self.cells.div_ceil(64))
+            .saturating_add(4)
+    }
+
+    // And the closing and its sync, and a read for each chunk.
+    fn most_steps(&self) -> u64 {
+        self.least_steps()
+            .saturating_add(self.cells.div_ceil(64))
+            .saturating_add(2)
+    }
+}

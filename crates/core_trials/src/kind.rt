@@ -1,0 +1,115 @@
+use crate::told::Told;
+use world_actions::Refusal;
+
+/// The kinds of answers that can come. NoMemory would need a growth that is refused, and TicksEnded as
+/// many ticks as nobody can end; the other refusals are not the core's.
+#[derive(Clone, Copy)]
+pub enum Kind {
+    Did,
+    Word,
+    Ended,
+    Started,
+    ImageIdle,
+    ImageWorking,
+    ImageOpened,
+    ImageDown,
+    LogIdle,
+    LogWorking,
+    LogAcked,
+    LogDown,
+    RecoveredReplayed,
+    RecoveredAtImage,
+    Blank,
+    BadCell,
+    BadValue,
+    OutOfRange,
+    SameCell,
+    TickFull,
+    SegmentFull,
+    QueueFull,
+    OpenTick,
+    Busy,
+    NothingNew,
+    MarkImageDown,
+    MarkLogDown,
+    Starting,
+    Impossible,
+}
+
+/// How many kinds there are.
+pub const KINDS: usize = 29;
+
+/// All kinds, each with its name, in the order in which they are declared.
+pub const NAMES: [&str; KINDS] = [
+    "Did",
+    "Word",
+    "Ended",
+    "Started",
+    "Image(Idle)",
+    "Image(Working)",
+    "Image(Opened)",
+    "Image(Down)",
+    "Log(Idle)",
+    "Log(Working)",
+    "Log(Acked)",
+    "Log(Down)",
+    "Recovered, from < tick",
+    "Recovered, from = tick",
+    "Blank",
+    "Refused(BadCell)",
+    "Refused(BadValue)",
+    "Refused(OutOfRange)",
+    "Refused(SameCell)",
+    "Refused(TickFull)",
+    "Refused(SegmentFull)",
+    "Refused(QueueFull)",
+    "Refused(OpenTick)",
+    "Refused(Busy)",
+    "Refused(NothingNew)",
+    "Refused(ImageDown)",
+    "Refused(LogDown)",
+    "Refused(Starting)",
+    "Refused(Impossible)",
+];
+
+/// The kind of an answer, if it can come.
+pub fn kind_of(given: Told) -> Option<Kind> {
+    match given {
+        Told::Did => Some(Kind::Did),
+        Told::Word(_) => Some(Kind::Word),
+        Told::Ended(_) => Some(Kind::Ended),
+        Told::Started(_) => Some(Kind::Started),
+        Told::ImageIdle => Some(Kind::ImageIdle),
+        Told::ImageWorking => Some(Kind::ImageWorking),
+        Told::ImageOpened(_) => Some(Kind::ImageOpened),
+        Told::ImageDown => Some(Kind::ImageDown),
+        Told::LogIdle => Some(Kind::LogIdle),
+        Told::LogWorking => Some(Kind::LogWorking),
+        Told::LogAcked(_) => Some(Kind::LogAcked),
+        Told::LogDown => Some(Kind::LogDown),
+        Told::Recovered { tick, from } if from < tick => Some(Kind::RecoveredReplayed),
+        Told::Recovered { .. } => Some(Kind::RecoveredAtImage),
+        Told::Blank => Some(Kind::Blank),
+        Told::Refused(refusal) => kind_of_refusal(refusal),
+    }
+}
+
+fn kind_of_refusal(refusal: Refusal) -> Option<Kind> {
+    match refusal {
+        Refusal::BadCell => Some(Kind::BadCell),
+        Refusal::BadValue => Some(Kind::BadValue),
+        Refusal::OutOfRange => Some(Kind::OutOfRange),
+        Refusal::SameCell => Some(Kind::SameCell),
+        Refusal::TickFull => Some(Kind::TickFull),
+        Refusal::SegmentFull => Some(Kind::SegmentFull),
+        Refusal::QueueFull => Some(Kind::QueueFull),
+        Refusal::OpenTick => Some(Kind::OpenTick),
+        Refusal::Busy => Some(Kind::Busy),
+        Refusal::NothingNew => Some(Kind::NothingNew),
+        Refusal::ImageDown => Some(Kind::MarkImageDown),
+        Refusal::LogDown => Some(Kind::MarkLogDown),
+        Refusal::Starting => Some(Kind::Starting),
+        Refusal::Impossible => Some(Kind::Impossible),
+        _ => None,
+    }
+}

@@ -1,0 +1,182 @@
+use crate::told::Told;
+use crate::wrong::{Rule, Wrong, expect, hold};
+use std::alloc::Global;
+use std::collections::VecDeque;
+use world_core::Fate;
+
+/// The most records that may wait.
+const RECORDS: usize = 64;
+
+/// The most ticks that one group takes.
+const GROUP: u32 = 32;
+
+/// The steps of a group, and those of a start or a switch where nothing has to be closed.
+const STEPS: u32 = 4;
+
+/// The steps that close a segment.
+const CLOSING: u32 = 2;
+
+/// What waits for the log.
+#[derive(Clone, Copy, PartialEq, Eq)]
+enum Queued {
+    Tick,
+    Switch,
+}
+
+/// What the log does.
+#[derive(Clone, Copy, PartialEq, Eq)]
+enum Job {
+    // The start, of which so many steps are done.
+    Start { done: u32 },
+    // Nothing.
+    Rest,
+    // A group, with so many steps left.
+    Group { left: u32 },
+    // A switch, with so many steps left.
+    Switch { left: u32 },
+}
+
+/// What moves and answers tell of the log.
+#[derive(Drop)]
+pub struct LogModel {
+    queue: VecDeque<Queued>,
+    job: Job,
+    // The last tick that was taken from the queue.
+    taken: u64,
+    acknowledged: u64,
+    has_switched: bool,
+    down: bool,
+}
+
+impl LogModel {
+    /// At the beginning of a start at this tick.
+    pub fn new(alloc: Global, tick: u64) -> Self {
+        LogModel {
+            queue: VecDeque::new(alloc),
+            job: Job::Start { done: 0 },
+            taken: tick,
+            acknowledged: tick,
+            has_switched: false,
+            down: false,
+        }
+    }
+
+    /// Whether the start has not ended.
+    pub fn is_starting(&self) -> bool {
+        matches!(self.job, Job::Start { .. })
+    }
+
+    /// Whether a call failed.
+    pub fn is_down(&self) -> bool {
+        self.down
+    }
+
+    /// Whether no more records may wait.
+    pub fn is_full(&self) -> bool {
+        self.queue.len() >= RECORDS
+    }
+
+    /// The greatest number of a receipt, or the start's tick before the first one.
+    pub fn acknowledged(&self) -> u64 {
+        self.acknowledged
+    }
+
+    /// Lets an ended tick wait.
+    pub fn queue_tick(&mut self) -> Result<(), Wrong> {
+        Ok(self.queue.push_back(Queued::Tick)?)
+    }
+
+    /// Lets the switch of a mark wait.
+    pub fn queue_switch(&mut self) -> Result<(), Wrong> {
+        Ok(self.queue.push_back(Queued::Switch)?)
+    }
+
+    /// Judges the answer to a step, and follows it. `waits` says that the start's image is not open yet,
+    /// `starting` whether the start goes on after the step.
+    pub fn step(
+        &mut self,
+        fate: Fate,
+        waits: bool,
+        given: Told,
+        starting: bool,
+    ) -> Result<(), Wrong> {
+        expect(self.answer(fate, waits), given)?;
+        match given {
+            Told::LogWorking | Told::LogAcked(_) => self.advance(starting),
+            Told::LogDown => {
+                self.down = true;
+                Ok(())
+            }
+            _ => Ok(()),
+        }
+    }
+
+    // What is to be answered to a step: each one that has work makes a call.
+    fn answer(&self, fate: Fate, waits: bool) -> Told {
+        let rests = self.job == Job::Rest && self.queue.is_empty();
+        if waits || (rests && !self.down) {
+            Told::LogIdle
+        } else if self.down || fate == Fate::Failed {
+            Told::LogDown
+        } else if self.job == (Job::Group { left: 1 }) {
+            Told::LogAcked(self.taken)
+        } else {
+            Told::LogWorking
+        }
+    }
+
+    // A step that did its work.
+    fn advance(&mut self, starting: bool) -> Result<(), Wrong> {
+        match self.job {
+            Job::Start { done } => return self.advance_start(done.saturating_add(1), starting),
+            Job::Rest => self.take(),
+            Job::Group { left: 1 } => {
+                self.acknowledged = self.taken;
+                self.job = Job::Rest;
+            }
+            Job::Group { left } => self.job = Job::Group {
+                left: left.saturating_sub(1),
+            },
+            Job::Switch { left: 1 } => {
+                self.has_switched = true;
+                self.job = Job::Rest;
+            }
+            Job::Switch { left } => self.job = Job::Switch {
+                left: left.saturating_sub(1),
+            },
+        }
+        Ok(())
+    }
+
+    // A start closes no segment, one or both.
+    fn advance_start(&mut self, done: u32, starting: bool) -> Result<(), Wrong> {
+        if starting {
+            self.job = Job::Start { done };
+            return hold(done < STEPS + 2 * CLOSING, Rule::StartSteps);
+        }
+        self.job = Job::Rest;
+        let whole = done == STEPS || done == STEPS + CLOSING || done == STEPS + 2 * CLOSING;
+        hold(whole, Rule::StartSteps)
+    }
+
+    // The first step of a group or of a switch. The first switch after a start finds the other segment
+    // shut, each later one has to close it.
+    fn take(&mut self) {
+        if self.queue.front() == Some(&Queued::Switch) {
+            self.queue.pop_front();
+            let closing = if self.has_switched { CLOSING } else { 0 };
+            self.job = Job::Switch {
+                left: STEPS - 1 + closing,
+            };
+            return;
+        }
+        for _ in 0..GROUP {
+            if self.queue.front() != Some(&Queued::Tick) {
+                break;
+            }
+            self.queue.pop_front();
+            self.taken = self.taken.saturating_add(1);
+        }
+        self.job = Job::Group { left: STEPS - 1 };
+    }
+}

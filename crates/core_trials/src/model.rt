@@ -1,0 +1,84 @@
+use crate::asked::Asked;
+use crate::image_model::ImageModel;
+use crate::log_model::LogModel;
+use crate::told::Told;
+use crate::words::Words;
+use crate::wrong::{Rule, Wrong, expect, hold};
+use std::alloc::Global;
+use world_actions::Refusal;
+
+mod crashes;
+mod plays;
+
+/// A world as it has to be, by moves and answers alone. It knows the words after each ended tick, and
+/// nothing of files, gates, segments or of how a store holds its words.
+#[derive(Drop)]
+pub struct PlainModel {
+    alloc: Global,
+    cells: u32,
+    // After each ended tick, that of tick 0 first.
+    worlds: Vec<Words>,
+    live: Words,
+    // The actions of the running tick.
+    running: u32,
+    // The ticks that ended since the last mark or start.
+    since: u32,
+    images: ImageModel,
+    log: LogModel,
+}
+
+impl PlainModel {
+    /// Zeros at tick 0, with the start ahead.
+    pub fn new(alloc: Global, cells: u32) -> Result<Self, Refusal> {
+        let mut worlds = Vec::new(alloc);
+        worlds.push(Words::zeros(alloc, cells)?)?;
+        Ok(PlainModel {
+            alloc,
+            cells,
+            worlds,
+            live: Words::zeros(alloc, cells)?,
+            running: 0,
+            since: 0,
+            images: ImageModel::new(cells, None, 0),
+            log: LogModel::new(alloc, 0),
+        })
+    }
+
+    /// Judges the answer to a move, and follows it. `starting` is what the core says of its start then.
+    pub fn follow(&mut self, asked: Asked, given: Told, starting: bool) -> Result<(), Wrong> {
+        match asked {
+            Asked::Act(action) => self.follow_act(action, given)?,
+            Asked::Get(cell) => self.follow_get(cell, given)?,
+            Asked::End => self.follow_end(given)?,
+            Asked::Mark => self.follow_mark(given)?,
+            Asked::Image(fate) => self.images.step(fate, given)?,
+            Asked::Log(fate) => {
+                let waits = self.is_image_ahead();
+                self.log.step(fate, waits, given, starting)?;
+            },
+            Asked::Crash => self.follow_crash(given)?,
+            Asked::ImpossibleCrash => expect(Told::Refused(Refusal::Impossible), given)?,
+        }
+        hold(starting == self.is_starting(), Rule::StartsAlike)
+    }
+
+    /// Whether the start has not ended.
+    pub fn is_starting(&self) -> bool {
+        self.log.is_starting()
+    }
+
+    /// Whether the start's image is not open yet.
+    pub fn is_image_ahead(&self) -> bool {
+        self.is_starting() && self.images.round().is_some()
+    }
+
+    /// Whether a keeper is down.
+    pub fn is_down(&self) -> bool {
+        self.images.is_down() || self.log.is_down()
+    }
+
+    // How many ticks have ended.
+    fn ended(&self) -> u64 {
+        self.worlds.len().saturating_sub(1) as u64
+    }
+}

@@ -1,0 +1,102 @@
+use crate::model::PlainModel;
+use crate::told::Told;
+use crate::wrong::{Wrong, expect};
+use world_actions::{Action, Refusal};
+
+/// The most actions of a tick.
+const ACTIONS: u32 = 256;
+
+/// The most ticks that end between two marks.
+const TICKS: u32 = 65_536;
+
+impl PlainModel {
+    pub fn follow_act(&mut self, action: Action, given: Told) -> Result<(), Wrong> {
+        let wanted = match self.act(action) {
+            Ok(()) => Told::Did,
+            Err(refusal) => Told::Refused(refusal),
+        };
+        expect(wanted, given)
+    }
+
+    pub fn follow_get(&mut self, cell: u32, given: Told) -> Result<(), Wrong> {
+        let wanted = match self.live.get(cell) {
+            Ok(word) => Told::Word(word),
+            Err(refusal) => Told::Refused(refusal),
+        };
+        expect(wanted, given)
+    }
+
+    pub fn follow_end(&mut self, given: Told) -> Result<(), Wrong> {
+        if let Some(refusal) = self.end_refusal() {
+            return expect(Told::Refused(refusal), given);
+        }
+        self.worlds.push(self.live.copy(self.alloc)?)?;
+        self.running = 0;
+        self.since = self.since.saturating_add(1);
+        self.log.queue_tick()?;
+        expect(Told::Ended(self.ended()), given)
+    }
+
+    pub fn follow_mark(&mut self, given: Told) -> Result<(), Wrong> {
+        if let Some(refusal) = self.mark_refusal() {
+            return expect(Told::Refused(refusal), given);
+        }
+        let ended = self.ended();
+        self.images.begin(ended);
+        self.since = 0;
+        self.log.queue_switch()?;
+        expect(Told::Started(ended), given)
+    }
+
+    fn act(&mut self, action: Action) -> Result<(), Refusal> {
+        if let Some(refusal) = self.tick_refusal() {
+            return Err(refusal);
+        }
+        if self.running >= ACTIONS {
+            return Err(Refusal::TickFull);
+        }
+        self.live.act(action)?;
+        self.running = self.running.saturating_add(1);
+        Ok(())
+    }
+
+    // Why no tick can be added to, if so.
+    fn tick_refusal(&self) -> Option<Refusal> {
+        if self.is_starting() {
+            Some(Refusal::Starting)
+        } else if self.log.is_down() {
+            Some(Refusal::LogDown)
+        } else if self.since >= TICKS {
+            Some(Refusal::SegmentFull)
+        } else {
+            None
+        }
+    }
+
+    fn end_refusal(&self) -> Option<Refusal> {
+        match self.tick_refusal() {
+            None if self.log.is_full() => Some(Refusal::QueueFull),
+            refusal => refusal,
+        }
+    }
+
+    fn mark_refusal(&self) -> Option<Refusal> {
+        if self.is_starting() {
+            Some(Refusal::Starting)
+        } else if self.log.is_down() {
+            Some(Refusal::LogDown)
+        } else if self.images.is_down() {
+            Some(Refusal::ImageDown)
+        } else if self.running > 0 {
+            Some(Refusal::OpenTick)
+        } else if self.images.round().is_some() {
+            Some(Refusal::Busy)
+        } else if self.images.newest() == Some(self.ended()) {
+            Some(Refusal::NothingNew)
+        } else if self.log.is_full() {
+            Some(Refusal::QueueFull)
+        } else {
+            None
+        }
+    }
+}

@@ -1,0 +1,157 @@
+ghost use Rattle.std.specs.Prelude.{◌≤◌};
+ghost use Rattle.world_actions.specs.declared.world.TheConstants.{CELLS};
+
+use crate::asked::Asked;
+use crate::random::Random;
+use crate::tally::Tally;
+use crate::told::Told;
+use crate::trial::{Stop, Trial};
+use capture_core::Capture;
+use std::alloc::Global;
+use world_actions::Action;
+use world_core::Fate;
+
+/// More moves than a start, a round or a full queue needs.
+const MOVES: u32 = 1000;
+
+/// The actions that fill a tick.
+const ACTIONS: u32 = 256;
+
+/// The ticks that fill the queue.
+const RECORDS: u32 = 64;
+
+/// How often the queue is filled until a segment is full.
+const QUEUES: u32 = 1024;
+
+/// An action on the first cell.
+const ADD: Asked = Asked::Act(Action::Add { cell: 0, by: 1 });
+
+/// Either keeper fails, and then a crash comes.
+const FAILURES: [Asked; 10] = [
+    Asked::Mark,
+    Asked::Mark,
+    Asked::Image(Fate::Failed),
+    Asked::Mark,
+    Asked::Image(Fate::Done),
+    Asked::Log(Fate::Failed),
+    Asked::Log(Fate::Done),
+    ADD,
+    Asked::ImpossibleCrash,
+    Asked::Crash,
+];
+
+/// What a full segment refuses, and what goes on after a mark.
+const NEXT_SEGMENT: [Asked; 5] = [Asked::End, ADD, Asked::Mark, ADD, Asked::End];
+
+/// Fills a tick and the queue, lets either keeper fail, and crashes.
+pub fn try_limits<C: Capture>(alloc: Global, cells: u32, all: &mut Tally) -> Result<(), Stop>
+    requires { (1 ≤ cells) × (cells ≤ CELLS) }
+{
+    let mut stretch = Stretch::<C>::new(alloc, cells)?;
+    let seen = stretch.meet_limits();
+    all.add(stretch.trial.tally());
+    seen
+}
+
+/// Ends as many ticks as may end between two marks, tries one more, and goes on after a mark.
+pub fn try_segment<C: Capture>(alloc: Global, all: &mut Tally) -> Result<(), Stop> {
+    let mut stretch = Stretch::<C>::new(alloc, 1)?;
+    let seen = stretch.fill_segment();
+    all.add(stretch.trial.tally());
+    seen
+}
+
+/// A trial whose moves are given one by one.
+#[derive(Drop)]
+struct Stretch<C: Capture> {
+    trial: Trial<C>,
+    random: Random,
+}
+
+impl<C: Capture> Stretch<C> {
+    fn new(alloc: Global, cells: u32) -> Result<Self, Stop>
+        requires { (1 ≤ cells) × (cells ≤ CELLS) }
+    {
+        Ok(Stretch {
+            trial: Trial::new(alloc, cells)?,
+            random: Random::new(1),
+        })
+    }
+
+    fn ask(&mut self, asked: Asked) -> Result<Told, Stop> {
+        self.trial.ask(asked, &mut self.random)
+    }
+
+    fn ask_all(&mut self, moves: &[Asked]) -> Result<(), Stop> {
+        for asked in moves {
+            self.ask(*asked)?;
+        }
+        Ok(())
+    }
+
+    // A crash comes first; a tick and then the queue are filled, each with one more asked and a mark.
+    fn meet_limits(&mut self) -> Result<(), Stop> {
+        self.ask(Asked::Crash)?;
+        self.start()?;
+        self.repeat(ADD, ACTIONS + 1)?;
+        self.ask(Asked::Mark)?;
+        self.repeat(Asked::End, RECORDS + 1)?;
+        self.ask(Asked::Mark)?;
+        self.log()?;
+        self.ask_all(&FAILURES)?;
+        self.start()
+    }
+
+    fn fill_segment(&mut self) -> Result<(), Stop> {
+        self.start()?;
+        for _ in 0..QUEUES {
+            self.ask(ADD)?;
+            self.repeat(Asked::End, RECORDS)?;
+            self.log()?;
+        }
+        self.ask_all(&NEXT_SEGMENT)?;
+        self.images()?;
+        self.log()
+    }
+
+    fn repeat(&mut self, asked: Asked, times: u32) -> Result<(), Stop> {
+        for _ in 0..times {
+            self.ask(asked)?;
+        }
+        Ok(())
+    }
+
+    // Runs the start to its end.
+    fn start(&mut self) -> Result<(), Stop> {
+        self.images()?;
+        for _ in 0..MOVES {
+            if !self.trial.model().is_starting() {
+                break;
+            }
+            self.ask(Asked::Log(Fate::Done))?;
+        }
+        Ok(())
+    }
+
+    // Runs the open round to its end.
+    fn images(&mut self) -> Result<(), Stop> {
+        for _ in 0..MOVES {
+            let given = self.ask(Asked::Image(Fate::Done))?;
+            if given != Told::ImageWorking {
+                break;
+            }
+        }
+        Ok(())
+    }
+
+    // Lets the log do all that waits for it.
+    fn log(&mut self) -> Result<(), Stop> {
+        for _ in 0..MOVES {
+            let given = self.ask(Asked::Log(Fate::Done))?;
+            if given == Told::LogIdle {
+                break;
+            }
+        }
+        Ok(())
+    }
+}

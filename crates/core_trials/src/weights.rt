@@ -1,0 +1,70 @@
+use crate::random::Random;
+
+/// How often each kind of move is chosen: actions, reads, ends, marks, steps of the images, steps of the
+/// log, and crashes.
+#[derive(Clone, Copy)]
+pub struct Weights {
+    of: [u64; 7],
+}
+
+impl Weights {
+    /// Some of all.
+    pub fn of_play() -> Self {
+        Weights {
+            of: [400, 60, 140, 40, 200, 150, 3],
+        }
+    }
+
+    /// The image of a start is ahead.
+    pub fn of_start_image() -> Self {
+        Weights {
+            of: [20, 20, 20, 20, 880, 40, 3],
+        }
+    }
+
+    /// The log's part of a start is ahead.
+    pub fn of_start_log() -> Self {
+        Weights {
+            of: [30, 20, 30, 30, 60, 800, 30],
+        }
+    }
+
+    /// A keeper is down, which only a crash ends.
+    pub fn of_failure() -> Self {
+        Weights {
+            of: [150, 50, 120, 120, 150, 150, 120],
+        }
+    }
+
+    /// One of the sets for a world that has started.
+    pub fn any(random: &mut Random) -> Self {
+        let of = match random.below(6) {
+            // Long ticks.
+            0 => [970, 10, 2, 10, 8, 0, 0],
+            // The log rests, so its queue gets full.
+            1 => [150, 30, 550, 80, 190, 0, 3],
+            // Rounds.
+            2 => [150, 30, 80, 60, 560, 120, 2],
+            // The log keeps up.
+            3 => [200, 30, 150, 30, 100, 490, 3],
+            // Crashes.
+            4 => [200, 30, 150, 50, 250, 250, 70],
+            _ => return Weights::of_play(),
+        };
+        Weights { of }
+    }
+
+    /// One of the kinds, by its place: those past the last one are crashes.
+    pub fn draw(&self, random: &mut Random) -> u32 {
+        let mut rest = random.below(1000);
+        let mut kind = 0u32;
+        for weight in self.of {
+            if rest < weight {
+                return kind;
+            }
+            rest = rest.saturating_sub(weight);
+            kind = kind.saturating_add(1);
+        }
+        kind
+    }
+}

@@ -1,0 +1,75 @@
+use crate::told::Told;
+use std::alloc::{AllocError, AllocFailed};
+use world_actions::Refusal;
+
+/// What holds of answers.
+#[derive(Clone, Copy, Debug, PartialEq, Eq)]
+pub enum Rule {
+    /// The core starts where the model does.
+    StartsAlike,
+    /// A step of an open round does its work, opens the image, or fails.
+    OpenRoundGoesOn,
+    /// Only a call that fails brings the images down.
+    ImagesDownByFailure,
+    /// A round takes as many steps as it has to, and no more than it may.
+    RoundSteps,
+    /// The tick of the open round is opened, by a call that went well.
+    OpensItsRound,
+    /// The start's log takes 4, 6 or 8 steps.
+    StartSteps,
+    /// What a crash may leave is recovered, or is Blank where there was no image.
+    Recovers,
+    /// Acknowledged ticks stand after a crash.
+    KeepsAcknowledged,
+    /// Only ended ticks stand after a crash.
+    KeepsEnded,
+    /// The world is built from the newest image or from that of the open round.
+    FromKnownImage,
+}
+
+/// Why an answer isn't right, or can't be judged.
+#[derive(Clone, Copy, Debug, PartialEq, Eq)]
+pub enum Wrong {
+    /// This is the right one.
+    Wanted(Told),
+    /// This rule doesn't hold of it.
+    Breaks(Rule),
+    /// There is no memory left.
+    NoMemory,
+}
+
+impl From<Refusal> for Wrong {
+    fn from(_refusal: Refusal) -> Self {
+        Wrong::NoMemory
+    }
+}
+
+impl From<AllocError> for Wrong {
+    fn from(_error: AllocError) -> Self {
+        Wrong::NoMemory
+    }
+}
+
+impl<T: Drop> From<AllocFailed<T>> for Wrong {
+    fn from(_error: AllocFailed<T>) -> Self {
+        Wrong::NoMemory
+    }
+}
+
+/// Whether the only right answer was given.
+pub fn expect(wanted: Told, given: Told) -> Result<(), Wrong> {
+    if given == wanted {
+        Ok(())
+    } else {
+        Err(Wrong::Wanted(wanted))
+    }
+}
+
+/// Whether a rule holds.
+pub fn hold(holds: bool, rule: Rule) -> Result<(), Wrong> {
+    if holds {
+        Ok(())
+    } else {
+        Err(Wrong::Breaks(rule))
+    }
+}

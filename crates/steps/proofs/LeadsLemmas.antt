@@ -1,0 +1,173 @@
+-- What a line leads to, from what the calls of a core ensure.
+use Rattle.std.proofs.Common.{refl, sym, ap, subst, ◌≡◌, ◌≢◌, ◌∙◌, ℕ, List, codes, Option, Some, None, Result, Ok, Err, IfOk, OnOk}
+use Rattle.world_actions.specs.declared.refusal.Refusal.{Refusal}
+use Rattle.world_actions.specs.declared.refusal.Refusal.TheVariants.{BadLine}
+use Rattle.disk_model.specs.declared.leaving.Leaving.{Leaving}
+use Rattle.image_files.specs.declared.phase.ImageAnswer.{ImageAnswer}
+use Rattle.action_log.specs.declared.record.LogAnswer.{LogAnswer}
+use Rattle.world_core.specs.declared.moves.Fate.{Fate}
+use Rattle.world_core.specs.declared.moves.Remains.{Remains}
+use Rattle.world_core.specs.declared.moves.Move.{Move}
+use Rattle.world_core.specs.declared.moves.Move.TheVariants as move
+use Rattle.world_core.specs.declared.moves.Answer.{Answer}
+use Rattle.world_core.specs.declared.moves.Answer.TheVariants as answer
+use Rattle.world_core.specs.Past.{Past, past_after}
+use Rattle.world_core.specs.State.{State}
+use Rattle.world_core.specs.Facts.{IsCoreAt}
+use Rattle.world_core.specs.Repeating.{AreLeft, RepeatsImages, RepeatsLog, RunsStart}
+use Rattle.steps.specs.declared.line.Line.{Line}
+use Rattle.steps.specs.declared.line.Method.{Method}
+use Rattle.steps.specs.declared.line.Line.TheVariants.{Open, Command, Mark, Image, Log, Images, Logs, Crash, World}
+use Rattle.steps.specs.Text.{answer_text}
+use Rattle.steps.specs.Script.{RunsFirst, LineRuns}
+use Rattle.steps.specs.Played.{Played, Opens, Plays, Runs, Starts}
+use Rattle.steps.specs.OpenCore.{Leads, MovesOn, IsNoOpening, method_after}
+use Rattle.steps.specs.Progress.{IsAt, LineLeads}
+
+-- a line that is one move
+pub move_leads : (line actual : Line) (asked wanted : Move) (old new : State) (r : Result Answer Refusal) → line ≡ actual → asked ≡ wanted
+    → ((from to : Played) (text : List ℕ) → Plays wanted from text to → Runs actual from text to)
+    → IfOk r (λ given. MovesOn old asked given new) → IfOk r (λ given. Leads line old (answer_text given) new)
+move_leads line actual asked wanted old new (Err refusal) is same plays moves = tt
+move_leads line actual asked wanted old new (Ok given) is same plays moves = subst (λ (l : Line). Leads l old (answer_text given) new) (sym is) leads
+  where
+    leads : Leads actual old (answer_text given) new
+    leads = record {
+      on = λ past stands.
+          let made = MovesOn.on (subst (λ (m : Move). MovesOn old m given new) same moves) past stands in
+          (past_after past wanted given, made.stands, plays _ _ _ (given, made, refl));
+    }
+
+-- a line that is many steps of a keeper
+pub images_lead : (line : Line) (fate : Fate) (old new : State) (told : ImageAnswer) → line ≡ Images fate
+    → ((past : Past) → IsCoreAt past old → (next : Past) × IsCoreAt next new × RepeatsImages fate past old told next new)
+    → Leads line old (answer_text (answer.Image told)) new
+images_lead line fate old new told is repeats = subst (λ (l : Line). Leads l old (answer_text (answer.Image told)) new) (sym is) leads
+  where
+    leads : Leads (Images fate) old (answer_text (answer.Image told)) new
+    leads = record { on = λ past stands. let made = repeats past stands in (made.0, made.1, (told, made.2, refl)) }
+
+pub logs_lead : (line : Line) (fate : Fate) (old new : State) (told : LogAnswer) → line ≡ Logs fate
+    → ((past : Past) → IsCoreAt past old → (next : Past) × IsCoreAt next new × RepeatsLog fate past old told next new)
+    → Leads line old (answer_text (answer.Log told)) new
+logs_lead line fate old new told is repeats = subst (λ (l : Line). Leads l old (answer_text (answer.Log told)) new) (sym is) leads
+  where
+    leads : Leads (Logs fate) old (answer_text (answer.Log told)) new
+    leads = record { on = λ past stands. let made = repeats past stands in (made.0, made.1, (told, made.2, refl)) }
+
+-- a start after an answer that is no refusal
+pub starts_run : (given : Answer) (from to : Played) → ((refusal : Refusal) → given ≢ answer.Refused refusal)
+    → RunsStart from.past from.state to.past to.state → Starts given from to
+starts_run answer.Did from to accepted starts = starts
+starts_run (answer.Word word) from to accepted starts = starts
+starts_run (answer.Ended tick) from to accepted starts = starts
+starts_run (answer.Started tick) from to accepted starts = starts
+starts_run (answer.Image given) from to accepted starts = starts
+starts_run (answer.Log given) from to accepted starts = starts
+starts_run (answer.Recovered tick start) from to accepted starts = starts
+starts_run answer.Blank from to accepted starts = starts
+starts_run (answer.Refused refusal) from to accepted starts = absurd (accepted refusal refl)
+
+-- and none after a refusal
+pub starts_not : (given : Answer) (refusal : Refusal) (from to : Played) → given ≡ answer.Refused refusal → to ≡ from → Starts given from to
+starts_not given refusal from to is same = rw is same
+
+-- a crash, and the start after it
+pub crash_leads : (leaving : Leaving) (old middle new : State) (left : Remains) (given : Answer) → AreLeft leaving old left
+    → MovesOn old (move.Crash left) given middle
+    → ((past : Past) → IsCoreAt past middle → (next : Past) × IsCoreAt next new × Starts given (record { past = past; state = middle }) (record { past = next; state = new }))
+    → Leads (Crash leaving) old (answer_text given) new
+crash_leads leaving old middle new left given are_left moves starts = record {
+  on = λ past stands.
+      let made = moves.on past stands in
+      let next = starts (past_after past (move.Crash left) given) made.stands in
+      (next.0, next.1, (given, record { left = left; are_left = are_left; middle = record { past = past_after past (move.Crash left) given; state = middle }; crash = made; start = next.2 }, refl));
+}
+
+-- what follows of a call that went well
+pub on_ok : {A E : Type 0} (P Q : Type 0) (r : Result A E) → (P → Q) → OnOk r P → OnOk r Q
+on_ok P Q (Ok a) follows holds = follows holds
+on_ok P Q (Err e) follows holds = tt
+
+-- ---- a line of a script
+
+-- a line that means nothing
+pub bad_leads : (core : Option State) → LineLeads None core (answer_text (answer.Refused BadLine)) core
+bad_leads core = record { on = λ from at. (from, at, (refl, refl)) }
+
+-- a line before any core is open
+first_runs : (line : Line) → IsNoOpening line → RunsFirst line (answer_text (answer.Refused BadLine)) None
+first_runs (Open method cells) other = absurd other
+first_runs (Command command) other = (refl, refl)
+first_runs Mark other = (refl, refl)
+first_runs Image other = (refl, refl)
+first_runs Log other = (refl, refl)
+first_runs (Images fate) other = (refl, refl)
+first_runs (Logs fate) other = (refl, refl)
+first_runs (Crash leaving) other = (refl, refl)
+first_runs World other = (refl, refl)
+
+pub first_leads : (line : Line) → IsNoOpening line → LineLeads (Some line) None (answer_text (answer.Refused BadLine)) None
+first_leads line other = record { on = on_first }
+  where
+    on_first : (from : Option Played) → IsAt from None → (to : Option Played) × IsAt to None × LineRuns (Some line) from (answer_text (answer.Refused BadLine)) to
+    on_first None at = (None, at, first_runs line other)
+    on_first (Some from) at = let is = at.state in absurd cc
+
+-- an opening
+pub opens_leads : (method : Method) (cells : ℕ) (core : Option State) (past : Past) (state : State) → IsCoreAt past state
+    → Opens cells (record { past = past; state = state }) → LineLeads (Some (Open method cells)) core (codes "ready 0") (Some state)
+opens_leads method cells core past state stands opens = record { on = on_opening }
+  where
+    on_opening : (from : Option Played) → IsAt from core → (to : Option Played) × IsAt to (Some state) × LineRuns (Some (Open method cells)) from (codes "ready 0") to
+    on_opening None at = (Some (record { past = past; state = state }), record { state = refl; stands = stands }, (record { past = past; state = state }, refl, opens, refl))
+    on_opening (Some from) at = (Some (record { past = past; state = state }), record { state = refl; stands = stands }, (record { past = past; state = state }, refl, (opens, refl)))
+
+-- any other line on an open core
+moved : (line : Line) (from to : Played) (old : State) (said : List ℕ) → old ≡ from.state → Runs line (record { past = from.past; state = old }) said to → Runs line from said to
+moved line from to old said same runs = subst (λ (s : State). Runs line (record { past = from.past; state = s }) said to) same runs
+
+put_on : (line : Line) (from : Played) (next : Past) (new : State) (said : List ℕ) → IsCoreAt next new → Runs line from said (record { past = next; state = new })
+    → (to : Option Played) × IsAt to (Some new) × LineRuns (Some line) (Some from) said to
+put_on line from next new said stands runs =
+    (Some (record { past = next; state = new }), record { state = refl; stands = stands }, (record { past = next; state = new }, refl, runs))
+
+at_state : (old : State) (from : Played) → Some old ≡ Some from.state → old ≡ from.state
+at_state old from is = cc
+
+on_open : (line : Line) (old new : State) (said : List ℕ) (from : Option Played) → Leads line old said new → IsAt from (Some old)
+    → (to : Option Played) × IsAt to (Some new) × LineRuns (Some line) from said to
+on_open line old new said None leads at = let is = at.state in absurd cc
+on_open line old new said (Some from) leads at =
+    let same = at_state old from at.state in
+    let run = leads.on from.past (subst (IsCoreAt from.past) (sym same) at.stands) in
+    put_on line from run.0 new said run.1 (moved line from (record { past = run.0; state = new }) old said same run.2)
+
+open_leads : (line : Line) (old new : State) (said : List ℕ) → Leads line old said new → LineLeads (Some line) (Some old) said (Some new)
+open_leads line old new said leads = record { on = λ from at. on_open line old new said from leads at }
+
+-- the same, by what is known of the line and of the core
+pub opening_leads : (meaning : Option Line) (line : Line) (method : Method) (cells : ℕ) (core new : Option State) (past : Past) (state : State) → meaning ≡ Some line → line ≡ Open method cells
+    → new ≡ Some state → IsCoreAt past state → Opens cells (record { past = past; state = state }) → LineLeads meaning core (codes "ready 0") new
+opening_leads meaning line method cells core new past state means opening is stands opens = rw (means, opening, is) (opens_leads method cells core past state stands opens)
+
+pub spoken_leads : (meaning : Option Line) (line : Line) (core : Option State) (old new : State) (said : List ℕ) → meaning ≡ Some line → core ≡ Some old
+    → Leads line old said new → LineLeads meaning core said (Some new)
+spoken_leads meaning line core old new said means is leads = rw (means, is) (open_leads line old new said leads)
+
+-- a line that opens no core leaves the method
+method_stays : (line : Line) (method : Method) → ((other : Method) (cells : ℕ) → line ≢ Open other cells) → Some method ≡ method_after (Some method) (Some line)
+method_stays (Open method cells) kept other = absurd (other method cells refl)
+method_stays (Command command) kept other = refl
+method_stays Mark kept other = refl
+method_stays Image kept other = refl
+method_stays Log kept other = refl
+method_stays (Images fate) kept other = refl
+method_stays (Logs fate) kept other = refl
+method_stays (Crash leaving) kept other = refl
+method_stays World kept other = refl
+
+pub method_kept : (meaning : Option Line) (line : Line) (chosen : Option Method) (old new : Method) → meaning ≡ Some line → chosen ≡ Some old
+    → ((other : Method) (cells : ℕ) → line ≢ Open other cells) → new ≡ old → Some new ≡ method_after chosen meaning
+method_kept meaning line chosen old new means is other same =
+    ap Some same ∙ (method_stays line old other ∙ (ap (λ m. method_after m (Some line)) (sym is) ∙ ap (λ m. method_after chosen m) (sym means)))
