@@ -11,14 +11,14 @@ impl Weights {
     /// Some of all.
     pub fn of_play() -> Self {
         Weights {
-            of: [400, 60, 140, 40, 200, 150, 3],
+            of: [380, 60, 140, 40, 200, 150, 30],
         }
     }
 
     /// The image of a start is ahead.
     pub fn of_start_image() -> Self {
         Weights {
-            of: [20, 20, 20, 20, 880, 40, 3],
+            of: [20, 20, 20, 20, 870, 40, 10],
         }
     }
 
@@ -42,11 +42,11 @@ impl Weights {
             // Long ticks.
             0 => [970, 10, 2, 10, 8, 0, 0],
             // The log rests, so its queue gets full.
-            1 => [150, 30, 550, 80, 190, 0, 3],
+            1 => [150, 30, 540, 80, 185, 0, 15],
             // Rounds.
-            2 => [150, 30, 80, 60, 560, 120, 2],
+            2 => [150, 30, 80, 60, 545, 120, 15],
             // The log keeps up.
-            3 => [200, 30, 150, 30, 100, 490, 3],
+            3 => [190, 30, 150, 30, 100, 485, 15],
             // Crashes.
             4 => [200, 30, 150, 50, 250, 250, 70],
             _ => return Weights::of_play(),
