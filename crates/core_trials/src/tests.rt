@@ -9,6 +9,8 @@ use world_actions::{Action, Refusal};
 use world_core::{Answer, Core, Fate, Move, Remains, run};
 use zigzag::Zigzag;
 
+mod rows;
+
 const SET: Asked = Asked::Act(Action::Set { cell: 0, value: 5 });
 
 const IMAGE: Asked = Asked::Image(Fate::Done);

@@ -1,0 +1,489 @@
+use super::{IMAGE, IMAGE_FAILS, LOG, Line, SET, ones, told_by};
+use crate::asked::Asked;
+use crate::told::Told;
+use capture_core::{Capture, PlainCopy};
+use disk_model::Leaving;
+use ping_pong::PingPong;
+use std::alloc::Global;
+use std::process::Abort;
+use std::test::Fail;
+use world_actions::{Action, LIMIT, Refusal};
+use world_core::{Core, Move, Remains, run};
+use zigzag::Zigzag;
+
+const END: Asked = Asked::End;
+
+const MARK: Asked = Asked::Mark;
+
+const GET: Asked = Asked::Get(0);
+
+// A start over empty files, of one cell and of two.
+const START: [Line; 3] = [
+    (7, IMAGE, Told::ImageWorking),
+    (1, IMAGE, Told::ImageOpened(0)),
+    (8, LOG, Told::LogWorking),
+];
+
+const START_OF_TWO: [Line; 3] = [
+    (8, IMAGE, Told::ImageWorking),
+    (1, IMAGE, Told::ImageOpened(0)),
+    (8, LOG, Told::LogWorking),
+];
+
+// Three steps of a group, and the fourth.
+const GROUP: [Line; 2] = [(3, LOG, Told::LogWorking), (1, LOG, Told::LogAcked(1))];
+
+const SET_AND_END: [Line; 2] = [(1, SET, Told::Did), (1, END, Told::Ended(1))];
+
+fn set(cell: u32, value: u64) -> Asked {
+    Asked::Act(Action::Set { cell, value })
+}
+
+fn add(by: i64) -> Asked {
+    Asked::Act(Action::Add { cell: 0, by })
+}
+
+fn transfer(from: u32, to: u32) -> Asked {
+    Asked::Act(Action::Transfer {
+        from,
+        to,
+        amount: 1,
+    })
+}
+
+// Moves that are asked so often with the answer to each, or a crash with its answer.
+#[derive(Clone, Copy)]
+enum Part<'a> {
+    Lines(&'a [Line]),
+    Crash(Leaving, Told),
+    // One that leaves so many bytes of image.a, and none of the other files.
+    LeavesOnes(usize, Told),
+}
+
+// A core that was asked all moves so far, which tells what a crash leaves; the moves; their answers.
+#[derive(Drop)]
+struct Row<C: Capture> {
+    alloc: Global,
+    core: Core<C>,
+    moves: Vec<Move>,
+    told: Vec<Told>,
+}
+
+fn add_part<C: Capture>(row: &mut Row<C>, part: Part<'_>) -> Result<(), Refusal> {
+    match part {
+        Part::Lines(lines) => add_lines(row, lines),
+        Part::Crash(leaving, told) => {
+            let one = row.core.remains(leaving)?;
+            let same = row.core.remains(leaving)?;
+            add_crash(row, one, same, told)
+        }
+        Part::LeavesOnes(count, told) => {
+            let one = ones(row.alloc, count)?;
+            let same = ones(row.alloc, count)?;
+            add_crash(row, one, same, told)
+        }
+    }
+}
+
+fn add_lines<C: Capture>(row: &mut Row<C>, lines: &[Line]) -> Result<(), Refusal> {
+    for (times, asked, told) in lines {
+        for _ in 0..*times {
+            if let (Some(one), Some(same)) = (asked.as_move(), asked.as_move()) {
+                row.core.step(one);
+                row.moves.push(same)?;
+                row.told.push(*told)?;
+            }
+        }
+    }
+    Ok(())
+}
+
+fn add_crash<C: Capture>(
+    row: &mut Row<C>,
+    one: Remains,
+    same: Remains,
+    told: Told,
+) -> Result<(), Refusal> {
+    row.core.step(Move::Crash(one));
+    row.moves.push(Move::Crash(same))?;
+    row.told.push(told)?;
+    Ok(())
+}
+
+fn ran<C: Capture>(alloc: Global, cells: u32, moves: Vec<Move>) -> Result<Vec<Told>, Refusal> {
+    let (answers, _) = run::<C>(alloc, cells.clamp(1, 65536), moves)?;
+    told_by(alloc, &answers)
+}
+
+fn add_parts<C: Capture>(row: &mut Row<C>, parts: &[Part<'_>]) -> Result<(), Refusal> {
+    for part in parts {
+        add_part(row, *part)?;
+    }
+    Ok(())
+}
+
+fn new_row<C: Capture>(alloc: Global, cells: u32) -> Result<Row<C>, Refusal> {
+    Ok(Row {
+        alloc,
+        core: Core::fresh(alloc, cells.clamp(1, 65536))?,
+        moves: Vec::new(alloc),
+        told: Vec::new(alloc),
+    })
+}
+
+// A run of a fresh world answers the moves of these parts so.
+fn check<C: Capture>(
+    rt: &(impl Abort + AllocGlobal),
+    cells: u32,
+    parts: &[Part<'_>],
+) -> Result<(), Refusal> {
+    let mut row = new_row::<C>(rt.alloc(), cells)?;
+    add_parts(&mut row, parts)?;
+    let Row { moves, told, .. } = row;
+    let given = ran::<C>(rt.alloc(), cells, moves)?;
+    assert!(rt; given.as_slice() == told.as_slice());
+    Ok(())
+}
+
+fn check_all<R: Abort + AllocGlobal>(
+    rt: &R,
+    cells: u32,
+    parts: &[Part<'_>],
+) -> Result<(), Refusal> {
+    check::<PlainCopy>(rt, cells, parts)?;
+    check::<Zigzag>(rt, cells, parts)?;
+    check::<PingPong>(rt, cells, parts)
+}
+
+#[test]
+fn actions(rt: HostRuntime) -> Result<(), Fail> {
+    check_all(&rt, 1, &[])?;
+    let one_cell = [
+        (1, GET, Told::Word(0)),
+        (1, set(0, LIMIT), Told::Did),
+        (1, add(1), Told::Refused(Refusal::OutOfRange)),
+        (1, set(0, LIMIT + 1), Told::Refused(Refusal::BadValue)),
+        (1, add(-(LIMIT as i64)), Told::Did),
+        (1, GET, Told::Word(0)),
+    ];
+    check_all(&rt, 1, &[Part::Lines(&START), Part::Lines(&one_cell)])?;
+    let two_cells = [
+        (1, transfer(0, 0), Told::Refused(Refusal::SameCell)),
+        (1, transfer(0, 1), Told::Refused(Refusal::OutOfRange)),
+        (1, transfer(0, 2), Told::Refused(Refusal::BadCell)),
+        (1, set(2, LIMIT + 1), Told::Refused(Refusal::BadCell)),
+    ];
+    check_all(
+        &rt,
+        2,
+        &[Part::Lines(&START_OF_TWO), Part::Lines(&two_cells)],
+    )?;
+    Ok(())
+}
+
+#[test]
+fn full_ticks_and_queues(rt: HostRuntime) -> Result<(), Fail> {
+    let full_tick = [
+        (256, add(1), Told::Did),
+        (1, add(1), Told::Refused(Refusal::TickFull)),
+        (1, GET, Told::Word(256)),
+    ];
+    check_all(&rt, 1, &[Part::Lines(&START), Part::Lines(&full_tick)])?;
+    let mut ended = [(1, END, Told::Ended(1)); 64];
+    for (line, tick) in ended.iter_mut().zip(1..=64) {
+        line.2 = Told::Ended(tick);
+    }
+    let drained = [
+        (1, END, Told::Refused(Refusal::QueueFull)),
+        (3, LOG, Told::LogWorking),
+        (1, LOG, Told::LogAcked(32)),
+        (3, LOG, Told::LogWorking),
+        (1, LOG, Told::LogAcked(64)),
+        (1, END, Told::Ended(65)),
+    ];
+    check_all(
+        &rt,
+        1,
+        &[
+            Part::Lines(&START),
+            Part::Lines(&ended),
+            Part::Lines(&drained),
+        ],
+    )?;
+    Ok(())
+}
+
+// An empty tick counts.
+#[test]
+fn empty_ticks(rt: HostRuntime) -> Result<(), Fail> {
+    let ended = [(1, END, Told::Ended(1))];
+    let recovered = Part::Crash(Leaving::Lose, Told::Recovered { tick: 1, from: 0 });
+    check_all(
+        &rt,
+        1,
+        &[
+            Part::Lines(&START),
+            Part::Lines(&ended),
+            Part::Lines(&GROUP),
+            recovered,
+        ],
+    )?;
+    Ok(())
+}
+
+// A group of which none, one, three or four calls were made.
+#[test]
+fn torn_groups(rt: HostRuntime) -> Result<(), Fail> {
+    let torn = [
+        (0, Leaving::Keep, 0),
+        (1, Leaving::Fill(1), 0),
+        (3, Leaving::Fill(1), 1),
+        (3, Leaving::Fill(0), 0),
+    ];
+    for (calls, leaving, tick) in torn {
+        let lines = [(calls, LOG, Told::LogWorking)];
+        let word = [(1, GET, Told::Word(tick * 5))];
+        check_all(
+            &rt,
+            1,
+            &[
+                Part::Lines(&START),
+                Part::Lines(&SET_AND_END),
+                Part::Lines(&lines),
+                Part::Crash(leaving, Told::Recovered { tick, from: 0 }),
+                Part::Lines(&word),
+            ],
+        )?;
+    }
+    check_all(
+        &rt,
+        1,
+        &[
+            Part::Lines(&START),
+            Part::Lines(&SET_AND_END),
+            Part::Lines(&GROUP),
+            Part::Crash(Leaving::Fill(0), Told::Recovered { tick: 1, from: 0 }),
+        ],
+    )?;
+    Ok(())
+}
+
+// A round of one cell into a file that is not known to be shut.
+fn round(tick: u64) -> [Line; 3] {
+    [
+        (1, MARK, Told::Started(tick)),
+        (7, IMAGE, Told::ImageWorking),
+        (1, IMAGE, Told::ImageOpened(tick)),
+    ]
+}
+
+#[test]
+fn images_ahead_of_the_log(rt: HostRuntime) -> Result<(), Fail> {
+    let played = [
+        (1, MARK, Told::Started(1)),
+        (1, set(0, 9), Told::Did),
+        (1, END, Told::Ended(2)),
+        (7, IMAGE, Told::ImageWorking),
+        (1, IMAGE, Told::ImageOpened(1)),
+    ];
+    check_all(
+        &rt,
+        1,
+        &[
+            Part::Lines(&START),
+            Part::Lines(&SET_AND_END),
+            Part::Lines(&played),
+            Part::Crash(Leaving::Lose, Told::Recovered { tick: 1, from: 1 }),
+            Part::Lines(&[(1, GET, Told::Word(5))]),
+        ],
+    )?;
+    Ok(())
+}
+
+// Two ticks, and a round of the first; then so many steps of a round of the second.
+fn two_rounds(steps: u32) -> [Line; 10] {
+    [
+        (1, set(0, 5), Told::Did),
+        (1, set(1, 7), Told::Did),
+        (1, END, Told::Ended(1)),
+        (1, MARK, Told::Started(1)),
+        (8, IMAGE, Told::ImageWorking),
+        (1, IMAGE, Told::ImageOpened(1)),
+        (1, set(1, 8), Told::Did),
+        (1, END, Told::Ended(2)),
+        (1, MARK, Told::Started(2)),
+        (steps, IMAGE, Told::ImageWorking),
+    ]
+}
+
+// The word of cell 0 comes from the other file.
+#[test]
+fn rounds_cut_off_or_whole(rt: HostRuntime) -> Result<(), Fail> {
+    let opened = [(1, IMAGE, Told::ImageOpened(2))];
+    let words = [(1, GET, Told::Word(5)), (1, Asked::Get(1), Told::Word(8))];
+    check::<PingPong>(
+        &rt,
+        2,
+        &[
+            Part::Lines(&START_OF_TWO),
+            Part::Lines(&two_rounds(9)),
+            Part::Lines(&opened),
+            Part::Crash(Leaving::Lose, Told::Recovered { tick: 2, from: 2 }),
+            Part::Lines(&words),
+        ],
+    )?;
+    let words = [(1, GET, Told::Word(5)), (1, Asked::Get(1), Told::Word(7))];
+    check::<PingPong>(
+        &rt,
+        2,
+        &[
+            Part::Lines(&START_OF_TWO),
+            Part::Lines(&two_rounds(6)),
+            Part::Crash(Leaving::Fill(1), Told::Recovered { tick: 1, from: 1 }),
+            Part::Lines(&words),
+        ],
+    )?;
+    Ok(())
+}
+
+#[test]
+fn refused_marks(rt: HostRuntime) -> Result<(), Fail> {
+    let lines = [
+        (1, MARK, Told::Refused(Refusal::NothingNew)),
+        (1, set(0, 1), Told::Did),
+        (1, MARK, Told::Refused(Refusal::OpenTick)),
+        (1, END, Told::Ended(1)),
+        (1, MARK, Told::Started(1)),
+        (1, MARK, Told::Refused(Refusal::Busy)),
+    ];
+    check_all(&rt, 1, &[Part::Lines(&START), Part::Lines(&lines)])?;
+    Ok(())
+}
+
+// A tick that sets the cell to its number.
+fn tick(number: u64) -> [Line; 2] {
+    [
+        (1, set(0, number), Told::Did),
+        (1, END, Told::Ended(number)),
+    ]
+}
+
+// A switch into the segment that was shut in the start takes four steps, and one into another six.
+const SWITCHES: [Line; 9] = [
+    (3, LOG, Told::LogWorking),
+    (1, LOG, Told::LogAcked(1)),
+    (4, LOG, Told::LogWorking),
+    (3, LOG, Told::LogWorking),
+    (1, LOG, Told::LogAcked(2)),
+    (6, LOG, Told::LogWorking),
+    (3, LOG, Told::LogWorking),
+    (1, LOG, Told::LogAcked(3)),
+    (6, LOG, Told::LogWorking),
+];
+
+#[test]
+fn switches_use_segments_again(rt: HostRuntime) -> Result<(), Fail> {
+    check_all(
+        &rt,
+        1,
+        &[
+            Part::Lines(&START),
+            Part::Lines(&tick(1)),
+            Part::Lines(&round(1)),
+            Part::Lines(&tick(2)),
+            Part::Lines(&round(2)),
+            Part::Lines(&tick(3)),
+            Part::Lines(&round(3)),
+            Part::Lines(&SWITCHES),
+            Part::Lines(&[(1, LOG, Told::LogIdle)]),
+            Part::Crash(Leaving::Lose, Told::Recovered { tick: 3, from: 3 }),
+            Part::Lines(&[(1, GET, Told::Word(3))]),
+        ],
+    )?;
+    Ok(())
+}
+
+#[test]
+fn images_down(rt: HostRuntime) -> Result<(), Fail> {
+    let lines = [
+        (1, MARK, Told::Started(1)),
+        (1, IMAGE_FAILS, Told::ImageDown),
+        (1, MARK, Told::Refused(Refusal::ImageDown)),
+        (1, set(0, 2), Told::Did),
+        (1, END, Told::Ended(2)),
+        (3, LOG, Told::LogWorking),
+        (1, LOG, Told::LogAcked(1)),
+        (4, LOG, Told::LogWorking),
+        (3, LOG, Told::LogWorking),
+        (1, LOG, Told::LogAcked(2)),
+        (1, LOG, Told::LogIdle),
+    ];
+    check_all(
+        &rt,
+        1,
+        &[
+            Part::Lines(&START),
+            Part::Lines(&SET_AND_END),
+            Part::Lines(&lines),
+            Part::Crash(Leaving::Lose, Told::Recovered { tick: 2, from: 0 }),
+        ],
+    )?;
+    Ok(())
+}
+
+// No image stands until the start has written one, and no crash leaves a byte that was never written.
+#[test]
+fn starts_and_blanks(rt: HostRuntime) -> Result<(), Fail> {
+    let failed = [
+        (1, SET, Told::Refused(Refusal::Starting)),
+        (1, IMAGE_FAILS, Told::ImageDown),
+        (1, LOG, Told::LogIdle),
+        (1, MARK, Told::Refused(Refusal::Starting)),
+        (1, END, Told::Refused(Refusal::Starting)),
+    ];
+    check_all(
+        &rt,
+        1,
+        &[
+            Part::Lines(&failed),
+            Part::LeavesOnes(0, Told::Blank),
+            Part::LeavesOnes(1, Told::Refused(Refusal::Impossible)),
+            Part::Lines(&[(1, LOG, Told::LogIdle)]),
+            Part::Lines(&START),
+            Part::Lines(&SET_AND_END),
+        ],
+    )?;
+    Ok(())
+}
+
+// The second crash finds the image that the start after the first one wrote, so the start after it has
+// none to write. The second segment is shut since the first start.
+#[test]
+fn crashes_twice(rt: HostRuntime) -> Result<(), Fail> {
+    let image = [
+        (7, IMAGE, Told::ImageWorking),
+        (1, IMAGE, Told::ImageOpened(1)),
+    ];
+    let segments = [(1, IMAGE, Told::ImageIdle), (6, LOG, Told::LogWorking)];
+    let reads = [
+        (1, GET, Told::Word(5)),
+        (1, END, Told::Refused(Refusal::Starting)),
+    ];
+    check_all(
+        &rt,
+        1,
+        &[
+            Part::Lines(&START),
+            Part::Lines(&SET_AND_END),
+            Part::Lines(&GROUP),
+            Part::Crash(Leaving::Lose, Told::Recovered { tick: 1, from: 0 }),
+            Part::Lines(&image),
+            Part::Lines(&segments),
+            Part::Crash(Leaving::Lose, Told::Recovered { tick: 1, from: 1 }),
+            Part::Lines(&reads),
+            Part::Lines(&segments),
+            Part::Lines(&[(1, END, Told::Ended(2))]),
+        ],
+    )?;
+    Ok(())
+}
