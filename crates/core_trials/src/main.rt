@@ -29,6 +29,7 @@ use kind::NAMES;
 use ping_pong::PingPong;
 use player::Player;
 use random::Random;
+use shared_capture::{Joined, Pong, Zig};
 use std::alloc::Global;
 use std::io;
 use std::process::ExitCode;
@@ -63,6 +64,8 @@ fn run<R: Print + AllocGlobal>(rt: &R) -> io::Result<bool> {
     let are_right = try_store::<R, PlainCopy>(rt, "plain", &mut all)?
         && try_store::<R, Zigzag>(rt, "zigzag", &mut all)?
         && try_store::<R, PingPong>(rt, "pingpong", &mut all)?
+        && try_store::<R, Joined<Zig>>(rt, "zigzag-shared", &mut all)?
+        && try_store::<R, Joined<Pong>>(rt, "pingpong-shared", &mut all)?
         && try_long(rt, &mut all)?;
     Ok(are_right && tell_counts(rt, &all)?)
 }

@@ -156,10 +156,9 @@ get_or-dirty_words (m ∷ marks) (w ∷ words) (suc i) e lt = get_or-dirty_words
 
 -- what a take finds, by what the code reads of the mark and the word
 pub entry-is : (store : Arrays) (mark : Bool) (word : ℕ) (entry : Option ℕ) → IsInOrder store → store.taken < length store.live →
-    mark ≡ get_or store.previous_dirty store.taken mark → word ≡ get_or store.previous_words store.taken word →
+    mark ≡ get_or store.previous_dirty store.taken false → word ≡ get_or store.previous_words store.taken word →
     entry ≡ then_some mark word → Some entry ≡ slice_get (previous_entries store) store.taken
 entry-is store mark word entry ok lt m w is =
-    let at : mark ≡ get_or store.previous_dirty store.taken false = get_or_read store.previous_dirty store.taken mark (omega (arith, ok.previous_dirty_length)) m false in
     let value : word ≡ get_or store.previous_words store.taken 0 = get_or_read store.previous_words store.taken word (omega (arith, ok.previous_words_length)) w 0 in
-    ap (λ e. Some e) (is ∙ ap (λ b. then_some b word) at ∙ ap (λ v. then_some (get_or store.previous_dirty store.taken false) v) value)
+    ap (λ e. Some e) (is ∙ ap (λ b. then_some b word) m ∙ ap (λ v. then_some (get_or store.previous_dirty store.taken false) v) value)
     ∙ sym (get_or-dirty_words store.previous_dirty store.previous_words store.taken (ok.previous_dirty_length ∙ sym ok.previous_words_length) (omega (arith, ok.previous_words_length)))

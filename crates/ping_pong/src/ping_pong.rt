@@ -6,6 +6,7 @@ ghost use Rattle.capture_core.specs.Content.{all_touched, content_after, Takes, 
 ghost use Rattle.ping_pong.specs.PingPong.{IsInOrder, odd_words, even_words, previous_entries, content_of, built_arrays, written_arrays, swapped_arrays, taken_arrays};
 
 use capture_core::{Capture, Taken, Taker};
+use packed_marks::PackedMarks;
 use std::alloc::Global;
 use std::marker::Model;
 use std::mem;
@@ -18,9 +19,9 @@ use world_ticks::Cells;
 pub struct PingPong {
     live: Vec<u64>,
     current_words: Vec<u64>,
-    current_dirty: Vec<bool>,
+    current_dirty: PackedMarks,
     previous_words: Vec<u64>,
-    previous_dirty: Vec<bool>,
+    previous_dirty: PackedMarks,
     odd_is_current: bool,
     taken: usize,
 }
@@ -33,9 +34,9 @@ impl Model for PingPong {
     ghost view = { λ store. record {
       live = store.live.items;
       current_words = store.current_words.items;
-      current_dirty = store.current_dirty.items;
+      current_dirty = store.current_dirty;
       previous_words = store.previous_words.items;
-      previous_dirty = store.previous_dirty.items;
+      previous_dirty = store.previous_dirty;
       odd_is_current = store.odd_is_current;
       taken = store.taken;
     } };
@@ -43,9 +44,9 @@ impl Model for PingPong {
     ghost invariant = { λ store. IsInOrder (record {
       live = store.live.items;
       current_words = store.current_words.items;
-      current_dirty = store.current_dirty.items;
+      current_dirty = store.current_dirty;
       previous_words = store.previous_words.items;
-      previous_dirty = store.previous_dirty.items;
+      previous_dirty = store.previous_dirty;
       odd_is_current = store.odd_is_current;
       taken = store.taken;
     }) };
@@ -62,9 +63,9 @@ impl PingPong {
         Ok(PingPong {
             live: Vec::from_slice(alloc, words)?,
             current_words: Vec::from_slice(alloc, words)?,
-            current_dirty: vec![in alloc; true; words.len()]?,
+            current_dirty: PackedMarks::new(alloc, words.len(), true)?,
             previous_words: Vec::from_slice(alloc, words)?,
-            previous_dirty: vec![in alloc; false; words.len()]?,
+            previous_dirty: PackedMarks::new(alloc, words.len(), false)?,
             odd_is_current: true,
             taken: words.len(),
         })
@@ -93,7 +94,7 @@ impl PingPong {
     {
         self.live[i] = v;
         self.current_words[i] = v;
-        self.current_dirty[i] = true;
+        self.current_dirty.put(i, true);
     }
 
     fn swap_arrays(&mut self)
@@ -118,8 +119,8 @@ impl PingPong {
             return None;
         }
         self.taken += 1;
-        let dirty = self.previous_dirty[i];
-        self.previous_dirty[i] = false;
+        let dirty = self.previous_dirty.is_set(i);
+        self.previous_dirty.put(i, false);
         Some(dirty.then_some(self.previous_words[i]))
     }
 }
@@ -205,8 +206,9 @@ impl Capture for PingPong {
 mod tests {
     use super::*;
     use capture_core::copy_round;
+    use std::process::Abort;
     use std::test::Fail;
-    use world_actions::Action;
+    use world_actions::{Action, LIMIT};
     use world_ticks::{Tick, act};
 
     #[test]
@@ -274,6 +276,72 @@ mod tests {
         assert_eq!(rt; image, [5, 7]);
         copy_round(&mut store, &mut image, &[]);
         assert_eq!(rt; image, [5, 9]);
+        Ok(())
+    }
+
+    // A list of words, and for each whether it was written since the last mark.
+    #[derive(Drop)]
+    struct Plain {
+        words: Vec<u64>,
+        touched: Vec<bool>,
+    }
+
+    // Writes a cell of the store and of the list.
+    fn write(rt: &impl Abort, store: &mut PingPong, plain: &mut Plain, i: usize, v: u64) {
+        assert!(rt; i < store.len() && i < plain.words.len() && i < plain.touched.len());
+        assert!(rt; v <= LIMIT);
+        store.write(i, v);
+        plain.words[i] = v;
+        plain.touched[i] = true;
+    }
+
+    // A round takes the words of the mark where they were touched before it, whatever is written
+    // between its takes.
+    fn check_round(
+        rt: &impl Abort,
+        alloc: Global,
+        store: &mut PingPong,
+        plain: &mut Plain,
+    ) -> Result<(), Fail> {
+        let marked = Vec::from_slice(alloc, &plain.words)?;
+        let touched = Vec::from_slice(alloc, &plain.touched)?;
+        plain.touched.fill(false);
+        assert!(rt; !store.open_round());
+        store.mark();
+        for (i, (word, touched)) in marked.iter().zip(touched.iter()).enumerate() {
+            if i % 3 != 0 {
+                write(rt, store, plain, marked.len() - 1 - i, *word ^ 1);
+            }
+            let want = if *touched {
+                Taken::Word(*word)
+            } else {
+                Taken::Same
+            };
+            assert_eq!(rt; store.take(), Some(want));
+            assert!(rt; i < store.len() && i < plain.words.len());
+            assert_eq!(rt; store.read(i), plain.words[i]);
+        }
+        assert_eq!(rt; store.take(), None);
+        Ok(())
+    }
+
+    #[test]
+    fn agrees_with_list_of_words(rt: HostRuntime) -> Result<(), Fail> {
+        for cells in [1, 63, 64, 65, 130] {
+            let mut plain = Plain {
+                words: vec![in rt.alloc(); 0; cells]?,
+                touched: vec![in rt.alloc(); true; cells]?,
+            };
+            let mut store = PingPong::new(rt.alloc(), &plain.words)?;
+            for step in 1..4 {
+                check_round(&rt, rt.alloc(), &mut store, &mut plain)?;
+                for i in 0..cells {
+                    if i % step == 0 {
+                        write(&rt, &mut store, &mut plain, i, 100 * step as u64);
+                    }
+                }
+            }
+        }
         Ok(())
     }
 }

@@ -17,7 +17,7 @@ use Rattle.disk_model.specs.declared.leaving.Leaving.{Leaving}
 use Rattle.world_core.specs.declared.moves.Fate.TheVariants.{Done, Failed}
 use Rattle.disk_model.specs.declared.leaving.Leaving.TheVariants.{Lose, Keep, Fill}
 use Rattle.steps.specs.declared.line.Method.{Method}
-use Rattle.steps.specs.declared.line.Method.TheVariants.{Plain, Zigzag, PingPong}
+use Rattle.steps.specs.declared.line.Method.TheVariants.{Plain, Zigzag, PingPong, ZigzagShared, PingPongShared}
 use Rattle.steps.specs.declared.line.Line.{Line}
 use Rattle.steps.specs.declared.line.Line.TheVariants as line
 use Rattle.steps.specs.Progress.{KeptMeans}
@@ -69,17 +69,47 @@ text_kind-line_spelling line.Mark = refl
 same_kind : (a b : Line) → line_spelling a ≡ line_spelling b → kind_of a ≡ kind_of b
 same_kind a b is = sym (text_kind-line_spelling a) ∙ (ap text_kind is ∙ text_kind-line_spelling b)
 
+-- The method at the front of a text: told by its first two bytes, and by the one after the method's first word.
+method_at : List ℕ → Method
+method_at text =
+    if slice_index text 0 == 122 then (if slice_index text 6 == 32 then Zigzag else ZigzagShared) else
+    if slice_index text 1 == 108 then Plain else
+    if slice_index text 8 == 32 then PingPong else PingPongShared
+
+method_at-method_word : (method : Method) (rest : List ℕ) → method_at (method_word method ++ (32 ∷ rest)) ≡ method
+unfolding method_at
+method_at-method_word Plain rest = refl
+method_at-method_word Zigzag rest = refl
+method_at-method_word PingPong rest = refl
+method_at-method_word ZigzagShared rest = refl
+method_at-method_word PingPongShared rest = refl
+
+rest_injective : (method : Method) (x y : List ℕ) → method_word method ++ (32 ∷ x) ≡ method_word method ++ (32 ∷ y) → x ≡ y
+rest_injective Plain x y is = cc
+rest_injective Zigzag x y is = cc
+rest_injective PingPong x y is = cc
+rest_injective ZigzagShared x y is = cc
+rest_injective PingPongShared x y is = cc
+
 -- no two methods and numbers are spelled the same
 method_injective : (a b : Method) (x y : List ℕ) → method_word a ++ (32 ∷ x) ≡ method_word b ++ (32 ∷ y) → (a ≡ b) × (x ≡ y)
-method_injective Plain Plain x y is = (refl, cc)
-method_injective Plain Zigzag x y is = absurd (let first : 112 ≡ 122 = same_first is in omega (arith, first))
-method_injective Plain PingPong x y is = absurd (let second : 108 ≡ 105 = ap (λ text. slice_index text 1) is in omega (arith, second))
-method_injective Zigzag Plain x y is = absurd (let first : 122 ≡ 112 = same_first is in omega (arith, first))
-method_injective Zigzag Zigzag x y is = (refl, cc)
-method_injective Zigzag PingPong x y is = absurd (let first : 122 ≡ 112 = same_first is in omega (arith, first))
-method_injective PingPong Plain x y is = absurd (let second : 105 ≡ 108 = ap (λ text. slice_index text 1) is in omega (arith, second))
-method_injective PingPong Zigzag x y is = absurd (let first : 112 ≡ 122 = same_first is in omega (arith, first))
-method_injective PingPong PingPong x y is = (refl, cc)
+method_injective a b x y is =
+    let same : a ≡ b = sym (method_at-method_word a x) ∙ (ap method_at is ∙ method_at-method_word b y) in
+    (same, rest_injective b x y (ap (λ method. method_word method ++ (32 ∷ x)) (sym same) ∙ is))
+
+-- a text that starts with no method's word and a space
+pub no_method : (text : List ℕ)
+    → ((rest : List ℕ) → text ≢ codes "plain " ++ rest)
+    → ((rest : List ℕ) → text ≢ codes "zigzag " ++ rest)
+    → ((rest : List ℕ) → text ≢ codes "pingpong " ++ rest)
+    → ((rest : List ℕ) → text ≢ codes "zigzag-shared " ++ rest)
+    → ((rest : List ℕ) → text ≢ codes "pingpong-shared " ++ rest)
+    → (method : Method) (rest : List ℕ) → text ≢ method_word method ++ (32 ∷ rest)
+no_method text plain zigzag pingpong zigzag_shared pingpong_shared Plain rest = plain rest
+no_method text plain zigzag pingpong zigzag_shared pingpong_shared Zigzag rest = zigzag rest
+no_method text plain zigzag pingpong zigzag_shared pingpong_shared PingPong rest = pingpong rest
+no_method text plain zigzag pingpong zigzag_shared pingpong_shared ZigzagShared rest = zigzag_shared rest
+no_method text plain zigzag pingpong zigzag_shared pingpong_shared PingPongShared rest = pingpong_shared rest
 
 -- no two digits, and so no two bytes
 digit_injective : (a b : ℕ) → a < 16 → b < 16 → hex_digit a ≡ hex_digit b → a ≡ b
@@ -181,10 +211,12 @@ abbrev pub CommandsAreShort : Type 0
 CommandsAreShort = (command : Command) → IsInBounds command → length (spelling command) ≤ LINE_BYTES
 
 -- and so is every line that means something
-length-method_word : (method : Method) → length (method_word method) ≤ 8
+length-method_word : (method : Method) → length (method_word method) ≤ 15
 length-method_word Plain = lit≤ tt
 length-method_word Zigzag = lit≤ tt
 length-method_word PingPong = lit≤ tt
+length-method_word ZigzagShared = lit≤ tt
+length-method_word PingPongShared = lit≤ tt
 
 line_length : CommandsAreShort → (l : Line) → LineIsInBounds l → length (line_spelling l) ≤ LINE_BYTES
 line_length short (line.Open method n) bounds =

@@ -6,7 +6,7 @@ use Rattle.line_grammar.specs.Command.{spelling, IsInBounds}
 use Rattle.disk_model.specs.declared.leaving.Leaving.TheVariants.{Lose, Keep, Fill}
 use Rattle.world_core.specs.declared.moves.Fate.TheVariants.{Done, Failed}
 use Rattle.steps.specs.declared.line.Method.{Method}
-use Rattle.steps.specs.declared.line.Method.TheVariants.{Plain, Zigzag, PingPong}
+use Rattle.steps.specs.declared.line.Method.TheVariants.{Plain, Zigzag, PingPong, ZigzagShared, PingPongShared}
 use Rattle.steps.specs.declared.line.Line.{Line}
 use Rattle.steps.specs.declared.line.Line.TheVariants.{Open, Command, Mark, Image, Log, Images, Logs, Crash, World}
 
@@ -15,6 +15,8 @@ abbrev pub method_word : Method → List ℕ
 method_word Plain = codes "plain"
 method_word Zigzag = codes "zigzag"
 method_word PingPong = codes "pingpong"
+method_word ZigzagShared = codes "zigzag-shared"
+method_word PingPongShared = codes "pingpong-shared"
 
 -- a digit of a byte: 0 to 9, a to f
 abbrev pub hex_digit : ℕ → ℕ

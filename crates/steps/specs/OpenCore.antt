@@ -10,7 +10,7 @@ use Rattle.steps.specs.declared.line.Method.TheVariants as method
 use Rattle.steps.specs.declared.line.Line.{Line}
 use Rattle.steps.specs.declared.line.Line.TheVariants as line
 use Rattle.steps.specs.declared.open_core.OpenCore.{OpenCore}
-use Rattle.steps.specs.declared.open_core.OpenCore.TheVariants.{Plain, Zigzag, PingPong}
+use Rattle.steps.specs.declared.open_core.OpenCore.TheVariants.{Plain, Zigzag, PingPong, ZigzagShared, PingPongShared}
 use Rattle.steps.specs.Played.{Moves, Runs}
 
 -- the state of the core, over whichever store
@@ -18,12 +18,16 @@ abbrev pub state_of : OpenCore → State
 state_of (Plain core) = core
 state_of (Zigzag core) = core
 state_of (PingPong core) = core
+state_of (ZigzagShared core) = core
+state_of (PingPongShared core) = core
 
 -- the method that the core's store captures by
 abbrev pub method_of : OpenCore → Method
 method_of (Plain core) = method.Plain
 method_of (Zigzag core) = method.Zigzag
 method_of (PingPong core) = method.PingPong
+method_of (ZigzagShared core) = method.ZigzagShared
+method_of (PingPongShared core) = method.PingPongShared
 
 -- the method after a line with this meaning: an opening chooses it
 abbrev pub method_after : Option Method → Option Line → Option Method

@@ -12,6 +12,10 @@ pub enum Method {
     Zigzag,
     /// The live words and two arrays of what was written, which a mark swaps.
     PingPong,
+    /// Zigzag over the table that a writer and a taker share.
+    ZigzagShared,
+    /// Ping-Pong over such a table.
+    PingPongShared,
 }
 
 /// What one line of a script asks for.
@@ -89,8 +93,14 @@ fn read_method(words: &[u8]) -> Option<(Method, &[u8])>
     if let Some(rest) = after(words, b"zigzag ") {
         return Some((Method::Zigzag, rest));
     }
-    let rest = after(words, b"pingpong ")?;
-    Some((Method::PingPong, rest))
+    if let Some(rest) = after(words, b"pingpong ") {
+        return Some((Method::PingPong, rest));
+    }
+    if let Some(rest) = after(words, b"zigzag-shared ") {
+        return Some((Method::ZigzagShared, rest));
+    }
+    let rest = after(words, b"pingpong-shared ")?;
+    Some((Method::PingPongShared, rest))
 }
 
 // A byte of two digits.

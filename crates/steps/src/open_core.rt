@@ -2,6 +2,7 @@ use crate::core_lines;
 use crate::line::{Line, Method};
 use capture_core::PlainCopy;
 use ping_pong::PingPong;
+use shared_capture::{Joined, Pong, Zig};
 use std::alloc::Global;
 use world_actions::Refusal;
 use world_core::Core;
@@ -15,6 +16,10 @@ pub enum OpenCore {
     Zigzag(Core<Zigzag>),
     /// Over Ping-Pong's arrays.
     PingPong(Core<PingPong>),
+    /// Over both seats at a table of Zigzag.
+    ZigzagShared(Core<Joined<Zig>>),
+    /// Over both seats at a table of Ping-Pong.
+    PingPongShared(Core<Joined<Pong>>),
 }
 
 // One call lets a core go, wherever that is.
@@ -24,6 +29,8 @@ impl Drop for OpenCore {
             OpenCore::Plain(core) => core_lines::let_go(core),
             OpenCore::Zigzag(core) => core_lines::let_go(core),
             OpenCore::PingPong(core) => core_lines::let_go(core),
+            OpenCore::ZigzagShared(core) => core_lines::let_go(core),
+            OpenCore::PingPongShared(core) => core_lines::let_go(core),
         }
     }
 }
@@ -49,6 +56,12 @@ impl OpenCore {
             Method::Plain => Ok(OpenCore::Plain(core_lines::open_core(alloc, cells)?)),
             Method::Zigzag => Ok(OpenCore::Zigzag(core_lines::open_core(alloc, cells)?)),
             Method::PingPong => Ok(OpenCore::PingPong(core_lines::open_core(alloc, cells)?)),
+            Method::ZigzagShared => {
+                Ok(OpenCore::ZigzagShared(core_lines::open_core(alloc, cells)?))
+            }
+            Method::PingPongShared => {
+                Ok(OpenCore::PingPongShared(core_lines::open_core(alloc, cells)?))
+            }
         }
     }
 
@@ -65,6 +78,8 @@ impl OpenCore {
             OpenCore::Plain(core) => core_lines::say_line(core, line, text),
             OpenCore::Zigzag(core) => core_lines::say_line(core, line, text),
             OpenCore::PingPong(core) => core_lines::say_line(core, line, text),
+            OpenCore::ZigzagShared(core) => core_lines::say_line(core, line, text),
+            OpenCore::PingPongShared(core) => core_lines::say_line(core, line, text),
         }
     }
 }

@@ -19,7 +19,8 @@ use world_actions::Refusal;
 const STEPS_HELP: &str = "\
 Each line of the script gets one line of answer:
   open METHOD N        opens a world of N cells, 1 to 65536, all 0: `ready 0`
-                       METHOD is plain, zigzag or pingpong
+                       METHOD is plain, zigzag, pingpong, or one of the last two
+                       over two seats: zigzag-shared, pingpong-shared
   set CELL VALUE       puts a value into a cell: `+`
   add CELL DIFFERENCE  adds a difference to a cell, less than 0 or not: `+`
   move FROM TO AMOUNT  takes an amount from a cell and adds it to another: `+`

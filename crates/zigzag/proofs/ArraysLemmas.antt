@@ -1,6 +1,6 @@
 -- What the calls of a store do to its words.
 use Rattle.std.proofs.Common.{◌≡◌, refl, sym, ◌∙◌, ap, ℕ, zero, suc, ◌+◌, ◌<◌, ◌≤◌, Bool, true, false, not, cond, List, [], ◌∷◌, length, drop, map, replicate, get_or, set, Some, None, arith, inl, inr, ◌-◌}
-use Rattle.std.proofs.lemmas.List.{length-map, length-drop, drop_more, drop_all, get_or-map, get_or_read}
+use Rattle.std.proofs.lemmas.List.{length-map, length-drop, drop_more, drop_all, get_or-map}
 use Rattle.std.proofs.Math.Seq.{drop-length}
 use Rattle.std.proofs.lemmas.List.Elements.{All-nil, All-cons, All-head, All-tail}
 use Rattle.std.specs.Option.{option_map}
@@ -199,24 +199,22 @@ length-left store ok = simp (length-map, length-drop, length-captured_words stor
 
 -- what a read finds, by what the code reads of the marks and the arrays
 pub word-is : (store : Arrays) (i word : ℕ) (mark : Bool) (zeros ones : List ℕ) → IsInOrder store → i < length store.array_zero →
-    mark ≡ get_or store.read_marks i mark → zeros ≡ store.array_zero → ones ≡ store.array_one →
+    mark ≡ get_or store.read_marks i false → zeros ≡ store.array_zero → ones ≡ store.array_one →
     word ≡ cond mark (get_or ones i 0) (get_or zeros i 0) → word ≡ get_or (live_words store) i 0
 word-is store i word mark zeros ones ok lt m z o is =
-    let at : mark ≡ get_or store.read_marks i false = get_or_read store.read_marks i mark (omega (arith, ok.read_length)) m false in
     let found = get_or-live_words store i ok lt in
-    is ∙ ap (λ b. cond b (get_or ones i 0) (get_or zeros i 0)) at
+    is ∙ ap (λ b. cond b (get_or ones i 0) (get_or zeros i 0)) m
     ∙ ap (λ list. cond (get_or store.read_marks i false) (get_or ones i 0) (get_or list i 0)) z
     ∙ ap (λ list. cond (get_or store.read_marks i false) (get_or list i 0) (get_or store.array_zero i 0)) o
     ∙ sym found
 
 -- what a take finds
 pub captured-is : (store : Arrays) (i word : ℕ) (mark : Bool) (zeros ones : List ℕ) → IsInOrder store → i < length store.array_zero →
-    mark ≡ get_or store.write_marks i mark → zeros ≡ store.array_zero → ones ≡ store.array_one →
+    mark ≡ get_or store.write_marks i false → zeros ≡ store.array_zero → ones ≡ store.array_one →
     word ≡ cond (not mark) (get_or ones i 0) (get_or zeros i 0) → Some word ≡ slice_get (captured_words store) i
 captured-is store i word mark zeros ones ok lt m z o is =
-    let at : mark ≡ get_or store.write_marks i false = get_or_read store.write_marks i mark (omega (arith, ok.write_length)) m false in
     let found = get_or-captured_words store i ok lt in
-    ap (λ w. Some w) (is ∙ ap (λ b. cond (not b) (get_or ones i 0) (get_or zeros i 0)) at
+    ap (λ w. Some w) (is ∙ ap (λ b. cond (not b) (get_or ones i 0) (get_or zeros i 0)) m
     ∙ ap (λ list. cond (not (get_or store.write_marks i false)) (get_or ones i 0) (get_or list i 0)) z
     ∙ ap (λ list. cond (not (get_or store.write_marks i false)) (get_or list i 0) (get_or store.array_zero i 0)) o
     ∙ sym found)

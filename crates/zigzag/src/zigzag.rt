@@ -6,6 +6,7 @@ ghost use Rattle.capture_core.specs.Content.{all_touched, content_after, Takes, 
 ghost use Rattle.zigzag.specs.Zigzag.{live_words, captured_words, content_of, built_arrays, written_arrays, marked_arrays, taken_arrays};
 
 use capture_core::{Capture, Taken, Taker};
+use packed_marks::PackedMarks;
 use std::alloc::Global;
 use std::marker::Model;
 use world_actions::Refusal;
@@ -17,8 +18,8 @@ use world_ticks::Cells;
 pub struct Zigzag {
     array_zero: Vec<u64>,
     array_one: Vec<u64>,
-    read_marks: Vec<bool>,
-    write_marks: Vec<bool>,
+    read_marks: PackedMarks,
+    write_marks: PackedMarks,
     taken: usize,
 }
 
@@ -30,16 +31,16 @@ impl Model for Zigzag {
     ghost view = { λ store. record {
       array_zero = store.array_zero.items;
       array_one = store.array_one.items;
-      read_marks = store.read_marks.items;
-      write_marks = store.write_marks.items;
+      read_marks = store.read_marks;
+      write_marks = store.write_marks;
       taken = store.taken;
     } };
 
     ghost invariant = { λ store. IsInOrder (record {
       array_zero = store.array_zero.items;
       array_one = store.array_one.items;
-      read_marks = store.read_marks.items;
-      write_marks = store.write_marks.items;
+      read_marks = store.read_marks;
+      write_marks = store.write_marks;
       taken = store.taken;
     }) };
 }
@@ -55,8 +56,8 @@ impl Zigzag {
         Ok(Zigzag {
             array_zero: Vec::from_slice(alloc, words)?,
             array_one: Vec::from_slice(alloc, words)?,
-            read_marks: vec![in alloc; false; words.len()]?,
-            write_marks: vec![in alloc; true; words.len()]?,
+            read_marks: PackedMarks::new(alloc, words.len(), false)?,
+            write_marks: PackedMarks::new(alloc, words.len(), true)?,
             taken: words.len(),
         })
     }
@@ -86,7 +87,8 @@ impl Zigzag {
         ensures word { result ≡ slice_index (live_words self.now) i }
         ensures limit { IsWord result }
     {
-        entry(&self.array_zero, &self.array_one, self.read_marks[i], i)
+        let mark = self.read_marks.is_set(i);
+        entry(&self.array_zero, &self.array_one, mark, i)
     }
 
     fn put_word(&mut self, i: usize, v: u64)
@@ -94,15 +96,15 @@ impl Zigzag {
         requires limit { IsWord v }
         ensures { self.new ≡ written_arrays self.old i v }
     {
-        let mark = self.write_marks[i];
+        let mark = self.write_marks.is_set(i);
         put(&mut self.array_zero, &mut self.array_one, mark, i, v);
-        self.read_marks[i] = mark;
+        self.read_marks.put(i, mark);
     }
 
     fn turn_marks(&mut self)
         ensures { self.new ≡ marked_arrays self.old }
     {
-        complement(&self.read_marks, &mut self.write_marks);
+        self.write_marks.set_opposites(&self.read_marks);
         self.taken = 0;
     }
 
@@ -117,7 +119,8 @@ impl Zigzag {
             return None;
         }
         self.taken += 1;
-        Some(entry(&self.array_zero, &self.array_one, !self.write_marks[i], i))
+        let mark = !self.write_marks.is_set(i);
+        Some(entry(&self.array_zero, &self.array_one, mark, i))
     }
 }
 
@@ -197,7 +200,8 @@ fn entry(zeros: &[u64], ones: &[u64], mark: bool, i: usize) -> u64
     requires one { i < length ones.now }
     ensures { result ≡ (if mark then slice_index ones.now i else slice_index zeros.now i) }
 {
-    if mark { ones[i] } else { zeros[i] }
+    let array = if mark { ones } else { zeros };
+    array[i]
 }
 
 // Puts a word into the entry that a mark names.
@@ -214,21 +218,13 @@ fn put(zeros: &mut [u64], ones: &mut [u64], mark: bool, i: usize, v: u64)
     }
 }
 
-// Sets each of the others to the opposite of its mark.
-fn complement(marks: &[bool], others: &mut [bool])
-    requires { length others.old ≡ length marks.now }
-    ensures { others.new ≡ map not marks.now }
-{
-    for (i, mark) in marks.iter().enumerate() {
-        others[i] = !*mark;
-    }
-}
-
 #[cfg(test)]
 mod tests {
     use super::*;
     use capture_core::copy_round;
+    use std::process::Abort;
     use std::test::Fail;
+    use world_actions::LIMIT;
 
     #[test]
     fn hands_out_words_of_marks(rt: HostRuntime) -> Result<(), Fail> {
@@ -273,6 +269,50 @@ mod tests {
         assert_eq!(rt; image, [5, 7]);
         copy_round(&mut store, &mut image, &[]);
         assert_eq!(rt; image, [4, 9]);
+        Ok(())
+    }
+
+    // Writes a cell of the store and of the list.
+    fn write(rt: &impl Abort, store: &mut Zigzag, words: &mut [u64], i: usize, v: u64) {
+        assert!(rt; i < store.len() && i < words.len() && v <= LIMIT);
+        store.write(i, v);
+        words[i] = v;
+    }
+
+    // A round takes the words of the mark, whatever is written between its takes.
+    fn check_round(
+        rt: &impl Abort,
+        alloc: Global,
+        store: &mut Zigzag,
+        words: &mut [u64],
+    ) -> Result<(), Fail> {
+        let marked = Vec::from_slice(alloc, words)?;
+        assert!(rt; !store.open_round());
+        store.mark();
+        for (i, word) in marked.iter().enumerate() {
+            write(rt, store, words, marked.len() - 1 - i, *word ^ 1);
+            assert_eq!(rt; store.take(), Some(Taken::Word(*word)));
+            assert!(rt; i < store.len() && i < words.len());
+            assert_eq!(rt; store.read(i), words[i]);
+        }
+        assert_eq!(rt; store.take(), None);
+        Ok(())
+    }
+
+    #[test]
+    fn agrees_with_list_of_words(rt: HostRuntime) -> Result<(), Fail> {
+        for cells in [1, 63, 64, 65, 130] {
+            let mut words = vec![in rt.alloc(); 0; cells]?;
+            let mut store = Zigzag::new(rt.alloc(), &words)?;
+            for step in 1..4 {
+                for i in 0..cells {
+                    if i % step == 0 {
+                        write(&rt, &mut store, &mut words, i, 100 * step as u64);
+                    }
+                }
+                check_round(&rt, rt.alloc(), &mut store, &mut words)?;
+            }
+        }
         Ok(())
     }
 }

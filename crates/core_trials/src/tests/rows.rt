@@ -4,6 +4,7 @@ use crate::told::Told;
 use capture_core::{Capture, PlainCopy};
 use disk_model::Leaving;
 use ping_pong::PingPong;
+use shared_capture::{Joined, Pong, Zig};
 use std::alloc::Global;
 use std::process::Abort;
 use std::test::Fail;
@@ -152,7 +153,17 @@ fn check_all<R: Abort + AllocGlobal>(
 ) -> Result<(), Refusal> {
     check::<PlainCopy>(rt, cells, parts)?;
     check::<Zigzag>(rt, cells, parts)?;
-    check::<PingPong>(rt, cells, parts)
+    check::<Joined<Zig>>(rt, cells, parts)?;
+    check_ping_pong(rt, cells, parts)
+}
+
+fn check_ping_pong<R: Abort + AllocGlobal>(
+    rt: &R,
+    cells: u32,
+    parts: &[Part<'_>],
+) -> Result<(), Refusal> {
+    check::<PingPong>(rt, cells, parts)?;
+    check::<Joined<Pong>>(rt, cells, parts)
 }
 
 #[test]
@@ -321,7 +332,7 @@ fn two_rounds(steps: u32) -> [Line; 10] {
 fn rounds_cut_off_or_whole(rt: HostRuntime) -> Result<(), Fail> {
     let opened = [(1, IMAGE, Told::ImageOpened(2))];
     let words = [(1, GET, Told::Word(5)), (1, Asked::Get(1), Told::Word(8))];
-    check::<PingPong>(
+    check_ping_pong(
         &rt,
         2,
         &[
@@ -333,7 +344,7 @@ fn rounds_cut_off_or_whole(rt: HostRuntime) -> Result<(), Fail> {
         ],
     )?;
     let words = [(1, GET, Told::Word(5)), (1, Asked::Get(1), Told::Word(7))];
-    check::<PingPong>(
+    check_ping_pong(
         &rt,
         2,
         &[

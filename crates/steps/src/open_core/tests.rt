@@ -1,5 +1,6 @@
 use capture_core::{Capture, PlainCopy, Taken};
 use ping_pong::PingPong;
+use shared_capture::{Joined, Pong, Zig};
 use std::test::Fail;
 use zigzag::Zigzag;
 
@@ -42,7 +43,7 @@ fn play<C: Capture>(store: &mut C, round: u64, turn: usize) {
 
 #[test]
 fn stores_capture_the_same_words(rt: HostRuntime) -> Result<(), Fail> {
-    for cells in [1, 2, 63, 64, 65, 130] {
+    for cells in [1, 2, 63, 64, 65, 130, 65536] {
         let plain = captured::<PlainCopy>(&rt, cells)?;
         assert_eq!(rt; plain.len(), (cells + 1) * 5);
         assert!(rt;
@@ -52,6 +53,14 @@ fn stores_capture_the_same_words(rt: HostRuntime) -> Result<(), Fail> {
         assert!(rt;
             captured::<PingPong>(&rt, cells)? == plain,
             "Ping-Pong over {cells} cells"
+        );
+        assert!(rt;
+            captured::<Joined<Zig>>(&rt, cells)? == plain,
+            "Zigzag, shared, over {cells} cells"
+        );
+        assert!(rt;
+            captured::<Joined<Pong>>(&rt, cells)? == plain,
+            "Ping-Pong, shared, over {cells} cells"
         );
     }
     Ok(())

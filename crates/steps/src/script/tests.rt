@@ -117,7 +117,7 @@ fn run(rt: &HostRuntime, input: &[u8], most: usize) -> (Result<(), Refusal>, Pag
 
 #[test]
 fn scripts_have_their_text(rt: HostRuntime) {
-    let scripts: [(&[u8], &[u8]); 15] = [
+    let scripts: [(&[u8], &[u8]); 13] = [
         (b"", b""),
         (TRANSFERS, TRANSFERS_TEXT),
         (
@@ -136,12 +136,6 @@ fn scripts_have_their_text(rt: HostRuntime) {
         (
             b"open plain 1\n\nset 00 1\nset 0 +1\nadd 0 -0\nadd 0 -9223372036854775808\nadd 0 -9223372036854775807\nend\r\nset  0 1\nget 4294967296\n\x00\xff\nworld\n",
             b"ready 0\n- 16\n- 16\n- 16\n- 16\n- 16\n- 2\n- 16\n- 16\n- 16\n- 16\n0\n",
-        ),
-        (b"open zigzag 1\nget 0\n", b"ready 0\n= 0\n"),
-        // Marks are refused in their order: an open tick, an open round, nothing new.
-        (
-            b"open zigzag 1\nmark\nset 0 1\nmark\nend\nmark\nmark\n",
-            b"ready 0\n- 10\n+\n- 8\ntick 1\nmark 1\n- 9\n",
         ),
         (
             b"open plain 1\nimage\nlog\nimage*\nlog*\nfail image\nfail log\nimage\n",
@@ -197,10 +191,24 @@ fn a_full_tick_takes_no_more(rt: HostRuntime) -> Result<(), Fail> {
     Ok(())
 }
 
-// Scripts whose text is the same for every store: `METHOD` stands for its name.
+// Every method of a store.
+const METHODS: [&[u8]; 5] = [
+    b"plain",
+    b"zigzag",
+    b"pingpong",
+    b"zigzag-shared",
+    b"pingpong-shared",
+];
+
+// Scripts whose text is the same for every store: what follows the method's name.
 #[test]
 fn stores_answer_the_same(rt: HostRuntime) -> Result<(), Fail> {
-    let scripts: [(&[u8], &[u8]); 14] = [
+    let scripts: [(&[u8], &[u8]); 15] = [
+        // Marks are refused in their order: an open tick, an open round, nothing new.
+        (
+            b"1\nmark\nset 0 1\nmark\nend\nmark\nmark\n",
+            b"ready 0\n- 10\n+\n- 8\ntick 1\nmark 1\n- 9\n",
+        ),
         // An empty tick counts.
         (
             b"1\nend\nlog*\ncrash lose\n",
@@ -261,9 +269,8 @@ fn stores_answer_the_same(rt: HostRuntime) -> Result<(), Fail> {
         ),
         (b"1\nget 0\n", b"ready 0\n= 0\n"),
     ];
-    let methods: [&[u8]; 3] = [b"plain", b"zigzag", b"pingpong"];
     for (rest, text) in scripts {
-        for method in methods {
+        for method in METHODS {
             let input = opening(&rt, method, rest)?;
             let (ended, page) = run(&rt, &input, 512);
             assert!(rt; ended == Ok(()));
@@ -282,41 +289,48 @@ fn opening(rt: &HostRuntime, method: &[u8], rest: &[u8]) -> Result<Vec<u8>, Fail
     Ok(input)
 }
 
-// A round of the second store over two cells, stopped by a crash before its gate is open, or not.
+// A round of Ping-Pong over two cells, stopped by a crash before its gate is open, or not.
 #[test]
-fn a_round_is_cut_off_or_whole(rt: HostRuntime) {
+fn a_round_is_cut_off_or_whole(rt: HostRuntime) -> Result<(), Fail> {
     let scripts: [(&[u8], &[u8]); 2] = [
         (
-            b"open pingpong 2\nset 0 5\nset 1 7\nend\nmark\nimage*\nset 1 8\nend\nmark\nimage\nimage\nimage\nimage\nimage\nimage\ncrash fill 01\nworld\n",
+            b"2\nset 0 5\nset 1 7\nend\nmark\nimage*\nset 1 8\nend\nmark\nimage\nimage\nimage\nimage\nimage\nimage\ncrash fill 01\nworld\n",
             b"ready 0\n+\n+\ntick 1\nmark 1\nimage open 1\n+\ntick 2\nmark 2\nworking\nworking\nworking\nworking\nworking\nworking\nrecovered 1 from 1\n5 7\n",
         ),
         (
-            b"open pingpong 2\nset 0 5\nset 1 7\nend\nmark\nimage*\nset 1 8\nend\nmark\nimage\nimage\nimage\nimage\nimage\nimage\nimage\nimage\nimage\nimage\ncrash lose\nworld\n",
+            b"2\nset 0 5\nset 1 7\nend\nmark\nimage*\nset 1 8\nend\nmark\nimage\nimage\nimage\nimage\nimage\nimage\nimage\nimage\nimage\nimage\ncrash lose\nworld\n",
             b"ready 0\n+\n+\ntick 1\nmark 1\nimage open 1\n+\ntick 2\nmark 2\nworking\nworking\nworking\nworking\nworking\nworking\nworking\nworking\nworking\nimage open 2\nrecovered 2 from 2\n5 8\n",
         ),
     ];
-    for (input, text) in scripts {
-        let (ended, page) = run(&rt, input, 512);
-        assert!(rt; ended == Ok(()));
-        assert_eq!(rt; page.written(), text);
+    for (rest, text) in scripts {
+        for method in [METHODS[2], METHODS[4]] {
+            let input = opening(&rt, method, rest)?;
+            let (ended, page) = run(&rt, &input, 512);
+            assert!(rt; ended == Ok(()));
+            assert_eq!(rt; page.written(), text);
+        }
     }
+    Ok(())
 }
 
 // So many ticks may wait for the log.
 #[test]
 fn a_full_queue_takes_no_more(rt: HostRuntime) -> Result<(), Fail> {
-    let mut input = b"open zigzag 1\n".to_vec(rt.alloc())?;
+    let mut rest = b"1\n".to_vec(rt.alloc())?;
     let mut text = b"ready 0\n".to_vec(rt.alloc())?;
     for tick in 1..=64u64 {
-        input.extend_from_slice(b"end\n")?;
+        rest.extend_from_slice(b"end\n")?;
         text.extend_from_slice(format!(in rt.alloc(); "tick {tick}\n")?.as_bytes())?;
     }
-    input.extend_from_slice(b"end\nlog*\nend\n")?;
+    rest.extend_from_slice(b"end\nlog*\nend\n")?;
     text.extend_from_slice(b"- 7\nacked 64\ntick 65\n")?;
-    let mut reader = input.as_slice();
-    let mut out = Vec::new(rt.alloc());
-    run_script(rt.alloc(), &mut reader, &mut out)?;
-    assert_eq!(rt; out.as_slice(), text.as_slice());
+    for method in METHODS {
+        let input = opening(&rt, method, &rest)?;
+        let mut reader = input.as_slice();
+        let mut out = Vec::new(rt.alloc());
+        run_script(rt.alloc(), &mut reader, &mut out)?;
+        assert_eq!(rt; out.as_slice(), text.as_slice());
+    }
     Ok(())
 }
 

@@ -15,4 +15,4 @@ returns-clause-entry c =
     let inside : c.self.inside.taken < length c.self.inside.live.items = omega (arith, c.self.invariant.taken_most) in
     let some : Option (Option ℕ) = Some c.then_some.result in
     subst (λ (s : Arrays). some ≡ slice_get (previous_entries s) s.taken) c.self.view_is
-    (entry-is _ c.index-dirty.result.now c.index.result.now c.then_some.result c.self.invariant inside c.index-dirty.ensures c.index.ensures c.then_some.ensures)
+    (entry-is _ c.is_set-dirty.result c.index.result.now c.then_some.result c.self.invariant inside c.is_set-dirty.ensures c.index.ensures c.then_some.ensures)

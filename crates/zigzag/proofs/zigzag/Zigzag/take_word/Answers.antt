@@ -15,4 +15,4 @@ returns-clause-word c =
     let inside : c.self.inside.taken < length c.self.inside.array_zero.items = omega (arith, c.self.invariant.write_length, c.self.invariant.taken_most) in
     let some : Option ℕ = Some c.entry.result in
     subst (λ (s : Arrays). some ≡ slice_get (captured_words s) s.taken) c.self.view_is
-    (captured-is _ c.self.inside.taken c.entry.result c.index.result.now _ _ c.self.invariant inside c.index.ensures c.deref.ensures.value c.deref-2.ensures.value c.entry.ensures)
+    (captured-is _ c.self.inside.taken c.entry.result c.is_set-mark.result _ _ c.self.invariant inside c.is_set-mark.ensures c.deref.ensures.value c.deref-2.ensures.value c.entry.ensures)

@@ -1,0 +1,9 @@
+pub mod Places
+pub mod Packed
+pub mod Touched
+pub mod Keeps
+pub mod Allowed
+pub mod Fronts
+pub mod Backs
+pub mod Whole
+pub mod Played

@@ -1,0 +1,21 @@
+use Rattle.std.proofs.Common.{rules, ℕ, ◌∙◌, ap, sym, length, subst, All, List}
+use Rattle.world_actions.specs.World.{IsWord}
+use Rattle.packed_marks.specs.Bits.{IsFull}
+use Rattle.shared_capture.specs.Steps.{front_of, back_of}
+use Rattle.shared_capture.specs.States.{IsStart, front_state, back_state}
+use Rattle.shared_capture.proofs.Fronts.{front_made, start_seen}
+use Rattle.shared_capture.proofs.Backs.{back_made}
+use Rattle.shared_capture.proofs.pair.seats.Goals as goal
+
+pub invariant_of-result : goal.invariant_of-result
+invariant_of-result g c = let words = c.in_ok-from_slice.ensures in
+    front_made _ _ _ _ _ _ _ _ _ c.in_ok-table.ensures.1 (subst (λ (z : ℕ). IsFull z c.in_ok-full_marks.field-0.items) (sym words.len) c.in_ok-full_marks.ensures) (ap length words.items ∙ sym words.len)
+    (subst (All IsWord) (sym words.items) c.requires) (search rules)
+
+pub invariant_of-result-2 : goal.invariant_of-result-2
+invariant_of-result-2 g c = back_made _ _ _ _ _ _ _ _ _ _ _ c.in_ok-table.ensures.1 (ap (λ z. z.shared.table_id) c.in_ok-table.ensures.0) (search rules) (sym c.in_ok-from_slice.ensures.len)
+
+pub returns : goal.returns
+returns g c = let words = c.in_ok-from_slice.ensures in
+    subst (λ (z : List ℕ). IsStart z (front_state g.M.Method.KIND c.in_ok-table.seat.table_id (front_of c.in_ok-table.seat.me.0)) (back_state c.in_ok-table.other.table_id 0 (back_of c.in_ok-table.other.me.0))) words.items
+    (start_seen g.M.Method.KIND _ _ _ _ _ _ _ c.in_ok-table.ensures.1 (subst (λ (z : ℕ). IsFull z c.in_ok-full_marks.field-0.items) (sym words.len) c.in_ok-full_marks.ensures) (ap length words.items ∙ sym words.len))

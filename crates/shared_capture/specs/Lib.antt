@@ -1,0 +1,10 @@
+pub mod Methods
+pub mod Rounds
+pub mod Table
+pub mod Start
+pub mod Rule
+pub mod Steps
+pub mod Meeting
+pub mod Seats
+pub mod States
+pub mod Joined

@@ -1,0 +1,49 @@
+-- What the two methods differ in.
+use Rattle.std.specs.Prelude.{ℕ, zero, suc, ◌+◌, List, [], ◌∷◌, length, replicate, Bool, true, false, not}
+use Rattle.shared_capture.specs.declared.method.Kind.{Kind}
+use Rattle.shared_capture.specs.declared.method.Kind.TheVariants.{Zigzag, PingPong}
+use Rattle.packed_marks.specs.Bits.{chunks, marked}
+
+-- the array that a write of a cell with this mark goes to
+abbrev pub write_side : Kind → Bool → Bool → Bool
+write_side Zigzag current mark = mark
+write_side PingPong current mark = current
+
+-- the array from which a cell is taken that had this mark when its round was marked
+abbrev pub take_side : Kind → Bool → Bool → Bool
+take_side Zigzag current mark = not mark
+take_side PingPong current mark = current
+
+-- whether a cell with this mark is taken as a word
+abbrev pub is_word : Kind → Bool → Bool
+is_word Zigzag mark = true
+is_word PingPong mark = mark
+
+-- the row in which the marks of the current array stand
+abbrev pub row : Kind → Bool → Bool
+row Zigzag current = false
+row PingPong current = current
+
+-- what fetching a mark word leaves in its place
+abbrev pub left_in : Kind → ℕ → ℕ
+left_in Zigzag found = found
+left_in PingPong found = 0
+
+-- the mark words after a round was marked
+abbrev pub cleared : Kind → List ℕ → List ℕ
+cleared Zigzag marks = marks
+cleared PingPong marks = replicate (length marks) 0
+
+-- the most word steps that marking a round of n cells makes
+abbrev pub mark_steps : Kind → ℕ → ℕ
+mark_steps Zigzag n = chunks n + 2
+mark_steps PingPong n = 2
+
+-- for each of n cells from cell i on, whether it is taken as a word
+abbrev pub touched_from : Kind → ℕ → ℕ → List ℕ → List Bool
+touched_from kind zero i marks = []
+touched_from kind (suc n) i marks = is_word kind (marked marks i) ∷ touched_from kind n (suc i) marks
+
+-- for each of n cells whether it counts as touched: in Zigzag every one does
+abbrev pub touched_of : Kind → ℕ → List ℕ → List Bool
+touched_of kind n marks = touched_from kind n 0 marks

@@ -1,0 +1,234 @@
+//! The seat that writes and marks.
+ghost use Rattle.std.specs.Prelude.{◌≡◌, ℕ, List, ◌+◌, ◌<◌, ◌≤◌, true, vec_len, length, slice_index, slice_set, All, IsOk, IfErr, OnOk};
+ghost use Rattle.std.specs.Arc.{arc_value};
+ghost use Rattle.world_actions.specs.World.{IsWord};
+ghost use Rattle.world_actions.specs.Effect.{Write};
+ghost use Rattle.world_ticks.specs.Cells.{Performs};
+ghost use Rattle.world_ticks.specs.declared.tick.TheConstants.{TICK_MAX};
+ghost use Rattle.shared_capture.specs.declared.method.Kind.TheVariants.{Zigzag, PingPong};
+ghost use Rattle.shared_capture.specs.declared.view.Round.{Round};
+ghost use Rattle.packed_marks.specs.Bits.{chunks, marked};
+ghost use Rattle.packed_marks.specs.Marks.{IsPacked};
+ghost use Rattle.shared_capture.specs.Methods.{mark_steps};
+ghost use Rattle.shared_capture.specs.Table.{HasCells};
+ghost use Rattle.shared_capture.specs.Steps.{front_of};
+ghost use Rattle.shared_capture.specs.Seats.{FitsCells, IsFront, IsFrontOf, SameRest};
+ghost use Rattle.shared_capture.specs.States.{FrontState, front_state, SameRounds, SameWords, accessed_front, marked_rounds, IsRefused};
+
+use crate::method::{Kind, Method};
+use crate::steps::{load_phase, store_mark, store_phase, store_value};
+use crate::table::{OwnedTable, SharedTable, TableSeat};
+use packed_marks::{has_bit, with_bit};
+use std::alloc::Global;
+use std::marker::Model;
+use std::sync::Arc;
+use world_actions::Refusal;
+use world_ticks::Cells;
+
+/// Writes and marks. Contracts see which pair it is of, and what it knows.
+#[derive(Drop)]
+pub struct Front<M: Method> {
+    pub(crate) table: Arc<OwnedTable<M>, Global>,
+    pub(crate) seat: TableSeat,
+    pub(crate) live: Vec<u64>,
+    /// The mark words of the current row.
+    pub(crate) marks: Vec<u64>,
+    /// Of Zigzag, for each cell the array that doesn't have its live word, 64 to a word.
+    pub(crate) away: Vec<u64>,
+    /// Which array is current.
+    pub(crate) current: bool,
+}
+
+impl<M: Method> Model for Front<M> {
+    ghost Value = { FrontState };
+
+    ghost view = { λ f. front_state M.KIND f.seat.table_id (front_of f.seat.me.0) };
+
+    ghost invariant = { λ f. IsFrontOf M.KIND
+        (arc_value f.table).shared.table_id (vec_len (arc_value f.table).shared.key.live)
+        f.seat f.live.items f.marks.items f.away.items f.current };
+}
+
+impl<M: Method> Cells for Front<M> {
+    ghost words = { λ front. front.live };
+
+    ghost accessed = { accessed_front };
+
+    fn len(&self) -> usize {
+        self.live.len()
+    }
+
+    fn read(&mut self, i: usize) -> u64
+        requires { i < length self.old.live }
+        ensures word { result ≡ slice_index self.old.live i }
+        ensures limit { IsWord result }
+        ensures unchanged { self.new ≡ self.old }
+    {
+        self.live[i]
+    }
+
+    fn write(&mut self, i: usize, v: u64)
+        requires inside { i < length self.old.live }
+        requires limit { IsWord v }
+        ensures live { self.new.live ≡ slice_set self.old.live i v }
+        ensures touched { self.new.touched ≡ slice_set self.old.touched i true }
+        ensures same { SameRounds self.old self.new }
+        ensures steps { self.new.steps ≤ self.old.steps + 2 }
+    {
+        match M::KIND {
+            Kind::Zigzag => self.write_zigzag(i, v),
+            Kind::PingPong => self.write_ping_pong(i, v),
+        }
+    }
+}
+
+impl<M: Method> Front<M> {
+    /// Opens the round of the tick, of the words as they are now. It refuses where a round is open.
+    pub fn mark(&mut self, tick: u64) -> Result<(), Refusal>
+        requires tick { (0 < tick) × (tick ≤ TICK_MAX) }
+        requires rising { All (λ (r : Round). r.tick < tick) self.old.rounds }
+        ensures same { SameWords self.old self.new }
+        ensures marked { OnOk result (self.new.rounds ≡ marked_rounds self.old tick) }
+        ensures busy { IfErr result (λ refusal. IsRefused self.old refusal self.new) }
+        ensures free { self.old.closed ≡ true → IsOk result }
+        ensures steps { self.new.steps ≤ self.old.steps + mark_steps M.KIND (length self.old.live) }
+    {
+        self.mark_words(tick)
+    }
+
+    /// The same, where the tick needn't be a new one.
+    #[tactic(auto, using(crate::proofs::Touched::length_touched))]
+    pub(crate) fn mark_words(&mut self, tick: u64) -> Result<(), Refusal>
+        requires tick { 0 < tick }
+        ensures same { SameWords self.old self.new }
+        ensures marked { OnOk result (self.new.rounds ≡ marked_rounds self.old tick) }
+        ensures busy { IfErr result (λ refusal. IsRefused self.old refusal self.new) }
+        ensures free { self.old.closed ≡ true → IsOk result }
+        ensures steps { self.new.steps ≤ self.old.steps + mark_steps M.KIND (length self.old.live) }
+        ensures cells { length self.new.touched ≡ length self.new.live }
+    {
+        if load_phase(&self.table.shared, &mut self.seat) != 0 {
+            return Err(Refusal::Busy);
+        }
+        match M::KIND {
+            Kind::Zigzag => self.open_zigzag(tick),
+            Kind::PingPong => self.open_ping_pong(tick),
+        }
+        Ok(())
+    }
+}
+
+// What a write and a mark do in each method.
+impl<M: Method> Front<M> {
+    fn write_zigzag(&mut self, i: usize, v: u64)
+        requires kind { M.KIND ≡ Zigzag }
+        requires inside { i < length self.old.live }
+        requires limit { IsWord v }
+        ensures live { self.new.live ≡ slice_set self.old.live i v }
+        ensures touched { self.new.touched ≡ slice_set self.old.touched i true }
+        ensures same { SameRounds self.old self.new }
+        ensures steps { self.new.steps ≡ self.old.steps + 1 }
+    {
+        let cells = self.live.len();
+        let second = has_bit(self.marks[i / 64], i % 64);
+        store_value(&self.table.shared, &mut self.seat, cells, second, i, v);
+        self.live[i] = v;
+        self.away[i / 64] = with_bit(self.away[i / 64], i % 64, !second);
+    }
+
+    fn write_ping_pong(&mut self, i: usize, v: u64)
+        requires kind { M.KIND ≡ PingPong }
+        requires inside { i < length self.old.live }
+        requires limit { IsWord v }
+        ensures live { self.new.live ≡ slice_set self.old.live i v }
+        ensures touched { self.new.touched ≡ slice_set self.old.touched i true }
+        ensures same { SameRounds self.old self.new }
+        ensures steps { self.new.steps ≡ self.old.steps + 2 }
+    {
+        let cells = self.live.len();
+        let second = self.current;
+        let word = with_bit(self.marks[i / 64], i % 64, true);
+        store_value(&self.table.shared, &mut self.seat, cells, second, i, v);
+        store_mark(
+            &self.table.shared,
+            &mut self.seat,
+            cells,
+            second,
+            i / 64,
+            word,
+        );
+        self.live[i] = v;
+        self.marks[i / 64] = word;
+    }
+
+    #[tactic(auto, using(crate::proofs::Touched::length_touched))]
+    fn open_zigzag(&mut self, tick: u64)
+        requires kind { M.KIND ≡ Zigzag }
+        requires tick { 0 < tick }
+        requires closed { self.old.closed ≡ true }
+        ensures same { SameWords self.old self.new }
+        ensures marked { self.new.rounds ≡ marked_rounds self.old tick }
+        ensures steps { self.new.steps ≡ self.old.steps + chunks (length self.old.live) + 1 }
+        ensures cells { length self.new.touched ≡ length self.new.live }
+    {
+        turn_marks(
+            &self.table.shared,
+            &mut self.seat,
+            self.live.len(),
+            self.current,
+            self.away.as_slice(),
+            self.marks.as_mut_slice(),
+        );
+        store_phase(&self.table.shared, &mut self.seat, tick);
+        self.current = !self.current;
+    }
+
+    #[tactic(auto, using(crate::proofs::Touched::length_touched))]
+    fn open_ping_pong(&mut self, tick: u64)
+        requires kind { M.KIND ≡ PingPong }
+        requires tick { 0 < tick }
+        requires closed { self.old.closed ≡ true }
+        ensures same { SameWords self.old self.new }
+        ensures marked { self.new.rounds ≡ marked_rounds self.old tick }
+        ensures steps { self.new.steps ≡ self.old.steps + 1 }
+        ensures cells { length self.new.touched ≡ length self.new.live }
+    {
+        store_phase(&self.table.shared, &mut self.seat, tick);
+        self.marks.fill(0);
+        self.current = !self.current;
+    }
+}
+
+// Lets the writes of each cell go where its live word isn't.
+fn turn_marks<M: Method>(
+    table: &SharedTable<M>,
+    seat: &mut TableSeat,
+    cells: usize,
+    current: bool,
+    away: &[u64],
+    marks: &mut [u64],
+)
+    requires table { HasCells cells table.now.table_id × (vec_len table.now.key.live ≡ cells) }
+    requires seat { let f = front_of seat.old.me.0 in
+        IsFront table.now.table_id f seat.old × FitsCells cells f × (f.closed ≡ true)
+        × (f.current ≡ current) × (f.marks ≡ marks.old) }
+    requires away { IsPacked cells away.now }
+    ensures seat { IsFront table.now.table_id (front_of seat.new.me.0) seat.new }
+    ensures same { SameRest (front_of seat.old.me.0) (front_of seat.new.me.0) }
+    ensures marks { let g = front_of seat.new.me.0 in
+        (g.marks ≡ marks.new) × IsPacked cells g.marks
+        × ((k : ℕ) → k < chunks cells → slice_index g.marks k ≡ slice_index away.now k) }
+    ensures steps { (front_of seat.new.me.0).steps ≡ (front_of seat.old.me.0).steps + chunks cells }
+{
+    for k in 0..away.len() {
+        marks[k] = away[k];
+        store_mark(table, seat, cells, current, k, away[k]);
+    }
+}
+
+/// Law: whatever accesses do to a front, they leave its pair, its rounds and the phase words that
+/// it loaded as they were.
+pub fn accesses_keep()
+    ensures { (old new : FrontState) (writes : List Write) → Performs accessed_front old writes new
+        → SameRounds old new }
+{}
