@@ -10,13 +10,13 @@ use Rattle.world_actions.specs.World.{IsWord}
 use Rattle.atomic_table.specs.Table.{opening, step, keeps, Allows, Splits, Joins}
 use Rattle.atomic_table.proofs.Lists.{at_set, set_else}
 use Rattle.packed_marks.specs.Marks.{IsPacked}
+use Rattle.packed_marks.specs.Bits.{chunks, marked, IsFull}
 use Rattle.shared_capture.specs.declared.method.Kind.{Kind}
 use Rattle.shared_capture.specs.declared.method.Kind.TheVariants.{Zigzag, PingPong}
 use Rattle.shared_capture.specs.declared.view.FrontView.{FrontView}
 use Rattle.shared_capture.specs.declared.view.BackView.{BackView}
 use Rattle.shared_capture.specs.declared.view.View.{View}
 use Rattle.shared_capture.specs.declared.view.View.TheVariants.{Spent, Front, Back, Pair}
-use Rattle.packed_marks.specs.Bits.{chunks, marked, IsFull}
 use Rattle.shared_capture.specs.Methods.{write_side, take_side, is_word, row, left_in}
 use Rattle.shared_capture.specs.Table.{cell_place, mark_place}
 use Rattle.shared_capture.specs.Start.{opening_words, opening_pair, front_start, back_start}

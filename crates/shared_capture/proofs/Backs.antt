@@ -9,13 +9,13 @@ use native.Mathlib.Decide.{ℕ_discrete}
 use Rattle.capture_core.specs.declared.taker.Taken.{Taken}
 use Rattle.capture_core.specs.declared.taker.Taken.TheVariants.{Word, Same}
 use Rattle.atomic_table.specs.Seated.{TableId}
+use Rattle.packed_marks.specs.Bits.{chunks, is_set, marked}
 use Rattle.shared_capture.specs.declared.method.Kind.{Kind}
 use Rattle.shared_capture.specs.declared.view.Round.{Round}
 use Rattle.shared_capture.specs.declared.view.FrontView.{FrontView}
 use Rattle.shared_capture.specs.declared.view.Snapshot.{Snapshot}
 use Rattle.shared_capture.specs.declared.view.BackView.{BackView}
 use Rattle.shared_capture.specs.declared.view.View.{View}
-use Rattle.packed_marks.specs.Bits.{chunks, is_set, marked}
 use Rattle.shared_capture.specs.Methods.{is_word}
 use Rattle.shared_capture.specs.Rounds.{flag_at, padded, Agree, IsTakenOf, snapshots_as}
 use Rattle.shared_capture.specs.Table.{HasCells}

@@ -8,12 +8,13 @@ use native.Mathlib.Decide.{ℕ_discrete}
 use Rattle.world_actions.specs.World.{IsWord}
 use Rattle.atomic_table.specs.Seated.{TableId}
 use Rattle.packed_marks.specs.Marks.{IsPacked}
+use Rattle.packed_marks.specs.Bits.{chunks, is_set, marked, IsFull}
+use Rattle.packed_marks.proofs.MarkLemmas.{marked_put, packed-put}
 use Rattle.shared_capture.specs.declared.method.Kind.{Kind}
 use Rattle.shared_capture.specs.declared.method.Kind.TheVariants.{Zigzag, PingPong}
 use Rattle.shared_capture.specs.declared.view.FrontView.{FrontView}
 use Rattle.shared_capture.specs.declared.view.BackView.{BackView}
 use Rattle.shared_capture.specs.declared.view.View.{View}
-use Rattle.packed_marks.specs.Bits.{chunks, is_set, marked, IsFull}
 use Rattle.shared_capture.specs.Methods.{is_word, touched_of}
 use Rattle.shared_capture.specs.Rounds.{flag_at, round}
 use Rattle.shared_capture.specs.Table.{HasCells}
@@ -24,7 +25,6 @@ use Rattle.shared_capture.specs.States.{IsStart, front_state, back_state}
 use Rattle.shared_capture.proofs.Places.{not_not}
 use Rattle.shared_capture.proofs.Keeps.{zigzag≢ping_pong}
 use Rattle.shared_capture.proofs.Touched.{touched_set, touched_same, touched_full}
-use Rattle.packed_marks.proofs.MarkLemmas.{marked_put, packed-put}
 use Rattle.shared_capture.proofs.Packed.{none_marked, full_packed, zeros_packed}
 
 -- a seat that sits there has that view

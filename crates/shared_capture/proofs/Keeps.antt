@@ -10,13 +10,13 @@ use Rattle.world_actions.specs.World.{IsWord}
 use Rattle.capture_core.specs.declared.taker.Taken.{Taken}
 use Rattle.capture_core.specs.declared.taker.Taken.TheVariants.{Word, Same}
 use Rattle.packed_marks.specs.Marks.{IsPacked}
+use Rattle.packed_marks.specs.Bits.{chunks, is_set, marked}
 use Rattle.shared_capture.specs.declared.method.Kind.{Kind}
 use Rattle.shared_capture.specs.declared.method.Kind.TheVariants.{Zigzag, PingPong}
 use Rattle.shared_capture.specs.declared.view.Round.{Round}
 use Rattle.shared_capture.specs.declared.view.Snapshot.{Snapshot}
 use Rattle.shared_capture.specs.declared.view.FrontView.{FrontView}
 use Rattle.shared_capture.specs.declared.view.BackView.{BackView}
-use Rattle.packed_marks.specs.Bits.{chunks, is_set, marked}
 use Rattle.shared_capture.specs.Methods.{write_side, take_side, is_word, row, left_in, cleared, touched_of}
 use Rattle.shared_capture.specs.Rounds.{flag_at, shown, shown_as, IsTakenOf, Agree, snapshots_as, padded}
 use Rattle.shared_capture.specs.Table.{cell_place, mark_place}

@@ -1,8 +1,8 @@
 -- What the two methods differ in.
 use Rattle.std.specs.Prelude.{ℕ, zero, suc, ◌+◌, List, [], ◌∷◌, length, replicate, Bool, true, false, not}
+use Rattle.packed_marks.specs.Bits.{chunks, marked}
 use Rattle.shared_capture.specs.declared.method.Kind.{Kind}
 use Rattle.shared_capture.specs.declared.method.Kind.TheVariants.{Zigzag, PingPong}
-use Rattle.packed_marks.specs.Bits.{chunks, marked}
 
 -- the array that a write of a cell with this mark goes to
 abbrev pub write_side : Kind → Bool → Bool → Bool

@@ -4,6 +4,8 @@ use mathlib.Core.Option as maybe
 use lib.ListN.{get_elem?}
 use Rattle.world_actions.specs.World.{IsWord}
 use Rattle.atomic_table.specs.Table.{State}
+use Rattle.packed_marks.specs.Bits.{chunks, marked}
+use Rattle.packed_marks.specs.Marks.{IsPacked}
 use Rattle.shared_capture.specs.declared.method.Kind.{Kind}
 use Rattle.shared_capture.specs.declared.method.Kind.TheVariants.{PingPong}
 use Rattle.shared_capture.specs.declared.view.Round.{Round}
@@ -11,8 +13,6 @@ use Rattle.shared_capture.specs.declared.view.FrontView.{FrontView}
 use Rattle.shared_capture.specs.declared.view.BackView.{BackView}
 use Rattle.shared_capture.specs.declared.view.View.{View}
 use Rattle.shared_capture.specs.declared.view.View.TheVariants.{Spent, Front, Back, Pair}
-use Rattle.packed_marks.specs.Bits.{chunks, marked}
-use Rattle.packed_marks.specs.Marks.{IsPacked}
 use Rattle.shared_capture.specs.Methods.{write_side, take_side, is_word, row, touched_of}
 use Rattle.shared_capture.specs.Rounds.{flag_at, IsTakenOf, Agree}
 use Rattle.shared_capture.specs.Table.{cell_place, mark_place, table_words}

@@ -3,14 +3,14 @@ use Rattle.std.specs.Prelude.{Some, ◌≡◌, ℕ, ◌+◌, ◌<◌, ◌≤◌,
 use Rattle.world_actions.specs.World.{IsWord}
 use Rattle.atomic_table.specs.Seated.{TableId}
 use Rattle.atomic_table.specs.declared.shared.Seat.{Seat}
+use Rattle.packed_marks.specs.Bits.{chunks, marked}
+use Rattle.packed_marks.specs.Marks.{IsPacked}
 use Rattle.shared_capture.specs.declared.method.Kind.{Kind}
 use Rattle.shared_capture.specs.declared.method.Kind.TheVariants.{Zigzag, PingPong}
 use Rattle.shared_capture.specs.declared.view.FrontView.{FrontView}
 use Rattle.shared_capture.specs.declared.view.BackView.{BackView}
 use Rattle.shared_capture.specs.declared.view.View.{View}
 use Rattle.shared_capture.specs.declared.view.View.TheVariants.{Front, Back, Pair}
-use Rattle.packed_marks.specs.Bits.{chunks, marked}
-use Rattle.packed_marks.specs.Marks.{IsPacked}
 use Rattle.shared_capture.specs.Methods.{take_side, is_word}
 use Rattle.shared_capture.specs.Rounds.{flag_at}
 use Rattle.shared_capture.specs.Table.{HasCells}

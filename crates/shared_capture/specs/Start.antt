@@ -1,10 +1,10 @@
 -- A new table, and what its seats know.
 use Rattle.std.specs.Prelude.{ℕ, List, [], ◌∷◌, ◌++◌, length, replicate, false}
+use Rattle.packed_marks.specs.Bits.{chunks}
 use Rattle.shared_capture.specs.declared.view.FrontView.{FrontView}
 use Rattle.shared_capture.specs.declared.view.BackView.{BackView}
 use Rattle.shared_capture.specs.declared.view.View.{View}
 use Rattle.shared_capture.specs.declared.view.View.TheVariants.{Pair}
-use Rattle.packed_marks.specs.Bits.{chunks}
 
 -- the words of a new table: no phase, the words in both arrays, the marks in the first row and none in the second
 abbrev pub opening_words : List ℕ → List ℕ → List ℕ

@@ -4,12 +4,12 @@ use Rattle.world_actions.specs.World.{IsWord}
 use Rattle.capture_core.specs.declared.taker.Taken.{Taken}
 use Rattle.capture_core.specs.declared.taker.Taken.TheVariants.{Word, Same}
 use Rattle.atomic_table.specs.Table.{Me, Step}
+use Rattle.packed_marks.specs.Bits.{chunks}
 use Rattle.shared_capture.specs.declared.method.Kind.{Kind}
 use Rattle.shared_capture.specs.declared.view.FrontView.{FrontView}
 use Rattle.shared_capture.specs.declared.view.BackView.{BackView}
 use Rattle.shared_capture.specs.declared.view.View.{View}
 use Rattle.shared_capture.specs.declared.view.View.TheVariants.{Front, Back, Pair}
-use Rattle.packed_marks.specs.Bits.{chunks}
 use Rattle.shared_capture.specs.Methods.{cleared, touched_of}
 use Rattle.shared_capture.specs.Rounds.{round, padded}
 use Rattle.shared_capture.specs.Table.{cell_place, mark_place}

@@ -3,8 +3,8 @@ ghost use Rattle.std.specs.Prelude.{◌≡◌, ◌<◌, [], false, length, vec_l
 ghost use Rattle.std.specs.Arc.{arc_value};
 ghost use Rattle.world_actions.specs.World.{IsWord};
 ghost use Rattle.world_actions.specs.declared.refusal.Refusal.{Refusal};
-ghost use Rattle.shared_capture.specs.declared.method.Kind.TheVariants.{Zigzag};
 ghost use Rattle.packed_marks.specs.Bits.{IsFull};
+ghost use Rattle.shared_capture.specs.declared.method.Kind.TheVariants.{Zigzag};
 ghost use Rattle.shared_capture.specs.Rounds.{Agree};
 ghost use Rattle.shared_capture.specs.Table.{HasCells};
 ghost use Rattle.shared_capture.specs.Start.{opening_words, opening_pair};
@@ -136,7 +136,7 @@ fn table_words(alloc: Global, words: &[u64], marks: &[u64]) -> Result<Vec<u64>, 
     ensures { IfOk result (λ all. all.items ≡ opening_words words.now marks.now) }
 {
     let zeros = Vec::from_elem(alloc, 0u64, marks.len())?;
-    let mut all = Vec::new(alloc);
+    let mut all = Vec::with_capacity(alloc, 1 + 2 * (words.len() + marks.len()))?;
     all.push(0)?;
     all.extend_from_slice(words)?;
     all.extend_from_slice(words)?;

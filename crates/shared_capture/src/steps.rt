@@ -3,9 +3,9 @@ ghost use Rattle.std.specs.Prelude.{◌≡◌, ◌/◌, ◌%◌, ◌<◌, true, 
 ghost use Rattle.world_actions.specs.World.{IsWord};
 ghost use Rattle.capture_core.specs.Taken.{IsTakenWord};
 ghost use Rattle.capture_core.specs.declared.taker.Taken.{Taken};
-ghost use Rattle.shared_capture.specs.declared.method.Kind.TheVariants.{Zigzag};
 ghost use Rattle.packed_marks.specs.Bits.{chunks, marked};
 ghost use Rattle.packed_marks.specs.Marks.{IsPacked};
+ghost use Rattle.shared_capture.specs.declared.method.Kind.TheVariants.{Zigzag};
 ghost use Rattle.shared_capture.specs.Methods.{write_side, take_side, is_word};
 ghost use Rattle.shared_capture.specs.Table.{HasCells};
 ghost use Rattle.shared_capture.specs.Steps.{front_of, back_of, after_write, after_load, after_mark, after_open, after_look, after_fetch, after_take, after_known, after_finish};
