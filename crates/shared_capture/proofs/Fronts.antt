@@ -96,6 +96,27 @@ module _ (kind : Kind) (t : TableId) (n : ℕ) (seat new : TableSeat) (live mark
           away_are = λ p. absurd (zigzag≢ping_pong kind p e);
         }
 
+    -- a cell whose mark stands is written
+    pub ping_pong_rewritten : kind ≡ PingPong → IsFront t (after_write i current v f) new → IsFrontOf kind t n new (set live i v) marks away current
+    ping_pong_rewritten e k =
+        let g : FrontView = after_write i current v f in
+        let is = sits_view t g new k in
+        let was : IsReady PingPong n f = subst (λ (z : Kind). IsReady z n f) e (ok.ready e) in
+        let now : IsReady PingPong n g = λ j l m. dite (ℕ_discrete j i)
+        (λ h. subst (λ (z : ℕ). flag_at (set f.sides i current) z ≡ f.current) (sym h) (get_or-set_same f.sides i current false (omega (arith, ok.fits.1)) ∙ sym ok.current_is))
+        (λ ne. get_or-set_other f.sides i j current false ne ∙ was j l m) in record {
+          sits = resits t g new k;
+          cells = ok.cells;
+          fits = subst (FitsCells n) (sym is) (length-set f.live i v ∙ ok.fits.0, length-set f.sides i current ∙ ok.fits.1, ok.fits.2);
+          live_is = ap (λ (z : FrontView). z.live) is ∙ ap (λ (z : List ℕ). set z i v) ok.live_is;
+          words = All-set IsWord live i v word ok.words;
+          marks_are = ap (λ (z : FrontView). z.marks) is ∙ ok.marks_are;
+          current_is = ap (λ (z : FrontView). z.current) is ∙ ok.current_is;
+          ready = λ p. subst (IsReady kind n) (sym is) (subst (λ (z : Kind). IsReady z n g) (sym e) now);
+          away_packed = λ p. absurd (zigzag≢ping_pong kind p e);
+          away_are = λ p. absurd (zigzag≢ping_pong kind p e);
+        }
+
   -- in Zigzag every cell counts as touched
   pub zigzag_touched : (u : TableId) (i v : ℕ) (s : Bool) → kind ≡ Zigzag → IsFront u (after_write i s v f) new
       → touched_of kind (length (front_of new.me.0).live) (front_of new.me.0).marks ≡ set (touched_of kind (length f.live) f.marks) i true
@@ -111,6 +132,15 @@ module _ (kind : Kind) (t : TableId) (n : ℕ) (seat new : TableSeat) (live mark
       ap (λ (z : FrontView). touched_of kind (length z.live) z.marks) (sits_view u (after_mark (i / 64) w (after_write i current v f)) new k)
       ∙ (ap (λ (z : ℕ). touched_of kind z (set f.marks (i / 64) w)) (length-set f.live i v)
       ∙ touched_set kind (length f.live) i f.marks (set f.marks (i / 64) w) (ap (is_word kind) becomes.0 ∙ ap (λ (z : Kind). is_word z true) e) (λ j ne. ap (is_word kind) (becomes.1 j ne)))
+
+  -- where its mark stands the cell is touched already
+  pub ping_pong_retouched : (u : TableId) (i v : ℕ) → kind ≡ PingPong → IsFront u (after_write i current v f) new → is_set (get_or marks (i / 64) 0) (i % 64) ≡ true
+      → touched_of kind (length (front_of new.me.0).live) (front_of new.me.0).marks ≡ set (touched_of kind (length f.live) f.marks) i true
+  ping_pong_retouched u i v e k here =
+      let stands : marked f.marks i ≡ true = subst (λ (z : List ℕ). marked z i ≡ true) (sym ok.marks_are) here in
+      ap (λ (z : FrontView). touched_of kind (length z.live) z.marks) (sits_view u (after_write i current v f) new k)
+      ∙ (ap (λ (z : ℕ). touched_of kind z f.marks) (length-set f.live i v)
+      ∙ touched_set kind (length f.live) i f.marks f.marks (ap (is_word kind) stands ∙ ap (λ (z : Kind). is_word z true) e) (λ j ne. refl))
 
   -- the round that Zigzag's mark begins
   pub zigzag_round : (u : TableId) (g : FrontView) (tick : ℕ) → kind ≡ Zigzag → SameRest f g → IsFront u (after_open kind tick g) new

@@ -136,6 +136,7 @@ impl<M: Method> Front<M> {
         self.away[i / 64] = with_bit(self.away[i / 64], i % 64, !second);
     }
 
+    // The mark of a cell that was written since the last mark is not stored again.
     fn write_ping_pong(&mut self, i: usize, v: u64)
         requires kind { M.KIND ≡ PingPong }
         requires inside { i < length self.old.live }
@@ -143,10 +144,15 @@ impl<M: Method> Front<M> {
         ensures live { self.new.live ≡ slice_set self.old.live i v }
         ensures touched { self.new.touched ≡ slice_set self.old.touched i true }
         ensures same { SameRounds self.old self.new }
-        ensures steps { self.new.steps ≡ self.old.steps + 2 }
+        ensures steps { self.new.steps ≤ self.old.steps + 2 }
     {
         let cells = self.live.len();
         let second = self.current;
+        if has_bit(self.marks[i / 64], i % 64) {
+            store_value(&self.table.shared, &mut self.seat, cells, second, i, v);
+            self.live[i] = v;
+            return;
+        }
         let word = with_bit(self.marks[i / 64], i % 64, true);
         store_value(&self.table.shared, &mut self.seat, cells, second, i, v);
         store_mark(
@@ -168,7 +174,7 @@ impl<M: Method> Front<M> {
         requires closed { self.old.closed ≡ true }
         ensures same { SameWords self.old self.new }
         ensures marked { self.new.rounds ≡ marked_rounds self.old tick }
-        ensures steps { self.new.steps ≡ self.old.steps + chunks (length self.old.live) + 1 }
+        ensures steps { self.new.steps ≤ self.old.steps + chunks (length self.old.live) + 1 }
         ensures cells { length self.new.touched ≡ length self.new.live }
     {
         turn_marks(
@@ -218,11 +224,38 @@ fn turn_marks<M: Method>(
     ensures marks { let g = front_of seat.new.me.0 in
         (g.marks ≡ marks.new) × IsPacked cells g.marks
         × ((k : ℕ) → k < chunks cells → slice_index g.marks k ≡ slice_index away.now k) }
-    ensures steps { (front_of seat.new.me.0).steps ≡ (front_of seat.old.me.0).steps + chunks cells }
+    ensures steps { (front_of seat.new.me.0).steps ≤ (front_of seat.old.me.0).steps + chunks cells }
 {
     for k in 0..away.len() {
+        turn_word(table, seat, cells, current, k, marks[k], away[k]);
         marks[k] = away[k];
-        store_mark(table, seat, cells, current, k, away[k]);
+    }
+}
+
+// The same for the cells of one mark word, which is stored only where it changes.
+fn turn_word<M: Method>(
+    table: &SharedTable<M>,
+    seat: &mut TableSeat,
+    cells: usize,
+    current: bool,
+    k: usize,
+    mark: u64,
+    away: u64,
+)
+    requires table { HasCells cells table.now.table_id × (vec_len table.now.key.live ≡ cells) }
+    requires inside { k < chunks cells }
+    requires seat { let f = front_of seat.old.me.0 in
+        IsFront table.now.table_id f seat.old × FitsCells cells f × (f.closed ≡ true)
+        × (f.current ≡ current) }
+    requires mark { mark ≡ slice_index (front_of seat.old.me.0).marks k }
+    requires spare { IsPacked cells (slice_set (front_of seat.old.me.0).marks k away) }
+    ensures seat { IsFront table.now.table_id (front_of seat.new.me.0) seat.new }
+    ensures same { SameRest (front_of seat.old.me.0) (front_of seat.new.me.0) }
+    ensures marks { (front_of seat.new.me.0).marks ≡ slice_set (front_of seat.old.me.0).marks k away }
+    ensures steps { (front_of seat.new.me.0).steps ≤ (front_of seat.old.me.0).steps + 1 }
+{
+    if mark != away {
+        store_mark(table, seat, cells, current, k, away);
     }
 }
 

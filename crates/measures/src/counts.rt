@@ -1,0 +1,92 @@
+use crate::measuring::CELLS;
+use crate::moves::write_at_random;
+use crate::plain_vector::zeros;
+use crate::seats::Seats;
+use crate::store::Store;
+use anyhow::Error;
+use capture_core::{Capture, PlainCopy, Taken};
+use ping_pong::PingPong;
+use shared_capture::{ping_pong_pair, zigzag_pair};
+use zigzag::Zigzag;
+
+/// How many rounds the list has.
+const ROUNDS: u32 = 5;
+
+/// How many cells are written before each.
+const WRITES: u32 = 1024;
+
+/// After how many takes a cell is written.
+const TAKES: usize = 16;
+
+/// How many cells were taken as words, and how many as unchanged.
+#[derive(Clone, Copy)]
+struct Counts {
+    words: u64,
+    same: u64,
+}
+
+/// Tells of each store what its takes hand out, and how many bytes a cell needs: so many words, and so
+/// many marks, of which 64 stand in a word.
+pub fn tell_counts<R: Print + AllocGlobal>(rt: &R) -> Result<(), Error> {
+    let words = zeros(rt.alloc(), CELLS)?;
+    let mut plain_copy = PlainCopy::build(rt.alloc(), &words)?;
+    tell_store(rt, "plain copy", &mut plain_copy, 2, 0)?;
+    let mut zigzag = Zigzag::new(rt.alloc(), &words)?;
+    tell_store(rt, "zigzag", &mut zigzag, 2, 2)?;
+    let mut ping_pong = PingPong::new(rt.alloc(), &words)?;
+    tell_store(rt, "pingpong", &mut ping_pong, 3, 2)?;
+    let (front, back) = zigzag_pair(rt.alloc(), &words)?;
+    tell_store(rt, "shared zigzag", &mut Seats::new(front, back), 3, 4)?;
+    let (front, back) = ping_pong_pair(rt.alloc(), &words)?;
+    tell_store(rt, "shared pingpong", &mut Seats::new(front, back), 3, 3)
+}
+
+fn tell_store<R: Print, S: Store>(
+    rt: &R,
+    name: &str,
+    store: &mut S,
+    words: u32,
+    marks: u32,
+) -> Result<(), Error> {
+    let counts = count_takes(store);
+    let takes = counts.words.saturating_add(counts.same);
+    let eighths = words.saturating_mul(64).saturating_add(marks);
+    println!(rt;
+        "{name}: {takes} takes, {} words and {} unchanged; {}.{:03} bytes a cell",
+        counts.words,
+        counts.same,
+        eighths / 8,
+        eighths % 8 * 125
+    )?;
+    Ok(())
+}
+
+// Counts the takes of one list of writes, marks and takes.
+fn count_takes<S: Store>(store: &mut S) -> Counts {
+    let mut counts = Counts { words: 0, same: 0 };
+    let mut number = 1;
+    for _ in 0..ROUNDS {
+        number = write_at_random(store, number, WRITES);
+        if store.try_mark() {
+            store.find_round();
+            number = count_round(store, number, &mut counts);
+            store.end_round();
+        }
+    }
+    counts
+}
+
+fn count_round<S: Store>(store: &mut S, seed: u64, counts: &mut Counts) -> u64 {
+    let mut number = seed;
+    for i in 0..store.len() {
+        if i % TAKES == 0 {
+            number = write_at_random(store, number, 1);
+        }
+        match store.take() {
+            Some(Taken::Word(_)) => counts.words = counts.words.saturating_add(1),
+            Some(Taken::Same) => counts.same = counts.same.saturating_add(1),
+            None => {}
+        }
+    }
+    number
+}

@@ -1,0 +1,118 @@
+use crate::figures::{Figures, clock_time};
+use crate::pair_speed::{PairSpeed, time_pair};
+use crate::plain_vector::{PlainVector, zeros};
+use crate::seats::Seats;
+use crate::store::Store;
+use crate::times::Times;
+use anyhow::Error;
+use capture_core::{Capture, PlainCopy};
+use ping_pong::PingPong;
+use shared_capture::{ping_pong_pair, zigzag_pair};
+use std::alloc::Global;
+use std::thread::Threads;
+use std::time::Clock;
+use zigzag::Zigzag;
+
+/// The cells of each store that is measured.
+pub const CELLS: usize = 65_536;
+
+/// How often each store is measured, one after the other.
+const TURNS: u32 = 9;
+
+/// The times of all stores.
+#[derive(Drop)]
+pub struct AllFigures {
+    /// The nanoseconds of two calls of the clock.
+    pub clock: Times,
+    pub vector: Figures,
+    pub plain_copy: Figures,
+    pub zigzag: Figures,
+    pub ping_pong: Figures,
+    pub shared_zigzag: Figures,
+    pub shared_ping_pong: Figures,
+}
+
+/// Measures all stores in turns.
+pub fn measure_stores<R: Clock>(rt: &R, alloc: Global) -> Result<AllFigures, Error> {
+    let mut all = AllFigures {
+        clock: Times::new(alloc),
+        vector: Figures::new(alloc),
+        plain_copy: Figures::new(alloc),
+        zigzag: Figures::new(alloc),
+        ping_pong: Figures::new(alloc),
+        shared_zigzag: Figures::new(alloc),
+        shared_ping_pong: Figures::new(alloc),
+    };
+    for _ in 0..TURNS {
+        let clock = clock_time(rt, alloc)?;
+        all.clock.push(clock)?;
+        all.measure_owned(rt, alloc, clock)?;
+        all.measure_shared(rt, alloc, clock)?;
+    }
+    Ok(all)
+}
+
+impl AllFigures {
+    /// The sum of the words that were read and taken.
+    pub fn sum(&self) -> u64 {
+        self.vector
+            .sum
+            .wrapping_add(self.plain_copy.sum)
+            .wrapping_add(self.zigzag.sum)
+            .wrapping_add(self.ping_pong.sum)
+            .wrapping_add(self.shared_zigzag.sum)
+            .wrapping_add(self.shared_ping_pong.sum)
+    }
+
+    fn measure_owned<R: Clock>(&mut self, rt: &R, alloc: Global, clock: u64) -> Result<(), Error> {
+        let words = zeros(alloc, CELLS)?;
+        let mut vector = PlainVector::new(zeros(alloc, CELLS)?);
+        self.vector.time_cells(rt, &mut vector)?;
+        let mut plain_copy = PlainCopy::build(alloc, &words)?;
+        measure(rt, clock, &mut self.plain_copy, &mut plain_copy)?;
+        let mut zigzag = Zigzag::new(alloc, &words)?;
+        measure(rt, clock, &mut self.zigzag, &mut zigzag)?;
+        let mut ping_pong = PingPong::new(alloc, &words)?;
+        measure(rt, clock, &mut self.ping_pong, &mut ping_pong)
+    }
+
+    fn measure_shared<R: Clock>(&mut self, rt: &R, alloc: Global, clock: u64) -> Result<(), Error> {
+        let words = zeros(alloc, CELLS)?;
+        let (front, back) = zigzag_pair(alloc, &words)?;
+        let mut seats = Seats::new(front, back);
+        measure(rt, clock, &mut self.shared_zigzag, &mut seats)?;
+        let (front, back) = ping_pong_pair(alloc, &words)?;
+        let mut seats = Seats::new(front, back);
+        measure(rt, clock, &mut self.shared_ping_pong, &mut seats)
+    }
+}
+
+fn measure<R: Clock, S: Store>(
+    rt: &R,
+    clock: u64,
+    figures: &mut Figures,
+    store: &mut S,
+) -> Result<(), Error> {
+    figures.time_cells(rt, store)?;
+    figures.time_rounds(rt, clock, store)
+}
+
+/// Measures two threads at a pair of seats of the method Zigzag.
+pub fn measure_zigzag_pair<R: Threads + Clock + Sync>(
+    rt: &R,
+    alloc: Global,
+) -> Result<PairSpeed, Error> {
+    let words = zeros(alloc, CELLS)?;
+    let (front, back) = zigzag_pair(alloc, &words)?;
+    Ok(time_pair(rt, CELLS, front, back)?)
+}
+
+/// The same of the method Ping-Pong.
+pub fn measure_ping_pong_pair<R: Threads + Clock + Sync>(
+    rt: &R,
+    alloc: Global,
+) -> Result<PairSpeed, Error> {
+    let words = zeros(alloc, CELLS)?;
+    let (front, back) = ping_pong_pair(alloc, &words)?;
+    Ok(time_pair(rt, CELLS, front, back)?)
+}

@@ -1,0 +1,129 @@
+use crate::player::{Move, Player};
+use crate::tally::{Kind, Tally};
+use crate::wrong::Wrong;
+use capture_core::{Capture, PlainCopy, Taken, Taker};
+use std::alloc::Global;
+use world_actions::LIMIT;
+use world_ticks::Cells;
+
+/// How many moves are made over a store, beside those for its cells.
+const MOVES: usize = 20_000;
+
+/// How many more are made for each cell.
+const CELL_MOVES: usize = 8;
+
+/// Where the moves begin.
+const SEED: u64 = 0x9e37_79b9_7f4a_7c15;
+
+/// No word of a cell: what an image has before its first round.
+pub const NO_WORD: u64 = u64::MAX;
+
+/// A store beside the plain copy, and the newest image of the store.
+#[derive(Drop)]
+struct Trial<C: Capture> {
+    store: C,
+    plain: PlainCopy,
+    image: Vec<u64>,
+    // How many cells of the round were taken.
+    taken: usize,
+    tally: Tally,
+}
+
+/// Makes one list of moves over a store and over the plain copy. What each take hands out of the store
+/// has to stand for the word that the plain copy hands out.
+pub fn try_store<C: Capture>(alloc: Global, cells: usize) -> Result<Tally, Wrong> {
+    let mut trial = Trial::<C>::new(alloc, cells)?;
+    let mut player = Player::new(SEED, cells);
+    for number in 0..MOVES.saturating_add(cells.saturating_mul(CELL_MOVES)) {
+        trial.step(number, &mut player)?;
+    }
+    Ok(trial.tally)
+}
+
+impl<C: Capture> Trial<C> {
+    fn new(alloc: Global, cells: usize) -> Result<Self, Wrong> {
+        let words = vec![in alloc; 0; cells]?;
+        Ok(Trial {
+            store: C::build(alloc, &words)?,
+            plain: PlainCopy::build(alloc, &words)?,
+            image: vec![in alloc; NO_WORD; cells]?,
+            taken: 0,
+            tally: Tally::new(),
+        })
+    }
+
+    fn step(&mut self, number: usize, player: &mut Player) -> Result<(), Wrong> {
+        let is_open = self.plain.open_round();
+        if self.store.open_round() != is_open {
+            return Err(Wrong::OpenInOne(number));
+        }
+        let last = player.last();
+        match player.choose(is_open) {
+            Move::Write(cell, word) => {
+                self.count_write(is_open, cell == last);
+                self.write(cell, word);
+                Ok(())
+            }
+            Move::Mark => {
+                self.mark();
+                Ok(())
+            }
+            Move::Take => self.take(number),
+        }
+    }
+
+    fn count_write(&mut self, is_open: bool, is_again: bool) {
+        self.tally.count(if is_open {
+            Kind::WriteWithin
+        } else {
+            Kind::WriteBetween
+        });
+        if is_again {
+            self.tally.count(Kind::WriteAgain);
+        }
+    }
+
+    fn write(&mut self, cell: usize, word: u64) {
+        if cell < self.store.len() && cell < self.plain.len() && word <= LIMIT {
+            self.store.write(cell, word);
+            self.plain.write(cell, word);
+        }
+    }
+
+    fn mark(&mut self) {
+        if !self.store.open_round() && !self.plain.open_round() {
+            self.store.mark();
+            self.plain.mark();
+            self.taken = 0;
+            self.tally.count(Kind::Mark);
+        }
+    }
+
+    fn take(&mut self, number: usize) -> Result<(), Wrong> {
+        let taken = self.store.take();
+        let wanted = self.plain.take();
+        if self.stands_for(taken) != wanted {
+            return Err(Wrong::OtherWord(number, taken, wanted));
+        }
+        self.taken = self.taken.saturating_add(1);
+        Ok(())
+    }
+
+    // The word that a take stands for, which goes into the image.
+    fn stands_for(&mut self, taken: Option<Taken>) -> Option<Taken> {
+        match taken {
+            Some(Taken::Word(word)) => {
+                self.tally.count(Kind::Word);
+                if let Some(old) = self.image.get_mut(self.taken) {
+                    *old = word;
+                }
+            }
+            Some(Taken::Same) => self.tally.count(Kind::Same),
+            None => {
+                self.tally.count(Kind::End);
+                return None;
+            }
+        }
+        Some(Taken::Word(self.image.get(self.taken).copied()?))
+    }
+}
