@@ -176,3 +176,24 @@ fn refused_growth_changes_nothing(rt: HostRuntime) -> Result<(), Fail> {
     assert!(rt; file.allows(file.now()));
     Ok(())
 }
+
+fn sevens(alloc: Global, count: usize) -> Result<Vec<u8>, Fail> {
+    Ok(vec![in alloc; 7; count]?)
+}
+
+// As many bytes as an image of 65,536 cells has.
+#[test]
+fn grows_to_largest_image(rt: HostRuntime) -> Result<(), Fail> {
+    let alloc = rt.alloc();
+    let bytes = sevens(alloc, 524_305)?;
+    let mut file = ModelFile::new(alloc, Vec::new(alloc))?;
+    file.write_at(0, &bytes)?;
+    assert_eq!(rt; file.len()?, 524_305);
+    file.sync()?;
+    assert_eq!(rt; file.durable(), bytes.as_slice());
+    assert!(rt; file.allows(&bytes));
+    let (code, file) = crash(file, bytes);
+    assert_eq!(rt; code, 0);
+    assert_eq!(rt; file.now().len(), 524_305);
+    Ok(())
+}

@@ -5,6 +5,10 @@ use Rattle.std.specs.Prelude.{◌≡◌, ◌≢◌, ◌<◌, ◌⊎◌, List, �
 abbrev pub HasShutGate : List ℕ → Type 0
 HasShutGate file = (0 < length file) × (get_or file 0 0 ≢ 1)
 
+-- the gate is closed, as closing writes it
+abbrev pub HasClosedGate : List ℕ → Type 0
+HasClosedGate file = (0 < length file) × (get_or file 0 0 ≡ 0)
+
 -- the gate is open
 abbrev pub HasOpenGate : List ℕ → Type 0
 HasOpenGate file = get_or file 0 0 ≡ 1

@@ -1,10 +1,11 @@
 -- What a step does to its keeper, its taker and its two disks.
 use Rattle.std.specs.Prelude.{◌≡◌, ◌⊎◌, ℕ, Option, Some, None, List, [], ◌∷◌, ◌++◌, length, get_or, ⊤}
-use Rattle.disk_model.specs.Disk.{Only, Grew}
+use Rattle.file_format.specs.declared.gate.TheConstants.{CLOSED_GATE}
+use Rattle.disk_model.specs.Disk.{overwritten, Only, Grew}
 use Rattle.capture_core.specs.declared.taker.Taken.{Taken}
 use Rattle.capture_core.specs.Taken.{IsTakenWord}
 use Rattle.image_files.specs.declared.phase.Phase.{Phase}
-use Rattle.image_files.specs.declared.phase.Phase.TheVariants.{Idle, Taking, Reading, Down}
+use Rattle.image_files.specs.declared.phase.Phase.TheVariants.{Idle, Closing, Taking, Reading, Down}
 use Rattle.image_files.specs.declared.phase.ImageAnswer.{ImageAnswer}
 use Rattle.image_files.specs.declared.phase.ImageAnswer.TheVariants as answer
 use Rattle.image_files.specs.Image.{Image, image_of}
@@ -64,6 +65,14 @@ abbrev pub HasCause : ImageAnswer → (was : Phase) → (target_before target_af
 HasCause answer.Down was target_before target_after newest_before newest_after =
     (was ≡ Down) ⊎ (Grew target_before target_after ⊎ Grew newest_before newest_after)
 HasCause other was target_before target_after newest_before newest_after = (target_after ≡ target_before) × (newest_after ≡ newest_before)
+
+-- a file with the closed gate written over its first byte
+abbrev pub closed : List ℕ → List ℕ
+closed file = overwritten file 0 (CLOSED_GATE ∷ [])
+
+-- where the target was to be closed and the round goes on, it has the closed gate and stays as it was behind it
+abbrev pub Closes : ImageAnswer → (was : Phase) → (before after : List ℕ) → Type 0
+Closes answer was before after = was ≡ Closing → OnWorking answer (after ≡ closed before)
 
 -- the image of the round was opened, durably, with these words
 pub record IsOpenedImage (keeper : Progress) (words file : List ℕ) (outcomes : List ℕ → Type 0) (tick : ℕ) : Type 0 where

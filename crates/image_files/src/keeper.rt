@@ -1,6 +1,7 @@
 ghost use Rattle.std.specs.Prelude.{◌≡◌, ◌+◌, ◌≤◌, ◌<◌, ◌⊎◌, ◌↔◌, ℕ, List, [], false, get_or, IsTrue, OnOk, OnErr, IfOk, IfErr, IfNone, Option, Some, None, ⊤};
 ghost use Rattle.world_actions.specs.declared.world.TheConstants.{CELLS};
 ghost use Rattle.world_ticks.specs.declared.tick.TheConstants.{TICK_MAX};
+ghost use Rattle.file_format.specs.Slot.{of_slot};
 ghost use Rattle.disk_model.specs.Disk.{Within};
 ghost use Rattle.capture_core.specs.declared.taker.Taken.{Taken};
 ghost use Rattle.image_files.specs.declared.phase.Phase.TheVariants.{Idle, Taking, Down};
@@ -9,7 +10,7 @@ ghost use Rattle.image_files.specs.Images.{ImageFiles, StepsImages};
 ghost use Rattle.image_files.specs.Progress.{target_of, done, cells_taken, left_of, made_keeper, begun_keeper, opened_keeper};
 ghost use Rattle.image_files.specs.Keeper.{Fits, Endures};
 ghost use Rattle.image_files.specs.Files.{FitsFiles, Stands};
-ghost use Rattle.image_files.specs.Steps.{IfOpened, OnOpened, OnWorking, TookCell, TookWord, CallsIn, CallsOnce, HasCause, IsOpenedImage};
+ghost use Rattle.image_files.specs.Steps.{IfOpened, OnOpened, OnWorking, Closes, TookCell, TookWord, CallsIn, CallsOnce, HasCause, IsOpenedImage};
 
 use crate::format::WORD_LENGTH;
 use crate::phase::{CHUNK_CELLS, ImageAnswer, Phase};
@@ -205,6 +206,10 @@ impl ImageKeeper {
         ensures idle { (result ≡ ImageAnswer.Idle) ↔ (self.old.phase ≡ Idle) }
         ensures down { (result ≡ ImageAnswer.Down) ↔ (self.new.phase ≡ Down) }
 
+        // The target is closed by the closed gate, and by no other byte.
+        ensures closes { IsTrue D.honest → Closes result self.old.phase
+            (D.content target.old) (D.content target.new) }
+
         // Nothing else of the round changes, and an opened image ends it.
         ensures cells { self.new.cells ≡ self.old.cells }
         ensures ended { IfOpened result (self.new ≡ opened_keeper self.old)
@@ -276,6 +281,10 @@ impl ImageKeeper {
         ensures goes_on { OnWorking result (self.new.phase ≡ Idle → ⊥) }
         ensures idle { (result ≡ ImageAnswer.Idle) ↔ (self.old.phase ≡ Idle) }
         ensures down { (result ≡ ImageAnswer.Down) ↔ (self.new.phase ≡ Down) }
+
+        ensures closes { IsTrue D.honest → Closes result self.old.phase
+            (of_slot (target_of self.old.newest) (D.content image_a.old) (D.content image_b.old))
+            (of_slot (target_of self.old.newest) (D.content image_a.new) (D.content image_b.new)) }
 
         ensures cells { self.new.cells ≡ self.old.cells }
         ensures ended { IfOpened result (self.new ≡ opened_keeper self.old)

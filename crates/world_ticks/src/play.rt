@@ -18,6 +18,7 @@ pub fn act<C: Cells>(c: &mut C, t: &mut Tick, a: Action) -> Result<(), Refusal>
         × (t.new.list ≡ t.old.list ++ a ∷ [])) }
     ensures writes { OnOk result (Performs C.accessed c.old (writes_of (C.words c.old) a) c.new) }
     ensures room { OnOk result (t.old.room ≤ t.new.room + 1) }
+    ensures settled { OnOk result (0 < t.old.room → t.new.room + 1 ≡ t.old.room) }
 
     ensures refused { IfErr result (λ refusal. refusal ≢ Refusal.NoMemory
         → decision (C.words c.old) t.old.list a ≡ Err refusal) }

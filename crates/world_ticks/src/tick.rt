@@ -32,7 +32,8 @@ impl Tick {
 
     /// A tick with no action. It takes no memory.
     pub fn new(alloc: Global) -> Self
-        ensures { result.list ≡ [] }
+        ensures list { result.list ≡ [] }
+        ensures room { result.room ≡ 0 }
     {
         Tick {
             actions: Vec::new(alloc),
@@ -60,8 +61,12 @@ impl Tick {
         ensures room { OnOk result (more ≤ self.new.room) }
         ensures grows { self.old.room ≤ self.new.room }
         ensures memory { IfErr result (λ refusal. (refusal ≡ Refusal.NoMemory) × (self.old.room < more)) }
+        ensures settled { more ≤ self.old.room → self.new ≡ self.old }
         ensures unchanged { OnErr result (self.new ≡ self.old) }
     {
+        if more <= self.actions.capacity() - self.actions.len() {
+            return Ok(());
+        }
         self.actions.reserve(more)?;
         Ok(())
     }

@@ -2,7 +2,7 @@ ghost use Rattle.std.specs.Prelude.{◌≡◌, ◌<◌, true, IsTrue, OnOk, OnEr
 ghost use Rattle.disk_model.specs.Disk.{counted};
 ghost use Rattle.image_files.specs.declared.phase.Phase.TheVariants.{Closing, ClosingSync, Header, Down};
 ghost use Rattle.image_files.specs.Progress.{left_of};
-ghost use Rattle.image_files.specs.Steps.{KeepsFits, KeepsWords, KeepsOutcomes};
+ghost use Rattle.image_files.specs.Steps.{closed, KeepsFits, KeepsWords, KeepsOutcomes};
 
 use super::ImageKeeper;
 use crate::phase::Phase;
@@ -12,12 +12,14 @@ use world_actions::Refusal;
 
 // The closing of the target, before anything of it is written over.
 impl ImageKeeper {
-    // Writes a gate that is not open.
+    // Writes the closed gate.
     #[tactic(auto, unfolding(crate::specs::Image::image_of))]
     pub(super) fn close<D: Disk>(&mut self, target: &mut D) -> Result<(), Refusal>
         requires phase { self.old.phase ≡ Closing }
         ensures ok { OnOk result (self.new ≡ record self.old { phase = ClosingSync }) }
         ensures failed { OnErr result (self.new ≡ record self.old { phase = Down }) }
+        ensures written { IsTrue D.honest
+            → OnOk result (D.content target.new ≡ closed (D.content target.old)) }
         ensures fits { IsTrue D.honest
             → KeepsFits self.old self.new (D.content target.old) (D.content target.new) }
         ensures done { IsTrue D.honest

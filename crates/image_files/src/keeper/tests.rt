@@ -5,9 +5,12 @@ ghost use Rattle.image_files.specs.Files.{FitsFiles};
 ghost use Rattle.image_files.specs.Steps.{IfOpened};
 
 use super::*;
+use crate::{ImageState, read_image};
 use capture_core::{Capture, PlainCopy};
 use disk_model::{Fused, ModelFile};
 use std::test::Fail;
+use world_actions::LIMIT;
+use world_ticks::Cells;
 
 // Hands out the newest image's words.
 #[derive(Drop)]
@@ -40,13 +43,13 @@ fn run<T: Taker, D: Disk>(
     ensures idle { IfOpened result.1 (keeper.new.phase ≡ Idle) ⊤ }
 {
     keeper.begin(tick);
-    for working in 0..100 {
+    for working in 0..100_000 {
         match keeper.step_files(from, image_a, image_b) {
             ImageAnswer::Working => {}
             answer => return (working, answer),
         }
     }
-    (100, ImageAnswer::Working)
+    (100_000, ImageAnswer::Working)
 }
 
 #[test]
@@ -90,6 +93,46 @@ fn leaves_shut_file_shut(rt: HostRuntime) -> Result<(), Fail> {
     let answer = run(&mut keeper, 0, &mut store, &mut image_a, &mut image_b);
     assert_eq!(rt; answer, (5, ImageAnswer::Opened(0)));
     assert_eq!(rt; keeper.target(), Slot::B);
+    Ok(())
+}
+
+// A store of so many cells at a mark: the last word is 5, the others are the greatest.
+fn marked_store(alloc: Global, cells: usize) -> Result<PlainCopy, Fail> {
+    let words = vec![in alloc; LIMIT; cells]?;
+    let mut store = PlainCopy::build(alloc, &words)?;
+    if cells > 0 && cells == store.len() {
+        store.write(cells - 1, 5);
+    }
+    store.mark();
+    Ok(store)
+}
+
+#[test]
+fn opens_largest_images(rt: HostRuntime) -> Result<(), Fail> {
+    let alloc = rt.alloc();
+    let mut image_a = ModelFile::new(alloc, Vec::new(alloc))?;
+    let mut image_b = ModelFile::new(alloc, Vec::new(alloc))?;
+    let mut keeper = ImageKeeper::new(alloc, 65_536, None, [false, false])?;
+    let mut store = marked_store(alloc, 65_536)?;
+
+    let first = run(&mut keeper, 3, &mut store, &mut image_a, &mut image_b);
+    assert_eq!(rt; first, (66_565, ImageAnswer::Opened(3)));
+    let second = run(&mut keeper, 4, &mut AllSame, &mut image_a, &mut image_b);
+    assert_eq!(rt; second, (67_589, ImageAnswer::Opened(4)));
+    for (file, at) in [(&image_a, 3), (&image_b, 4)] {
+        assert_eq!(rt; file.durable().len(), 524_305);
+        match read_image(alloc, file.durable())? {
+            ImageState::Open { tick, words } => {
+                assert_eq!(rt; tick, at);
+                assert_eq!(rt; words.len(), 65_536);
+                for (cell, word) in words.iter().enumerate() {
+                    let want = if cell == 65_535 { 5 } else { LIMIT };
+                    assert_eq!(rt; *word, want, "cell {cell}");
+                }
+            }
+            ImageState::Closed => panic!(rt; "the image was opened"),
+        }
+    }
     Ok(())
 }
 

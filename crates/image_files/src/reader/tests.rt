@@ -81,3 +81,24 @@ fn other_gates_are_closed(rt: HostRuntime) -> Result<(), Fail> {
     assert!(rt; !is_shut(&[]) && !is_shut(&[1]));
     Ok(())
 }
+
+#[test]
+fn reads_largest_image(rt: HostRuntime) -> Result<(), Fail> {
+    let alloc = rt.alloc();
+    let mut image = [1, 0, 0, 1, 0, 0, 0, 0, 0].to_vec(alloc)?;
+    image.extend_from_slice(&MUCH)?;
+    for cell in 0..65_536u32 {
+        image.extend_from_slice(&u64::from(cell).to_le_bytes())?;
+    }
+    match read_image(alloc, &image)? {
+        ImageState::Open { tick, words } => {
+            assert_eq!(rt; tick, TICK_MAX);
+            assert_eq!(rt; words.len(), 65_536);
+            for (cell, word) in words.iter().enumerate() {
+                assert_eq!(rt; *word, cell as u64);
+            }
+        }
+        ImageState::Closed => panic!(rt; "the image is open"),
+    }
+    Ok(())
+}
