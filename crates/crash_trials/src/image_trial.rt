@@ -1,13 +1,16 @@
-ghost use Rattle.std.specs.Prelude.{◌≡◌, ◌≤◌};
+ghost use Rattle.std.specs.Prelude.{◌≡◌, ◌+◌, ◌*◌, ◌^◌, ◌<◌, ◌≤◌, OnOk};
 ghost use Rattle.disk_model.specs.CrashOutcome.{IsCrashOutcome};
 ghost use Rattle.world_actions.specs.declared.world.TheConstants.{CELLS};
 ghost use Rattle.world_ticks.specs.declared.tick.TheConstants.{TICK_MAX};
+ghost use Rattle.crash_trials.specs.declared.crash.TheConstants.{KINDS};
+ghost use Rattle.crash_trials.specs.Tally.{outcomes};
 
-use crate::crash::{CRASHES, empty_file, left_by};
+use crate::crash::{CRASHES, empty_file};
+use crate::known::{Known, kept_outcome, written_outcome};
 use crate::tally::Tally;
 use capture_core::Capture;
 use disk_model::{Fused, ModelFile};
-use image_files::{ImageAnswer, ImageKeeper, ImageState, Slot, images_stay, read_image};
+use image_files::{ImageAnswer, ImageKeeper, Slot, images_stay, read_image};
 use std::alloc::Global;
 use std::marker::Model;
 use world_actions::Refusal;
@@ -56,19 +59,12 @@ fn run<C: Capture>(
             }
             trial.play(round, turn);
             if answer != ImageAnswer::Working {
-                tally.outcome(answer == ImageAnswer::Opened(round));
+                tally.answer(answer == ImageAnswer::Opened(round));
                 break;
             }
         }
     }
     Ok(steps)
-}
-
-/// An image as it has to read.
-#[derive(Drop)]
-struct Known {
-    tick: u64,
-    words: Vec<u64>,
 }
 
 /// A keeper with its store and its two files, and what these have to hold.
@@ -160,7 +156,7 @@ impl<C: Capture> ImageTrial<C> {
         }
         tally.failure();
         self.check(tally)?;
-        tally.outcome(self.step() == ImageAnswer::Down);
+        tally.answer(self.step() == ImageAnswer::Down);
         self.check(tally)
     }
 
@@ -174,20 +170,20 @@ impl<C: Capture> ImageTrial<C> {
     }
 
     // Reads what crashes may leave of both files.
-    fn check(&self, tally: &mut Tally) -> Result<(), Refusal> {
+    fn check(&self, tally: &mut Tally) -> Result<(), Refusal>
+        ensures { OnOk result (outcomes tally.old + 2 * KINDS < 2 ^ 32
+            → outcomes tally.new ≡ outcomes tally.old + 2 * KINDS) }
+    {
         let (target, newest) = match self.keeper.target() {
             Slot::A => (&self.image_a, &self.image_b),
             Slot::B => (&self.image_b, &self.image_a),
         };
         for crash in CRASHES {
-            let kept = read_image(self.alloc, &left_by(self.alloc, newest.inner(), crash)?)?;
-            tally.outcome(reads_as(&kept, &self.newest));
-            let written = read_image(self.alloc, &left_by(self.alloc, target.inner(), crash)?)?;
-            tally.outcome(
-                reads_as(&written, &None)
-                    || reads_as(&written, &self.before)
-                    || reads_as(&written, &self.round),
-            );
+            let kept = newest.inner().left_by(self.alloc, crash)?;
+            tally.outcome(kept_outcome(&read_image(self.alloc, &kept)?, &self.newest));
+            let written = target.inner().left_by(self.alloc, crash)?;
+            let state = read_image(self.alloc, &written)?;
+            tally.outcome(written_outcome(&state, &self.before, &self.round));
         }
         Ok(())
     }
@@ -211,14 +207,4 @@ fn mark<C: Capture>(store: &mut C) -> Result<(), Refusal> {
     }
     store.mark();
     Ok(())
-}
-
-// Whether a file reads as this image, or is closed where there is none.
-fn reads_as(state: &ImageState, known: &Option<Known>) -> bool {
-    match (state, known) {
-        (ImageState::Closed, None) => true,
-        (ImageState::Open { tick, words }, Some(known)) => *tick == known.tick
-            && words.as_slice() == known.words.as_slice(),
-        _ => false,
-    }
 }

@@ -1,12 +1,15 @@
-ghost use Rattle.std.specs.Prelude.{◌≡◌, ◌<◌, ◌≤◌, ◌++◌, ◌∷◌, [], length, IfOk};
+ghost use Rattle.std.specs.Prelude.{◌≡◌, ◌≢◌, ◌+◌, ◌*◌, ◌/◌, ◌^◌, ◌<◌, ◌≤◌, ◌++◌, ◌∷◌, [], length, IfOk, OnOk};
 ghost use Rattle.action_log.specs.Queue.{QueueFits};
+ghost use Rattle.crash_trials.specs.declared.crash.TheConstants.{KINDS};
+ghost use Rattle.crash_trials.specs.Tally.{outcomes};
 
-use crate::crash::{CRASHES, empty_file, left_by};
+use crate::crash::{CRASHES, empty_file};
+use crate::outcome::Outcome;
 use crate::tally::Tally;
 use action_log::{HEADER_BYTES, LogAnswer, LogKeeper, Record, log_outcomes};
 use circular_buffer::HeapCircularBuffer;
 use disk_model::{Fused, ModelFile};
-use recovery::recover;
+use recovery::{Recovered, recover};
 use std::alloc::Global;
 use std::marker::Model;
 use world_actions::{Action, Refusal};
@@ -67,7 +70,7 @@ fn run(alloc: Global, failing: Option<u32>, tally: &mut Tally) -> Result<u32, Re
         let answer = trial.step();
         trial.check(tally)?;
         if answer == LogAnswer::Idle {
-            tally.outcome(trial.acked == TICKS);
+            tally.answer(trial.acked == TICKS);
             return Ok(step);
         }
     }
@@ -134,28 +137,54 @@ impl LogTrial {
         self.log_a.arm(1);
         self.log_b.arm(1);
         tally.failure();
-        tally.outcome(self.step() == LogAnswer::Down);
+        tally.answer(self.step() == LogAnswer::Down);
         self.check(tally)?;
-        tally.outcome(self.step() == LogAnswer::Down);
+        tally.answer(self.step() == LogAnswer::Down);
         self.check(tally)
     }
 
     // Recovers from what crashes may leave of both files.
-    fn check(&self, tally: &mut Tally) -> Result<(), Refusal> {
+    fn check(&self, tally: &mut Tally) -> Result<(), Refusal>
+        ensures { OnOk result (outcomes tally.old + KINDS * KINDS < 2 ^ 32
+            → outcomes tally.new ≡ outcomes tally.old + KINDS * KINDS) }
+    {
         for crash_a in CRASHES {
-            let log_a = left_by(self.alloc, self.log_a.inner(), crash_a)?;
-            for crash_b in CRASHES {
-                let log_b = left_by(self.alloc, self.log_b.inner(), crash_b)?;
-                let found = recover(self.alloc, &IMAGE, &[], &log_a, &log_b)?;
-                let sum = found.tick.saturating_mul(found.tick.saturating_add(1)) / 2;
-                tally.outcome(
-                    self.acked <= found.tick
-                        && found.tick <= TICKS
-                        && found.words.as_slice() == [sum].as_slice(),
-                );
-            }
+            let log_a = self.log_a.inner().left_by(self.alloc, crash_a)?;
+            self.check_beside(&log_a, tally)?;
         }
         Ok(())
+    }
+
+    // Recovers from what crashes may leave of the second file beside bytes of the first one.
+    fn check_beside(&self, log_a: &[u8], tally: &mut Tally) -> Result<(), Refusal>
+        ensures { OnOk result (outcomes tally.old + KINDS < 2 ^ 32
+            → outcomes tally.new ≡ outcomes tally.old + KINDS) }
+    {
+        for crash_b in CRASHES {
+            let log_b = self.log_b.inner().left_by(self.alloc, crash_b)?;
+            let found = recover(self.alloc, &IMAGE, &[], log_a, &log_b)?;
+            tally.outcome(outcome_of(&found, self.acked));
+        }
+        Ok(())
+    }
+}
+
+// What recovery finds where ticks up to this one are acknowledged: no tick, those, or more; tick k added
+// k to the only cell.
+fn outcome_of(found: &Recovered, acked: u64) -> Outcome
+    ensures acknowledged { result ≢ Outcome.Wrong → acked ≤ found.now.tick }
+    ensures words { result ≢ Outcome.Wrong
+        → found.now.words.items ≡ found.now.tick * (found.now.tick + 1) / 2 ∷ [] }
+{
+    let sum = found.tick.saturating_mul(found.tick.saturating_add(1)) / 2;
+    if found.tick < acked || found.tick > TICKS || found.words.as_slice() != [sum].as_slice() {
+        Outcome::Wrong
+    } else if found.tick == 0 {
+        Outcome::Closed
+    } else if found.tick == acked {
+        Outcome::Before
+    } else {
+        Outcome::Whole
     }
 }
 

@@ -1,12 +1,17 @@
 //! The program `crash_trials`: runs rounds of both capture methods and jobs of the log over files in memory,
 //! lets the call of each step fail in turn, and reads what crashes of several kinds may leave after each
-//! step. It tells how many calls failed, and how many outcomes read as nothing that they may: none has to.
-//! At the end it tells what groups of the log cost.
+//! step. It tells how many calls failed, how many outcomes hold nothing, what stood before, or what is being
+//! written, and how many outcomes and answers are wrong. At the end it tells what groups of the log cost. It
+//! fails where an outcome or an answer is wrong.
 #![tactic(auto)]
+
+ghost use Rattle.std.specs.Prelude.{◌≤◌};
 
 mod crash;
 mod image_trial;
+mod known;
 mod log_trial;
+mod outcome;
 mod tally;
 
 use image_trial::try_images;
@@ -26,7 +31,8 @@ const GROUPS: [u64; 3] = [1, 8, 32];
 
 fn main(rt: HostRuntime) -> ExitCode {
     match run(&rt) {
-        Ok(()) => ExitCode::SUCCESS,
+        Ok(true) => ExitCode::SUCCESS,
+        Ok(false) => ExitCode::from(1),
         Err(error) => {
             let _ = eprintln!(rt; "error: {error}");
             ExitCode::from(1)
@@ -34,40 +40,55 @@ fn main(rt: HostRuntime) -> ExitCode {
     }
 }
 
-fn run<R: Print + AllocGlobal>(rt: &R) -> io::Result<()> {
+// Whether nothing was wrong.
+fn run<R: Print + AllocGlobal>(rt: &R) -> io::Result<bool> {
+    let mut passes = true;
     for cells in SIZES {
-        tell(rt, "zigzag", cells, try_images::<Zigzag>(rt.alloc(), cells))?;
-        tell(
-            rt,
-            "pingpong",
-            cells,
-            try_images::<PingPong>(rt.alloc(), cells),
-        )?;
+        passes &= tell(rt, "zigzag", cells, try_images::<Zigzag>(rt.alloc(), cells))?;
+        let seen = try_images::<PingPong>(rt.alloc(), cells);
+        passes &= tell(rt, "pingpong", cells, seen)?;
     }
-    tell(rt, "log", 1, try_log(rt.alloc()))?;
+    passes &= tell(rt, "log", 1, try_log(rt.alloc()))?;
     for ticks in GROUPS {
-        match cost_of_group(rt.alloc(), ticks) {
-            Ok((bytes, calls)) => println!(rt; "group of {ticks}: {bytes} bytes, {calls} calls")?,
-            Err(refusal) => println!(rt; "group of {ticks}: refused with {}", refusal.code())?,
-        }
+        passes &= tell_cost(rt, ticks)?;
     }
-    Ok(())
+    Ok(passes)
 }
 
+// Tells what was seen of a method or of the log, and whether that passes.
 fn tell<R: Print>(
     rt: &R,
     method: &str,
     cells: u32,
     seen: Result<Tally, Refusal>,
-) -> io::Result<()> {
+) -> io::Result<bool> {
     match seen {
-        Ok(tally) => println!(rt;
-            "{method} {cells}: {} calls failed in turn, {} outcomes wrong",
-            tally.failed, tally.wrong
-        ),
-        Err(refusal) => println!(rt;
-            "{method} {cells}: refused with {}: {refusal}",
-            refusal.code()
-        ),
+        Ok(tally) => {
+            println!(rt; "{method} {cells}: {tally}")?;
+            Ok(tally.passes())
+        }
+        Err(refusal) => {
+            println!(rt;
+                "{method} {cells}: refused with {}: {refusal}",
+                refusal.code()
+            )?;
+            Ok(false)
+        }
+    }
+}
+
+// Tells what a group of so many ticks costs.
+fn tell_cost<R: Print + AllocGlobal>(rt: &R, ticks: u64) -> io::Result<bool>
+    requires { ticks ≤ 32 }
+{
+    match cost_of_group(rt.alloc(), ticks) {
+        Ok((bytes, calls)) => {
+            println!(rt; "group of {ticks}: {bytes} bytes, {calls} calls")?;
+            Ok(true)
+        }
+        Err(refusal) => {
+            println!(rt; "group of {ticks}: refused with {}", refusal.code())?;
+            Ok(false)
+        }
     }
 }

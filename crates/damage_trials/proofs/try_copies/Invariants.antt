@@ -1,0 +1,7 @@
+use Rattle.std.proofs.Common.{◌≡◌}
+use Rattle.damage_trials.specs.Tally.{judged}
+use Rattle.damage_trials.proofs.try_copies.Given as goal
+
+-- each copy so far was judged
+abbrev pub invariant-loop : goal.invariant-loop
+invariant-loop l = judged l.tally ≡ l.counter

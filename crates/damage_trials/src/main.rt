@@ -1,0 +1,90 @@
+//! The program `damage_trials`: has recovery judge 20,000 damaged copies of four good files, each begun
+//! anew and with one change to four, and judges each answer by what the definition of recovery says of how
+//! the four byte lists read. It tells how many answers were right and how often each kind came, and fails
+//! where one was wrong, or where a kind never came.
+#![tactic(auto)]
+
+ghost use Rattle.std.specs.Prelude.{◌≡◌, ◌+◌, ◌^◌, ◌<◌, OnOk, IfOk};
+ghost use Rattle.damage_trials.specs.Tally.{judged};
+
+mod damage;
+mod files;
+mod replay;
+mod tally;
+mod wanted;
+
+use damage::Damage;
+use files::{Files, good_files};
+use recovery::recover;
+use std::alloc::Global;
+use std::io;
+use std::process::ExitCode;
+use tally::{NAMES, Tally};
+use wanted::Wanted;
+use world_actions::Refusal;
+
+/// How many damaged copies are tried.
+const COPIES: u32 = 20_000;
+
+fn main(rt: HostRuntime) -> ExitCode {
+    match run(&rt) {
+        Ok(true) => ExitCode::SUCCESS,
+        Ok(false) => ExitCode::from(1),
+        Err(error) => {
+            let _ = eprintln!(rt; "error: {error}");
+            ExitCode::from(1)
+        }
+    }
+}
+
+// Whether all answers were right, and each kind came.
+fn run<R: Print + AllocGlobal>(rt: &R) -> io::Result<bool> {
+    match try_copies(rt.alloc()) {
+        Ok(tally) => tell(rt, &tally),
+        Err(refusal) => {
+            println!(rt; "refused with {}: {refusal}", refusal.code())?;
+            Ok(false)
+        }
+    }
+}
+
+// Recovers from all copies, and counts the answers.
+fn try_copies(alloc: Global) -> Result<Tally, Refusal>
+    ensures { IfOk result (λ tally. judged tally ≡ COPIES) }
+{
+    let files = good_files(alloc)?;
+    let mut damage = Damage::new();
+    let mut tally = Tally::new();
+    for _ in 0..COPIES {
+        try_copy(alloc, &damage.damaged(alloc, &files)?, &mut tally)?;
+    }
+    Ok(tally)
+}
+
+// Recovers from a copy, and counts the answer.
+fn try_copy(alloc: Global, copy: &Files, tally: &mut Tally) -> Result<(), Refusal>
+    ensures { OnOk result (judged tally.old + 1 < 2 ^ 32 → judged tally.new ≡ judged tally.old + 1) }
+{
+    let wanted = Wanted::of(alloc, copy)?;
+    let answer = recover(
+        alloc,
+        &copy.image_a,
+        &copy.image_b,
+        &copy.log_a,
+        &copy.log_b,
+    );
+    tally.answer(&wanted, wanted.is(&answer));
+    Ok(())
+}
+
+// Tells what was seen, and whether that passes.
+fn tell<R: Print>(rt: &R, tally: &Tally) -> io::Result<bool> {
+    println!(rt;
+        "{COPIES} damaged copies: {} answered right, {} wrong",
+        tally.right, tally.wrong
+    )?;
+    for (name, count) in NAMES.iter().zip(&tally.wanted) {
+        println!(rt; "{name}: {count}")?;
+    }
+    Ok(tally.passes())
+}

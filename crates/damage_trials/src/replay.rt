@@ -1,0 +1,56 @@
+use action_log::LogState;
+use recovery::Recovered;
+use world_actions::{Action, LIMIT};
+
+/// Takes a world on by the ticks of a segment, where that begins at its tick. Whether no action was
+/// refused.
+pub fn replay_on(world: &mut Recovered, log: &LogState) -> bool {
+    let LogState::Open { base, ticks } = log else {
+        return true;
+    };
+    if *base != world.tick {
+        return true;
+    }
+    for tick in ticks {
+        for action in tick.actions() {
+            if change(&mut world.words, *action).is_none() {
+                return false;
+            }
+        }
+        world.tick = world.tick.saturating_add(1);
+    }
+    true
+}
+
+// Does an action, or None where it is refused: a cell isn't there, a transfer's cells are one, or a word
+// would leave its range. An amount or a difference out of range takes any word there.
+fn change(words: &mut [u64], action: Action) -> Option<()> {
+    match action {
+        Action::Set { cell, value } => put(words, cell, value),
+        Action::Add { cell, by } => {
+            let sum = word_at(words, cell)?.checked_add_signed(by)?;
+            put(words, cell, sum)
+        }
+        Action::Transfer { from, to, amount } => {
+            if from == to {
+                return None;
+            }
+            let less = word_at(words, from)?.checked_sub(amount)?;
+            let more = word_at(words, to)?.checked_add(amount)?;
+            put(words, from, less)?;
+            put(words, to, more)
+        }
+    }
+}
+
+fn word_at(words: &[u64], cell: u32) -> Option<u64> {
+    words.get(cell as usize).copied()
+}
+
+fn put(words: &mut [u64], cell: u32, word: u64) -> Option<()> {
+    if word > LIMIT {
+        return None;
+    }
+    *words.get_mut(cell as usize)? = word;
+    Some(())
+}
