@@ -10,21 +10,21 @@ pub struct Files {
     pub log_b: Vec<u8>,
 }
 
-/// The two actions of tick 3.
-const THIRD: [Action; 2] = [
+/// The two actions of tick 2.
+const SECOND: [Action; 2] = [
     Action::Set { cell: 0, value: 7 },
     Action::Add { cell: 1, by: -2 },
 ];
 
-/// The action of tick 4.
-const FOURTH: [Action; 1] = [Action::Transfer {
+/// The action of tick 3.
+const THIRD: [Action; 1] = [Action::Transfer {
     from: 1,
     to: 2,
     amount: 3,
 }];
 
-/// The two actions of tick 5.
-const FIFTH: [Action; 2] = [
+/// The two actions of tick 4. Tick 5 has none.
+const FOURTH: [Action; 2] = [
     Action::Add { cell: 2, by: 4 },
     Action::Transfer {
         from: 0,
@@ -33,8 +33,8 @@ const FIFTH: [Action; 2] = [
     },
 ];
 
-/// The two actions of tick 7. Tick 6 has none.
-const SEVENTH: [Action; 2] = [
+/// The two actions of tick 6.
+const SIXTH: [Action; 2] = [
     Action::Set { cell: 2, value: 1 },
     Action::Add { cell: 0, by: -5 },
 ];
@@ -45,14 +45,14 @@ const OPEN: u8 = 1;
 /// The byte of a gate that is closed.
 const CLOSED: u8 = 0;
 
-/// Good files: images of ticks 4 and 2, ticks 3 and 4 in one segment, a group of two, and ticks 5 to 7 in
-/// the other one, each a group of its own.
+/// Good files: images of ticks 3 and 1, ticks 2 and 3 in one segment, a group of two, and ticks 4 to 6 in
+/// the other one, each a group of its own. Their numbers are small, so that damage often makes two alike.
 pub fn good_files(alloc: Global) -> Result<Files, AllocError> {
     Ok(Files {
-        image_a: image(alloc, 4, &[7, 4, 3])?,
-        image_b: image(alloc, 2, &[5, 9, 0])?,
-        log_a: segment(alloc, 2, &[&[&THIRD, &FOURTH]])?,
-        log_b: segment(alloc, 4, &[&[&FIFTH], &[&[]], &[&SEVENTH]])?,
+        image_a: image(alloc, 3, &[7, 4, 3])?,
+        image_b: image(alloc, 1, &[5, 9, 0])?,
+        log_a: segment(alloc, 1, &[&[&SECOND, &THIRD]])?,
+        log_b: segment(alloc, 3, &[&[&FOURTH], &[&[]], &[&SIXTH]])?,
     })
 }
 

@@ -1,12 +1,11 @@
 -- Why no world stands in four files.
-use Rattle.std.specs.Prelude.{◌≡◌, Bool, true, false, ◌||◌, Err}
+use Rattle.std.specs.Prelude.{◌≡◌, true, false, ◌||◌, Err}
 use Rattle.world_actions.specs.declared.refusal.Refusal.{Refusal}
 use Rattle.world_actions.specs.declared.refusal.Refusal.TheVariants as refusal
 use Rattle.image_files.specs.Image.{image_of}
 use Rattle.action_log.specs.Reading.{segment_of}
 use Rattle.recovery.specs.Recovery.{recovery_in, is_bad_image, is_bad_segment}
 use Rattle.what_stands.specs.declared.files.Files.{Files}
-use Rattle.what_stands.specs.declared.fault.Damaged.{Damaged}
 use Rattle.what_stands.specs.declared.fault.Fault.{Fault}
 use Rattle.what_stands.specs.declared.fault.Fault.TheVariants.{NoMemory, NoImage, Images, Segments, Replay}
 
