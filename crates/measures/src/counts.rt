@@ -36,7 +36,7 @@ pub fn tell_counts<R: Print + AllocGlobal>(rt: &R) -> Result<(), Error> {
     let mut ping_pong = PingPong::new(rt.alloc(), &words)?;
     tell_store(rt, "pingpong", &mut ping_pong, 3, 2)?;
     let (front, back) = zigzag_pair(rt.alloc(), &words)?;
-    tell_store(rt, "shared zigzag", &mut Seats::new(front, back), 3, 4)?;
+    tell_store(rt, "shared zigzag", &mut Seats::new(front, back), 3, 5)?;
     let (front, back) = ping_pong_pair(rt.alloc(), &words)?;
     tell_store(rt, "shared pingpong", &mut Seats::new(front, back), 3, 3)
 }

@@ -1,6 +1,7 @@
 pub mod Places
 pub mod Packed
 pub mod Touched
+pub mod Changes
 pub mod Keeps
 pub mod Allowed
 pub mod Fronts

@@ -1,5 +1,5 @@
 -- What a seat asks for before a step, and what its owner keeps beside it.
-use Rattle.std.specs.Prelude.{Some, ◌≡◌, ℕ, ◌+◌, ◌<◌, ◌≤◌, ◌%◌, ◌/◌, List, [], length, slice_get, Bool, true, false, not, All}
+use Rattle.std.specs.Prelude.{Some, ◌≡◌, ◌≢◌, ℕ, ◌+◌, ◌<◌, ◌≤◌, ◌%◌, ◌/◌, List, [], length, slice_get, slice_index, Bool, true, false, not, All}
 use Rattle.world_actions.specs.World.{IsWord}
 use Rattle.atomic_table.specs.Seated.{TableId}
 use Rattle.atomic_table.specs.declared.shared.Seat.{Seat}
@@ -69,6 +69,14 @@ pub record IsFetched (i mark : ℕ) (b c : BackView) : Type 0 where
   pub fetched : length c.marks ≡ chunks (i + 1)
   pub mark_is : slice_get c.marks (i / 64) ≡ Some mark
   pub others : (j : ℕ) → j < i → marked c.marks j ≡ marked b.marks j
+
+-- the list has each place where the two lists differ, once
+pub record ListsChanges (marks away places : List ℕ) : Type 0 where
+  pub differ : (i : ℕ) → i < length places
+      → let k = slice_index places i in (k < length marks) × (slice_index marks k ≢ slice_index away k)
+  pub once : (i j : ℕ) → i < length places → j < length places → slice_index places i ≡ slice_index places j → i ≡ j
+  pub all : (k : ℕ) → k < length marks → slice_index marks k ≢ slice_index away k
+      → (i : ℕ) × (i < length places) × (slice_index places i ≡ k)
 
 -- what the front keeps of its own is what its seat knows
 pub record IsFrontOf (kind : Kind) (t : TableId) (n : ℕ) (seat : TableSeat)

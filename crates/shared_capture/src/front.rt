@@ -1,5 +1,5 @@
 //! The seat that writes and marks.
-ghost use Rattle.std.specs.Prelude.{◌≡◌, ℕ, List, ◌+◌, ◌<◌, ◌≤◌, true, vec_len, length, slice_index, slice_set, All, IsOk, IfErr, OnOk};
+ghost use Rattle.std.specs.Prelude.{◌≡◌, ◌≢◌, ℕ, List, ◌+◌, ◌<◌, ◌≤◌, true, vec_len, vec_capacity, length, slice_index, slice_set, All, IsOk, IfErr, OnOk};
 ghost use Rattle.std.specs.Arc.{arc_value};
 ghost use Rattle.world_actions.specs.World.{IsWord};
 ghost use Rattle.world_actions.specs.Effect.{Write};
@@ -12,7 +12,7 @@ ghost use Rattle.shared_capture.specs.declared.view.Round.{Round};
 ghost use Rattle.shared_capture.specs.Methods.{mark_steps};
 ghost use Rattle.shared_capture.specs.Table.{HasCells};
 ghost use Rattle.shared_capture.specs.Steps.{front_of};
-ghost use Rattle.shared_capture.specs.Seats.{FitsCells, IsFront, IsFrontOf, SameRest};
+ghost use Rattle.shared_capture.specs.Seats.{ListsChanges, FitsCells, IsFront, IsFrontOf, SameRest};
 ghost use Rattle.shared_capture.specs.States.{FrontState, front_state, SameRounds, SameWords, accessed_front, marked_rounds, IsRefused};
 
 use crate::method::{Kind, Method};
@@ -35,6 +35,8 @@ pub struct Front<M: Method> {
     pub(crate) marks: Vec<u64>,
     /// Of Zigzag, for each cell the array that doesn't have its live word, 64 to a word.
     pub(crate) away: Vec<u64>,
+    /// Of Zigzag, the places of the mark words that the next mark changes.
+    pub(crate) changed: Vec<usize>,
     /// Which array is current.
     pub(crate) current: bool,
 }
@@ -46,7 +48,9 @@ impl<M: Method> Model for Front<M> {
 
     ghost invariant = { λ f. IsFrontOf M.KIND
         (arc_value f.table).shared.table_id (vec_len (arc_value f.table).shared.key.live)
-        f.seat f.live.items f.marks.items f.away.items f.current };
+        f.seat f.live.items f.marks.items f.away.items f.current
+        × (M.KIND ≡ Zigzag → ListsChanges f.marks.items f.away.items f.changed.items
+        × (length f.marks.items ≤ vec_capacity f.changed)) };
 }
 
 impl<M: Method> Cells for Front<M> {
@@ -133,6 +137,12 @@ impl<M: Method> Front<M> {
         let second = has_bit(self.marks[i / 64], i % 64);
         store_value(&self.table.shared, &mut self.seat, cells, second, i, v);
         self.live[i] = v;
+        list_change(
+            self.marks.as_slice(),
+            self.away.as_slice(),
+            &mut self.changed,
+            i / 64,
+        );
         self.away[i / 64] = with_bit(self.away[i / 64], i % 64, !second);
     }
 
@@ -183,8 +193,10 @@ impl<M: Method> Front<M> {
             self.live.len(),
             self.current,
             self.away.as_slice(),
+            self.changed.as_slice(),
             self.marks.as_mut_slice(),
         );
+        self.changed.clear();
         store_phase(&self.table.shared, &mut self.seat, tick);
         self.current = !self.current;
     }
@@ -205,6 +217,20 @@ impl<M: Method> Front<M> {
     }
 }
 
+// Lists a mark word that is to change from now on, unless it was before.
+fn list_change(marks: &[u64], away: &[u64], changed: &mut Vec<usize>, k: usize)
+    requires inside { (k < length marks.now) × (length away.now ≡ length marks.now) }
+    requires listed { ListsChanges marks.now away.now changed.old.items }
+    requires room { length marks.now ≤ vec_capacity changed.old }
+    ensures listed { (word : ℕ) → slice_index marks.now k ≢ word
+        → ListsChanges marks.now (slice_set away.now k word) changed.new.items }
+    ensures room { vec_capacity changed.old ≤ vec_capacity changed.new }
+{
+    if marks[k] == away[k] {
+        let _ = changed.push(k);
+    }
+}
+
 // Lets the writes of each cell go where its live word isn't.
 fn turn_marks<M: Method>(
     table: &SharedTable<M>,
@@ -212,6 +238,7 @@ fn turn_marks<M: Method>(
     cells: usize,
     current: bool,
     away: &[u64],
+    changed: &[usize],
     marks: &mut [u64],
 )
     requires table { HasCells cells table.now.table_id × (vec_len table.now.key.live ≡ cells) }
@@ -219,6 +246,7 @@ fn turn_marks<M: Method>(
         IsFront table.now.table_id f seat.old × FitsCells cells f × (f.closed ≡ true)
         × (f.current ≡ current) × (f.marks ≡ marks.old) }
     requires away { IsPacked cells away.now }
+    requires changed { ListsChanges marks.old away.now changed.now }
     ensures seat { IsFront table.now.table_id (front_of seat.new.me.0) seat.new }
     ensures same { SameRest (front_of seat.old.me.0) (front_of seat.new.me.0) }
     ensures marks { let g = front_of seat.new.me.0 in
@@ -226,36 +254,10 @@ fn turn_marks<M: Method>(
         × ((k : ℕ) → k < chunks cells → slice_index g.marks k ≡ slice_index away.now k) }
     ensures steps { (front_of seat.new.me.0).steps ≤ (front_of seat.old.me.0).steps + chunks cells }
 {
-    for k in 0..away.len() {
-        turn_word(table, seat, cells, current, k, marks[k], away[k]);
+    for j in 0..changed.len() {
+        let k = changed[j];
+        store_mark(table, seat, cells, current, k, away[k]);
         marks[k] = away[k];
-    }
-}
-
-// The same for the cells of one mark word, which is stored only where it changes.
-fn turn_word<M: Method>(
-    table: &SharedTable<M>,
-    seat: &mut TableSeat,
-    cells: usize,
-    current: bool,
-    k: usize,
-    mark: u64,
-    away: u64,
-)
-    requires table { HasCells cells table.now.table_id × (vec_len table.now.key.live ≡ cells) }
-    requires inside { k < chunks cells }
-    requires seat { let f = front_of seat.old.me.0 in
-        IsFront table.now.table_id f seat.old × FitsCells cells f × (f.closed ≡ true)
-        × (f.current ≡ current) }
-    requires mark { mark ≡ slice_index (front_of seat.old.me.0).marks k }
-    requires spare { IsPacked cells (slice_set (front_of seat.old.me.0).marks k away) }
-    ensures seat { IsFront table.now.table_id (front_of seat.new.me.0) seat.new }
-    ensures same { SameRest (front_of seat.old.me.0) (front_of seat.new.me.0) }
-    ensures marks { (front_of seat.new.me.0).marks ≡ slice_set (front_of seat.old.me.0).marks k away }
-    ensures steps { (front_of seat.new.me.0).steps ≤ (front_of seat.old.me.0).steps + 1 }
-{
-    if mark != away {
-        store_mark(table, seat, cells, current, k, away);
     }
 }
 

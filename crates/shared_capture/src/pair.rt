@@ -58,6 +58,7 @@ fn seats<M: Method>(alloc: Global, words: &[u64]) -> Result<(Front<M>, Back<M>),
         marks: full_marks(alloc, words.len())?,
     };
     let away = away_marks::<M>(alloc, &key.marks)?;
+    let changed = Vec::with_capacity(alloc, away.len())?;
     let (table, shared, seat, other) = shared_table::<M>(alloc, &key)?;
     let Opening { live, marks } = key;
     Ok((
@@ -67,6 +68,7 @@ fn seats<M: Method>(alloc: Global, words: &[u64]) -> Result<(Front<M>, Back<M>),
             live,
             marks,
             away,
+            changed,
             current: false,
         },
         Back {
