@@ -56,9 +56,6 @@ filled_allowed byte file b =
       kept = λ place within synced. filled_certain byte file.durable file.unsynced place (omega (arith, within, file.in_order.no_shorter, file.in_order.marks)) synced within;
     }
 
-pub durable_allowed : (file : FileState) → IsCrashOutcome file file.durable
-durable_allowed file = record { are_bytes = file.in_order.durable_bytes; no_shorter = omega arith; no_longer = file.in_order.no_shorter; kept = λ place within synced. refl }
-
 -- ---- one place
 
 pub certain_within : (file : FileState) (place : ℕ) → (IsUncertain file place → ⊥) → place < length file.durable

@@ -1,6 +1,6 @@
 -- The places of a list that was written over.
-use Rattle.std.proofs.Common.{◌≡◌, ℕ, ◌+◌, ◌-◌, ◌<◌, ◌≤◌, max, List, ◌++◌, length, get_or, take, drop, sym, ◌∙◌, ap, arith, length-append, length-drop, append_assoc}
-use Rattle.std.proofs.lemmas.List.{length-take, get_or-take, get_or-drop, get_or_append_left, get_or-append_right, take_at, drop_at, take-append-le, take-take, drop-drop}
+use Rattle.std.proofs.Common.{◌≡◌, ℕ, ◌+◌, ◌-◌, ◌<◌, ◌≤◌, max, List, ◌++◌, length, get_or, take, drop, ◌∙◌, ap, arith, length-append, length-drop}
+use Rattle.std.proofs.lemmas.List.{length-take, get_or-take, get_or-drop, get_or_append_left, get_or-append_right}
 use Rattle.disk_model.specs.Disk.{overwritten}
 
 module _ {A : Type 0} (old : List A) (at : ℕ) (items : List A) (inside : at ≤ length old) where
@@ -31,24 +31,3 @@ module _ {A : Type 0} (old : List A) (at : ℕ) (items : List A) (inside : at �
       get_or-append_right (take at old ++ items) (drop (at + length items) old) (at + length items) i d length_two past
       ∙ get_or-drop (at + length items) old (i - (at + length items)) d
       ∙ ap (λ (k : ℕ). get_or old k d) same
-
-  pub overwritten_whole_front : take (at + length items) (overwritten old at items) ≡ take at old ++ items
-  overwritten_whole_front = take_at (take at old ++ items) (drop (at + length items) old) (at + length items) length_two
-
-  pub overwritten_back : drop (at + length items) (overwritten old at items) ≡ drop (at + length items) old
-  overwritten_back = drop_at (take at old ++ items) (drop (at + length items) old) (at + length items) length_two
-
-  pub overwritten_front : (n : ℕ) → n ≤ at → take n (overwritten old at items) ≡ take n old
-  overwritten_front n low =
-      take-append-le n (take at old ++ items) (drop (at + length items) old) (omega (arith, length_two))
-      ∙ take-append-le n (take at old) items (omega (arith, length_front))
-      ∙ take-take n at old low
-
-pub overwritten_behind : (front rest : List ℕ) (at : ℕ) (items : List ℕ) → at ≡ length front → overwritten (front ++ rest) at items ≡ front ++ (items ++ drop (length items) rest)
-overwritten_behind front rest at items is =
-    let head : take at (front ++ rest) ≡ front = take_at front rest at (sym is) in
-    let back : drop (at + length items) (front ++ rest) ≡ drop (length items) rest =
-    sym (drop-drop (length items) at (front ++ rest)) ∙ ap (λ (list : List ℕ). drop (length items) list) (drop_at front rest at (sym is)) in
-    ap (λ (list : List ℕ). list ++ items ++ drop (at + length items) (front ++ rest)) head
-    ∙ ap (λ (list : List ℕ). front ++ items ++ list) back
-    ∙ append_assoc front items (drop (length items) rest)

@@ -1,5 +1,5 @@
 -- What the calls of a disk do to its file, and to what a crash may leave of it.
-use Rattle.std.specs.Prelude.{◌≡◌, ◌⊎◌, ℕ, ◌+◌, ◌-◌, ◌^◌, ◌≤◌, min, max, List, ◌++◌, length, take, drop, Result, Ok, Err, IfErr}
+use Rattle.std.specs.Prelude.{◌≡◌, ◌⊎◌, ℕ, ◌+◌, ◌-◌, ◌^◌, ◌≤◌, min, max, Bool, true, false, List, ◌++◌, length, take, drop, Result, Ok, Err, IfErr}
 use Rattle.std.proofs.Common.{arith}
 use Rattle.world_actions.specs.declared.refusal.Refusal.{Refusal}
 use Rattle.world_actions.specs.declared.refusal.Refusal.TheVariants.{Device}
@@ -51,3 +51,14 @@ IsDeviceFault result = IfErr result (λ refusal. refusal ≡ Device)
 -- nothing was called, or one call was made
 abbrev pub CalledAtMostOnce : {S : Type 0} → (S → S → Type 0) → S → S → Type 0
 CalledAtMostOnce called old new = (new ≡ old) ⊎ called old new
+
+-- one of two disks was called, once, or none was
+abbrev pub OneCalledAtMostOnce : {S : Type 0} → (S → S → Type 0) → (one_before one_after other_before other_after : S) → Type 0
+OneCalledAtMostOnce called one_before one_after other_before other_after =
+    (CalledAtMostOnce called one_before one_after × (other_after ≡ other_before))
+    ⊎ ((one_after ≡ one_before) × CalledAtMostOnce called other_before other_after)
+
+-- the count of faults of one of two disks grew, or neither did
+abbrev pub FaultsBy : Bool → (one_before one_after other_before other_after : ℕ) → Type 0
+FaultsBy true one_before one_after other_before other_after = Grew one_before one_after ⊎ Grew other_before other_after
+FaultsBy false one_before one_after other_before other_after = (one_after ≡ one_before) × (other_after ≡ other_before)

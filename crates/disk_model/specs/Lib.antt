@@ -4,4 +4,3 @@ pub mod FileKept
 pub mod CrashOutcome
 pub mod Leaving
 pub mod Fused
-pub mod Gated

@@ -79,7 +79,7 @@ impl<D> Fused<D> {
         match self.left {
             None => false,
             Some(0) => {
-                self.left = None;
+                self.disarm();
                 true
             }
             Some(more) => {

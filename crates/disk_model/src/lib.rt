@@ -5,25 +5,19 @@
 //! torn until a sync succeeds, whether it failed or not.
 //!
 //! `ModelFile` is a file in memory that is exactly that: it keeps what is durable beside the
-//! content, and takes any crash that may happen. `Fused` lets a call of any disk fail. The laws
-//! tell what writes that may be torn leave of a file and of its gate; `write_gated` is the pattern
-//! of all that is made durable before it counts.
+//! content, and takes any crash that may happen. `Fused` lets a call of any disk fail.
 #![tactic(auto)]
 
 mod disk;
 mod fused;
-mod gated;
 mod leaving;
 mod model_file;
 mod places;
-mod writes;
 
 pub use disk::Disk;
 pub use fused::Fused;
-pub use gated::{gated_writes, torn_gates, write_gated};
 pub use leaving::Leaving;
 pub use model_file::ModelFile;
-pub use writes::{overwritten_lists, torn_writes};
 
 #[cfg(test)]
 mod tests;

@@ -132,32 +132,6 @@ fn fails_armed_calls(rt: HostRuntime) -> Result<(), Fail> {
 }
 
 #[test]
-fn opens_whole_bodies(rt: HostRuntime) -> Result<(), Fail> {
-    let alloc = rt.alloc();
-    for (failing, done, torn_body, shut_gate, whole) in [
-        (1, false, true, true, false),
-        (2, false, true, true, false),
-        (3, false, false, true, true),
-        (4, false, false, true, true),
-        (5, true, false, false, true),
-    ] {
-        let mut disk = Fused::new(ModelFile::new(alloc, vec![in alloc; 0, 9, 9, 9]?)?);
-        disk.arm(failing);
-        assert_eq!(rt;
-            write_gated(&mut disk, &[5, 6, 7]).is_ok(),
-            done,
-            "at {failing}"
-        );
-        let file = disk.into_inner();
-        assert_eq!(rt; file.allows(&[0, 5, 9, 7]), torn_body, "at {failing}");
-        assert_eq!(rt; file.allows(&[0, 5, 6, 7]), shut_gate, "at {failing}");
-        assert_eq!(rt; file.allows(&[1, 5, 6, 7]), whole, "at {failing}");
-        assert!(rt; !file.allows(&[1, 5, 9, 7]), "at {failing}");
-    }
-    Ok(())
-}
-
-#[test]
 fn refused_growth_changes_nothing(rt: HostRuntime) -> Result<(), Fail> {
     let alloc = rt.alloc();
     let mut file = ModelFile::new(alloc, vec![in alloc; 1, 2, 3]?)?;

@@ -1,10 +1,10 @@
--- The bytes of the number that bytes give.
-use Rattle.std.proofs.Common.{◌/◌, ◌%◌, ◌≡◌, ℕ, zero, suc, ◌+◌, ◌*◌, ◌^◌, ◌<◌, ◌≤◌, List, [], ◌∷◌, length, take, get_or, refl, sym, ap, ◌∙◌, arith}
+-- Numbers and their bytes.
+use Rattle.std.proofs.Common.{◌/◌, ◌%◌, ◌≡◌, ℕ, zero, suc, ◌+◌, ◌*◌, ◌^◌, ◌<◌, ◌≤◌, List, [], ◌∷◌, ◌++◌, length, take, get_or, refl, sym, ap, ◌∙◌, arith}
 use Rattle.std.proofs.Math.Nat.{div-div-eq-div-mul, div-one, mod-lt, pow-succ'}
 use Rattle.std.specs.Int.{byte_at, bytes_low_first}
 use Rattle.byteorder.specs.Endian.{little_from}
-use Rattle.byteorder.specs.Numbers.{little_from-cons}
-use Rattle.file_format.specs.Number.{IsBytes}
+use Rattle.byteorder.specs.Numbers.{little_from-append, little_from-cons, little_number-reads_back, length-bytes_low_first}
+use Rattle.file_format.specs.Number.{IsBytes, number_bytes, number_of}
 
 -- a byte of a number, by its place
 byte_at-pow : (k x : ℕ) → byte_at k x ≡ x / 256 ^ k % 256
@@ -40,3 +40,17 @@ pub number_is_bytes : (k j x i : ℕ) → get_or (bytes_low_first j k x) i 0 < 2
 number_is_bytes zero j x i = omega arith
 number_is_bytes (suc k) j x zero = byte_at-small j x
 number_is_bytes (suc k) j x (suc i) = number_is_bytes k (suc j) x i
+
+pub length-number_bytes : (width number : ℕ) → length (number_bytes width number) ≡ width
+unfolding number_bytes
+length-number_bytes width number = length-bytes_low_first 0 width number
+
+-- a number is read back from its bytes, whatever follows
+pub number_of-number_bytes : (width number : ℕ) (rest : List ℕ) → number < 256 ^ width → number_of width (number_bytes width number ++ rest) ≡ number
+unfolding number_bytes number_of
+number_of-number_bytes width number rest small = little_number-reads_back width number rest small
+
+-- what follows the bytes of a number says nothing of it
+pub number_of-append : (width : ℕ) (bytes rest : List ℕ) → width ≤ length bytes → number_of width (bytes ++ rest) ≡ number_of width bytes
+unfolding number_of
+number_of-append width bytes rest long = little_from-append width bytes rest long

@@ -10,5 +10,7 @@ mod number;
 mod slot;
 
 pub use gate::{CLOSED_GATE, OPEN_GATE, is_shut};
-pub use number::{numbers_read_back, u16_at, u32_at, u64_at};
+pub use number::{
+    numbers_read_back, put_u8, put_u16, put_u32, put_u64, u16_at, u32_at, u64_at, write_u64_at,
+};
 pub use slot::Slot;

@@ -1,4 +1,4 @@
-ghost use Rattle.std.specs.Prelude.{◌≡◌, ◌+◌, ◌^◌, ◌<◌, ◌≤◌, ◌++◌, ℕ, List, length, take, drop, get_or};
+ghost use Rattle.std.specs.Prelude.{◌≡◌, ◌+◌, ◌^◌, ◌<◌, ◌≤◌, ◌++◌, ◌∷◌, [], ℕ, List, length, take, drop, vec_capacity};
 ghost use Rattle.file_format.specs.Number.{IsBytes, number_bytes, number_of};
 
 use byteorder::{ByteOrder, LittleEndian};
@@ -27,6 +27,58 @@ pub fn u64_at(bytes: &[u8], place: usize) -> u64
     LittleEndian::read_u64(&bytes[place..])
 }
 
+/// Appends a byte, for which there is room.
+pub fn put_u8(bytes: &mut Vec<u8>, number: u8)
+    requires { length bytes.old.items + 1 ≤ vec_capacity bytes.old }
+    ensures put { bytes.new.items ≡ bytes.old.items ++ number ∷ [] }
+    ensures capacity { vec_capacity bytes.old ≤ vec_capacity bytes.new }
+{
+    let _ = bytes.push(number);
+}
+
+/// Appends a number of two bytes, for which there is room.
+#[tactic(auto, unfolding(crate::specs::Number::number_bytes))]
+pub fn put_u16(bytes: &mut Vec<u8>, number: u16)
+    requires { length bytes.old.items + 2 ≤ vec_capacity bytes.old }
+    ensures put { bytes.new.items ≡ bytes.old.items ++ number_bytes 2 number }
+    ensures capacity { vec_capacity bytes.old ≤ vec_capacity bytes.new }
+{
+    let spelled: [u8; 2] = number.to_le_bytes();
+    let _ = bytes.extend_from_slice(&spelled);
+}
+
+/// Appends a number of four bytes, for which there is room.
+#[tactic(auto, unfolding(crate::specs::Number::number_bytes))]
+pub fn put_u32(bytes: &mut Vec<u8>, number: u32)
+    requires { length bytes.old.items + 4 ≤ vec_capacity bytes.old }
+    ensures put { bytes.new.items ≡ bytes.old.items ++ number_bytes 4 number }
+    ensures capacity { vec_capacity bytes.old ≤ vec_capacity bytes.new }
+{
+    let spelled: [u8; 4] = number.to_le_bytes();
+    let _ = bytes.extend_from_slice(&spelled);
+}
+
+/// Appends a number of eight bytes, for which there is room.
+#[tactic(auto, unfolding(crate::specs::Number::number_bytes))]
+pub fn put_u64(bytes: &mut Vec<u8>, number: u64)
+    requires { length bytes.old.items + 8 ≤ vec_capacity bytes.old }
+    ensures put { bytes.new.items ≡ bytes.old.items ++ number_bytes 8 number }
+    ensures capacity { vec_capacity bytes.old ≤ vec_capacity bytes.new }
+{
+    let spelled: [u8; 8] = number.to_le_bytes();
+    let _ = bytes.extend_from_slice(&spelled);
+}
+
+/// Writes a number over the eight bytes from a place on.
+#[tactic(auto, unfolding(crate::specs::Number::number_bytes))]
+pub fn write_u64_at(bytes: &mut [u8], place: usize, number: u64)
+    requires { place + 8 ≤ length bytes.old }
+    ensures { bytes.new
+        ≡ take place bytes.old ++ number_bytes 8 number ++ drop (place + 8) bytes.old }
+{
+    bytes[place..place + 8].copy_from_slice(&number.to_le_bytes());
+}
+
 /// Laws: a number is read back from its bytes, whatever follows, and bytes are those of their number.
 pub fn numbers_read_back()
     ensures read { (width number : ℕ) (rest : List ℕ) → number < 256 ^ width
@@ -39,3 +91,33 @@ pub fn numbers_read_back()
     ensures length { (width number : ℕ) → length (number_bytes width number) ≡ width }
     ensures bytes { (width number : ℕ) → IsBytes (number_bytes width number) }
 {}
+
+#[cfg(test)]
+mod tests {
+    use super::*;
+    use std::test::Fail;
+
+    #[test]
+    #[tactic(auto, unfolding(crate::specs::Number::number_bytes))]
+    fn numbers_have_their_lowest_byte_first(rt: HostRuntime) -> Result<(), Fail> {
+        let mut bytes = Vec::with_capacity(rt.alloc(), 15)?;
+        put_u8(&mut bytes, 0x01);
+        put_u16(&mut bytes, 0x0302);
+        put_u32(&mut bytes, 0x0706_0504);
+        put_u64(&mut bytes, 0x0f0e_0d0c_0b0a_0908);
+        let spelled = [1, 2, 3, 4, 5, 6, 7, 8, 9, 10, 11, 12, 13, 14, 15];
+        assert_eq!(rt; bytes.as_slice(), spelled.as_slice());
+        assert_eq!(rt; u16_at(&spelled, 1), 0x0302);
+        assert_eq!(rt; u32_at(&spelled, 3), 0x0706_0504);
+        assert_eq!(rt; u64_at(&spelled, 7), 0x0f0e_0d0c_0b0a_0908);
+        Ok(())
+    }
+
+    #[test]
+    fn number_is_written_at_its_place(rt: HostRuntime) -> Result<(), Fail> {
+        let mut bytes = [9; 10];
+        write_u64_at(&mut bytes, 1, 0x0706_0504_0302_0100);
+        assert_eq!(rt; bytes, [9, 0, 1, 2, 3, 4, 5, 6, 7, 9]);
+        Ok(())
+    }
+}

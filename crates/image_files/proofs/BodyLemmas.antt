@@ -6,6 +6,7 @@ use Rattle.disk_model.specs.Disk.{Torn, Follows, Within, Only, overwritten}
 use Rattle.disk_model.proofs.TornLemmas.{torn_opening}
 use Rattle.file_format.specs.Gate.{HasShutGate}
 use Rattle.file_format.specs.Number.{number_of, number_bytes}
+use Rattle.file_format.proofs.NumberLemmas.{length-number_bytes}
 use Rattle.capture_core.specs.declared.taker.Taken.{Taken}
 use Rattle.image_files.specs.declared.phase.Phase.{Phase}
 use Rattle.image_files.specs.declared.phase.Phase.TheVariants.{Header, Taking, Opening, OpeningSync, Down}
@@ -15,7 +16,7 @@ use Rattle.image_files.specs.Images.{IsTarget}
 use Rattle.image_files.specs.Progress.{Progress, IsInOrder, PhaseFits, done, newest_words}
 use Rattle.image_files.specs.Keeper.{HasBody, Fits, TargetFits, TargetEndures}
 use Rattle.image_files.specs.Steps.{IsOpenedImage}
-use Rattle.image_files.proofs.WordLemmas.{number_written, length-number_bytes, length-words_from}
+use Rattle.image_files.proofs.WordLemmas.{number_written, length-words_from}
 use Rattle.image_files.proofs.SpellingLemmas.{whole_reads}
 use Rattle.image_files.proofs.GateLemmas.{shut_reads_closed}
 
@@ -66,7 +67,7 @@ header_fits old bytes cells tick long small_cells small_tick shut is =
     let file = overwritten old 1 bytes in
     let rest = drop (1 + length bytes) old in
     let front : length (take 1 old) ≡ 1 = omega (arith, length-take 1 old) in
-    let size : length bytes ≡ 16 = ap length is ∙ omega (arith, length-append (number_bytes 8 cells) (number_bytes 8 tick), length-number_bytes cells, length-number_bytes tick) in
+    let size : length bytes ≡ 16 = ap length is ∙ omega (arith, length-append (number_bytes 8 cells) (number_bytes 8 tick), length-number_bytes 8 cells, length-number_bytes 8 tick) in
     let long_file : length file ≡ 1 + 16 + length rest = omega (arith, length-append (take 1 old ++ bytes) rest, length-append (take 1 old) bytes, front, size) in
     let first : file ≡ take 1 old ++ (number_bytes 8 cells ++ (number_bytes 8 tick ++ rest)) =
     append_assoc (take 1 old) bytes rest ∙ ap (λ (b : List ℕ). take 1 old ++ (b ++ rest)) is ∙ ap (λ (l : List ℕ). take 1 old ++ l) (append_assoc (number_bytes 8 cells) (number_bytes 8 tick) rest) in
@@ -74,7 +75,7 @@ header_fits old bytes cells tick long small_cells small_tick shut is =
     let gate : get_or file 0 0 ≡ get_or old 0 0 = first_kept old (bytes ++ rest) (append_assoc (take 1 old) bytes rest) long in (
       (omega (arith, long_file), λ is_open. shut.1 (sym gate ∙ is_open)),
       ap (λ (l : List ℕ). number_at l 1) first ∙ number_written (take 1 old) (number_bytes 8 tick ++ rest) 1 cells front small_cells,
-      ap (λ (l : List ℕ). number_at l 9) second ∙ number_written (take 1 old ++ number_bytes 8 cells) rest 9 tick (omega (arith, length-append (take 1 old) (number_bytes 8 cells), front, length-number_bytes cells)) small_tick,
+      ap (λ (l : List ℕ). number_at l 9) second ∙ number_written (take 1 old ++ number_bytes 8 cells) rest 9 tick (omega (arith, length-append (take 1 old) (number_bytes 8 cells), front, length-number_bytes 8 cells)) small_tick,
       omega (arith, long_file),
     )
   where

@@ -3,17 +3,16 @@ use Rattle.std.proofs.Common.{◌≡◌, ℕ, suc, ◌+◌, ◌*◌, ◌<◌, �
 use Rattle.std.proofs.lemmas.List.{take-take, take-append-le, get_or_at, take_at, take_more, drop_more, set_at, length-take, append-nil, append_assoc, map_push, length-map}
 use Rattle.std.specs.Prelude.{map}
 use Rattle.std.specs.List.{flat_map}
-use Rattle.disk_model.specs.Disk.{overwritten}
 use Rattle.file_format.specs.Number.{number_bytes}
+use Rattle.file_format.proofs.NumberLemmas.{length-number_bytes}
 use Rattle.image_files.specs.Image.{number_at, words_from}
 use Rattle.image_files.specs.Taken.{filled_words, word_of}
 use Rattle.capture_core.specs.declared.taker.Taken.{Taken}
 use Rattle.capture_core.specs.declared.taker.Taken.TheVariants.{Word}
-use Rattle.image_files.proofs.WordLemmas.{words_from-push, length-words_from, length-number_bytes}
+use Rattle.image_files.proofs.WordLemmas.{words_from-push, length-words_from}
 
-pub take_overwritten : {A : Type 0} (old : List A) (at : ℕ) (items : List A) (end : ℕ) → at ≤ length old → end ≡ at + length items → take end (overwritten old at items) ≡ take at old ++ items
-take_overwritten old at items end inside is =
-    take_at (take at old ++ items) (drop (at + length items) old) end (omega (arith, is, length-append (take at old) items, length-take at old))
+take_written : (old items rest : List ℕ) (at end : ℕ) → at ≤ length old → end ≡ at + length items → take end (take at old ++ items ++ rest) ≡ take at old ++ items
+take_written old items rest at end inside is = take_at (take at old ++ items) rest end (omega (arith, is, length-append (take at old) items, length-take at old))
 
 -- what is written to the front of a buffer stands at the front of what it is lent as
 pub front_of : (n len : ℕ) (front rest lent : List ℕ) → lent ≡ take len (front ++ rest) → n ≤ len → n ≤ length front → take n lent ≡ take n front
@@ -45,15 +44,15 @@ flat_map-push (w ∷ words) word = ap (λ (l : List ℕ). number_bytes 8 w ++ l)
 
 pub length-flat_map : (words : List ℕ) → length (flat_map (number_bytes 8) words) ≡ 8 * length words
 length-flat_map [] = refl
-length-flat_map (w ∷ words) = let e = length-flat_map words in omega (arith, e, length-append (number_bytes 8 w) (flat_map (number_bytes 8) words), length-number_bytes w)
+length-flat_map (w ∷ words) = let e = length-flat_map words in omega (arith, e, length-append (number_bytes 8 w) (flat_map (number_bytes 8) words), length-number_bytes 8 w)
 
 -- one number more in the buffer
 pub encode_step : (buffer : List ℕ) (cells : List Taken) (i : ℕ) (d : Taken) → i < length cells → 8 * length cells ≤ length buffer → take (8 * i) buffer ≡ flat_map (number_bytes 8) (filled_words (take i cells) [])
-    → take (8 * (i + 1)) (overwritten buffer (8 * i) (number_bytes 8 (word_of (get_or cells i d) 0))) ≡ flat_map (number_bytes 8) (filled_words (take (i + 1) cells) [])
+    → take (8 * (i + 1)) (take (8 * i) buffer ++ number_bytes 8 (word_of (get_or cells i d) 0) ++ drop (8 * i + 8) buffer) ≡ flat_map (number_bytes 8) (filled_words (take (i + 1) cells) [])
 encode_step buffer cells i d lt room so_far =
     let cell = get_or cells i d in
     let word = number_bytes 8 (word_of cell 0) in
-    take_overwritten buffer (8 * i) word (8 * (i + 1)) (omega arith) (omega (arith, length-number_bytes (word_of cell 0)))
+    take_written buffer word (drop (8 * i + 8) buffer) (8 * i) (8 * (i + 1)) (omega arith) (omega (arith, length-number_bytes 8 (word_of cell 0)))
     ∙ ap (λ (l : List ℕ). l ++ word) so_far
     ∙ sym (flat_map-push (filled_words (take i cells) []) (word_of cell 0))
     ∙ ap (flat_map (number_bytes 8)) (sym (filled_words-push (take i cells) cell []))

@@ -7,7 +7,6 @@ use Rattle.std.proofs.lemmas.Bool.Decides.{nat_tests}
 use Rattle.std.specs.Prelude.{is_some}
 use Rattle.std.specs.List.{list_all, flat_map}
 use Rattle.disk_model.specs.Disk.{Torn, Follows, overwritten}
-use Rattle.disk_model.specs.Gated.{AllShut}
 use Rattle.file_format.specs.Gate.{HasShutGate}
 use Rattle.file_format.specs.Number.{number_bytes}
 use Rattle.capture_core.specs.declared.taker.Taken.{Taken}
@@ -17,7 +16,7 @@ use Rattle.image_files.specs.declared.phase.Phase.TheVariants.{Taking, Writing, 
 use Rattle.image_files.specs.Image.{Image, number_at, words_from, is_word}
 use Rattle.image_files.specs.Taken.{filled_words, has_same}
 use Rattle.image_files.specs.Progress.{Progress, PhaseFits, IsInOrder, newest_words, done, after_chunk, with_chunk_written}
-use Rattle.image_files.specs.Keeper.{HasBody, Fits, TargetFits, TargetEndures}
+use Rattle.image_files.specs.Keeper.{AllShut, HasBody, Fits, TargetFits, TargetEndures}
 use Rattle.image_files.proofs.WordLemmas.{number_same, words_from-append}
 use Rattle.image_files.proofs.SpellingLemmas.{words_written}
 use Rattle.image_files.proofs.ChunkLemmas.{length-flat_map, length-filled_words}

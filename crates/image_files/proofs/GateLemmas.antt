@@ -3,10 +3,10 @@ use Rattle.std.proofs.Common.{◌≡◌, ℕ, ◌<◌, List, arith}
 use Rattle.std.proofs.lemmas.Grind.{common_steps}
 use Rattle.std.proofs.lemmas.Bool.Decides.{nat_tests}
 use Rattle.disk_model.specs.Disk.{Torn, Follows}
-use Rattle.disk_model.specs.Gated.{AllShut}
 use Rattle.disk_model.proofs.TornLemmas.{torn_behind_gate}
 use Rattle.file_format.specs.Gate.{HasShutGate}
 use Rattle.image_files.specs.Image.{Image, image_of}
+use Rattle.image_files.specs.Keeper.{AllShut}
 
 pub shut_reads_closed : (file : List ℕ) → HasShutGate file → image_of file ≡ Image.Closed
 unfolding image_of

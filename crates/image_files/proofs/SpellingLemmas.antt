@@ -8,8 +8,9 @@ use Rattle.std.specs.Prelude.{nat_le, All}
 use Rattle.std.specs.List.{list_all, flat_map}
 use Rattle.world_actions.specs.World.{IsWord, IsWorld}
 use Rattle.file_format.specs.Number.{IsBytes, number_of, number_bytes}
+use Rattle.file_format.proofs.NumberLemmas.{length-number_bytes}
 use Rattle.image_files.specs.Image.{Image, image_of, image_bytes, number_at, words_from, is_word, is_open, is_whole}
-use Rattle.image_files.proofs.WordLemmas.{number_written, length-number_bytes, length-words_from}
+use Rattle.image_files.proofs.WordLemmas.{number_written, length-words_from}
 
 -- ---- tests
 
@@ -46,7 +47,7 @@ words_written front (w ∷ words) rest place at pass =
     let second : file ≡ (front ++ number_bytes 8 w) ++ (flat_map (number_bytes 8) words ++ rest) = first ∙ sym (append_assoc front (number_bytes 8 w) (flat_map (number_bytes 8) words ++ rest)) in
     let head : number_at file place ≡ w = ap (λ (l : List ℕ). number_at l place) first ∙ number_written front (flat_map (number_bytes 8) words ++ rest) place w at (word_fits w parts.0) in
     let tail : words_from file (place + 8) (length words) ≡ words = ap (λ (l : List ℕ). words_from l (place + 8) (length words)) second
-    ∙ words_written (front ++ number_bytes 8 w) words rest (place + 8) (omega (arith, length-append front (number_bytes 8 w), length-number_bytes w, at)) parts.1 in
+    ∙ words_written (front ++ number_bytes 8 w) words rest (place + 8) (omega (arith, length-append front (number_bytes 8 w), length-number_bytes 8 w, at)) parts.1 in
     ap (λ (x : ℕ). x ∷ words_from file (place + 8) (length words)) head ∙ ap (λ (l : List ℕ). w ∷ l) tail
 
 -- an open gate over a whole header and words is an image
@@ -72,9 +73,9 @@ image_read tick words rest small world =
     let third : file ≡ (((1 ∷ []) ++ number_bytes 8 n) ++ number_bytes 8 tick) ++ (tail ++ rest) =
     second ∙ sym (append_assoc ((1 ∷ []) ++ number_bytes 8 n) (number_bytes 8 tick) (tail ++ rest)) in
     let front : length (((1 ∷ []) ++ number_bytes 8 n) ++ number_bytes 8 tick) ≡ 17 =
-    omega (arith, length-append ((1 ∷ []) ++ number_bytes 8 n) (number_bytes 8 tick), length-append (1 ∷ []) (number_bytes 8 n), length-number_bytes n, length-number_bytes tick) in
+    omega (arith, length-append ((1 ∷ []) ++ number_bytes 8 n) (number_bytes 8 tick), length-append (1 ∷ []) (number_bytes 8 n), length-number_bytes 8 n, length-number_bytes 8 tick) in
     let cells_is : number_at file 1 ≡ n = ap (λ (l : List ℕ). number_at l 1) first ∙ number_written (1 ∷ []) ((number_bytes 8 tick ++ tail) ++ rest) 1 n refl (omega (arith, world.most)) in
-    let tick_is : number_at file 9 ≡ tick = ap (λ (l : List ℕ). number_at l 9) second ∙ number_written ((1 ∷ []) ++ number_bytes 8 n) (tail ++ rest) 9 tick (omega (arith, length-append (1 ∷ []) (number_bytes 8 n), length-number_bytes n)) (omega arith) in
+    let tick_is : number_at file 9 ≡ tick = ap (λ (l : List ℕ). number_at l 9) second ∙ number_written ((1 ∷ []) ++ number_bytes 8 n) (tail ++ rest) 9 tick (omega (arith, length-append (1 ∷ []) (number_bytes 8 n), length-number_bytes 8 n)) (omega arith) in
     let words_are : words_from file 17 n ≡ words = ap (λ (l : List ℕ). words_from l 17 n) third ∙ words_written (((1 ∷ []) ++ number_bytes 8 n) ++ number_bytes 8 tick) words rest 17 front pass in
     let long : length file ≡ 17 + length (tail ++ rest) = ap length third ∙ omega (arith, length-append (((1 ∷ []) ++ number_bytes 8 n) ++ number_bytes 8 tick) (tail ++ rest), front) in
     let room : 17 + 8 * n ≤ length file = omega (arith, long, length-append tail rest, length-words words) in
@@ -82,7 +83,7 @@ image_read tick words rest small world =
   where
     length-words : (words : List ℕ) → length (flat_map (number_bytes 8) words) ≡ 8 * length words
     length-words [] = refl
-    length-words (w ∷ words) = let e = length-words words in omega (arith, e, length-append (number_bytes 8 w) (flat_map (number_bytes 8) words), length-number_bytes w)
+    length-words (w ∷ words) = let e = length-words words in omega (arith, e, length-append (number_bytes 8 w) (flat_map (number_bytes 8) words), length-number_bytes 8 w)
 
 -- ---- what is read is spelled
 

@@ -2,9 +2,8 @@
 use Rattle.std.proofs.Common.{◌≡◌, ℕ, zero, suc, ◌+◌, ◌*◌, ◌^◌, ◌<◌, ◌≤◌, true, List, [], ◌∷◌, ◌++◌, length, get_or, take, drop, refl, sym, ◌∙◌, ap, arith, length-drop}
 use Rattle.std.proofs.lemmas.List.{take-append-drop, drop_at, length-take}
 use Rattle.std.proofs.lemmas.List.Folds.{list_all-append}
-use Rattle.byteorder.specs.Endian.{little_number, little_bytes}
-use Rattle.byteorder.specs.Numbers.{little_from-append, little_number-reads_back, length-bytes_low_first}
 use Rattle.file_format.specs.Number.{number_of, number_bytes}
+use Rattle.file_format.proofs.NumberLemmas.{number_of-append, number_of-number_bytes}
 use Rattle.std.specs.List.{list_all}
 use Rattle.image_files.specs.Image.{number_at, words_from, is_word}
 
@@ -55,19 +54,13 @@ get_or-words_from bytes place (suc n) (suc i) lt =
 
 -- a number is that of the 8 bytes from its place on
 pub number_same : (xs ys : List ℕ) (p q : ℕ) → p + 8 ≤ length xs → q + 8 ≤ length ys → take 8 (drop p xs) ≡ take 8 (drop q ys) → number_at xs p ≡ number_at ys q
-unfolding number_of
 number_same xs ys p q inside_x inside_y same =
     let x = take 8 (drop p xs) in
     let y = take 8 (drop q ys) in
-    let of_x : little_number 8 (x ++ drop 8 (drop p xs)) ≡ little_number 8 x = little_from-append 8 x (drop 8 (drop p xs)) (omega (arith, length-take 8 (drop p xs), length-drop p xs)) in
-    let of_y : little_number 8 (y ++ drop 8 (drop q ys)) ≡ little_number 8 y = little_from-append 8 y (drop 8 (drop q ys)) (omega (arith, length-take 8 (drop q ys), length-drop q ys)) in
-    ap (little_number 8) (sym (take-append-drop 8 (drop p xs))) ∙ of_x ∙ ap (little_number 8) same ∙ sym of_y ∙ ap (little_number 8) (take-append-drop 8 (drop q ys))
+    let of_x : number_of 8 (x ++ drop 8 (drop p xs)) ≡ number_of 8 x = number_of-append 8 x (drop 8 (drop p xs)) (omega (arith, length-take 8 (drop p xs), length-drop p xs)) in
+    let of_y : number_of 8 (y ++ drop 8 (drop q ys)) ≡ number_of 8 y = number_of-append 8 y (drop 8 (drop q ys)) (omega (arith, length-take 8 (drop q ys), length-drop q ys)) in
+    ap (number_of 8) (sym (take-append-drop 8 (drop p xs))) ∙ of_x ∙ ap (number_of 8) same ∙ sym of_y ∙ ap (number_of 8) (take-append-drop 8 (drop q ys))
 
 -- the number that is written at a place
 pub number_written : (front rest : List ℕ) (place x : ℕ) → length front ≡ place → x < 256 ^ 8 → number_at (front ++ (number_bytes 8 x ++ rest)) place ≡ x
-unfolding number_of number_bytes
-number_written front rest place x at small = ap (little_number 8) (drop_at front (little_bytes 8 x ++ rest) place at) ∙ little_number-reads_back 8 x rest small
-
-pub length-number_bytes : (x : ℕ) → length (number_bytes 8 x) ≡ 8
-unfolding number_bytes
-length-number_bytes x = length-bytes_low_first 0 8 x
+number_written front rest place x at small = ap (number_of 8) (drop_at front (number_bytes 8 x ++ rest) place at) ∙ number_of-number_bytes 8 x rest small

@@ -2,9 +2,8 @@
 use Rattle.std.specs.Prelude.{◌≡◌, ◌⊎◌, ℕ, ◌+◌, ◌*◌, ◌≤◌, false, IsTrue, IfSome, Some, List, [], length}
 use Rattle.std.specs.List.{list_all}
 use Rattle.disk_model.specs.Disk.{Only}
-use Rattle.disk_model.specs.Gated.{AllShut}
 use Rattle.file_format.specs.Gate.{HasShutGate, HasNoShutGate, HasOpenGate}
-use Rattle.image_files.specs.declared.format.TheConstants.{HEADER_LENGTH, WORD_LENGTH, CELLS_PLACE, TICK_PLACE}
+use Rattle.image_files.specs.declared.format.TheConstants.{HEADER_BYTES, WORD_BYTES, CELLS_PLACE, TICK_PLACE}
 use Rattle.image_files.specs.declared.phase.Phase.{Phase}
 use Rattle.image_files.specs.declared.phase.Phase.TheVariants.{Idle, Closing, ClosingSync, Header, Opening, OpeningSync, Down}
 use Rattle.image_files.specs.Image.{Image, image_of, number_at, words_from, is_word}
@@ -16,10 +15,10 @@ use Rattle.image_files.specs.Progress.{Progress, IsInOrder, done, round_so_far}
 
 -- the header, and the words written so far
 pub record HasBody (keeper : Progress) (file : List ℕ) : Type 0 where
-  pub room : HEADER_LENGTH + WORD_LENGTH * keeper.written ≤ length file
+  pub room : HEADER_BYTES + WORD_BYTES * keeper.written ≤ length file
   pub cells : number_at file CELLS_PLACE ≡ keeper.cells
   pub tick : number_at file TICK_PLACE ≡ keeper.tick
-  pub words : IsTrue (list_all is_word (words_from file HEADER_LENGTH keeper.written))
+  pub words : IsTrue (list_all is_word (words_from file HEADER_BYTES keeper.written))
 
 -- what the target holds, by phase
 abbrev pub TargetFits : Phase → Progress → List ℕ → Type 0
@@ -34,12 +33,16 @@ TargetFits phase keeper file = HasShutGate file × HasBody keeper file
 -- The two files hold what the keeper takes them to hold.
 pub record Fits (keeper : Progress) (target newest : List ℕ) : Type 0 where
   pub in_order : IsInOrder keeper
-  pub image : IfSome keeper.newest (λ image. image_of newest ≡ Image.Open image.1 (words_from newest HEADER_LENGTH keeper.cells))
+  pub image : IfSome keeper.newest (λ image. image_of newest ≡ Image.Open image.1 (words_from newest HEADER_BYTES keeper.cells))
   pub newest_shut : IsTrue keeper.newest_shut → HasShutGate newest
   pub of_target : TargetFits keeper.phase keeper target
   pub chunk : IsTrue (list_all is_word (filled_words keeper.chunk []))
 
 -- ---- what a crash may leave of them
+
+-- a gate that is there and isn't open, whichever it leaves
+abbrev pub AllShut : (List ℕ → Type 0) → Type 0
+AllShut outcomes = (left : List ℕ) → outcomes left → HasShutGate left
 
 -- of the target, by phase, where it read so before the round
 abbrev pub TargetEndures : Phase → Progress → (before : Image) → (target newest : List ℕ) → (List ℕ → Type 0) → Type 0

@@ -1,13 +1,12 @@
 -- What contracts see of a keeper.
 use Rattle.std.specs.Prelude.{◌≡◌, ℕ, ◌+◌, ◌-◌, ◌*◌, ◌/◌, ◌<◌, ◌≤◌, min, Bool, true, false, Option, Some, None, is_some, List, [], ◌∷◌, ◌++◌, length, drop, map, nat_lt, if◌then◌else◌, ◌==◌, ◌&&◌}
-use Rattle.world_actions.specs.declared.world.TheConstants.{CELLS}
 use Rattle.world_ticks.specs.declared.tick.TheConstants.{TICK_MAX}
 use Rattle.file_format.specs.declared.slot.Slot.{Slot}
 use Rattle.file_format.specs.declared.slot.Slot.TheVariants.{A}
 use Rattle.file_format.specs.Slot.{other_slot, of_slot}
 use Rattle.capture_core.specs.declared.taker.Taken.{Taken}
 use Rattle.capture_core.specs.declared.taker.Taken.TheVariants.{Word}
-use Rattle.image_files.specs.declared.format.TheConstants.{HEADER_LENGTH, WORD_LENGTH}
+use Rattle.image_files.specs.declared.format.TheConstants.{CELLS_MAX, HEADER_BYTES, WORD_BYTES}
 use Rattle.image_files.specs.declared.phase.TheConstants.{CHUNK_CELLS}
 use Rattle.image_files.specs.declared.phase.Phase.{Phase}
 use Rattle.image_files.specs.declared.phase.Phase.TheVariants.{Idle, Closing, ClosingSync, Header, Taking, Reading, Writing, BodySync, Opening, OpeningSync, Down}
@@ -41,11 +40,11 @@ target_of (Some (slot, tick)) = other_slot slot
 
 -- the words of the newest image, in its file
 abbrev pub newest_words : Progress → (newest : List ℕ) → List ℕ
-newest_words keeper newest = if is_some keeper.newest then words_from newest HEADER_LENGTH keeper.cells else []
+newest_words keeper newest = if is_some keeper.newest then words_from newest HEADER_BYTES keeper.cells else []
 
 -- the words taken so far: those that stand in the target, and those of the cells after them
 abbrev pub done : Progress → (target newest : List ℕ) → List ℕ
-done keeper target newest = words_from target HEADER_LENGTH keeper.written ++ filled_words keeper.chunk (drop keeper.written (newest_words keeper newest))
+done keeper target newest = words_from target HEADER_BYTES keeper.written ++ filled_words keeper.chunk (drop keeper.written (newest_words keeper newest))
 
 -- the tick of the round in work, and the words taken so far
 abbrev pub round_so_far : Progress → (target newest : List ℕ) → Round
@@ -85,7 +84,7 @@ PhaseFits phase keeper = (keeper.written ≡ keeper.cells) × (keeper.chunk ≡ 
 -- a world's cells, a tick, and no more cells taken than there are
 pub record IsInOrder (keeper : Progress) : Type 0 where
   pub some : 1 ≤ keeper.cells
-  pub most : keeper.cells ≤ CELLS
+  pub most : keeper.cells ≤ CELLS_MAX
   pub ticks : keeper.tick ≤ TICK_MAX
   pub within : keeper.written + length keeper.chunk ≤ keeper.cells
   pub by_phase : PhaseFits keeper.phase keeper
@@ -145,7 +144,7 @@ with_taken_cell cell keeper = record keeper { chunk = keeper.chunk ++ cell ∷ [
 -- the cells of the chunk in work, each with its word, where the newest image has these
 abbrev pub read_cells : Progress → (newest : List ℕ) → List Taken
 read_cells keeper newest =
-    map (λ word. Word word) (filled_words keeper.chunk (words_from newest (HEADER_LENGTH + WORD_LENGTH * keeper.written) (length keeper.chunk)))
+    map (λ word. Word word) (filled_words keeper.chunk (words_from newest (HEADER_BYTES + WORD_BYTES * keeper.written) (length keeper.chunk)))
 
 -- what follows the write of a chunk
 abbrev pub after_chunk : Progress → Phase

@@ -1,7 +1,7 @@
 -- What a step does to its keeper, its taker and its two disks.
-use Rattle.std.specs.Prelude.{◌≡◌, ◌⊎◌, ℕ, Option, Some, None, List, [], ◌∷◌, ◌++◌, length, get_or, ⊤}
+use Rattle.std.specs.Prelude.{◌≡◌, ◌⊎◌, ℕ, Option, Some, None, List, [], ◌∷◌, ◌++◌, length, get_or, true, false, ⊤}
 use Rattle.file_format.specs.declared.gate.TheConstants.{CLOSED_GATE}
-use Rattle.disk_model.specs.Disk.{overwritten, Only, Grew}
+use Rattle.disk_model.specs.Disk.{overwritten, Only, FaultsBy}
 use Rattle.capture_core.specs.declared.taker.Taken.{Taken}
 use Rattle.capture_core.specs.Taken.{IsTakenWord}
 use Rattle.image_files.specs.declared.phase.Phase.{Phase}
@@ -53,18 +53,11 @@ CallsIn Down called target_before target_after newest_before newest_after = (tar
 CallsIn Reading called target_before target_after newest_before newest_after = (target_after ≡ target_before) × called newest_before newest_after
 CallsIn phase called target_before target_after newest_before newest_after = called target_before target_after × (newest_after ≡ newest_before)
 
--- of two disks none is called, or one, once
-abbrev pub CallsOnce : {D : Type 0} → (called : D → D → Type 0) → (one_before one_after other_before other_after : D) → Type 0
-CallsOnce called one_before one_after other_before other_after =
-    ((one_after ≡ one_before) × (other_after ≡ other_before))
-    ⊎ ((called one_before one_after × (other_after ≡ other_before))
-    ⊎ ((one_after ≡ one_before) × called other_before other_after))
-
 -- what the answer says of the counts of faults: Down is answered where a call failed now, or one had failed before
 abbrev pub HasCause : ImageAnswer → (was : Phase) → (target_before target_after newest_before newest_after : ℕ) → Type 0
 HasCause answer.Down was target_before target_after newest_before newest_after =
-    (was ≡ Down) ⊎ (Grew target_before target_after ⊎ Grew newest_before newest_after)
-HasCause other was target_before target_after newest_before newest_after = (target_after ≡ target_before) × (newest_after ≡ newest_before)
+    (was ≡ Down) ⊎ FaultsBy true target_before target_after newest_before newest_after
+HasCause other was target_before target_after newest_before newest_after = FaultsBy false target_before target_after newest_before newest_after
 
 -- a file with the closed gate written over its first byte
 abbrev pub closed : List ℕ → List ℕ

@@ -1,6 +1,6 @@
 -- A keeper's fields, as contracts see them.
 use Rattle.std.specs.Prelude.{◌≡◌, ◌*◌, ◌≤◌, length, vec_capacity}
-use Rattle.image_files.specs.declared.format.TheConstants.{WORD_LENGTH}
+use Rattle.image_files.specs.declared.format.TheConstants.{WORD_BYTES}
 use Rattle.image_files.specs.declared.phase.TheConstants.{CHUNK_CELLS}
 use Rattle.image_files.specs.Progress.{Progress, IsInOrder}
 use Rattle.image_files.specs.declared.keeper.ImageKeeper.TheInside.{Inside}
@@ -22,4 +22,4 @@ pub record IsReady (keeper : Inside) : Type 0 where
   pub in_order : IsInOrder (progress_of keeper)
   pub room : CHUNK_CELLS ≤ vec_capacity keeper.chunk
   pub most : length keeper.chunk.items ≤ CHUNK_CELLS
-  pub bytes : length keeper.buffer.items ≡ CHUNK_CELLS * WORD_LENGTH
+  pub bytes : length keeper.buffer.items ≡ CHUNK_CELLS * WORD_BYTES

@@ -1,14 +1,12 @@
 ghost use Rattle.std.specs.Prelude.{◌≡◌, ◌+◌, ◌*◌, ◌≤◌, [], length, take, map};
 ghost use Rattle.std.specs.List.{flat_map};
 ghost use Rattle.file_format.specs.Number.{number_bytes};
-ghost use Rattle.disk_model.specs.Disk.{overwritten};
 ghost use Rattle.image_files.specs.Image.{number_at, words_from};
 ghost use Rattle.image_files.specs.Taken.{word_of, filled_words, has_same};
 
-use crate::format::WORD_LENGTH;
-use byteorder::{ByteOrder, LittleEndian};
+use crate::format::WORD_BYTES;
 use capture_core::Taken;
-use file_format::u64_at;
+use file_format::{u64_at, write_u64_at};
 
 /// Whether the word of some cell is the newest image's.
 pub fn any_same(cells: &[Taken]) -> bool
@@ -24,17 +22,17 @@ pub fn any_same(cells: &[Taken]) -> bool
 
 /// Puts the words in these bytes in the place of the cells whose words are the newest image's.
 pub fn fill(cells: &mut [Taken], bytes: &[u8])
-    requires { WORD_LENGTH * length cells.old ≤ length bytes.now }
+    requires { WORD_BYTES * length cells.old ≤ length bytes.now }
     ensures { cells.new ≡ map (λ word. Taken.Word word)
         (filled_words cells.old (words_from bytes.now 0 (length cells.old))) }
 {
     for i in 0..cells.len() {
-        cells[i] = filled_cell(cells[i], bytes, WORD_LENGTH * i);
+        cells[i] = filled_cell(cells[i], bytes, WORD_BYTES * i);
     }
 }
 
 fn filled_cell(cell: Taken, bytes: &[u8], place: usize) -> Taken
-    requires { place + WORD_LENGTH ≤ length bytes.now }
+    requires { place + WORD_BYTES ≤ length bytes.now }
     ensures { result ≡ Taken.Word (word_of cell (number_at bytes.now place)) }
 {
     match cell {
@@ -45,12 +43,12 @@ fn filled_cell(cell: Taken, bytes: &[u8], place: usize) -> Taken
 
 /// Writes the words of cells, 0 for one whose word is the newest image's.
 pub fn encode(buffer: &mut [u8], cells: &[Taken])
-    requires { WORD_LENGTH * length cells.now ≤ length buffer.old }
-    ensures { take (WORD_LENGTH * length cells.now) buffer.new
-        ≡ flat_map (number_bytes WORD_LENGTH) (filled_words cells.now []) }
+    requires { WORD_BYTES * length cells.now ≤ length buffer.old }
+    ensures { take (WORD_BYTES * length cells.now) buffer.new
+        ≡ flat_map (number_bytes WORD_BYTES) (filled_words cells.now []) }
 {
     for i in 0..cells.len() {
-        put_number(buffer, WORD_LENGTH * i, own_word(cells[i]));
+        write_u64_at(buffer, WORD_BYTES * i, own_word(cells[i]));
     }
 }
 
@@ -61,21 +59,4 @@ fn own_word(cell: Taken) -> u64
         Taken::Word(word) => word,
         Taken::Same => 0,
     }
-}
-
-fn put_number(buffer: &mut [u8], place: usize, number: u64)
-    requires { place + WORD_LENGTH ≤ length buffer.old }
-    ensures { buffer.new ≡ overwritten buffer.old place (number_bytes WORD_LENGTH number) }
-{
-    let mut bytes = [0; WORD_LENGTH];
-    encode_number(&mut bytes, number);
-    buffer[place..place + WORD_LENGTH].copy_from_slice(&bytes);
-}
-
-#[tactic(auto, unfolding(file_format::specs::Number::number_bytes))]
-fn encode_number(bytes: &mut [u8], number: u64)
-    requires { length bytes.old ≡ WORD_LENGTH }
-    ensures { bytes.new ≡ number_bytes WORD_LENGTH number }
-{
-    LittleEndian::write_u64(bytes, number);
 }

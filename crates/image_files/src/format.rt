@@ -5,8 +5,10 @@ ghost use Rattle.file_format.specs.Gate.{HasOpenGate};
 ghost use Rattle.file_format.specs.Number.{IsBytes, number_bytes};
 ghost use Rattle.image_files.specs.Image.{Image, image_of, image_bytes};
 
-use byteorder::{ByteOrder, LittleEndian};
-use file_format::numbers_read_back;
+use file_format::{numbers_read_back, write_u64_at};
+
+/// The greatest number of cells in an image; the least is 1.
+pub const CELLS_MAX: u64 = 65_536;
 
 /// Where the number of cells stands, behind the gate.
 pub const CELLS_PLACE: usize = 1;
@@ -14,11 +16,11 @@ pub const CELLS_PLACE: usize = 1;
 /// Where the tick stands.
 pub const TICK_PLACE: usize = 9;
 
-/// The length of gate, number of cells and tick. The words follow.
-pub const HEADER_LENGTH: usize = 17;
-
 /// The bytes of a word, and of each other number of an image.
-pub const WORD_LENGTH: usize = 8;
+pub const WORD_BYTES: usize = 8;
+
+/// The bytes of gate, number of cells and tick. The words follow.
+pub const HEADER_BYTES: usize = 17;
 
 /// Laws: the bytes of an image are read back, whatever follows; an open file begins with the bytes of
 /// its image, which is of a world; and a file is closed where no whole header follows an open gate.
@@ -32,7 +34,7 @@ pub fn images_read_back()
     ensures bounds { (bytes : List ℕ) (tick : ℕ) (words : List ℕ)
         → image_of bytes ≡ Image.Open tick words → (tick ≤ TICK_MAX) × IsWorld words }
     ensures closed { (bytes : List ℕ) → (image_of bytes ≡ Image.Closed)
-        ↔ ((length bytes < HEADER_LENGTH) ⊎ ¬ HasOpenGate bytes) }
+        ↔ ((length bytes < HEADER_BYTES) ⊎ ¬ HasOpenGate bytes) }
 {
     numbers_read_back();
 }
@@ -40,10 +42,10 @@ pub fn images_read_back()
 /// Writes the number of cells and the tick to the front of a buffer.
 #[tactic(auto, unfolding(file_format::specs::Number::number_bytes))]
 pub fn encode_header(buffer: &mut [u8], cells: u64, tick: u64)
-    requires { 2 * WORD_LENGTH ≤ length buffer.old }
-    ensures { take (2 * WORD_LENGTH) buffer.new
-        ≡ number_bytes WORD_LENGTH cells ++ number_bytes WORD_LENGTH tick }
+    requires { 2 * WORD_BYTES ≤ length buffer.old }
+    ensures { take (2 * WORD_BYTES) buffer.new
+        ≡ number_bytes WORD_BYTES cells ++ number_bytes WORD_BYTES tick }
 {
-    LittleEndian::write_u64(buffer, cells);
-    LittleEndian::write_u64(&mut buffer[WORD_LENGTH..], tick);
+    write_u64_at(buffer, 0, cells);
+    write_u64_at(buffer, WORD_BYTES, tick);
 }

@@ -1,18 +1,18 @@
 ghost use Rattle.std.specs.Prelude.{◌≡◌, ◌+◌, ◌≤◌, ◌<◌, ◌⊎◌, ◌↔◌, ℕ, List, [], false, get_or, IsTrue, OnOk, OnErr, IfOk, IfErr, IfNone, Option, Some, None, ⊤};
-ghost use Rattle.world_actions.specs.declared.world.TheConstants.{CELLS};
 ghost use Rattle.world_ticks.specs.declared.tick.TheConstants.{TICK_MAX};
 ghost use Rattle.file_format.specs.Slot.{of_slot};
-ghost use Rattle.disk_model.specs.Disk.{Within};
+ghost use Rattle.disk_model.specs.Disk.{Within, OneCalledAtMostOnce};
 ghost use Rattle.capture_core.specs.declared.taker.Taken.{Taken};
+ghost use Rattle.image_files.specs.declared.format.TheConstants.{CELLS_MAX};
 ghost use Rattle.image_files.specs.declared.phase.Phase.TheVariants.{Idle, Taking, Down};
 ghost use Rattle.image_files.specs.Image.{Image, image_of};
 ghost use Rattle.image_files.specs.Images.{ImageFiles, StepsImages};
 ghost use Rattle.image_files.specs.Progress.{target_of, done, cells_taken, left_of, made_keeper, begun_keeper, opened_keeper};
 ghost use Rattle.image_files.specs.Keeper.{Fits, Endures};
 ghost use Rattle.image_files.specs.Files.{FitsFiles, Stands};
-ghost use Rattle.image_files.specs.Steps.{IfOpened, OnOpened, OnWorking, Closes, TookCell, TookWord, CallsIn, CallsOnce, HasCause, IsOpenedImage};
+ghost use Rattle.image_files.specs.Steps.{IfOpened, OnOpened, OnWorking, Closes, TookCell, TookWord, CallsIn, HasCause, IsOpenedImage};
 
-use crate::format::WORD_LENGTH;
+use crate::format::WORD_BYTES;
 use crate::phase::{CHUNK_CELLS, ImageAnswer, Phase};
 use capture_core::{Taken, Taker};
 use disk_model::Disk;
@@ -61,13 +61,13 @@ impl ImageKeeper {
         shut: [bool; 2],
     ) -> Result<Self, Refusal>
         requires some_cells { 1 ≤ cells }
-        requires most_cells { cells ≤ CELLS }
+        requires most_cells { cells ≤ CELLS_MAX }
         ensures made { IfOk result (λ keeper.
             keeper ≡ made_keeper cells newest (get_or shut 0 false) (get_or shut 1 false)) }
         ensures memory { IfErr result (λ refusal. refusal ≡ Refusal.NoMemory) }
     {
         let chunk = Vec::with_capacity(alloc, CHUNK_CELLS)?;
-        let buffer = vec![in alloc; 0; CHUNK_CELLS * WORD_LENGTH]?;
+        let buffer = vec![in alloc; 0; CHUNK_CELLS * WORD_BYTES]?;
         let [shut_a, shut_b] = shut;
         let (target_shut, newest_shut) = match target_beside(newest) {
             Slot::A => (shut_a, shut_b),
@@ -292,7 +292,7 @@ impl ImageKeeper {
         ensures rests { (self.old.phase ≡ Idle) ⊎ (self.old.phase ≡ Down)
             → (self.new ≡ self.old) × (image_a.new ≡ image_a.old) × (image_b.new ≡ image_b.old) }
 
-        ensures calls { CallsOnce D.called image_a.old image_a.new image_b.old image_b.new }
+        ensures calls { OneCalledAtMostOnce D.called image_a.old image_a.new image_b.old image_b.new }
         ensures cause { HasCause result self.old.phase (D.faults image_a.old) (D.faults image_a.new)
             (D.faults image_b.old) (D.faults image_b.new) }
     {

@@ -1,10 +1,9 @@
 ghost use Rattle.std.specs.Prelude.{◌≡◌, ◌≤◌, ℕ, Bool, true, List, Option, Some, None, IfSome, length};
-ghost use Rattle.world_actions.specs.declared.world.TheConstants.{CELLS};
 ghost use Rattle.world_ticks.specs.declared.tick.TheConstants.{TICK_MAX};
 ghost use Rattle.disk_model.specs.Disk.{Only};
 ghost use Rattle.file_format.specs.Gate.{HasShutGate};
 ghost use Rattle.file_format.specs.declared.slot.Slot.{Slot};
-ghost use Rattle.image_files.specs.declared.format.TheConstants.{HEADER_LENGTH};
+ghost use Rattle.image_files.specs.declared.format.TheConstants.{CELLS_MAX, HEADER_BYTES};
 ghost use Rattle.image_files.specs.declared.phase.Phase.TheVariants.{Idle};
 ghost use Rattle.image_files.specs.Image.{Image, image_of, words_from};
 ghost use Rattle.image_files.specs.Images.{Round, ImageFiles, ImageFilesAre, IsTarget, newest_in, round_in, with_round};
@@ -35,7 +34,7 @@ pub fn keepers_endure<D: Disk>()
         → Endures keeper before (D.content target) (D.content newest)
         (D.may_leave target) (D.may_leave newest)
         → D.may_leave newest left → IfSome keeper.newest (λ image. image_of left
-        ≡ Image.Open image.1 (words_from (D.content newest) HEADER_LENGTH keeper.cells)) }
+        ≡ Image.Open image.1 (words_from (D.content newest) HEADER_BYTES keeper.cells)) }
 {}
 
 /// Laws of a keeper and its files by their names: a keeper just made may step, and stands for the
@@ -43,12 +42,12 @@ pub fn keepers_endure<D: Disk>()
 /// in them; its newest image and its round are theirs; and they are what a crash may leave.
 pub fn images_stay<D: Disk>()
     ensures fits { (cells : ℕ) (newest : Option (Slot × ℕ)) (shut_a shut_b : Bool)
-        (image_a image_b : List ℕ) → 1 ≤ cells → cells ≤ CELLS
+        (image_a image_b : List ℕ) → 1 ≤ cells → cells ≤ CELLS_MAX
         → HoldsNewest cells newest image_a image_b
         → (shut_a ≡ true → HasShutGate image_a) → (shut_b ≡ true → HasShutGate image_b)
         → FitsFiles (made_keeper cells newest shut_a shut_b) image_a image_b }
     ensures made { (cells : ℕ) (newest : Option (Slot × ℕ)) (shut_a shut_b : Bool)
-        (images : ImageFiles) (image_a image_b : D) → 1 ≤ cells → cells ≤ CELLS
+        (images : ImageFiles) (image_a image_b : D) → 1 ≤ cells → cells ≤ CELLS_MAX
         → Only (D.content image_a) (D.may_leave image_a)
         → Only (D.content image_b) (D.may_leave image_b)
         → TellsShut shut_a (D.content image_a) → TellsShut shut_b (D.content image_b)

@@ -18,7 +18,7 @@ mod phase;
 mod reader;
 
 pub use file_format::{Slot, is_shut};
-pub use format::{CELLS_PLACE, HEADER_LENGTH, TICK_PLACE, WORD_LENGTH, images_read_back};
+pub use format::{CELLS_MAX, CELLS_PLACE, HEADER_BYTES, TICK_PLACE, WORD_BYTES, images_read_back};
 pub use keeper::ImageKeeper;
 pub use laws::{images_stay, keepers_endure};
 pub use phase::{CHUNK_CELLS, ImageAnswer, Phase};

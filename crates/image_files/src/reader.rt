@@ -2,10 +2,10 @@ ghost use Rattle.std.specs.Prelude.{◌≡◌, ◌+◌, ◌*◌, ◌≤◌, leng
 ghost use Rattle.std.specs.List.{list_all};
 ghost use Rattle.image_files.specs.Image.{image_of, is_whole, is_word, words_from};
 
-use crate::format::{CELLS_PLACE, HEADER_LENGTH, TICK_PLACE, WORD_LENGTH};
+use crate::format::{CELLS_MAX, CELLS_PLACE, HEADER_BYTES, TICK_PLACE, WORD_BYTES};
 use file_format::{OPEN_GATE, u64_at};
 use std::alloc::Global;
-use world_actions::{CELLS, LIMIT, Refusal};
+use world_actions::{LIMIT, Refusal};
 use world_ticks::TICK_MAX;
 
 /// What an image file holds.
@@ -25,7 +25,7 @@ ghost use Rattle.image_files.specs.Reading.{ReadsAs};
 pub fn read_image(alloc: Global, bytes: &[u8]) -> Result<ImageState, Refusal>
     ensures { ReadsAs result (image_of bytes.now) }
 {
-    if bytes.len() < HEADER_LENGTH || bytes[0] != OPEN_GATE {
+    if bytes.len() < HEADER_BYTES || bytes[0] != OPEN_GATE {
         return Ok(ImageState::Closed);
     }
     let cells = u64_at(bytes, CELLS_PLACE);
@@ -41,19 +41,19 @@ pub fn read_image(alloc: Global, bytes: &[u8]) -> Result<ImageState, Refusal>
 fn is_whole(bytes: &[u8], cells: u64, tick: u64) -> bool
     ensures { result ≡ is_whole bytes.now cells tick }
 {
-    if cells == 0 || cells > CELLS as u64 || tick > TICK_MAX {
+    if cells == 0 || cells > CELLS_MAX || tick > TICK_MAX {
         return false;
     }
     let cells = cells as usize;
-    bytes.len() >= HEADER_LENGTH + WORD_LENGTH * cells && are_words(bytes, cells)
+    bytes.len() >= HEADER_BYTES + WORD_BYTES * cells && are_words(bytes, cells)
 }
 
 fn are_words(bytes: &[u8], cells: usize) -> bool
-    requires { HEADER_LENGTH + WORD_LENGTH * cells ≤ length bytes.now }
-    ensures { result ≡ list_all is_word (words_from bytes.now HEADER_LENGTH cells) }
+    requires { HEADER_BYTES + WORD_BYTES * cells ≤ length bytes.now }
+    ensures { result ≡ list_all is_word (words_from bytes.now HEADER_BYTES cells) }
 {
     for i in 0..cells {
-        if !is_word(u64_at(bytes, HEADER_LENGTH + WORD_LENGTH * i)) {
+        if !is_word(u64_at(bytes, HEADER_BYTES + WORD_BYTES * i)) {
             return false;
         }
     }
@@ -67,13 +67,13 @@ fn is_word(word: u64) -> bool
 }
 
 fn words(alloc: Global, bytes: &[u8], cells: usize) -> Result<Vec<u64>, Refusal>
-    requires { HEADER_LENGTH + WORD_LENGTH * cells ≤ length bytes.now }
-    ensures ok { IfOk result (λ words. words.items ≡ words_from bytes.now HEADER_LENGTH cells) }
+    requires { HEADER_BYTES + WORD_BYTES * cells ≤ length bytes.now }
+    ensures ok { IfOk result (λ words. words.items ≡ words_from bytes.now HEADER_BYTES cells) }
     ensures err { IfErr result (λ refusal. refusal ≡ Refusal.NoMemory) }
 {
     let mut words = Vec::with_capacity(alloc, cells)?;
     for i in 0..cells {
-        words.push(u64_at(bytes, HEADER_LENGTH + WORD_LENGTH * i))?;
+        words.push(u64_at(bytes, HEADER_BYTES + WORD_BYTES * i))?;
     }
     Ok(words)
 }

@@ -5,18 +5,23 @@ use Rattle.std.proofs.lemmas.Bool.{cases_lt}
 use Rattle.world_actions.specs.declared.action.Action.{Action}
 use Rattle.world_ticks.specs.After.{after_ticks}
 use Rattle.action_log.specs.Segment.{Segment, ClosedSegment, MalformedSegment, OpenSegment}
+use Rattle.file_format.specs.Slot.{other_slot}
 use Rattle.image_files.specs.Image.{Image, Closed, Bad, Open}
 use Rattle.recovery.specs.Sound.{IsWorldAt, HoldsWorld}
 use Rattle.image_files.specs.Images.{Images, Round}
 use Rattle.action_log.specs.Logs.{Logs}
 use Rattle.recovery.specs.Follow.{FollowsFrom, IsRoundOf, ImagesFollow, Reaches, LeadsTo, IsSwitchOf, LogsFollow, round_tick, base_in, coming, RiseFrom, BeginFrom}
-use Rattle.recovery.specs.Events.{ticks_in, switches_in, with_work, AreNumbered, IsSwitchFirst, HasUpTo, with_round_opened}
+use Rattle.recovery.specs.Events.{ticks_in, switches_in, with_work, AreNumbered, IsSwitchFirst, HasUpTo}
 use Rattle.action_log.specs.declared.record.Record.{Record}
 use Rattle.action_log.specs.declared.record.Record.TheVariants as records
 use Rattle.world_ticks.specs.Tick.{Actions}
 use Rattle.action_log.specs.Queue.{StandBefore}
 use Rattle.recovery.proofs.Replay.{follows_on}
 use Rattle.recovery.proofs.Law.{Reached, reached_newer}
+
+-- the round in work is opened
+abbrev pub with_round_opened : Images → Round → Images
+with_round_opened images round = record { slot = other_slot images.slot; tick = round.tick; words = round.taken; before = Open images.tick images.words; round = None }
 
 -- a group is taken
 abbrev pub with_group : Logs → List (List Action) → Logs

@@ -12,19 +12,19 @@ use Rattle.action_log.specs.Logs.{Logs, LogsAre}
 use Rattle.recovery.specs.Recovery.{words_after}
 use Rattle.recovery.specs.Sound.{IsSound}
 use Rattle.recovery.specs.Follow.{IsRoundOf, round_tick, base_in, coming, RiseFrom, BeginFrom, FollowMarks}
-use Rattle.recovery.specs.Events.{ticks_in, switches_in, with_work, with_round_begun, with_round_opened, IsKept}
+use Rattle.recovery.specs.Events.{ticks_in, switches_in, with_work, with_round_begun, IsKept}
 use Rattle.action_log.specs.declared.record.Record.{Record}
 use Rattle.action_log.specs.declared.record.Record.TheVariants as records
 use Rattle.world_ticks.specs.Tick.{Actions}
 use Rattle.recovery.proofs.Replay.{words_after-append}
-use Rattle.recovery.proofs.Law.{SegmentsRead, LeavesBytes, files_are_sound}
-use Rattle.recovery.proofs.Events.{logs_later, has_later, coming_more, bases_more, rising_more, begin_more, mark_numbered, tick_numbered, has_more, end_images, end_logs, opened_follows}
+use Rattle.recovery.proofs.Law.{files_are_sound}
+use Rattle.recovery.proofs.Events.{with_round_opened, logs_later, has_later, coming_more, bases_more, rising_more, begin_more, mark_numbered, tick_numbered, has_more, end_images, end_logs, opened_follows}
 
-pub kept_is_sound : SegmentsRead → (image_a image_b log_a log_b : List ℕ → Type 0) → LeavesBytes log_a → LeavesBytes log_b
+pub kept_is_sound : (image_a image_b log_a log_b : List ℕ → Type 0)
     → (cells : ℕ) (ticks : List (List Action)) (acknowledged : ℕ) (images : Images) (logs : Logs) (queue : List Record)
     → IsKept cells ticks acknowledged images logs queue → ImagesAre cells images image_a image_b → LogsAre logs log_a log_b → IsSound image_a image_b log_a log_b cells ticks acknowledged
-kept_is_sound reads image_a image_b log_a log_b bytes_a bytes_b cells ticks acknowledged images logs queue k ai al =
-    files_are_sound reads image_a image_b log_a log_b bytes_a bytes_b cells ticks acknowledged k.last images logs (switches_in queue) k.accepted k.images_follow k.logs_follow k.follow_marks ai al
+kept_is_sound image_a image_b log_a log_b cells ticks acknowledged images logs queue k ai al =
+    files_are_sound image_a image_b log_a log_b cells ticks acknowledged k.last images logs (switches_in queue) k.accepted k.images_follow k.logs_follow k.follow_marks ai al
 
 -- ---- a tick ends
 

@@ -7,11 +7,9 @@ use Rattle.file_format.specs.declared.slot.Slot.{Slot}
 use Rattle.file_format.specs.declared.slot.Slot.TheVariants.{A, B}
 use Rattle.world_actions.specs.declared.action.Action.{Action}
 use Rattle.world_ticks.specs.After.{after_ticks}
-use Rattle.file_format.specs.Number.{IsBytes}
 use Rattle.action_log.specs.Segment.{IsSegment, Segment, ClosedSegment, MalformedSegment, OpenSegment}
 use Rattle.image_files.specs.Image.{Image, Closed, Bad, Open, image_of}
-use Rattle.action_log.specs.Reading.{segment_of}
-use Rattle.recovery.specs.Recovery.{Recovery, Newest, newest, has_base, recovery_from, recovery_with, replayed, is_bad_image, is_bad_segment}
+use Rattle.recovery.specs.Recovery.{Recovery, BothRead, Newest, newest, has_base, recovery_from, recovery_with, replayed, is_bad_image, is_bad_segment}
 use Rattle.recovery.specs.Sound.{IsWorldAt, HoldsWorld, IsSoundReading, IsSound}
 use Rattle.file_format.specs.Slot.{in_slot, beside_slot}
 use Rattle.image_files.specs.Images.{Round, Images, IsTarget, ImagesAre}
@@ -353,49 +351,31 @@ record ReadLogs (ticks : List (List Action)) (acknowledged t : ℕ) (log_a log_b
   b_formed : is_bad_segment log_b ≡ false
 
 read_logs : (ticks : List (List Action)) (acknowledged newest t : ℕ) (logs : Logs) (slot : Slot) (may_a may_b : List ℕ → Type 0) → LogsFollow ticks acknowledged newest logs → newest ≤ t → t ≤ length ticks → LeadsOn ticks logs t
-    → ((bytes : List ℕ) → in_slot slot may_a may_b bytes → IsCurrent logs (segment_of bytes))
-    → ((bytes : List ℕ) → beside_slot slot may_a may_b bytes → IsOther logs.before logs.switch (segment_of bytes))
-    → (a b : List ℕ) → may_a a → may_b b → ReadLogs ticks acknowledged t (segment_of a) (segment_of b)
+    → ((bytes : List ℕ) → in_slot slot may_a may_b bytes → (now : Segment) × IsSegment bytes now × IsCurrent logs now)
+    → ((bytes : List ℕ) → beside_slot slot may_a may_b bytes → (now : Segment) × IsSegment bytes now × IsOther logs.before logs.switch now)
+    → (a b : List ℕ) → may_a a → may_b b → BothRead a b (ReadLogs ticks acknowledged t)
 read_logs ticks acknowledged newest t logs A may_a may_b f from ended leads current_is other_is a b ha hb =
-    let pair = log_pair ticks acknowledged newest t logs (segment_of a) (segment_of b) f (current_is a ha) (other_is b hb) from ended leads in
-    record { tail_is = pair.first; a_formed = pair.current_formed; b_formed = pair.other_formed }
+    let current = current_is a ha in
+    let other = other_is b hb in
+    let pair = log_pair ticks acknowledged newest t logs current.0 other.0 f current.2 other.2 from ended leads in
+    record { a = current.0; b = other.0; reads_a = current.1; reads_b = other.1; holds = record { tail_is = pair.first; a_formed = pair.current_formed; b_formed = pair.other_formed } }
 read_logs ticks acknowledged newest t logs B may_a may_b f from ended leads current_is other_is a b ha hb =
-    let pair = log_pair ticks acknowledged newest t logs (segment_of b) (segment_of a) f (current_is b hb) (other_is a ha) from ended leads in
-    record { tail_is = pair.second; a_formed = pair.other_formed; b_formed = pair.current_formed }
-
--- ---- how what is left of a segment reads
-
--- bytes that are a segment read as it
-abbrev pub SegmentsRead : Type 0
-SegmentsRead = (bytes : List ℕ) → IsBytes bytes → (now : Segment) → IsSegment bytes now → segment_of bytes ≡ now
-
--- what may be left are bytes
-abbrev pub LeavesBytes : (List ℕ → Type 0) → Type 0
-LeavesBytes may = (bytes : List ℕ) → may bytes → IsBytes bytes
-
-in_slot_bytes : (slot : Slot) (may_a may_b : List ℕ → Type 0) → LeavesBytes may_a → LeavesBytes may_b → LeavesBytes (in_slot slot may_a may_b)
-in_slot_bytes A may_a may_b a b bytes h = a bytes h
-in_slot_bytes B may_a may_b a b bytes h = b bytes h
-
-beside_slot_bytes : (slot : Slot) (may_a may_b : List ℕ → Type 0) → LeavesBytes may_a → LeavesBytes may_b → LeavesBytes (beside_slot slot may_a may_b)
-beside_slot_bytes A may_a may_b a b bytes h = b bytes h
-beside_slot_bytes B may_a may_b a b bytes h = a bytes h
+    let current = current_is b hb in
+    let other = other_is a ha in
+    let pair = log_pair ticks acknowledged newest t logs current.0 other.0 f current.2 other.2 from ended leads in
+    record { a = other.0; b = current.0; reads_a = other.1; reads_b = current.1; holds = record { tail_is = pair.second; a_formed = pair.other_formed; b_formed = pair.current_formed } }
 
 -- ---- the law
 
-pub files_are_sound : SegmentsRead → (image_a image_b log_a log_b : List ℕ → Type 0) → LeavesBytes log_a → LeavesBytes log_b
+pub files_are_sound : (image_a image_b log_a log_b : List ℕ → Type 0)
     → (cells : ℕ) (ticks : List (List Action)) (acknowledged : ℕ) (last : List ℕ) (images : Images) (logs : Logs) (later : List ℕ)
     → after_ticks cells ticks ≡ Ok last → ImagesFollow cells ticks images → LogsFollow ticks acknowledged images.tick logs → FollowMarks later images logs
     → ImagesAre cells images image_a image_b → LogsAre logs log_a log_b
     → IsSound image_a image_b log_a log_b cells ticks acknowledged
-files_are_sound reads image_a image_b log_a log_b bytes_a bytes_b cells ticks acknowledged last images logs later all fi fl m ai al a b la lb ha hb hla hlb =
+files_are_sound image_a image_b log_a log_b cells ticks acknowledged last images logs later all fi fl m ai al a b la lb ha hb hla hlb =
     let i = read_images cells ticks images.slot images.tick images.words images.before images.round image_a image_b fi.newest fi.before fi.round ai.newest ai.target a b ha hb in
     let ended : i.t ≤ length ticks = subst (λ n. n ≤ length ticks) i.picked.tick_is i.picked.world.ended in
     let leads = image_leads ticks later images logs m images.round i.t refl i.which in
     let from = not_older cells ticks images.tick images.round i.t fi.round i.which in
-    let current : (bytes : List ℕ) → in_slot logs.slot log_a log_b bytes → IsCurrent logs (segment_of bytes) =
-    λ bytes h. (let r = al.current bytes h in subst (IsCurrent logs) (sym (reads bytes (in_slot_bytes logs.slot log_a log_b bytes_a bytes_b bytes h) r.0 r.1)) r.2) in
-    let other : (bytes : List ℕ) → beside_slot logs.slot log_a log_b bytes → IsOther logs.before logs.switch (segment_of bytes) =
-    λ bytes h. (let r = al.other bytes h in subst (IsOther logs.before logs.switch) (sym (reads bytes (beside_slot_bytes logs.slot log_a log_b bytes_a bytes_b bytes h) r.0 r.1)) r.2) in
-    let l = read_logs ticks acknowledged images.tick i.t logs logs.slot log_a log_b fl from ended leads current other la lb hla hlb in
-    sound_reading cells ticks acknowledged i.t last (image_of a) (image_of b) (segment_of la) (segment_of lb) all i.picked l.tail_is l.a_formed l.b_formed
+    let l = read_logs ticks acknowledged images.tick i.t logs logs.slot log_a log_b fl from ended leads al.current al.other la lb hla hlb in
+    record { a = l.a; b = l.b; reads_a = l.reads_a; reads_b = l.reads_b; holds = sound_reading cells ticks acknowledged i.t last (image_of a) (image_of b) l.a l.b all i.picked l.holds.tail_is l.holds.a_formed l.holds.b_formed }

@@ -17,17 +17,16 @@ use Rattle.recovery.specs.Recovery.{words_after, tail, is_bad_segment}
 use Rattle.recovery.specs.Sound.{IsWorldAt, IsSound}
 use Rattle.recovery.specs.Follow.{IsRoundOf, round_tick}
 use Rattle.recovery.specs.Start.{IsStartRound, IsStarting, IsFirstRound, FirstFollows}
-use Rattle.recovery.specs.Events.{with_round_begun, with_round_opened, IsKept}
-use Rattle.recovery.proofs.Law.{SegmentsRead, LeavesBytes}
+use Rattle.recovery.specs.Events.{with_round_begun, IsKept}
 use Rattle.recovery.proofs.Starting.{start_is_sound}
-use Rattle.recovery.proofs.Events.{opened_follows}
+use Rattle.recovery.proofs.Events.{with_round_opened, opened_follows}
 use Rattle.recovery.proofs.Restart.{zeros_at}
 
-pub starting_is_sound : SegmentsRead → (image_a image_b log_a log_b : List ℕ → Type 0) → LeavesBytes log_a → LeavesBytes log_b
+pub starting_is_sound : (image_a image_b log_a log_b : List ℕ → Type 0)
     → (cells : ℕ) (ticks : List (List Action)) (acknowledged : ℕ) (images : Images) (from : ℕ) (start : Start)
     → IsStarting cells ticks acknowledged images from start → ImagesAre cells images image_a image_b → StartLogsAre start log_a log_b → IsSound image_a image_b log_a log_b cells ticks acknowledged
-starting_is_sound reads image_a image_b log_a log_b bytes_a bytes_b cells ticks acknowledged images from start s ai al =
-    start_is_sound reads image_a image_b log_a log_b bytes_a bytes_b cells ticks acknowledged s.last images from start s.accepted s.images_follow s.start_follows ai al
+starting_is_sound image_a image_b log_a log_b cells ticks acknowledged images from start s ai al =
+    start_is_sound image_a image_b log_a log_b cells ticks acknowledged s.last images from start s.accepted s.images_follow s.start_follows ai al
 
 pub start_round_begins : (cells : ℕ) (ticks : List (List Action)) (acknowledged : ℕ) (images : Images) (from : ℕ) (start : Start)
     → 1 ≤ cells → IsStarting cells ticks acknowledged images from start → images.tick < start.tick → IsStarting cells ticks acknowledged (with_round_begun images start.tick) from start

@@ -8,14 +8,12 @@ use Rattle.action_log.specs.declared.record.LogAnswer.TheVariants as log_answer
 use Rattle.world_ticks.specs.Tick.{Actions}
 use Rattle.action_log.specs.Logs.{Logs, LogsAre, started, Start, StartLogsAre, InStart, Writing, LogPlace}
 use Rattle.action_log.specs.LogSteps.{LogsStep, StartStep}
-use Rattle.image_files.specs.Image.{Open}
 use Rattle.image_files.specs.declared.phase.ImageAnswer.{ImageAnswer}
-use Rattle.image_files.specs.Images.{Round, Images, ImagesAre, FirstImages, ImageFiles, NoneYet, Newest, round_in, StepsImages}
+use Rattle.image_files.specs.Images.{Images, ImagesAre, FirstImages, ImageFiles, NoneYet, Newest, round_in, StepsImages}
 use Rattle.capture_core.specs.declared.taker.Taken.{Taken}
 use Rattle.world_ticks.specs.After.{after_actions, after_ticks}
 use Rattle.recovery.specs.Sound.{IsSound}
 use Rattle.recovery.specs.Start.{IsStarting, IsFirstRound, FirstFollows}
-use Rattle.file_format.specs.Slot.{other_slot}
 use Rattle.recovery.specs.Follow.{IsRoundOf, ImagesFollow, LogsFollow, FollowMarks}
 
 -- the ticks that wait, in order
@@ -57,10 +55,6 @@ HasUpTo logs taken newest queue =
 -- a round begins
 abbrev pub with_round_begun : Images → ℕ → Images
 with_round_begun images tick = record images { round = Some (record { tick = tick; taken = [] }) }
-
--- the round in work is opened
-abbrev pub with_round_opened : Images → Round → Images
-with_round_opened images round = record { slot = other_slot images.slot; tick = round.tick; words = round.taken; before = Open images.tick images.words; round = None }
 
 -- What is kept between any two events after a start: all ended ticks were accepted, the data of both keepers follow
 -- them and one another, and the queue has what the log has still to take.

@@ -1,5 +1,6 @@
 -- What a start begins with.
 use Rattle.std.specs.Prelude.{◌≡◌, ℕ, List, [], length, get_or, Bool, true, false, not, nat_eq, nat_lt, ◌&&◌, Option, Some, None}
+use Rattle.file_format.specs.declared.gate.TheConstants.{OPEN_GATE}
 use Rattle.file_format.specs.declared.slot.Slot.{Slot}
 use Rattle.capture_core.specs.Content.{Content, all_touched, Marks}
 use Rattle.image_files.specs.Progress.{Progress, begun_keeper}
@@ -27,4 +28,4 @@ images_begun true tick images = with_round tick images
 
 -- a file's gate is there and isn't open
 abbrev pub is_shut : List ℕ → Bool
-is_shut bytes = nat_lt 0 (length bytes) && not (nat_eq (get_or bytes 0 0) 1)
+is_shut bytes = nat_lt 0 (length bytes) && not (nat_eq (get_or bytes 0 0) OPEN_GATE)

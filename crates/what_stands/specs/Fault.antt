@@ -1,10 +1,10 @@
 -- Why no world stands in four files.
-use Rattle.std.specs.Prelude.{◌≡◌, true, false, ◌||◌, Err}
+use Rattle.std.specs.Prelude.{◌≡◌, ◌↔◌, true, ◌||◌, IsTrue, Err}
 use Rattle.world_actions.specs.declared.refusal.Refusal.{Refusal}
 use Rattle.world_actions.specs.declared.refusal.Refusal.TheVariants as refusal
 use Rattle.image_files.specs.Image.{image_of}
-use Rattle.action_log.specs.Reading.{segment_of}
-use Rattle.recovery.specs.Recovery.{recovery_in, is_bad_image, is_bad_segment}
+use Rattle.action_log.specs.Segment.{MalformedSegment, IsSegment}
+use Rattle.recovery.specs.Recovery.{Recovers, is_bad_image}
 use Rattle.what_stands.specs.declared.files.Files.{Files}
 use Rattle.what_stands.specs.declared.fault.Fault.{Fault}
 use Rattle.what_stands.specs.declared.fault.Fault.TheVariants.{NoMemory, NoImage, Images, Segments, Replay}
@@ -19,7 +19,7 @@ refusal_of Replay = refusal.BadLog
 
 -- recovery refuses the four files with this
 abbrev pub IsRefused : Files → Refusal → Type 0
-IsRefused files refused = recovery_in files.image_a.items files.image_b.items files.log_a.items files.log_b.items ≡ Err refused
+IsRefused files refused = Recovers files.image_a.items files.image_b.items files.log_a.items files.log_b.items (Err refused)
 
 -- what a fault tells of the four files; of NoMemory nothing can be said
 abbrev pub Explains : Files → Fault → Type 0
@@ -31,10 +31,10 @@ Explains files (Images damaged) =
     × (damaged.b ≡ is_bad_image (image_of files.image_b.items))
 Explains files (Segments damaged) =
     IsRefused files refusal.BadLog
-    × (damaged.a ≡ is_bad_segment (segment_of files.log_a.items))
-    × (damaged.b ≡ is_bad_segment (segment_of files.log_b.items))
+    × (IsTrue damaged.a ↔ IsSegment files.log_a.items MalformedSegment)
+    × (IsTrue damaged.b ↔ IsSegment files.log_b.items MalformedSegment)
     × (damaged.a || damaged.b ≡ true)
 Explains files Replay =
     IsRefused files refusal.BadLog
-    × (is_bad_segment (segment_of files.log_a.items) ≡ false)
-    × (is_bad_segment (segment_of files.log_b.items) ≡ false)
+    × ¬ IsSegment files.log_a.items MalformedSegment
+    × ¬ IsSegment files.log_b.items MalformedSegment

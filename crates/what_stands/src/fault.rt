@@ -1,7 +1,7 @@
-ghost use Rattle.std.specs.Prelude.{◌≡◌, ◌⊎◌, Ok, Err, IfOk, IfErr};
+ghost use Rattle.std.specs.Prelude.{◌≡◌, ◌⊎◌, ◌↔◌, IsTrue, Ok, Err, IfOk, IfErr};
 ghost use Rattle.image_files.specs.Image.{image_of};
-ghost use Rattle.action_log.specs.Reading.{segment_of};
-ghost use Rattle.recovery.specs.Recovery.{recovery_in, is_bad_image, is_bad_segment};
+ghost use Rattle.action_log.specs.Segment.{MalformedSegment, IsSegment};
+ghost use Rattle.recovery.specs.Recovery.{Recovers, is_bad_image};
 ghost use Rattle.recovery.specs.Recovered.{recovery_of_answer};
 ghost use Rattle.what_stands.specs.Fault.{Explains};
 
@@ -85,8 +85,8 @@ fn names_of(
 
 /// What stands in four files, or why nothing does.
 pub fn stands_in(alloc: Global, files: &Files) -> Result<Recovered, Fault>
-    ensures recovered { IfOk result (λ found. recovery_in files.now.image_a.items files.now.image_b.items
-        files.now.log_a.items files.now.log_b.items ≡ Ok (recovery_of_answer found)) }
+    ensures recovered { IfOk result (λ found. Recovers files.now.image_a.items files.now.image_b.items
+        files.now.log_a.items files.now.log_b.items (Ok (recovery_of_answer found))) }
     ensures fault { IfErr result (Explains files.now) }
 {
     match recover(
@@ -103,8 +103,8 @@ pub fn stands_in(alloc: Global, files: &Files) -> Result<Recovered, Fault>
 
 // Which file a refusal is of.
 fn fault_of(alloc: Global, files: &Files, refusal: Refusal) -> Fault
-    requires { (refusal ≡ Refusal.NoMemory) ⊎ (recovery_in files.now.image_a.items files.now.image_b.items
-        files.now.log_a.items files.now.log_b.items ≡ Err refusal) }
+    requires { (refusal ≡ Refusal.NoMemory) ⊎ Recovers files.now.image_a.items files.now.image_b.items
+        files.now.log_a.items files.now.log_b.items (Err refusal) }
     ensures { Explains files.now result }
 {
     match refusal {
@@ -120,8 +120,8 @@ fn fault_of(alloc: Global, files: &Files, refusal: Refusal) -> Fault
 
 // Which segments are damaged, or that none is.
 fn fault_of_log(alloc: Global, files: &Files) -> Fault
-    requires { recovery_in files.now.image_a.items files.now.image_b.items
-        files.now.log_a.items files.now.log_b.items ≡ Err Refusal.BadLog }
+    requires { Recovers files.now.image_a.items files.now.image_b.items
+        files.now.log_a.items files.now.log_b.items (Err Refusal.BadLog) }
     ensures { Explains files.now result }
 {
     let (Ok(a), Ok(b)) = (
@@ -146,7 +146,7 @@ fn is_bad_image(alloc: Global, bytes: &[u8]) -> bool
 
 // Whether a segment is open and not of the format, as far as there is memory to tell.
 fn is_bad_segment(alloc: Global, bytes: &[u8]) -> Result<bool, Refusal>
-    ensures told { IfOk result (λ is_bad. is_bad ≡ is_bad_segment (segment_of bytes.now)) }
+    ensures told { IfOk result (λ is_bad. IsTrue is_bad ↔ IsSegment bytes.now MalformedSegment) }
     ensures memory { IfErr result (λ refusal. refusal ≡ Refusal.NoMemory) }
 {
     match read_log(alloc, bytes) {

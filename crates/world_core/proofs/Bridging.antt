@@ -3,7 +3,7 @@ use Rattle.std.proofs.Common.{◌≡◌, ◌↔◌, ◌<◌, ◌+◌, ◌++◌, 
 use Rattle.world_actions.specs.declared.action.Action.{Action}
 use Rattle.capture_core.specs.declared.taker.Taken.{Taken}
 use Rattle.capture_core.specs.Content.{Content, Takes}
-use Rattle.disk_model.specs.Disk.{last_count, Grew}
+use Rattle.disk_model.specs.Disk.{last_count, Grew, OneCalledAtMostOnce}
 use Rattle.disk_model.specs.FileState.{FileState, Calls}
 use Rattle.disk_model.specs.Fused.{CallsThrough}
 use Rattle.image_files.specs.declared.phase.ImageAnswer.{ImageAnswer}
@@ -12,15 +12,14 @@ use Rattle.image_files.specs.declared.phase.Phase.{Phase}
 use Rattle.image_files.specs.declared.phase.Phase.TheVariants.{Idle, Down}
 use Rattle.image_files.specs.Images.{ImageFiles, StepsImages}
 use Rattle.image_files.specs.Progress.{Progress as ImageProgress, left_of, cells_taken, opened_keeper}
-use Rattle.image_files.specs.Steps.{IfOpened, OnWorking, CallsOnce, HasCause}
-use Rattle.action_log.specs.declared.phase.Phase.TheVariants.{Ready}
+use Rattle.image_files.specs.Steps.{IfOpened, OnWorking, HasCause}
+use Rattle.action_log.specs.declared.phase.Phase.TheVariants.{Ready, GateSync}
 use Rattle.action_log.specs.declared.progress.Progress.{Progress as LogProgress}
 use Rattle.action_log.specs.declared.record.LogAnswer.{LogAnswer}
 use Rattle.action_log.specs.declared.record.LogAnswer.TheVariants as log_answer
-use Rattle.action_log.specs.Progress.{QueueFollows, end_of, work_of, answer_of, stepped, taken}
+use Rattle.action_log.specs.Progress.{QueueFollows, end_of, work_of, taken}
 use Rattle.action_log.specs.Logs.{LogPlace}
 use Rattle.action_log.specs.LogSteps.{JournalStep}
-use Rattle.action_log.specs.Steps.{OneCall}
 use Rattle.world_core.specs.declared.moves.Fate.{Fate}
 use Rattle.world_core.specs.declared.moves.Fate.TheVariants as fate_
 use Rattle.world_core.specs.State.{File, State, ImagesIn, LogIn, failures, HasFailed}
@@ -81,16 +80,18 @@ grows : (file armed stepped : File) → armed ≡ record file { left = Some 0 } 
 grows file armed stepped e c few same = (let g = c.due (due file armed e) in absurd (omega (arith, g, same, few)))
 
 pub fails_by : (fate : Fate) (is_down : Type 0) (a armed_a stepped_a new_a b armed_b stepped_b new_b : File) → IsMoved fate a armed_a stepped_a new_a → IsMoved fate b armed_b stepped_b new_b
-    → CallsOnce called armed_a stepped_a armed_b stepped_b → is_down ⊎ ((failures stepped_a ≡ failures armed_a) × (failures stepped_b ≡ failures armed_b)) → FailsBy fate is_down a b new_a new_b
-fails_by fate_.Done is_down a aa sa na b ab sb nb ma mb (inl none) counts = (same_faults fate_.Done a aa sa na ma none.0, same_faults fate_.Done b ab sb nb mb none.1)
-fails_by fate_.Done is_down a aa sa na b ab sb nb ma mb (inr (inl one)) counts = (own_faults fate_.Done a aa sa na ma (not_due a aa ma.armed_is) one.0, same_faults fate_.Done b ab sb nb mb one.1)
-fails_by fate_.Done is_down a aa sa na b ab sb nb ma mb (inr (inr one)) counts = (same_faults fate_.Done a aa sa na ma one.0, own_faults fate_.Done b ab sb nb mb (not_due b ab mb.armed_is) one.1)
+    → OneCalledAtMostOnce called armed_a stepped_a armed_b stepped_b → is_down ⊎ ((failures stepped_a ≡ failures armed_a) × (failures stepped_b ≡ failures armed_b)) → FailsBy fate is_down a b new_a new_b
+fails_by fate_.Done is_down a aa sa na b ab sb nb ma mb (inl (inl none, same)) counts = (same_faults fate_.Done a aa sa na ma none, same_faults fate_.Done b ab sb nb mb same)
+fails_by fate_.Done is_down a aa sa na b ab sb nb ma mb (inl (inr call, same)) counts = (own_faults fate_.Done a aa sa na ma (not_due a aa ma.armed_is) call, same_faults fate_.Done b ab sb nb mb same)
+fails_by fate_.Done is_down a aa sa na b ab sb nb ma mb (inr (same, inl none)) counts = (same_faults fate_.Done a aa sa na ma same, same_faults fate_.Done b ab sb nb mb none)
+fails_by fate_.Done is_down a aa sa na b ab sb nb ma mb (inr (same, inr call)) counts = (same_faults fate_.Done a aa sa na ma same, own_faults fate_.Done b ab sb nb mb (not_due b ab mb.armed_is) call)
 fails_by fate_.Failed is_down a aa sa na b ab sb nb ma mb calls (inl down) = λ few_a few_b. inl down
-fails_by fate_.Failed is_down a aa sa na b ab sb nb ma mb (inl none) (inr same) = λ few_a few_b. inr (rests fate_.Failed a aa sa na ma none.0, rests fate_.Failed b ab sb nb mb none.1)
-fails_by fate_.Failed is_down a aa sa na b ab sb nb ma mb (inr (inl one)) (inr same) = λ few_a few_b.
-    absurd (grows a aa sa ma.armed_is one.0 (let e = failures_before fate_.Failed a aa sa na ma in omega (arith, few_a, e)) same.0)
-fails_by fate_.Failed is_down a aa sa na b ab sb nb ma mb (inr (inr one)) (inr same) = λ few_a few_b.
-    absurd (grows b ab sb mb.armed_is one.1 (let e = failures_before fate_.Failed b ab sb nb mb in omega (arith, few_b, e)) same.1)
+fails_by fate_.Failed is_down a aa sa na b ab sb nb ma mb (inl (inl none, same)) (inr counts) = λ few_a few_b. inr (rests fate_.Failed a aa sa na ma none, rests fate_.Failed b ab sb nb mb same)
+fails_by fate_.Failed is_down a aa sa na b ab sb nb ma mb (inl (inr call, same)) (inr counts) = λ few_a few_b.
+    absurd (grows a aa sa ma.armed_is call (let e = failures_before fate_.Failed a aa sa na ma in omega (arith, few_a, e)) counts.0)
+fails_by fate_.Failed is_down a aa sa na b ab sb nb ma mb (inr (same, inl none)) (inr counts) = λ few_a few_b. inr (rests fate_.Failed a aa sa na ma same, rests fate_.Failed b ab sb nb mb none)
+fails_by fate_.Failed is_down a aa sa na b ab sb nb ma mb (inr (same, inr call)) (inr counts) = λ few_a few_b.
+    absurd (grows b ab sb mb.armed_is call (let e = failures_before fate_.Failed b ab sb nb mb in omega (arith, few_b, e)) counts.1)
 
 -- a failure between the armed file and the one after the step is one of the move
 pub has_failed : (fate : Fate) (a armed_a stepped_a new_a b armed_b stepped_b new_b : File) → IsMoved fate a armed_a stepped_a new_a → IsMoved fate b armed_b stepped_b new_b
@@ -142,7 +143,7 @@ pub record StepsArmedImages (was : State) (armed_a armed_b : File) (given : Imag
   pub down : (given ≡ image_answer.Down) ↔ (new.images.phase ≡ Down)
   pub rests_down : was.images.phase ≡ Down → new.images.phase ≡ Down
   pub cause : HasCause given was.images.phase (failures armed_a) (failures stepped_a) (failures armed_b) (failures stepped_b)
-  pub calls : CallsOnce called armed_a stepped_a armed_b stepped_b
+  pub calls : OneCalledAtMostOnce called armed_a stepped_a armed_b stepped_b
   pub working : OnWorking given ((left_of new.images < left_of was.images) ⊎ ((cells_taken was.images < was.images.cells) × Takes was.content None new.content))
   pub opened : IfOpened given (new.images ≡ opened_keeper was.images) (Unit {0})
 
@@ -171,12 +172,6 @@ image_step_at fate was old new given aa ab sa sb e ma mb s =
 
 -- ---- the log keeper
 
-one_call : (armed_a stepped_a armed_b stepped_b : File) → OneCall called armed_a stepped_a armed_b stepped_b → CallsOnce called armed_a stepped_a armed_b stepped_b
-one_call aa sa ab sb (inl (inl none, same)) = inl (none, same)
-one_call aa sa ab sb (inl (inr call, same)) = inr (inl (call, same))
-one_call aa sa ab sb (inr (same, inl none)) = inl (same, none)
-one_call aa sa ab sb (inr (same, inr call)) = inr (inr (same, call))
-
 log_counts : (given : LogAnswer) (down : Bool) (a new_a b new_b : ℕ) → (given ≡ log_answer.Down) ↔ (down ≡ true) → (down ≡ false → (new_a ≡ a) × (new_b ≡ b)) → (given ≡ log_answer.Down) ⊎ ((new_a ≡ a) × (new_b ≡ b))
 log_counts given true a na b nb is same = inl (is.1 refl)
 log_counts given false a na b nb is same = inr (same refl)
@@ -191,18 +186,17 @@ moved_log keeper place fate a aa sa na b ab sb nb ma mb has = subst (λ f. LogIn
 
 pub record StepsArmedLog (was : State) (armed_a armed_b : File) (given : LogAnswer) (stepped_a stepped_b : File) (new : State) : Type 0 where
   pub rest : new ≡ record was { queue = new.queue; log = new.log; log_a = new.log_a; log_b = new.log_b }
-  pub answer : given ≡ answer_of was.log was.queue new.log.down
-  pub keeper : new.log ≡ stepped was.log was.queue new.log.down
   pub front : was.queue ≡ taken was.log was.queue ++ new.queue
   pub stands : (place : LogPlace) → LogIn was.log place armed_a armed_b → (next : LogPlace) × LogIn new.log next stepped_a stepped_b × JournalStep place was.queue given next new.queue
   pub follows : QueueFollows new.log new.queue
   pub end : end_of new.log new.queue ≡ end_of was.log was.queue
   pub idle : (given ≡ log_answer.Idle) ↔ ((was.log.down ≡ false) × (was.log.phase ≡ Ready) × (was.queue ≡ []))
+  pub receipt : (number : ℕ) → (given ≡ log_answer.Acked number) ↔ ((was.log.phase ≡ GateSync) × (was.log.down ≡ false) × (new.log.down ≡ false) × (number ≡ new.log.base + new.log.count))
   pub down : (given ≡ log_answer.Down) ↔ (new.log.down ≡ true)
-  pub stays_down : was.log.down ≡ true → given ≡ log_answer.Down
+  pub rests : (given ≡ log_answer.Idle) ⊎ (was.log.down ≡ true) → (new.log ≡ was.log) × (new.queue ≡ was.queue)
   pub cause : given ≡ log_answer.Down → (was.log.down ≡ true) ⊎ (Grew (failures armed_a) (failures stepped_a) ⊎ Grew (failures armed_b) (failures stepped_b))
   pub faults : new.log.down ≡ false → (failures stepped_a ≡ failures armed_a) × (failures stepped_b ≡ failures armed_b)
-  pub calls : OneCall called armed_a stepped_a armed_b stepped_b
+  pub calls : OneCalledAtMostOnce called armed_a stepped_a armed_b stepped_b
   pub lowers : new.log.down ≡ false → 0 < work_of was.log was.queue → work_of new.log new.queue < work_of was.log was.queue
 
 pub log_step_at : (fate : Fate) (was old new : State) (given : LogAnswer) (armed_a armed_b stepped_a stepped_b : File) → was ≡ old
@@ -211,8 +205,6 @@ pub log_step_at : (fate : Fate) (was old new : State) (given : LogAnswer) (armed
 log_step_at fate was old new given aa ab sa sb e ma mb s =
     subst (λ o. StepsLogKeeper fate o given new) e (record {
       rest = s.rest;
-      answer = s.answer;
-      keeper = s.keeper;
       front = s.front;
       stands = λ place has.
           (let n = s.stands place (armed_log was.log place fate was.log_a aa sa new.log_a was.log_b ab sb new.log_b ma mb has) in
@@ -220,10 +212,11 @@ log_step_at fate was old new given aa ab sa sb e ma mb s =
       follows = s.follows;
       end = s.end;
       idle = s.idle;
+      receipt = s.receipt;
       down = s.down;
-      stays_down = s.stays_down;
+      rests = s.rests;
       cause = λ h. elim (s.cause h) [ inl d ↦ inl d | inr g ↦ inr (has_failed fate was.log_a aa sa new.log_a was.log_b ab sb new.log_b ma mb g) ];
-      fails = fails_by fate (given ≡ log_answer.Down) was.log_a aa sa new.log_a was.log_b ab sb new.log_b ma mb (one_call aa sa ab sb s.calls)
+      fails = fails_by fate (given ≡ log_answer.Down) was.log_a aa sa new.log_a was.log_b ab sb new.log_b ma mb s.calls
           (log_counts given new.log.down (failures aa) (failures sa) (failures ab) (failures sb) s.down s.faults);
       lowers = s.lowers;
     })

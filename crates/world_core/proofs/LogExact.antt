@@ -23,7 +23,7 @@ use Rattle.world_core.specs.Laws.{EventLaws}
 use Rattle.world_core.specs.Exact.{IsLogAnswer, Progresses}
 use Rattle.world_core.specs.Moving.{StepsLogKeeper}
 use Rattle.world_core.specs.Facts.{IsCoreAt, HasPhase}
-use Rattle.world_core.proofs.Logging.{up_of}
+use Rattle.world_core.proofs.Logging.{up_of, stays_down}
 
 -- ---- work
 
@@ -51,7 +51,7 @@ no_work keeper queue ready empty = λ i. rest_in (ready i) keeper.other_shut + q
 
 module _ (old new : State) (fate : Fate) (given : LogAnswer) (d : StepsLogKeeper fate old given new) (live : given ≡ given_.Down → ⊥) where
   was_up : old.log.down ≡ false
-  was_up = up_of old.log.down (λ e. live (d.stays_down e))
+  was_up = up_of old.log.down (λ e. live (stays_down old new fate given d e))
 
   is_up : new.log.down ≡ false
   is_up = up_of new.log.down (λ e. live (d.down.1 e))

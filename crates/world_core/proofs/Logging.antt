@@ -148,6 +148,10 @@ none_in : (state : State) (journal : Journal) (left : ℕ) → HasLog state (rec
 none_in state (InStart start) left stands logs e = absurd (let g = e in cc)
 none_in state (Writing current) left stands logs e = stands.1
 
+-- once it is down, it is only answered Down
+pub stays_down : (old new : State) (fate : Fate) (given : LogAnswer) → StepsLogKeeper fate old given new → old.log.down ≡ true → given ≡ given_.Down
+stays_down old new fate given d e = d.down.1 (ap (λ k. k.down) (d.rests (inr e)).0 ∙ e)
+
 pub log_keeps : EventLaws → (past : Past) (old new : State) (fate : Fate) (given : LogAnswer) → (c : IsCoreAt past old) → (old.log.starting ≡ true → round_in c.images ≡ None) → StepsLogKeeper fate old given new
     → IsCoreAt (past_after past (move.Log fate) (answer.Log given)) new
 log_keeps laws past old new fate given c waits d =
@@ -182,7 +186,7 @@ log_keeps laws past old new fate given c waits d =
       is_image_known = c.is_image_known;
       start_left = left_after past.standing past.history.running fate c.place.journal c.place.left old.queue given s.0 new.queue s.2 (none_in old c.place.journal c.place.left c.has_log) c.start_left;
       image_down = st.image_down ∙ c.image_down;
-      log_down = down_after past.standing past.history.running fate old.log.down new.log.down given d.down d.stays_down c.log_down;
+      log_down = down_after past.standing past.history.running fate old.log.down new.log.down given d.down (stays_down old new fate given d) c.log_down;
       round = st.round ∙ c.round;
       newest = st.newest ∙ c.newest;
     } in

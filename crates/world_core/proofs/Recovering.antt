@@ -14,11 +14,10 @@ use Rattle.file_format.specs.Slot.{of_slot, other_slot}
 use Rattle.disk_model.specs.CrashOutcome.{IsCrashOutcome}
 use Rattle.image_files.specs.Image.{Closed, image_of}
 use Rattle.image_files.specs.Images.{NoneYet, Newest}
-use Rattle.action_log.specs.Segment.{ClosedSegment, IsSegment}
-use Rattle.action_log.specs.Reading.{segment_of}
+use Rattle.action_log.specs.Segment.{Segment, ClosedSegment, IsSegment}
 use Rattle.action_log.specs.Logs.{InStart}
-use Rattle.recovery.specs.Recovery.{Recovery, recovery_in}
-use Rattle.recovery.specs.Sound.{IsWorldAt}
+use Rattle.recovery.specs.Recovery.{Recovery, recovery_of, BothRead, Recovers}
+use Rattle.recovery.specs.Sound.{IsWorldAt, IsSound, IsSoundReading, IsFresh, IsFreshReading}
 use Rattle.recovery.specs.Restart.{Restarts, recovered_images, recovered_start}
 use Rattle.world_core.specs.History.{no_history}
 use Rattle.restart.specs.Start.{images_begun, is_shut}
@@ -48,44 +47,54 @@ no_less from tick e = elim (cases_lt from tick) [ inl lt ↦ (let h : nat_lt fro
 
 -- ---- what stands
 
-module _ (safety : SafetyLaws) (cells : ℕ) (ticks : List (List Action)) (acknowledged : ℕ) (ia ib la lb : List ℕ) where
+module _ (safety : SafetyLaws) (cells : ℕ) (ticks : List (List Action)) (acknowledged : ℕ) (ia ib la lb : List ℕ) (a b : Segment) (reads_a : IsSegment la a) (reads_b : IsSegment lb b) where
+  -- what holds of how the segments read holds of these, since they read in one way
+  of_these : (Holds : Segment → Segment → Type 0) → BothRead la lb Holds → Holds a b
+  of_these Holds s = subst (λ x. Holds x b) (safety.once la s.a a s.reads_a reads_a) (subst (Holds s.a) (safety.once lb s.b b s.reads_b reads_b) s.holds)
+
+  is_sound : (image_a image_b log_a log_b : List ℕ → Type 0) → IsSound image_a image_b log_a log_b cells ticks acknowledged → image_a ia → image_b ib → log_a la → log_b lb → IsSoundReading (image_of ia) (image_of ib) a b cells ticks acknowledged
+  is_sound image_a image_b log_a log_b safe ha hb hla hlb = of_these (λ first second. IsSoundReading (image_of ia) (image_of ib) first second cells ticks acknowledged) (safe ia ib la lb ha hb hla hlb)
+
+  is_fresh : (image_a image_b log_a log_b : List ℕ → Type 0) → IsFresh image_a image_b log_a log_b cells → image_a ia → image_b ib → log_a la → log_b lb → IsFreshReading (image_of ia) (image_of ib) a b cells
+  is_fresh image_a image_b log_a log_b safe ha hb hla hlb = of_these (λ first second. IsFreshReading (image_of ia) (image_of ib) first second cells) (safe ia ib la lb ha hb hla hlb)
+
   -- the answer of recovery on files that are safe
   restarts : (image_a image_b log_a log_b : List ℕ → Type 0) (has_image : Bool) → AreSafeFor has_image image_a image_b log_a log_b cells ticks acknowledged → image_a ia → image_b ib → log_a la → log_b lb
-      → (r : Recovery) → recovery_in ia ib la lb ≡ Ok r → Restarts cells ticks acknowledged r (image_of ia) (image_of ib) (segment_of la) (segment_of lb)
-  restarts image_a image_b log_a log_b true safe ha hb hla hlb r e = safety.sound cells ticks acknowledged (image_of ia) (image_of ib) (segment_of la) (segment_of lb) r (safe ia ib la lb ha hb hla hlb) e
+      → (r : Recovery) → recovery_of (image_of ia) (image_of ib) a b ≡ Ok r → Restarts cells ticks acknowledged r (image_of ia) (image_of ib) a b
+  restarts image_a image_b log_a log_b true safe ha hb hla hlb r e = safety.sound cells ticks acknowledged (image_of ia) (image_of ib) a b r (is_sound image_a image_b log_a log_b safe ha hb hla hlb) e
   restarts image_a image_b log_a log_b false safe ha hb hla hlb r e =
-      elim (safety.fresh cells (image_of ia) (image_of ib) (segment_of la) (segment_of lb) (safe.0 ia ib la lb ha hb hla hlb)) [
+      elim (safety.fresh cells (image_of ia) (image_of ib) a b (is_fresh image_a image_b log_a log_b safe.0 ha hb hla hlb)) [
         | inl none ↦ absurd (ok_not_err r NoImage (sym e ∙ none.2))
-        | inr f ↦ subst (λ t. Restarts cells t acknowledged r (image_of ia) (image_of ib) (segment_of la) (segment_of lb)) (sym safe.1)
-            (subst (λ a. Restarts cells [] a r (image_of ia) (image_of ib) (segment_of la) (segment_of lb)) (sym safe.2)
-            (safety.sound cells [] 0 (image_of ia) (image_of ib) (segment_of la) (segment_of lb) r f.3 e))
+        | inr f ↦ subst (λ t. Restarts cells t acknowledged r (image_of ia) (image_of ib) a b) (sym safe.1)
+            (subst (λ n. Restarts cells [] n r (image_of ia) (image_of ib) a b) (sym safe.2)
+            (safety.sound cells [] 0 (image_of ia) (image_of ib) a b r f.3 e))
       ]
 
   -- with no image both are closed, and so are the segments
   record IsBlank (has_image : Bool) : Type 0 where
     image_a_closed : image_of ia ≡ Closed
     image_b_closed : image_of ib ≡ Closed
-    log_a_closed : segment_of la ≡ ClosedSegment
-    log_b_closed : segment_of lb ≡ ClosedSegment
+    log_a_closed : a ≡ ClosedSegment
+    log_b_closed : b ≡ ClosedSegment
     unknown : has_image ≡ false
     none_acknowledged : acknowledged ≡ 0
 
   blank : (image_a image_b log_a log_b : List ℕ → Type 0) (has_image : Bool) → AreSafeFor has_image image_a image_b log_a log_b cells ticks acknowledged → image_a ia → image_b ib → log_a la → log_b lb
-      → recovery_in ia ib la lb ≡ Err NoImage → IsBlank has_image
-  blank image_a image_b log_a log_b true safe ha hb hla hlb e = (let s = safe ia ib la lb ha hb hla hlb in absurd (ok_not_err s.recovery NoImage (sym s.stands ∙ e)))
+      → recovery_of (image_of ia) (image_of ib) a b ≡ Err NoImage → IsBlank has_image
+  blank image_a image_b log_a log_b true safe ha hb hla hlb e = (let s = is_sound image_a image_b log_a log_b safe ha hb hla hlb in absurd (ok_not_err s.recovery NoImage (sym s.stands ∙ e)))
   blank image_a image_b log_a log_b false safe ha hb hla hlb e =
-      let f = safe.0 ia ib la lb ha hb hla hlb in
-      elim (safety.fresh cells (image_of ia) (image_of ib) (segment_of la) (segment_of lb) f) [
+      let f = is_fresh image_a image_b log_a log_b safe.0 ha hb hla hlb in
+      elim (safety.fresh cells (image_of ia) (image_of ib) a b f) [
         | inl none ↦ record { image_a_closed = none.0; image_b_closed = none.1; log_a_closed = f.log_a_closed; log_b_closed = f.log_b_closed; unknown = refl; none_acknowledged = safe.2 }
         | inr s ↦ absurd (ok_not_err s.0 NoImage (sym s.1 ∙ e))
       ]
 
   -- recovery of safe files refuses nothing else
   only_none : (image_a image_b log_a log_b : List ℕ → Type 0) (has_image : Bool) → AreSafeFor has_image image_a image_b log_a log_b cells ticks acknowledged → image_a ia → image_b ib → log_a la → log_b lb
-      → (refusal : Refusal) → recovery_in ia ib la lb ≡ Err refusal → refusal ≡ NoImage
-  only_none image_a image_b log_a log_b true safe ha hb hla hlb refusal e = (let s = safe ia ib la lb ha hb hla hlb in absurd (ok_not_err s.recovery refusal (sym s.stands ∙ e)))
+      → (refusal : Refusal) → recovery_of (image_of ia) (image_of ib) a b ≡ Err refusal → refusal ≡ NoImage
+  only_none image_a image_b log_a log_b true safe ha hb hla hlb refusal e = (let s = is_sound image_a image_b log_a log_b safe ha hb hla hlb in absurd (ok_not_err s.recovery refusal (sym s.stands ∙ e)))
   only_none image_a image_b log_a log_b false safe ha hb hla hlb refusal e =
-      elim (safety.fresh cells (image_of ia) (image_of ib) (segment_of la) (segment_of lb) (safe.0 ia ib la lb ha hb hla hlb)) [
+      elim (safety.fresh cells (image_of ia) (image_of ib) a b (is_fresh image_a image_b log_a log_b safe.0 ha hb hla hlb)) [
         | inl none ↦ err_same refusal NoImage (sym e ∙ none.2)
         | inr s ↦ absurd (ok_not_err s.0 refusal (sym s.1 ∙ e))
       ]
@@ -108,47 +117,47 @@ recovered_past past r la lb = record {
   standing = standing_at r.from r.tick (nat_lt r.from r.tick) (is_shut la) (is_shut lb);
 }
 
-recovered_phase : EventLaws → (cells : ℕ) (past : Past) (r : Recovery) (ia ib la lb : List ℕ) (new : State) → 1 ≤ cells
-    → Restarts cells past.history.ticks past.acknowledged r (image_of ia) (image_of ib) (segment_of la) (segment_of lb) → (round : Bool) → nat_lt r.from r.tick ≡ round
-    → HasPhase cells (recovered_past past r la lb) new (images_begun round r.tick (Newest (recovered_images r (image_of ia) (image_of ib)))) (InStart (start_at r.tick (segment_of la) (segment_of lb)))
-recovered_phase events cells past r ia ib la lb new some s true e = record {
+recovered_phase : EventLaws → (cells : ℕ) (past : Past) (r : Recovery) (ia ib la lb : List ℕ) (a b : Segment) (new : State) → 1 ≤ cells
+    → Restarts cells past.history.ticks past.acknowledged r (image_of ia) (image_of ib) a b → (round : Bool) → nat_lt r.from r.tick ≡ round
+    → HasPhase cells (recovered_past past r la lb) new (images_begun round r.tick (Newest (recovered_images r (image_of ia) (image_of ib)))) (InStart (start_at r.tick a b))
+recovered_phase events cells past r ia ib la lb a b new some s true e = record {
   from = r.from;
-  starting = events.round_begins cells (take r.tick past.history.ticks) past.acknowledged (recovered_images r (image_of ia) (image_of ib)) r.from (recovered_start r (segment_of la) (segment_of lb)) some s.starting (ltb-true r.from r.tick e);
+  starting = events.round_begins cells (take r.tick past.history.ticks) past.acknowledged (recovered_images r (image_of ia) (image_of ib)) r.from (recovered_start r a b) some s.starting (ltb-true r.from r.tick e);
   caught_up = λ none. absurd (let g = none in cc);
 }
-recovered_phase events cells past r ia ib la lb new some s false e = record {
+recovered_phase events cells past r ia ib la lb a b new some s false e = record {
   from = r.from;
   starting = s.starting;
   caught_up = λ none. (let le : r.tick ≤ r.from = no_less r.from r.tick e in omega (arith, le, s.starting.start_follows.ahead));
 }
 
 pub recovered_keeps : EventLaws → QueueLaws → KeeperLaws → StoreLaws → SafetyLaws → (past : Past) (old new : State) (c : IsCoreAt past old) (r : Recovery) (ia ib la lb : List ℕ)
-    → IsCrashOutcome old.image_a.inner ia → IsCrashOutcome old.image_b.inner ib → IsCrashOutcome old.log_a.inner la → IsCrashOutcome old.log_b.inner lb → recovery_in ia ib la lb ≡ Ok r
-    → IsSegment la (segment_of la) → IsSegment lb (segment_of lb) → r.tick ≤ TICK_MAX
+    → IsCrashOutcome old.image_a.inner ia → IsCrashOutcome old.image_b.inner ib → IsCrashOutcome old.log_a.inner la → IsCrashOutcome old.log_b.inner lb → Recovers ia ib la lb (Ok r)
+    → r.tick ≤ TICK_MAX
     → Begins old.cells (Some (r.slot, r.from)) r.tick r.words (nat_lt r.from r.tick) ia ib la lb new
     → IsCoreAt (recovered_past past r la lb) new
-recovered_keeps events queues keepers stores safety past old new c r ia ib la lb oa ob ola olb e reads_a reads_b numbered b =
+recovered_keeps events queues keepers stores safety past old new c r ia ib la lb oa ob ola olb e numbered b =
     let ticks = past.history.ticks in
-    let s = restarts safety old.cells ticks past.acknowledged ia ib la lb (IsCrashOutcome old.image_a.inner) (IsCrashOutcome old.image_b.inner) (IsCrashOutcome old.log_a.inner) (IsCrashOutcome old.log_b.inner) past.has_image (core_is_safe safety past old c) oa ob ola olb r e in
+    let s = restarts safety old.cells ticks past.acknowledged ia ib la lb e.a e.b e.reads_a e.reads_b (IsCrashOutcome old.image_a.inner) (IsCrashOutcome old.image_b.inner) (IsCrashOutcome old.log_a.inner) (IsCrashOutcome old.log_b.inner) past.has_image (core_is_safe safety past old c) oa ob ola olb r e.holds in
     let images = recovered_images r (image_of ia) (image_of ib) in
     let count : length (take r.tick ticks) ≡ r.tick = length-take-le r.tick ticks s.world.ended in
     let at : IsWorldAt old.cells (take r.tick ticks) r.tick r.words = record { ended = omega (arith, count); words_are = ap (after_ticks old.cells) (take_all r.tick (take r.tick ticks) (omega (arith, count))) ∙ s.world.words_are } in
     begins_core queues keepers stores old.cells (Some (r.slot, r.from)) r.tick r.words (nat_lt r.from r.tick) ia ib la lb (recovered_past past r la lb) new b c.some_cells c.few_cells numbered
-    (Newest images) (refl, refl, s.newest_whole, by_slot r.slot ia ib ∙ s.chosen, by_other r.slot ia ib) refl (segment_of la) (segment_of lb) reads_a reads_b
+    (Newest images) (refl, refl, s.newest_whole, by_slot r.slot ia ib ∙ s.chosen, by_other r.slot ia ib) refl e.a e.b e.reads_a e.reads_b
     count refl s.whole at refl refl refl
-    (recovered_phase events old.cells past r ia ib la lb new c.some_cells s (nat_lt r.from r.tick) refl)
+    (recovered_phase events old.cells past r ia ib la lb e.a e.b new c.some_cells s (nat_lt r.from r.tick) refl)
 
 -- ---- no image
 
 abbrev pub blank_past : Past → (la lb : List ℕ) → Past
 blank_past past la lb = record { history = no_history; acknowledged = past.acknowledged; has_image = past.has_image; standing = standing_at 0 0 true (is_shut la) (is_shut lb) }
 
-begins_blank : QueueLaws → KeeperLaws → StoreLaws → (cells : ℕ) (past : Past) (new : State) (ia ib la lb : List ℕ) → 1 ≤ cells → cells ≤ CELLS → past.has_image ≡ false → past.acknowledged ≡ 0
-    → image_of ia ≡ Closed → image_of ib ≡ Closed → segment_of la ≡ ClosedSegment → segment_of lb ≡ ClosedSegment → IsSegment la (segment_of la) → IsSegment lb (segment_of lb)
+begins_blank : QueueLaws → KeeperLaws → StoreLaws → (cells : ℕ) (past : Past) (new : State) (ia ib la lb : List ℕ) (a b : Segment) → 1 ≤ cells → cells ≤ CELLS → past.has_image ≡ false → past.acknowledged ≡ 0
+    → image_of ia ≡ Closed → image_of ib ≡ Closed → a ≡ ClosedSegment → b ≡ ClosedSegment → IsSegment la a → IsSegment lb b
     → Begins cells None 0 (replicate cells 0) true ia ib la lb new → IsCoreAt (blank_past past la lb) new
-begins_blank queues keepers stores cells past new ia ib la lb some few unknown unacknowledged closed_a closed_b closed_la closed_lb reads_a reads_b b =
-    begins_core queues keepers stores cells None 0 (replicate cells 0) true ia ib la lb (blank_past past la lb) new b some few (omega arith)
-    (NoneYet (record { round = None })) (refl, refl, closed_a, closed_b) refl (segment_of la) (segment_of lb) reads_a reads_b
+begins_blank queues keepers stores cells past new ia ib la lb a b some few unknown unacknowledged closed_a closed_b closed_la closed_lb reads_a reads_b begins =
+    begins_core queues keepers stores cells None 0 (replicate cells 0) true ia ib la lb (blank_past past la lb) new begins some few (omega arith)
+    (NoneYet (record { round = None })) (refl, refl, closed_a, closed_b) refl a b reads_a reads_b
     refl refl (length-replicate cells 0) (record { ended = omega arith; words_are = refl }) refl unknown refl
     (record {
       no_ticks = refl;
@@ -158,19 +167,18 @@ begins_blank queues keepers stores cells past new ia ib la lb some few unknown u
     })
 
 pub blank_keeps : QueueLaws → KeeperLaws → StoreLaws → SafetyLaws → (past : Past) (old new : State) (c : IsCoreAt past old) (ia ib la lb : List ℕ)
-    → IsCrashOutcome old.image_a.inner ia → IsCrashOutcome old.image_b.inner ib → IsCrashOutcome old.log_a.inner la → IsCrashOutcome old.log_b.inner lb → recovery_in ia ib la lb ≡ Err NoImage
-    → IsSegment la (segment_of la) → IsSegment lb (segment_of lb)
+    → IsCrashOutcome old.image_a.inner ia → IsCrashOutcome old.image_b.inner ib → IsCrashOutcome old.log_a.inner la → IsCrashOutcome old.log_b.inner lb → Recovers ia ib la lb (Err NoImage)
     → Begins old.cells None 0 (replicate old.cells 0) true ia ib la lb new
     → IsCoreAt (blank_past past la lb) new
-blank_keeps queues keepers stores safety past old new c ia ib la lb oa ob ola olb e reads_a reads_b b =
-    let s = blank safety old.cells past.history.ticks past.acknowledged ia ib la lb (IsCrashOutcome old.image_a.inner) (IsCrashOutcome old.image_b.inner) (IsCrashOutcome old.log_a.inner) (IsCrashOutcome old.log_b.inner) past.has_image (core_is_safe safety past old c) oa ob ola olb e in
-    begins_blank queues keepers stores old.cells past new ia ib la lb c.some_cells c.few_cells s.unknown s.none_acknowledged s.image_a_closed s.image_b_closed s.log_a_closed s.log_b_closed reads_a reads_b b
+blank_keeps queues keepers stores safety past old new c ia ib la lb oa ob ola olb e b =
+    let s = blank safety old.cells past.history.ticks past.acknowledged ia ib la lb e.a e.b e.reads_a e.reads_b (IsCrashOutcome old.image_a.inner) (IsCrashOutcome old.image_b.inner) (IsCrashOutcome old.log_a.inner) (IsCrashOutcome old.log_b.inner) past.has_image (core_is_safe safety past old c) oa ob ola olb e.holds in
+    begins_blank queues keepers stores old.cells past new ia ib la lb e.a e.b c.some_cells c.few_cells s.unknown s.none_acknowledged s.image_a_closed s.image_b_closed s.log_a_closed s.log_b_closed e.reads_a e.reads_b b
 
 -- what recovery refuses on what a crash left
 pub crash_refuses : SafetyLaws → (past : Past) (old : State) (c : IsCoreAt past old) (ia ib la lb : List ℕ) → IsCrashOutcome old.image_a.inner ia → IsCrashOutcome old.image_b.inner ib → IsCrashOutcome old.log_a.inner la → IsCrashOutcome old.log_b.inner lb
-    → (refusal : Refusal) → recovery_in ia ib la lb ≡ Err refusal → refusal ≡ NoImage
-crash_refuses safety past old c ia ib la lb oa ob ola olb =
-    only_none safety old.cells past.history.ticks past.acknowledged ia ib la lb (IsCrashOutcome old.image_a.inner) (IsCrashOutcome old.image_b.inner) (IsCrashOutcome old.log_a.inner) (IsCrashOutcome old.log_b.inner) past.has_image (core_is_safe safety past old c) oa ob ola olb
+    → (refusal : Refusal) → Recovers ia ib la lb (Err refusal) → refusal ≡ NoImage
+crash_refuses safety past old c ia ib la lb oa ob ola olb refusal e =
+    only_none safety old.cells past.history.ticks past.acknowledged ia ib la lb e.a e.b e.reads_a e.reads_b (IsCrashOutcome old.image_a.inner) (IsCrashOutcome old.image_b.inner) (IsCrashOutcome old.log_a.inner) (IsCrashOutcome old.log_b.inner) past.has_image (core_is_safe safety past old c) oa ob ola olb refusal e.holds
 
 -- ---- a fresh world
 
@@ -178,12 +186,8 @@ closed_image : image_of [] ≡ Closed
 unfolding image_of
 closed_image = refl
 
-closed_segment : segment_of [] ≡ ClosedSegment
-unfolding segment_of
-closed_segment = refl
-
-reads_closed : IsSegment [] (segment_of [])
-reads_closed = subst (IsSegment []) (sym closed_segment) (inl (omega arith))
+closed_segment : IsSegment [] ClosedSegment
+closed_segment = inl (omega arith)
 
 pub begins_empty : (cells : ℕ) (words a b la lb : List ℕ) (new : State) → Begins cells None 0 words true a b la lb new → words ≡ replicate cells 0 → a ≡ [] → b ≡ [] → la ≡ [] → lb ≡ [] → BeginsFresh cells new
 begins_empty cells words a b la lb new s ew ea eb ela elb =
@@ -191,16 +195,16 @@ begins_empty cells words a b la lb new s ew ea eb ela elb =
     (subst (λ f. Begins cells None 0 words true f [] [] [] new) ea (subst (λ f. Begins cells None 0 words true a f [] [] new) eb (subst (λ f. Begins cells None 0 words true a b f [] new) ela (subst (λ f. Begins cells None 0 words true a b la f new) elb s))))
 
 pub fresh_core : QueueLaws → KeeperLaws → StoreLaws → (cells : ℕ) (new : State) → 1 ≤ cells → cells ≤ CELLS → BeginsFresh cells new → IsCoreAt fresh_past new
-fresh_core queues keepers stores cells new some few b = begins_blank queues keepers stores cells fresh_past new [] [] [] [] some few refl refl closed_image closed_image closed_segment closed_segment reads_closed reads_closed b
+fresh_core queues keepers stores cells new some few b = begins_blank queues keepers stores cells fresh_past new [] [] [] [] ClosedSegment ClosedSegment some few refl refl closed_image closed_image refl refl closed_segment closed_segment b
 
 -- ---- a core that stands on what a crash left
 
 pub stands_keeps : EventLaws → QueueLaws → KeeperLaws → StoreLaws → SafetyLaws → (past : Past) (old new : State) (c : IsCoreAt past old) (left : Remains) → MayLeave old left.image_a.items left.image_b.items left.log_a.items left.log_b.items
     → (given : Answer) → StandsOn old.cells left.image_a.items left.image_b.items left.log_a.items left.log_b.items given new → IsCoreAt (past_after past (move.Crash left) given) new
 stands_keeps events queues keepers stores safety past old new c left may (answer.Recovered tick from) s =
-    let k = recovered_keeps events queues keepers stores safety past old new c s.0 left.image_a.items left.image_b.items left.log_a.items left.log_b.items may.0 may.1 may.2 may.3 s.1 s.5 s.6 s.4 s.7 in
+    let k = recovered_keeps events queues keepers stores safety past old new c s.0 left.image_a.items left.image_b.items left.log_a.items left.log_b.items may.0 may.1 may.2 may.3 s.1 s.4 s.5 in
     subst (λ t. IsCoreAt (past_after past (move.Crash left) (answer.Recovered t from)) new) (sym s.2) (subst (λ f. IsCoreAt (past_after past (move.Crash left) (answer.Recovered s.0.tick f)) new) (sym s.3) k)
-stands_keeps events queues keepers stores safety past old new c left may answer.Blank s = blank_keeps queues keepers stores safety past old new c left.image_a.items left.image_b.items left.log_a.items left.log_b.items may.0 may.1 may.2 may.3 s.0 s.1 s.2 s.3
+stands_keeps events queues keepers stores safety past old new c left may answer.Blank s = blank_keeps queues keepers stores safety past old new c left.image_a.items left.image_b.items left.log_a.items left.log_b.items may.0 may.1 may.2 may.3 s.0 s.1
 stands_keeps events queues keepers stores safety past old new c left may answer.Did s = absurd s
 stands_keeps events queues keepers stores safety past old new c left may (answer.Word word) s = absurd s
 stands_keeps events queues keepers stores safety past old new c left may (answer.Ended tick) s = absurd s
@@ -221,18 +225,16 @@ stands_exact state new cells ia ib la lb may (answer.Log given) s = absurd s
 stands_exact state new cells ia ib la lb may (answer.Refused refusal) s = absurd s
 
 pub refused_exact : SafetyLaws → (past : Past) (state : State) (c : IsCoreAt past state) (ia ib la lb : List ℕ) → MayLeave state ia ib la lb → (refusal : Refusal)
-    → (refusal ≡ NoMemory) ⊎ ((refusal ≢ NoImage) × (recovery_in ia ib la lb ≡ Err refusal)) → IsCrashAnswer state ia ib la lb (answer.Refused refusal)
+    → (refusal ≡ NoMemory) ⊎ ((refusal ≢ NoImage) × Recovers ia ib la lb (Err refusal)) → IsCrashAnswer state ia ib la lb (answer.Refused refusal)
 refused_exact safety past state c ia ib la lb may refusal (inl e) = inr (e, may)
 refused_exact safety past state c ia ib la lb may refusal (inr e) = absurd (e.0 (crash_refuses safety past state c ia ib la lb may.0 may.1 may.2 may.3 refusal e.1))
 
 -- ---- the bytes
 
-pub recovery_same : (a b c d a2 b2 c2 d2 : List ℕ) (x : Result Recovery Refusal) → a ≡ a2 → b ≡ b2 → c ≡ c2 → d ≡ d2 → recovery_in a b c d ≡ x → recovery_in a2 b2 c2 d2 ≡ x
-recovery_same a b c d a2 b2 c2 d2 x ea eb ec ed e = sym (λ i. recovery_in (ea i) (eb i) (ec i) (ed i)) ∙ e
+pub recovery_same : (a b c d a2 b2 c2 d2 : List ℕ) (x : Result Recovery Refusal) → a ≡ a2 → b ≡ b2 → c ≡ c2 → d ≡ d2 → Recovers a b c d x → Recovers a2 b2 c2 d2 x
+recovery_same a b c d a2 b2 c2 d2 x ea eb ec ed e =
+    subst (λ f. Recovers f b2 c2 d2 x) ea (subst (λ f. Recovers a f c2 d2 x) eb (subst (λ f. Recovers a b f d2 x) ec (subst (λ f. Recovers a b c f x) ed e)))
 
-pub segment_same : (a b : List ℕ) → a ≡ b → IsSegment a (segment_of a) → IsSegment b (segment_of b)
-segment_same a b e = subst (λ f. IsSegment f (segment_of f)) e
-
-pub found_none : (refusal : Refusal) (x : Result Recovery Refusal) → refusal ≡ NoImage → (refusal ≡ NoMemory) ⊎ (x ≡ Err refusal) → x ≡ Err NoImage
-found_none refusal x e (inl m) = (let g : NoMemory ≡ NoImage = sym m ∙ e in absurd (let h = g in cc))
-found_none refusal x e (inr m) = m ∙ ap (λ r. Err r) e
+pub found_none : (refusal : Refusal) (ia ib la lb : List ℕ) → refusal ≡ NoImage → (refusal ≡ NoMemory) ⊎ Recovers ia ib la lb (Err refusal) → Recovers ia ib la lb (Err NoImage)
+found_none refusal ia ib la lb e (inl m) = (let g : NoMemory ≡ NoImage = sym m ∙ e in absurd (let h = g in cc))
+found_none refusal ia ib la lb e (inr m) = subst (λ r. Recovers ia ib la lb (Err r)) e m

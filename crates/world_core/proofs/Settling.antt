@@ -1,11 +1,11 @@
 -- What is so when a keeper's moves have ended, and when a start has.
-use Rattle.std.proofs.Common.{◌≡◌, ℕ, ◌+◌, ◌⊎◌, inl, inr, Bool, true, false, nat_lt, ◌&&◌, List, [], ◌∷◌, ◌++◌, length, replicate, Option, Some, None, is_some, if◌then◌else◌, refl, sym, ap, subst, ◌∙◌, arith}
+use Rattle.std.proofs.Common.{◌≡◌, ℕ, ◌+◌, ◌⊎◌, inl, inr, Bool, true, false, nat_lt, ◌&&◌, List, [], ◌∷◌, ◌++◌, length, replicate, Option, Some, None, is_some, refl, sym, ap, subst, ◌∙◌, arith}
 use Rattle.std.proofs.lemmas.List.{length-append, length-replicate}
 use Rattle.action_log.specs.declared.progress.Progress.{Progress}
 use Rattle.action_log.specs.declared.record.LogAnswer.{LogAnswer}
 use Rattle.action_log.specs.declared.record.LogAnswer.TheVariants as log_answer
 use Rattle.action_log.specs.declared.record.Record.{Record}
-use Rattle.action_log.specs.Progress.{rest_of, work_of, stepped_in, taken}
+use Rattle.action_log.specs.Progress.{rest_of, work_of}
 use Rattle.action_log.specs.Logs.{Journal, InStart, Writing}
 use Rattle.image_files.specs.declared.phase.ImageAnswer.{ImageAnswer}
 use Rattle.image_files.specs.declared.phase.ImageAnswer.TheVariants as image_answer
@@ -95,15 +95,11 @@ no_start keeper queue (InStart start) left standing state is stands e up none =
     absurd (omega (arith, stands.some_left, rest, same, none))
 no_start keeper queue (Writing logs) left standing state is stands e up none = ap (nat_lt 0) (e ∙ stands.1)
 
-none_behind : {A : Type 0} (front rest : List A) → front ++ rest ≡ [] → rest ≡ []
-none_behind [] rest e = e
-none_behind (x ∷ front) rest e = absurd (let g = e in cc)
-
 idle_work : (fate : Fate) (old new : State) → StepsLogKeeper fate old log_answer.Idle new → work_of new.log new.queue ≡ 0
 idle_work fate old new d =
     let i = d.idle.0 refl in
-    let same : new.log ≡ old.log = d.keeper ∙ (λ j. if i.0 j then old.log else stepped_in (i.1 j) old.log (i.2 j) new.log.down) in
-    no_work new.log new.queue (ap (λ (k : Progress). k.phase) same ∙ i.1) (none_behind (taken old.log old.queue) new.queue (sym d.front ∙ i.2))
+    let same = d.rests (inl refl) in
+    no_work new.log new.queue (ap (λ (k : Progress). k.phase) same.0 ∙ i.1) (same.1 ∙ i.2)
 
 no_work_after : (fate : Fate) (past : Past) (old new : State) → IsLogAnswer past old log_answer.Idle → (Waits old × (log_answer.Idle ≡ log_answer.Idle) × (new ≡ old)) ⊎ StepsLogKeeper fate old log_answer.Idle new
     → (is_log_waiting past.standing ≡ true) ⊎ ((past.standing.is_log_down ≡ false) × (work_of new.log new.queue ≡ 0))

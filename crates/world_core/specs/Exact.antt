@@ -4,7 +4,7 @@ use Rattle.world_actions.specs.declared.action.Action.{Action}
 use Rattle.world_actions.specs.declared.refusal.Refusal.{Refusal}
 use Rattle.world_actions.specs.declared.refusal.Refusal.TheVariants.{NoMemory, NoImage, Impossible}
 use Rattle.disk_model.specs.CrashOutcome.{IsCrashOutcome}
-use Rattle.recovery.specs.Recovery.{Recovery, recovery_in}
+use Rattle.recovery.specs.Recovery.{Recovery, Recovers}
 use Rattle.recovery.specs.Events.{ticks_in}
 use Rattle.world_ticks.specs.Tick.{decision}
 use Rattle.world_core.specs.declared.moves.Move.{Move}
@@ -39,8 +39,8 @@ abbrev pub IsCrashAnswer : State → (image_a image_b log_a log_b : List ℕ) �
 IsCrashAnswer state image_a image_b log_a log_b (answer.Refused refusal) =
     ((refusal ≡ Impossible) × ¬ MayLeave state image_a image_b log_a log_b) ⊎ ((refusal ≡ NoMemory) × MayLeave state image_a image_b log_a log_b)
 IsCrashAnswer state image_a image_b log_a log_b (answer.Recovered tick from) =
-    MayLeave state image_a image_b log_a log_b × ((r : Recovery) × (recovery_in image_a image_b log_a log_b ≡ Ok r) × (tick ≡ r.tick) × (from ≡ r.from))
-IsCrashAnswer state image_a image_b log_a log_b answer.Blank = MayLeave state image_a image_b log_a log_b × (recovery_in image_a image_b log_a log_b ≡ Err NoImage)
+    MayLeave state image_a image_b log_a log_b × ((r : Recovery) × Recovers image_a image_b log_a log_b (Ok r) × (tick ≡ r.tick) × (from ≡ r.from))
+IsCrashAnswer state image_a image_b log_a log_b answer.Blank = MayLeave state image_a image_b log_a log_b × Recovers image_a image_b log_a log_b (Err NoImage)
 IsCrashAnswer state image_a image_b log_a log_b given = ⊥
 
 -- what is answered to a step of the image keeper: Idle exactly with no round open, and once it is down only Down; the

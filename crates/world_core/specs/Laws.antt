@@ -1,3 +1,4 @@
+-- Inside: for the proofs of this crate's private functions.
 -- What the crates below say of ticks, stores, keepers and recovery, over the files of a core.
 use Rattle.std.specs.Prelude.{◌≡◌, ◌<◌, ◌≤◌, ◌↔◌, ℕ, ◌+◌, List, [], ◌∷◌, ◌++◌, length, Bool, Option, Some, None, IsTrue}
 use Rattle.world_actions.specs.declared.action.Action.{Action}
@@ -18,6 +19,7 @@ use Rattle.action_log.specs.declared.record.Record.TheVariants as records
 use Rattle.action_log.specs.declared.progress.Progress.{Progress as LogProgress}
 use Rattle.action_log.specs.declared.format.TheConstants.{SEGMENT_TICKS}
 use Rattle.action_log.specs.Segment.{Segment, IsSegment}
+use Rattle.action_log.specs.Spellings.{ReadsOnce}
 use Rattle.action_log.specs.Progress.{begun as begun_log, QueueFollows, end_of}
 use Rattle.action_log.specs.Logs.{Logs, Start, LogPlace, InStart, Writing, start_of, start_moves}
 use Rattle.recovery.specs.Events.{TickEnds, MarkIsMade, ImageStepKeeps, LogStepKeeps, ReceiptIsExact, StartRoundBegins, StartImageStepKeeps, StartLogStepKeeps, FirstImageStepKeeps, IsKept}
@@ -76,6 +78,7 @@ pub record SafetyLaws : Type 0 where
       → IsFresh (IsCrashOutcome image_a.inner) (IsCrashOutcome image_b.inner) (IsCrashOutcome log_a.inner) (IsCrashOutcome log_b.inner) images.cells
   pub sound : SoundRestarts
   pub fresh : FreshRestarts
+  pub once : ReadsOnce
 
 pub record StoreLaws : Type 0 where
   pub mark : MarkFollows

@@ -11,11 +11,11 @@ use Rattle.image_files.specs.declared.phase.ImageAnswer.TheVariants as image_ans
 use Rattle.image_files.specs.Progress.{begun_keeper, opened_keeper, left_of, cells_taken}
 use Rattle.image_files.specs.Steps.{IfOpened, OnWorking}
 use Rattle.image_files.specs.Images.{ImageFiles, StepsImages}
-use Rattle.action_log.specs.declared.phase.Phase.TheVariants.{Ready}
+use Rattle.action_log.specs.declared.phase.Phase.TheVariants.{Ready, GateSync}
 use Rattle.action_log.specs.declared.record.LogAnswer.{LogAnswer}
 use Rattle.action_log.specs.declared.record.LogAnswer.TheVariants as log_answer
 use Rattle.action_log.specs.declared.record.Record.TheVariants as records
-use Rattle.action_log.specs.Progress.{QueueFollows, end_of, work_of, answer_of, stepped, taken}
+use Rattle.action_log.specs.Progress.{QueueFollows, end_of, work_of, taken}
 use Rattle.action_log.specs.Logs.{LogPlace}
 use Rattle.action_log.specs.LogSteps.{JournalStep}
 use Rattle.world_core.specs.declared.moves.Fate.{Fate}
@@ -74,15 +74,14 @@ pub record StepsImageKeeper (fate : Fate) (old : State) (given : ImageAnswer) (n
 -- a step of the log keeper
 pub record StepsLogKeeper (fate : Fate) (old : State) (given : LogAnswer) (new : State) : Type 0 where
   pub rest : new ≡ record old { queue = new.queue; log = new.log; log_a = new.log_a; log_b = new.log_b }
-  pub answer : given ≡ answer_of old.log old.queue new.log.down
-  pub keeper : new.log ≡ stepped old.log old.queue new.log.down
   pub front : old.queue ≡ taken old.log old.queue ++ new.queue
   pub stands : (place : LogPlace) → HasLog old place → (next : LogPlace) × HasLog new next × JournalStep place old.queue given next new.queue
   pub follows : QueueFollows new.log new.queue
   pub end : end_of new.log new.queue ≡ end_of old.log old.queue
   pub idle : (given ≡ log_answer.Idle) ↔ ((old.log.down ≡ false) × (old.log.phase ≡ Ready) × (old.queue ≡ []))
+  pub receipt : (number : ℕ) → (given ≡ log_answer.Acked number) ↔ ((old.log.phase ≡ GateSync) × (old.log.down ≡ false) × (new.log.down ≡ false) × (number ≡ new.log.base + new.log.count))
   pub down : (given ≡ log_answer.Down) ↔ (new.log.down ≡ true)
-  pub stays_down : old.log.down ≡ true → given ≡ log_answer.Down
+  pub rests : (given ≡ log_answer.Idle) ⊎ (old.log.down ≡ true) → (new.log ≡ old.log) × (new.queue ≡ old.queue)
   pub cause : given ≡ log_answer.Down → (old.log.down ≡ true) ⊎ HasFailed old.log_a new.log_a old.log_b new.log_b
   pub fails : FailsBy fate (given ≡ log_answer.Down) old.log_a old.log_b new.log_a new.log_b
   pub lowers : new.log.down ≡ false → 0 < work_of old.log old.queue → work_of new.log new.queue < work_of old.log old.queue

@@ -7,9 +7,7 @@ use Rattle.disk_model.specs.Disk.{Only}
 use Rattle.disk_model.specs.CrashOutcome.{IsCrashOutcome}
 use Rattle.image_files.specs.Progress.{made_keeper}
 use Rattle.action_log.specs.Progress.{begun}
-use Rattle.action_log.specs.Segment.{IsSegment}
-use Rattle.action_log.specs.Reading.{segment_of}
-use Rattle.recovery.specs.Recovery.{Recovery, recovery_in}
+use Rattle.recovery.specs.Recovery.{Recovery, Recovers}
 use Rattle.restart.specs.Start.{IsBuilt, started_keeper, is_shut}
 use Rattle.world_core.specs.declared.moves.Answer.{Answer}
 use Rattle.world_core.specs.declared.moves.Answer.TheVariants as answer
@@ -42,10 +40,9 @@ BeginsFresh cells new = Begins cells None 0 (replicate cells 0) true [] [] [] []
 -- what stands in four files, as it is answered, and a start from it
 abbrev pub StandsOn : (cells : ℕ) → (image_a image_b log_a log_b : List ℕ) → Answer → State → Type 0
 StandsOn cells image_a image_b log_a log_b (answer.Recovered tick from) new =
-    (r : Recovery) × (recovery_in image_a image_b log_a log_b ≡ Ok r) × (tick ≡ r.tick) × (from ≡ r.from) × (r.tick ≤ TICK_MAX)
-    × IsSegment log_a (segment_of log_a) × IsSegment log_b (segment_of log_b)
+    (r : Recovery) × Recovers image_a image_b log_a log_b (Ok r) × (tick ≡ r.tick) × (from ≡ r.from) × (r.tick ≤ TICK_MAX)
     × Begins cells (Some (r.slot, r.from)) r.tick r.words (nat_lt r.from r.tick) image_a image_b log_a log_b new
 StandsOn cells image_a image_b log_a log_b answer.Blank new =
-    (recovery_in image_a image_b log_a log_b ≡ Err NoImage) × IsSegment log_a (segment_of log_a) × IsSegment log_b (segment_of log_b)
+    Recovers image_a image_b log_a log_b (Err NoImage)
     × Begins cells None 0 (replicate cells 0) true image_a image_b log_a log_b new
 StandsOn cells image_a image_b log_a log_b given new = ⊥

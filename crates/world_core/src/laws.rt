@@ -1,6 +1,6 @@
 ghost use Rattle.world_core.specs.Laws.{EventLaws, QueueLaws, KeeperLaws, SafetyLaws, StoreLaws};
 
-use action_log::{log_outcomes, log_queues};
+use action_log::{log_outcomes, log_queues, segments_read_once};
 use capture_core::PlainCopy;
 use disk_model::{Fused, ModelFile};
 use image_files::images_stay;
@@ -36,12 +36,14 @@ pub fn keeper_laws()
     log_outcomes::<File>();
 }
 
-/// Laws: what the keepers stand for makes the files sound, and a crash begins the next start.
+/// Laws: what the keepers stand for makes the files sound, and a crash begins the next start. A file
+/// reads in one way.
 pub fn safety_laws()
     ensures { SafetyLaws }
 {
     keepers_make_sound::<File>();
     crash_restarts();
+    segments_read_once();
 }
 
 /// Laws: how the store follows the images.

@@ -13,7 +13,7 @@ ghost use Rattle.image_files.specs.Steps.{TookCell, KeepsFits, KeepsWords, Keeps
 
 use super::ImageKeeper;
 use crate::chunk::{any_same, encode, fill};
-use crate::format::{CELLS_PLACE, HEADER_LENGTH, WORD_LENGTH, encode_header};
+use crate::format::{CELLS_PLACE, HEADER_BYTES, WORD_BYTES, encode_header};
 use crate::phase::{CHUNK_CELLS, Phase};
 use capture_core::{Taken, Taker};
 use disk_model::Disk;
@@ -40,7 +40,7 @@ impl ImageKeeper {
         ensures called { D.called target.old target.new }
     {
         encode_header(&mut self.buffer, self.cells as u64, self.tick);
-        if let Err(refusal) = target.write_at(CELLS_PLACE as u64, &self.buffer[..2 * WORD_LENGTH]) {
+        if let Err(refusal) = target.write_at(CELLS_PLACE as u64, &self.buffer[..2 * WORD_BYTES]) {
             self.go_down();
             return Err(refusal);
         }
@@ -106,7 +106,7 @@ impl ImageKeeper {
     fn get_chunk<D: Disk>(&mut self, newest: &mut D) -> Result<(), Refusal>
         requires phase { self.old.phase ≡ Reading }
         requires room { IsTrue D.honest
-            → HEADER_LENGTH + WORD_LENGTH * self.old.cells ≤ length (D.content newest.old) }
+            → HEADER_BYTES + WORD_BYTES * self.old.cells ≤ length (D.content newest.old) }
         ensures failed { OnErr result (self.new ≡ record self.old { phase = Down }) }
         ensures ok { OnOk result ((chunk : List Taken)
             × (self.new ≡ record self.old { phase = Writing; chunk = chunk })
@@ -118,8 +118,8 @@ impl ImageKeeper {
         ensures faults { D.faults newest.new ≡ counted (D.faults newest.old) result }
         ensures called { D.called newest.old newest.new }
     {
-        let place = HEADER_LENGTH + WORD_LENGTH * self.written;
-        let length = WORD_LENGTH * self.chunk.len();
+        let place = HEADER_BYTES + WORD_BYTES * self.written;
+        let length = WORD_BYTES * self.chunk.len();
         if let Err(refusal) = read_front(newest, place as u64, &mut self.buffer, length) {
             self.go_down();
             return Err(refusal);
@@ -133,7 +133,7 @@ impl ImageKeeper {
     pub(super) fn write_chunk<D: Disk>(&mut self, target: &mut D) -> Result<(), Refusal>
         requires phase { self.old.phase ≡ Writing }
         requires room { IsTrue D.honest
-            → HEADER_LENGTH + WORD_LENGTH * self.old.written ≤ length (D.content target.old) }
+            → HEADER_BYTES + WORD_BYTES * self.old.written ≤ length (D.content target.old) }
         ensures ok { OnOk result (self.new ≡ with_chunk_written self.old) }
         ensures failed { OnErr result (self.new ≡ record self.old { phase = Down }) }
         ensures fits { IsTrue D.honest
@@ -154,28 +154,28 @@ impl ImageKeeper {
     fn put_chunk<D: Disk>(&mut self, target: &mut D) -> Result<(), Refusal>
         requires phase { self.old.phase ≡ Writing }
         requires room { IsTrue D.honest
-            → HEADER_LENGTH + WORD_LENGTH * self.old.written ≤ length (D.content target.old) }
+            → HEADER_BYTES + WORD_BYTES * self.old.written ≤ length (D.content target.old) }
         ensures ok { OnOk result (self.new ≡ with_chunk_written self.old) }
         ensures failed { OnErr result (self.new ≡ record self.old { phase = Down }) }
         ensures written { IsTrue D.honest → OnOk result (D.content target.new
-            ≡ overwritten (D.content target.old) (HEADER_LENGTH + WORD_LENGTH * self.old.written)
-            (flat_map (number_bytes WORD_LENGTH) (filled_words self.old.chunk []))) }
+            ≡ overwritten (D.content target.old) (HEADER_BYTES + WORD_BYTES * self.old.written)
+            (flat_map (number_bytes WORD_BYTES) (filled_words self.old.chunk []))) }
         ensures torn { IsTrue D.honest → OnErr result
-            (Torn (HEADER_LENGTH + WORD_LENGTH * self.old.written)
-            (WORD_LENGTH * length self.old.chunk)
+            (Torn (HEADER_BYTES + WORD_BYTES * self.old.written)
+            (WORD_BYTES * length self.old.chunk)
             (D.content target.old) (D.content target.new)) }
         ensures crash { IsTrue D.honest
-            → Follows (Torn (HEADER_LENGTH + WORD_LENGTH * self.old.written)
-            (WORD_LENGTH * length self.old.chunk))
+            → Follows (Torn (HEADER_BYTES + WORD_BYTES * self.old.written)
+            (WORD_BYTES * length self.old.chunk))
             (D.may_leave target.old) (D.may_leave target.new) }
         ensures lowers { OnOk result (left_of self.new < left_of self.old) }
         ensures faults { D.faults target.new ≡ counted (D.faults target.old) result }
         ensures called { D.called target.old target.new }
     {
-        let place = HEADER_LENGTH + WORD_LENGTH * self.written;
+        let place = HEADER_BYTES + WORD_BYTES * self.written;
         let count = self.chunk.len();
         encode(&mut self.buffer, &self.chunk);
-        if let Err(refusal) = target.write_at(place as u64, &self.buffer[..WORD_LENGTH * count]) {
+        if let Err(refusal) = target.write_at(place as u64, &self.buffer[..WORD_BYTES * count]) {
             self.go_down();
             return Err(refusal);
         }

@@ -3,7 +3,7 @@ ghost use Rattle.world_actions.specs.World.{IsWord};
 ghost use Rattle.world_actions.specs.declared.world.TheConstants.{CELLS};
 ghost use Rattle.world_ticks.specs.declared.tick.TheConstants.{TICK_MAX};
 ghost use Rattle.disk_model.specs.CrashOutcome.{IsCrashOutcome};
-ghost use Rattle.recovery.specs.Recovery.{recovery_in};
+ghost use Rattle.recovery.specs.Recovery.{Recovers};
 ghost use Rattle.restart.specs.Start.{has_round};
 ghost use Rattle.world_core.specs.Starting.{HasOnly, Begins, StandsOn};
 
@@ -94,7 +94,7 @@ impl<C: Capture> Parts<C> {
             left.image_a.items left.image_b.items left.log_a.items left.log_b.items answer self.new) }
         ensures unchanged { OnErr result (self.new ≡ self.old) }
         ensures refused { IfErr result (λ refusal. (refusal ≡ Refusal.NoMemory) ⊎ ((refusal ≢ Refusal.NoImage)
-            × (recovery_in left.image_a.items left.image_b.items left.log_a.items left.log_b.items ≡ Err refusal))) }
+            × Recovers left.image_a.items left.image_b.items left.log_a.items left.log_b.items (Err refusal))) }
     {
         let (parts, answer) = Parts::stand_on(self.alloc, self.cells, left)?;
         *self = parts;
@@ -107,7 +107,7 @@ impl<C: Capture> Parts<C> {
         ensures stands { IfOk result (λ made. StandsOn cells
             left.image_a.items left.image_b.items left.log_a.items left.log_b.items made.1 made.0) }
         ensures refused { IfErr result (λ refusal. (refusal ≡ Refusal.NoMemory) ⊎ ((refusal ≢ Refusal.NoImage)
-            × (recovery_in left.image_a.items left.image_b.items left.log_a.items left.log_b.items ≡ Err refusal))) }
+            × Recovers left.image_a.items left.image_b.items left.log_a.items left.log_b.items (Err refusal))) }
     {
         match recover(
             alloc,

@@ -1,4 +1,4 @@
-use Rattle.std.proofs.Common.{refl}
+use Rattle.std.proofs.Common.{refl, ap}
 use Rattle.world_core.proofs.Bridging.{log_step_at}
 use Rattle.world_core.proofs.parts.Parts.move_log.Goals as goal
 
@@ -9,15 +9,14 @@ returns g c = record {
       (record { unarmed = c.self.invariant.4; armed_is = c.arm-2.ensures; new_is = c.disarm-2.ensures })
       (record {
         rest = refl;
-        answer = c.step-answer.ensures.answer;
-        keeper = c.step-answer.ensures.keeper;
         front = c.step-answer.ensures.front;
         stands = λ place has. c.step-answer.ensures.journal refl place has;
         follows = c.step-answer.ensures.follows;
         end = c.step-answer.ensures.end;
         idle = c.step-answer.ensures.idle;
+        receipt = c.step-answer.ensures.receipt;
         down = c.step-answer.ensures.down;
-        stays_down = λ h. (c.step-answer.ensures.stays_down h).0;
+        rests = λ h. (let r = c.step-answer.ensures.rests h in (r.0, ap (λ q. q.items) r.1));
         cause = c.step-answer.ensures.cause;
         faults = c.step-answer.ensures.faults;
         calls = c.step-answer.ensures.calls;
