@@ -9,7 +9,6 @@ mod kind;
 mod log_model;
 mod model;
 mod player;
-mod random;
 mod remains;
 mod stretches;
 mod tally;
@@ -28,7 +27,6 @@ use capture_core::{Capture, PlainCopy};
 use kind::NAMES;
 use ping_pong::PingPong;
 use player::Player;
-use random::Random;
 use shared_capture::{Joined, Pong, Zig};
 use std::alloc::Global;
 use std::io;
@@ -36,6 +34,7 @@ use std::process::ExitCode;
 use stretches::{try_limits, try_segment};
 use tally::Tally;
 use trial::{Stop, Trial};
+use trial_kit::{Random, ended};
 use zigzag::Zigzag;
 
 /// The sizes of the worlds that are tried.
@@ -48,14 +47,7 @@ const MOVES: u32 = 6700;
 const SEED: u64 = 0x9e37_79b9_7f4a_7c15;
 
 fn main(rt: HostRuntime) -> ExitCode {
-    match run(&rt) {
-        Ok(true) => ExitCode::SUCCESS,
-        Ok(false) => ExitCode::from(1),
-        Err(error) => {
-            let _ = eprintln!(rt; "error: {error}");
-            ExitCode::from(1)
-        }
-    }
+    ended(&rt, run(&rt))
 }
 
 // Whether all answers were right, and each came.
@@ -67,7 +59,7 @@ fn run<R: Print + AllocGlobal>(rt: &R) -> io::Result<bool> {
         && try_store::<R, Joined<Zig>>(rt, "zigzag-shared", &mut all)?
         && try_store::<R, Joined<Pong>>(rt, "pingpong-shared", &mut all)?
         && try_long(rt, &mut all)?;
-    Ok(are_right && tell_counts(rt, &all)?)
+    Ok(are_right && all.counts().tell(rt, &NAMES)?)
 }
 
 // Chosen moves over worlds of all sizes, and those that meet each limit.
@@ -129,14 +121,4 @@ fn tell<R: Print>(rt: &R, name: &str, seen: Result<(), Stop>, moves: u32) -> io:
         Err(Stop::Differs(difference)) => println!(rt; "{name}: {difference:?}")?,
     }
     Ok(seen.is_ok())
-}
-
-// Tells how often each kind of answer came, and whether each did.
-fn tell_counts<R: Print>(rt: &R, all: &Tally) -> io::Result<bool> {
-    let mut each_came = true;
-    for (name, count) in NAMES.iter().zip(all.counts()) {
-        println!(rt; "{name}: {count}")?;
-        each_came = each_came && *count > 0;
-    }
-    Ok(each_came)
 }

@@ -1,7 +1,7 @@
 use crate::asked::Asked;
 use crate::model::PlainModel;
-use crate::random::Random;
 use crate::weights::Weights;
+use trial_kit::Random;
 use world_actions::{Action, LIMIT};
 use world_core::Fate;
 

@@ -1,6 +1,6 @@
-use crate::random::Random;
 use disk_model::ModelFile;
 use std::alloc::Global;
+use trial_kit::Random;
 use world_actions::Refusal;
 
 /// Some bytes that a crash may leave of a file: a length from the durable one to that of what reads

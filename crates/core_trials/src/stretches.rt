@@ -2,12 +2,12 @@ ghost use Rattle.std.specs.Prelude.{◌≤◌};
 ghost use Rattle.world_actions.specs.declared.world.TheConstants.{CELLS};
 
 use crate::asked::Asked;
-use crate::random::Random;
 use crate::tally::Tally;
 use crate::told::Told;
 use crate::trial::{Stop, Trial};
 use capture_core::Capture;
 use std::alloc::Global;
+use trial_kit::Random;
 use world_actions::Action;
 use world_core::Fate;
 

@@ -1,11 +1,12 @@
 use crate::kind::{KINDS, kind_of};
 use crate::told::Told;
+use trial_kit::Counts;
 
 /// How many moves were made, and how often each kind of answer came.
-#[derive(Clone, Copy)]
+#[derive(Drop)]
 pub struct Tally {
     moves: u32,
-    counts: [u32; KINDS],
+    counts: Counts<KINDS>,
 }
 
 impl Tally {
@@ -13,27 +14,22 @@ impl Tally {
     pub fn new() -> Self {
         Tally {
             moves: 0,
-            counts: [0; KINDS],
+            counts: Counts::new(),
         }
     }
 
     /// Counts a move and its answer.
     pub fn count(&mut self, given: Told) {
         self.moves = self.moves.saturating_add(1);
-        let Some(kind) = kind_of(given) else {
-            return;
-        };
-        if let Some(count) = self.counts.get_mut(kind as usize) {
-            *count = count.saturating_add(1);
+        if let Some(kind) = kind_of(given) {
+            self.counts.count(kind as usize);
         }
     }
 
     /// Adds what was counted elsewhere.
     pub fn add(&mut self, other: &Tally) {
         self.moves = self.moves.saturating_add(other.moves);
-        for (count, more) in self.counts.iter_mut().zip(&other.counts) {
-            *count = count.saturating_add(*more);
-        }
+        self.counts.add(&other.counts);
     }
 
     /// How many moves were counted.
@@ -42,7 +38,7 @@ impl Tally {
     }
 
     /// How often each kind came, in the order of `NAMES`.
-    pub fn counts(&self) -> &[u32] {
+    pub fn counts(&self) -> &Counts<KINDS> {
         &self.counts
     }
 }

@@ -1,4 +1,4 @@
-use crate::random::Random;
+use trial_kit::Random;
 
 /// How often each kind of move is chosen: actions, reads, ends, marks, steps of the images, steps of the
 /// log, and crashes.

@@ -1,19 +1,18 @@
 use crate::files::Files;
 use std::alloc::{AllocError, Global};
+use trial_kit::Random;
 
 /// Changes of files that look random, and are the same in each run.
 #[derive(Drop)]
 pub struct Damage {
-    state: u64,
+    random: Random,
 }
 
 impl Damage {
-    ghost use Rattle.std.specs.Prelude.{◌<◌};
-
     /// The first change.
     pub fn new() -> Self {
         Damage {
-            state: 0x9e37_79b9_7f4a_7c15,
+            random: Random::new(0x9e37_79b9_7f4a_7c15),
         }
     }
 
@@ -25,8 +24,8 @@ impl Damage {
             log_a: Vec::from_slice(alloc, &files.log_a)?,
             log_b: Vec::from_slice(alloc, &files.log_b)?,
         };
-        for _ in 0..=self.below(4) {
-            let file = match self.below(4) {
+        for _ in 0..=self.random.below(4) {
+            let file = match self.random.below(4) {
                 0 => &mut copy.image_a,
                 1 => &mut copy.image_b,
                 2 => &mut copy.log_a,
@@ -40,15 +39,15 @@ impl Damage {
     // Changes a byte of a file, takes some off its end, or puts one there.
     fn change(&mut self, file: &mut Vec<u8>) -> Result<(), AllocError> {
         let len = file.len() as u64;
-        match self.below(8) {
-            0 => file.truncate(self.below(len) as usize),
+        match self.random.below(8) {
+            0 => file.truncate(self.random.below(len) as usize),
             1..4 => {
                 let byte = self.byte();
                 file.push(byte)?;
             }
             _ => {
                 let byte = self.byte();
-                if let Some(old) = file.get_mut(self.below(len) as usize) {
+                if let Some(old) = file.get_mut(self.random.below(len) as usize) {
                     *old = byte;
                 }
             }
@@ -58,21 +57,10 @@ impl Damage {
 
     // A byte, often a small one.
     fn byte(&mut self) -> u8 {
-        if self.below(2) == 0 {
-            self.below(4) as u8
+        if self.random.below(2) == 0 {
+            self.random.below(4) as u8
         } else {
-            self.below(256) as u8
+            self.random.below(256) as u8
         }
-    }
-
-    // A number below another one, or 0.
-    fn below(&mut self, bound: u64) -> u64
-        ensures { 0 < bound → result < bound }
-    {
-        self.state = self
-            .state
-            .wrapping_mul(6_364_136_223_846_793_005)
-            .wrapping_add(1_442_695_040_888_963_407);
-        (self.state >> 33).checked_rem(bound).unwrap_or(0)
     }
 }

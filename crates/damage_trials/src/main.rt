@@ -20,6 +20,7 @@ use std::alloc::Global;
 use std::io;
 use std::process::ExitCode;
 use tally::{NAMES, Tally};
+use trial_kit::ended;
 use wanted::Wanted;
 use world_actions::Refusal;
 
@@ -27,14 +28,7 @@ use world_actions::Refusal;
 const COPIES: u32 = 20_000;
 
 fn main(rt: HostRuntime) -> ExitCode {
-    match run(&rt) {
-        Ok(true) => ExitCode::SUCCESS,
-        Ok(false) => ExitCode::from(1),
-        Err(error) => {
-            let _ = eprintln!(rt; "error: {error}");
-            ExitCode::from(1)
-        }
-    }
+    ended(&rt, run(&rt))
 }
 
 // Whether all answers were right, and each kind came.
@@ -83,8 +77,6 @@ fn tell<R: Print>(rt: &R, tally: &Tally) -> io::Result<bool> {
         "{COPIES} damaged copies: {} answered right, {} wrong",
         tally.right, tally.wrong
     )?;
-    for (name, count) in NAMES.iter().zip(&tally.wanted) {
-        println!(rt; "{name}: {count}")?;
-    }
+    tally.wanted.tell(rt, &NAMES)?;
     Ok(tally.passes())
 }

@@ -1,4 +1,5 @@
 use crate::wanted::Wanted;
+use trial_kit::Counts;
 
 /// How many kinds of answers there are.
 pub const KINDS: usize = 10;
@@ -21,14 +22,14 @@ pub const NAMES: [&str; KINDS] = [
 ];
 
 /// What was seen of answers.
-#[derive(Clone, Copy)]
+#[derive(Drop)]
 pub struct Tally {
     /// How many answers were right.
     pub right: u32,
     /// How many answers were wrong.
     pub wrong: u32,
     /// How many answers of each kind were wanted.
-    pub wanted: [u32; KINDS],
+    pub wanted: Counts<KINDS>,
 }
 
 impl Tally {
@@ -42,7 +43,7 @@ impl Tally {
         Tally {
             right: 0,
             wrong: 0,
-            wanted: [0; KINDS],
+            wanted: Counts::new(),
         }
     }
 
@@ -57,16 +58,14 @@ impl Tally {
         } else {
             self.wrong = self.wrong.saturating_add(1);
         }
-        if let Some(count) = self.wanted.get_mut(kind_of(wanted)) {
-            *count = count.saturating_add(1);
-        }
+        self.wanted.count(kind_of(wanted));
     }
 
     /// Whether no answer was wrong, and each kind came.
     pub fn passes(&self) -> bool
         ensures { IsTrue result ↔ ((self.now.wrong ≡ 0) × All (λ count. 0 < count) self.now.wanted) }
     {
-        self.wrong == 0 && self.wanted.iter().all(|&count| count > 0)
+        self.wrong == 0 && self.wanted.each_came()
     }
 }
 

@@ -5,25 +5,25 @@
 #![tactic(auto)]
 
 mod fingerprint;
+mod kind;
 mod player;
-mod random;
 mod taking;
-mod tally;
 mod threads;
 mod trial;
 mod writing;
 mod wrong;
 
 use capture_core::Capture;
+use kind::{KINDS, Kind, NAMES};
 use ping_pong::PingPong;
 use shared_capture::{Joined, Pong, Zig};
 use std::alloc::Global;
 use std::io;
 use std::process::ExitCode;
 use std::thread::Threads;
-use tally::{Kind, NAMES, Tally};
 use threads::{try_ping_pong, try_zigzag};
 use trial::try_store;
+use trial_kit::{Counts, ended};
 use wrong::Wrong;
 use zigzag::Zigzag;
 
@@ -37,24 +37,17 @@ const THREAD_SIZES: [usize; 2] = [65, 65_536];
 const ROUNDS: u32 = 1000;
 
 fn main(rt: HostRuntime) -> ExitCode {
-    match run(&rt) {
-        Ok(true) => ExitCode::SUCCESS,
-        Ok(false) => ExitCode::from(1),
-        Err(error) => {
-            let _ = eprintln!(rt; "error: {error}");
-            ExitCode::from(1)
-        }
-    }
+    ended(&rt, run(&rt))
 }
 
 // Whether all words are the same, and each thing came.
 fn run<R: Print + AllocGlobal + Threads + Sync>(rt: &R) -> io::Result<bool> {
-    let mut all = Tally::new();
+    let mut all = Counts::new();
     let are_same = try_sizes::<R, Zigzag>(rt, "zigzag", false, &mut all)?
         && try_sizes::<R, PingPong>(rt, "pingpong", true, &mut all)?
         && try_sizes::<R, Joined<Zig>>(rt, "shared zigzag", false, &mut all)?
         && try_sizes::<R, Joined<Pong>>(rt, "shared pingpong", true, &mut all)?;
-    Ok(are_same && tell_counts(rt, &all)? && try_threads(rt)?)
+    Ok(are_same && all.tell(rt, &NAMES)? && try_threads(rt)?)
 }
 
 // A store of each size beside the plain copy.
@@ -62,12 +55,12 @@ fn try_sizes<R: Print + AllocGlobal, C: Capture>(
     rt: &R,
     store: &str,
     has_same: bool,
-    all: &mut Tally,
+    all: &mut Counts<KINDS>,
 ) -> io::Result<bool> {
     for cells in SIZES {
         let seen = try_store::<C>(rt.alloc(), cells);
-        if let Ok(tally) = &seen {
-            all.add(tally);
+        if let Ok(counts) = &seen {
+            all.add(counts);
         }
         if !tell_takes(rt, store, has_same, cells, seen)? {
             return Ok(false);
@@ -83,31 +76,24 @@ fn tell_takes<R: Print>(
     store: &str,
     has_same: bool,
     cells: usize,
-    seen: Result<Tally, Wrong>,
+    seen: Result<Counts<KINDS>, Wrong>,
 ) -> io::Result<bool> {
-    let tally = match seen {
-        Ok(tally) => tally,
+    let counts = match seen {
+        Ok(counts) => counts,
         Err(wrong) => {
             println!(rt; "{store}, {cells} cells: {wrong}")?;
             return Ok(false);
         }
     };
-    let (words, same) = (tally.of(Kind::Word), tally.of(Kind::Same));
+    let (words, same) = (
+        counts.of(Kind::Word as usize),
+        counts.of(Kind::Same as usize),
+    );
     let takes = words.saturating_add(same);
     println!(rt;
         "{store}, {cells} cells: {takes} takes are the same, {words} words and {same} unchanged"
     )?;
     Ok(words > 0 && (same > 0) == has_same)
-}
-
-// Tells how often each kind of move came, and whether each did.
-fn tell_counts<R: Print>(rt: &R, all: &Tally) -> io::Result<bool> {
-    let mut each_came = true;
-    for (name, count) in NAMES.iter().zip(all.counts()) {
-        println!(rt; "{name}: {count}")?;
-        each_came = each_came && *count > 0;
-    }
-    Ok(each_came)
 }
 
 // Two threads at stores of both methods.

@@ -1,4 +1,4 @@
-use crate::random::Random;
+use trial_kit::Random;
 use world_actions::LIMIT;
 
 /// A move over a store.

@@ -1,8 +1,9 @@
+use crate::kind::{KINDS, Kind};
 use crate::player::{Move, Player};
-use crate::tally::{Kind, Tally};
 use crate::wrong::Wrong;
 use capture_core::{Capture, PlainCopy, Taken, Taker};
 use std::alloc::Global;
+use trial_kit::Counts;
 use world_actions::LIMIT;
 use world_ticks::Cells;
 
@@ -26,18 +27,18 @@ struct Trial<C: Capture> {
     image: Vec<u64>,
     // How many cells of the round were taken.
     taken: usize,
-    tally: Tally,
+    counts: Counts<KINDS>,
 }
 
 /// Makes one list of moves over a store and over the plain copy. What each take hands out of the store
 /// has to stand for the word that the plain copy hands out.
-pub fn try_store<C: Capture>(alloc: Global, cells: usize) -> Result<Tally, Wrong> {
+pub fn try_store<C: Capture>(alloc: Global, cells: usize) -> Result<Counts<KINDS>, Wrong> {
     let mut trial = Trial::<C>::new(alloc, cells)?;
     let mut player = Player::new(SEED, cells);
     for number in 0..MOVES.saturating_add(cells.saturating_mul(CELL_MOVES)) {
         trial.step(number, &mut player)?;
     }
-    Ok(trial.tally)
+    Ok(trial.counts)
 }
 
 impl<C: Capture> Trial<C> {
@@ -48,7 +49,7 @@ impl<C: Capture> Trial<C> {
             plain: PlainCopy::build(alloc, &words)?,
             image: vec![in alloc; NO_WORD; cells]?,
             taken: 0,
-            tally: Tally::new(),
+            counts: Counts::new(),
         })
     }
 
@@ -73,14 +74,19 @@ impl<C: Capture> Trial<C> {
     }
 
     fn count_write(&mut self, is_open: bool, is_again: bool) {
-        self.tally.count(if is_open {
+        let kind = if is_open {
             Kind::WriteWithin
         } else {
             Kind::WriteBetween
-        });
+        };
+        self.count(kind);
         if is_again {
-            self.tally.count(Kind::WriteAgain);
+            self.count(Kind::WriteAgain);
         }
+    }
+
+    fn count(&mut self, kind: Kind) {
+        self.counts.count(kind as usize);
     }
 
     fn write(&mut self, cell: usize, word: u64) {
@@ -95,7 +101,7 @@ impl<C: Capture> Trial<C> {
             self.store.mark();
             self.plain.mark();
             self.taken = 0;
-            self.tally.count(Kind::Mark);
+            self.count(Kind::Mark);
         }
     }
 
@@ -113,14 +119,14 @@ impl<C: Capture> Trial<C> {
     fn stands_for(&mut self, taken: Option<Taken>) -> Option<Taken> {
         match taken {
             Some(Taken::Word(word)) => {
-                self.tally.count(Kind::Word);
+                self.count(Kind::Word);
                 if let Some(old) = self.image.get_mut(self.taken) {
                     *old = word;
                 }
             }
-            Some(Taken::Same) => self.tally.count(Kind::Same),
+            Some(Taken::Same) => self.count(Kind::Same),
             None => {
-                self.tally.count(Kind::End);
+                self.count(Kind::End);
                 return None;
             }
         }

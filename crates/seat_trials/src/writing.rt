@@ -3,10 +3,10 @@ ghost use Rattle.world_ticks.specs.declared.tick.TheConstants.{TICK_MAX};
 ghost use Rattle.shared_capture.specs.declared.view.Round.{Round};
 
 use crate::fingerprint::Fingerprint;
-use crate::random::Random;
 use crate::wrong::Wrong;
 use shared_capture::{Front, Method};
 use std::alloc::Global;
+use trial_kit::Random;
 use world_actions::LIMIT;
 use world_ticks::Cells;
 

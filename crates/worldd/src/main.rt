@@ -1,18 +1,22 @@
 //! The program `worldd`: its command line, its exit statuses, and what it says of a fault.
 //!
 //! Status 0 is a run that ended well, 1 one that a fault ended, told as `fault CODE` on the standard
-//! error, and 2 a wrong command line.
+//! error and then in words, and 2 a wrong command line.
 #![tactic(auto)]
 
 ghost use Rattle.std.specs.Prelude.{◌≡◌, ◌≢◌, ◌⊎◌};
+ghost use Rattle.clap.specs.Values.{kind_of};
+
+mod ending;
+mod words;
 
 use clap::error::{Error, ErrorKind};
 use clap::{ArgMatches, Command};
+use ending::Ending;
 use std::alloc::Global;
-use std::env::{self, Env};
 use std::io;
-use std::process::ExitCode;
 use steps::run_script;
+use words::{command_words, unreadable};
 use world_actions::Refusal;
 
 /// What `worldd steps --help` says of the lines.
@@ -48,30 +52,19 @@ A line that is refused gets `- CODE`, and changes nothing:
   10 nothing is new, 11 the image keeper is down, 12 the log keeper is down,
   16 the line isn't understood, 19 the start lasts, 21 no tick numbers are left";
 
-fn main(rt: HostRuntime) -> ExitCode {
-    let words = match command_words(&rt) {
-        Ok(words) => words,
-        Err(error) => return unreadable(&rt, &error),
-    };
-    match matches_of(rt.alloc(), &words) {
-        Ok(matches) => run(&rt, &matches),
-        Err(error) => refused(&rt, &error),
+fn main(rt: HostRuntime) -> Ending {
+    match command_words(&rt) {
+        Ok(words) => answer(&rt, &words),
+        Err(error) => unreadable(&rt, &error),
     }
 }
 
-fn run<R: Input + Print + Eprint + AllocGlobal>(rt: &R, matches: &ArgMatches<'_>) -> ExitCode {
-    match matches.subcommand_name() {
-        Some("steps") => match run_script(rt.alloc(), &mut rt.reader(), &mut io::writer(rt)) {
-            Ok(()) => ExitCode::SUCCESS,
-            Err(refusal) => fault(rt, refusal),
-        },
-        _ => ExitCode::from(2),
+// Does what the words ask for.
+fn answer<R: Input + Print + Eprint + AllocGlobal>(rt: &R, words: &[String]) -> Ending {
+    match matches_of(rt.alloc(), words) {
+        Ok(matches) => run(rt, &matches),
+        Err(error) => refused(rt, &error),
     }
-}
-
-// The words of the command line, the program's name first.
-fn command_words(rt: &(impl Env + AllocGlobal)) -> io::Result<Vec<String>> {
-    env::args(rt)?.collect(rt.alloc()).map_err(io::Error::from)
 }
 
 // What the words ask for; the error has clap's text.
@@ -80,47 +73,39 @@ fn matches_of<'a>(alloc: Global, words: &'a [String]) -> Result<ArgMatches<'a>, 
         .about("Runs the script on standard input, over a world in memory")
         .after_help(STEPS_HELP);
     Command::new(alloc, "worldd")
+        .version("0.1.0")
         .about("A main-memory world server with asynchronous checkpoints")
         .subcommand_required(true)
         .subcommand(steps)?
         .try_get_matches_from(words)
 }
 
-// A command line that isn't right, or that asks for help: clap's text tells which.
-fn refused<R: Print + Eprint>(rt: &R, error: &Error) -> ExitCode {
+fn run<R: Input + Print + AllocGlobal>(rt: &R, matches: &ArgMatches<'_>) -> Ending {
+    match matches.subcommand_name() {
+        Some("steps") => {
+            Ending::of_run(run_script(rt.alloc(), &mut rt.reader(), &mut io::writer(rt)))
+        }
+        _ => Ending::Mistaken,
+    }
+}
+
+// A command line that isn't right, or that asks for help or the version: clap's text tells which.
+fn refused<R: Print + Eprint>(rt: &R, error: &Error) -> Ending
+    ensures memory { kind_of error.now ≡ ErrorKind.OutOfMemory → result ≡ Ending.Fault Refusal.NoMemory }
+    ensures told { (kind_of error.now ≡ ErrorKind.DisplayHelp) ⊎ (kind_of error.now ≡ ErrorKind.DisplayVersion)
+        → result ≡ Ending.Told }
+    ensures mistaken { kind_of error.now ≢ ErrorKind.OutOfMemory → kind_of error.now ≢ ErrorKind.DisplayHelp
+        → kind_of error.now ≢ ErrorKind.DisplayVersion → result ≡ Ending.Mistaken }
+{
     if error.kind() == ErrorKind::OutOfMemory {
-        return fault(rt, Refusal::NoMemory);
+        return Ending::Fault(Refusal::NoMemory);
     }
     let _ = error.print(rt);
-    ExitCode::from(status_of(error.kind()))
-}
-
-// The exit status of a command line that isn't run.
-fn status_of(kind: ErrorKind) -> u8
-    ensures help { (kind ≡ ErrorKind.DisplayHelp) ⊎ (kind ≡ ErrorKind.DisplayVersion) → result ≡ 0 }
-    ensures memory { kind ≡ ErrorKind.OutOfMemory → result ≡ 1 }
-    ensures mistake { kind ≢ ErrorKind.DisplayHelp → kind ≢ ErrorKind.DisplayVersion
-        → kind ≢ ErrorKind.OutOfMemory → result ≡ 2 }
-{
-    match kind {
-        ErrorKind::DisplayHelp | ErrorKind::DisplayVersion => 0,
-        ErrorKind::OutOfMemory => 1,
-        _ => 2,
+    if error.use_stderr() {
+        Ending::Mistaken
+    } else {
+        Ending::Told
     }
-}
-
-// Words that the system couldn't give.
-fn unreadable<R: Eprint>(rt: &R, error: &io::Error) -> ExitCode {
-    if error.kind() == io::ErrorKind::OutOfMemory {
-        return fault(rt, Refusal::NoMemory);
-    }
-    let _ = eprintln!(rt; "error: the command line can't be read: {error}");
-    ExitCode::from(2)
-}
-
-fn fault<R: Eprint>(rt: &R, refusal: Refusal) -> ExitCode {
-    let _ = eprintln!(rt; "fault {}", refusal.code());
-    ExitCode::from(1)
 }
 
 #[cfg(test)]

@@ -1,8 +1,110 @@
-use super::{fault, matches_of, refused};
+use super::{answer, matches_of, refused};
+use crate::ending::Ending;
+use crate::words::unreadable;
 use clap::error::Error;
-use std::process::ExitCode;
+use std::alloc::{AllocError, Allocator, Global};
+use std::cell::RefCell;
+use std::fmt::Display;
+use std::io::{self, BufRead, ErrorKind, Lines};
+use std::process::{ExitCode, Termination};
 use std::test::Fail;
 use world_actions::Refusal;
+
+// A runtime with this input, whose outputs are kept. Its standard output may be closed.
+#[derive(Drop)]
+struct Desk {
+    alloc: Global,
+    input: &'static [u8],
+    is_closed: bool,
+    output: RefCell<String>,
+    errors: RefCell<String>,
+}
+
+impl Desk {
+    fn new(rt: &HostRuntime, input: &'static [u8], is_closed: bool) -> Self {
+        Desk {
+            alloc: rt.alloc(),
+            input,
+            is_closed,
+            output: RefCell::new(String::new(rt.alloc())),
+            errors: RefCell::new(String::new(rt.alloc())),
+        }
+    }
+
+    // Adds a text and what ends it.
+    fn keep<D: Display + Drop>(
+        &self,
+        kept: &RefCell<String>,
+        text: D,
+        end: &str,
+    ) -> io::Result<()> {
+        let text = text.to_string(self.alloc)?;
+        let Ok(mut kept) = kept.try_borrow_mut() else {
+            return Err(io::Error::from(ErrorKind::ResourceBusy));
+        };
+        kept.push_str(text.as_str())?;
+        kept.push_str(end)?;
+        Ok(())
+    }
+
+    fn print_with<D: Display + Drop>(&self, text: D, end: &str) -> io::Result<()> {
+        if self.is_closed {
+            return Err(io::Error::from(ErrorKind::BrokenPipe));
+        }
+        self.keep(&self.output, text, end)
+    }
+}
+
+impl Alloc for Desk {
+    type A = Global;
+
+    fn alloc(&self) -> Global {
+        self.alloc
+    }
+}
+
+impl Input for Desk {
+    type Reader = &'static [u8];
+
+    fn read_line<A: Allocator + Clone>(&self, buf: &mut String<A>) -> io::Result<usize> {
+        self.reader().read_line(buf)
+    }
+
+    fn lines<A: Allocator>(&self, alloc: A) -> Lines<&'static [u8], A> {
+        self.reader().lines(alloc)
+    }
+
+    fn reader(&self) -> &'static [u8] {
+        self.input
+    }
+}
+
+impl Print for Desk {
+    fn print<D: Display + Drop>(&self, text: D) -> io::Result<()> {
+        self.print_with(text, "")
+    }
+
+    fn println<D: Display + Drop>(&self, text: D) -> io::Result<()> {
+        self.print_with(text, "\n")
+    }
+
+    fn write_all(&self, bytes: &[u8]) -> io::Result<()> {
+        let Ok(text) = str::from_utf8(bytes) else {
+            return Err(io::Error::from(ErrorKind::InvalidData));
+        };
+        self.print_with(text, "")
+    }
+}
+
+impl Eprint for Desk {
+    fn eprint<D: Display + Drop>(&self, text: D) -> io::Result<()> {
+        self.keep(&self.errors, text, "")
+    }
+
+    fn eprintln<D: Display + Drop>(&self, text: D) -> io::Result<()> {
+        self.keep(&self.errors, text, "\n")
+    }
+}
 
 // The words of a command line.
 fn words(rt: &HostRuntime, line: &[&str]) -> Result<Vec<String>, Fail> {
@@ -22,6 +124,52 @@ fn steps_is_a_command(rt: HostRuntime) -> Result<(), Fail> {
 }
 
 #[test]
+fn a_script_is_answered(rt: HostRuntime) -> Result<(), Fail> {
+    let desk = Desk::new(&rt, b"open plain 1\nget 0\n", false);
+    let line = words(&rt, &["worldd", "steps"])?;
+    let ending = answer(&desk, &line);
+    assert!(rt; ending == Ending::Ran && ending.report(&desk) == ExitCode::SUCCESS);
+    assert_eq!(rt; desk.output.into_inner().as_str(), "ready 0\n= 0\n");
+    assert_eq!(rt; desk.errors.into_inner().as_str(), "");
+    Ok(())
+}
+
+#[test]
+fn a_closed_output_is_a_fault(rt: HostRuntime) -> Result<(), Fail> {
+    let desk = Desk::new(&rt, b"open plain 1\n", true);
+    let line = words(&rt, &["worldd", "steps"])?;
+    let ending = answer(&desk, &line);
+    assert!(rt;
+        ending == Ending::Fault(Refusal::Device) && ending.report(&desk) == ExitCode::from(1)
+    );
+    assert_eq!(rt;
+        desk.errors.into_inner().as_str(),
+        "fault 18\nworldd: the device failed\n"
+    );
+    Ok(())
+}
+
+#[test]
+fn faults_are_told_by_code_and_in_words(rt: HostRuntime) {
+    for (refusal, text) in [
+        (
+            Refusal::BadCell,
+            "fault 1\nworldd: there is no such cell: cells are numbered from 0 to the number of cells less 1\n",
+        ),
+        (
+            Refusal::NoMemory,
+            "fault 17\nworldd: there is no memory left\n",
+        ),
+        (Refusal::Device, "fault 18\nworldd: the device failed\n"),
+    ] {
+        let desk = Desk::new(&rt, b"", false);
+        assert!(rt; Ending::Fault(refusal).report(&desk) == ExitCode::from(1));
+        assert_eq!(rt; desk.output.into_inner().as_str(), "");
+        assert_eq!(rt; desk.errors.into_inner().as_str(), text);
+    }
+}
+
+#[test]
 fn wrong_command_lines_end_with_two(rt: HostRuntime) -> Result<(), Fail> {
     let cases: [(&[&str], &str); 3] = [
         (
@@ -38,37 +186,61 @@ fn wrong_command_lines_end_with_two(rt: HostRuntime) -> Result<(), Fail> {
         ),
     ];
     for (line, text) in cases {
+        let desk = Desk::new(&rt, b"", false);
         let line = words(&rt, line)?;
-        let Err(error) = matches_of(rt.alloc(), &line) else {
-            assert!(rt; false, "the line was taken");
-            continue;
-        };
-        assert_eq!(rt; error.to_string(rt.alloc())?.as_str(), text);
-        assert!(rt; refused(&rt, &error) == ExitCode::from(2));
+        let ending = answer(&desk, &line);
+        assert!(rt; ending == Ending::Mistaken && ending.report(&desk) == ExitCode::from(2));
+        assert_eq!(rt; desk.output.into_inner().as_str(), "");
+        assert_eq!(rt; desk.errors.into_inner().as_str(), text);
+    }
+    Ok(())
+}
+
+#[test]
+fn unreadable_words_end_with_two(rt: HostRuntime) {
+    let desk = Desk::new(&rt, b"", false);
+    let ending = unreadable(&desk, &io::Error::from(ErrorKind::InvalidData));
+    assert!(rt; ending == Ending::Mistaken && ending.report(&desk) == ExitCode::from(2));
+    assert_eq!(rt;
+        desk.errors.into_inner().as_str(),
+        "error: the command line can't be read: invalid data\n"
+    );
+}
+
+#[test]
+fn the_version_is_told(rt: HostRuntime) -> Result<(), Fail> {
+    for flag in ["--version", "-V"] {
+        let desk = Desk::new(&rt, b"", false);
+        let line = words(&rt, &["worldd", flag])?;
+        let ending = answer(&desk, &line);
+        assert!(rt; ending == Ending::Told && ending.report(&desk) == ExitCode::SUCCESS);
+        assert_eq!(rt; desk.output.into_inner().as_str(), "worldd 0.1.0\n");
+        assert_eq!(rt; desk.errors.into_inner().as_str(), "");
     }
     Ok(())
 }
 
 #[test]
 fn help_ends_well(rt: HostRuntime) -> Result<(), Fail> {
+    let desk = Desk::new(&rt, b"", false);
     let line = words(&rt, &["worldd", "--help"])?;
-    let Err(error) = matches_of(rt.alloc(), &line) else {
-        assert!(rt; false, "no help was given");
-        return Ok(());
-    };
+    let ending = answer(&desk, &line);
+    assert!(rt; ending == Ending::Told && ending.report(&desk) == ExitCode::SUCCESS);
     assert!(rt;
-        error
-            .to_string(rt.alloc())?
+        desk.output
+            .into_inner()
             .as_str()
             .starts_with("A main-memory world server")
     );
-    assert!(rt; refused(&rt, &error) == ExitCode::SUCCESS);
     Ok(())
 }
 
 #[test]
-fn faults_end_with_one(rt: HostRuntime) {
-    let memory = Error::from(std::alloc::AllocError);
-    assert!(rt; refused(&rt, &memory) == ExitCode::from(1));
-    assert!(rt; fault(&rt, Refusal::Device) == ExitCode::from(1));
+fn want_of_memory_is_a_fault(rt: HostRuntime) {
+    let desk = Desk::new(&rt, b"", false);
+    let in_line = refused(&desk, &Error::from(AllocError));
+    let in_words = unreadable(&desk, &io::Error::from(AllocError));
+    assert_eq!(rt; in_line, Ending::Fault(Refusal::NoMemory));
+    assert_eq!(rt; in_words, Ending::Fault(Refusal::NoMemory));
+    assert_eq!(rt; desk.errors.into_inner().as_str(), "");
 }

@@ -334,6 +334,32 @@ fn a_full_queue_takes_no_more(rt: HostRuntime) -> Result<(), Fail> {
     Ok(())
 }
 
+// Scripts of some thousand reads: one of 2,406 bytes, given one by one, and one of 4,401 lines.
+#[test]
+fn many_reads_are_answered(rt: HostRuntime) -> Result<(), Fail> {
+    for (turns, most) in [(100u64, 1), (1100, 7)] {
+        let mut input = b"open zigzag 1\n".to_vec(rt.alloc())?;
+        let mut text = b"ready 0\n".to_vec(rt.alloc())?;
+        for turn in 1..=turns {
+            let lines = format!(in rt.alloc(); "set 0 {turn}\nget 0\nend\nlog*\n")?;
+            input.extend_from_slice(lines.as_bytes())?;
+            let answers = format!(in rt.alloc(); "+\n= {turn}\ntick {turn}\nacked {turn}\n")?;
+            text.extend_from_slice(answers.as_bytes())?;
+        }
+        let mut reader = Pieces {
+            bytes: &input,
+            most,
+            calls: 0,
+            trouble: Trouble::Never,
+        };
+        let mut out = Vec::new(rt.alloc());
+        run_script(rt.alloc(), &mut reader, &mut out)?;
+        assert!(rt; reader.calls > 2000);
+        assert_eq!(rt; out.as_slice(), text.as_slice());
+    }
+    Ok(())
+}
+
 #[test]
 fn interrupted_calls_are_tried_again(rt: HostRuntime) {
     let mut reader = Pieces {
