@@ -1,4 +1,5 @@
 pub mod Reading
+pub mod Command
+-- inside: for private functions alone
 pub mod Number
 pub mod Word
-pub mod Command

@@ -1,3 +1,5 @@
+-- Inside: for the proofs of this crate's private functions.
+-- What separates words.
 use Rattle.std.specs.Prelude.{◌≢◌, ℕ, List, All}
 
 -- no byte is a space

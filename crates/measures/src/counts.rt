@@ -1,6 +1,5 @@
-use crate::measuring::CELLS;
+use crate::measuring::{CELLS, zeros};
 use crate::moves::write_at_random;
-use crate::plain_vector::zeros;
 use crate::seats::Seats;
 use crate::store::Store;
 use anyhow::Error;

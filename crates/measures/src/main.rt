@@ -9,7 +9,6 @@ mod figures;
 mod measuring;
 mod moves;
 mod pair_speed;
-mod plain_vector;
 mod report;
 mod seats;
 mod store;

@@ -1,6 +1,8 @@
+ghost use Rattle.std.specs.Prelude.{◌≡◌, length, All, IfOk};
+ghost use Rattle.world_actions.specs.World.{IsWord};
+
 use crate::figures::{Figures, clock_time};
 use crate::pair_speed::{PairSpeed, time_pair};
-use crate::plain_vector::{PlainVector, zeros};
 use crate::seats::Seats;
 use crate::store::Store;
 use crate::times::Times;
@@ -8,13 +10,22 @@ use anyhow::Error;
 use capture_core::{Capture, PlainCopy};
 use ping_pong::PingPong;
 use shared_capture::{ping_pong_pair, zigzag_pair};
-use std::alloc::Global;
+use std::alloc::{AllocError, Global};
 use std::thread::Threads;
 use std::time::Clock;
+use world_ticks::Words;
 use zigzag::Zigzag;
 
 /// The cells of each store that is measured.
 pub const CELLS: usize = 65_536;
+
+/// So many words, each 0.
+pub fn zeros(alloc: Global, cells: usize) -> Result<Vec<u64>, AllocError>
+    ensures limit { IfOk result (λ words. All IsWord words.items) }
+    ensures cells { IfOk result (λ words. length words.items ≡ cells) }
+{
+    vec![in alloc; 0; cells]
+}
 
 /// How often each store is measured, one after the other.
 const TURNS: u32 = 9;
@@ -66,7 +77,7 @@ impl AllFigures {
 
     fn measure_owned<R: Clock>(&mut self, rt: &R, alloc: Global, clock: u64) -> Result<(), Error> {
         let words = zeros(alloc, CELLS)?;
-        let mut vector = PlainVector::new(zeros(alloc, CELLS)?);
+        let mut vector = Words::new(zeros(alloc, CELLS)?);
         self.vector.time_cells(rt, &mut vector)?;
         let mut plain_copy = PlainCopy::build(alloc, &words)?;
         measure(rt, clock, &mut self.plain_copy, &mut plain_copy)?;

@@ -10,14 +10,18 @@ use Rattle.image_files.specs.Image.{Image, Closed, Bad, Open}
 use Rattle.recovery.specs.Sound.{IsWorldAt, HoldsWorld}
 use Rattle.image_files.specs.Images.{Images, Round}
 use Rattle.action_log.specs.Logs.{Logs}
-use Rattle.recovery.specs.Follow.{FollowsFrom, IsRoundOf, ImagesFollow, Reaches, LeadsTo, IsSwitchOf, LogsFollow, round_tick, base_in, coming, RiseFrom, BeginFrom}
+use Rattle.recovery.specs.Follow.{FollowsFrom, IsRoundOf, ImagesFollow, Reaches, LeadsTo, LogsFollow, round_tick, base_in, coming, RiseFrom, BeginFrom}
 use Rattle.recovery.specs.Events.{ticks_in, switches_in, with_work, AreNumbered, IsSwitchFirst, HasUpTo}
 use Rattle.action_log.specs.declared.record.Record.{Record}
 use Rattle.action_log.specs.declared.record.Record.TheVariants as records
 use Rattle.world_ticks.specs.Tick.{Actions}
 use Rattle.action_log.specs.Queue.{StandBefore}
 use Rattle.recovery.proofs.Replay.{follows_on}
-use Rattle.recovery.proofs.Law.{Reached, reached_newer}
+use Rattle.recovery.proofs.Law.{IsSwitchOf, Reached, reached_newer}
+
+-- a round begins
+abbrev pub with_round_begun : Images → ℕ → Images
+with_round_begun images tick = record images { round = Some (record { tick = tick; taken = [] }) }
 
 -- the round in work is opened
 abbrev pub with_round_opened : Images → Round → Images

@@ -7,24 +7,16 @@ use Rattle.world_ticks.specs.After.{and_then, after_actions, after_ticks}
 use Rattle.capture_core.specs.declared.taker.Taken.{Taken}
 use Rattle.image_files.specs.declared.phase.ImageAnswer.{ImageAnswer}
 use Rattle.image_files.specs.declared.phase.ImageAnswer.TheVariants as answer
-use Rattle.image_files.specs.Images.{Round, Images, ImagesAre, ImageFiles, Newest, round_in, with_cell, with_taken, StepsImages}
-use Rattle.action_log.specs.Logs.{Logs, LogsAre}
+use Rattle.image_files.specs.Images.{Round, Images, ImageFiles, Newest, round_in, with_cell, with_taken, with_round, StepsImages}
+use Rattle.action_log.specs.Logs.{Logs}
 use Rattle.recovery.specs.Recovery.{words_after}
-use Rattle.recovery.specs.Sound.{IsSound}
 use Rattle.recovery.specs.Follow.{IsRoundOf, round_tick, base_in, coming, RiseFrom, BeginFrom, FollowMarks}
-use Rattle.recovery.specs.Events.{ticks_in, switches_in, with_work, with_round_begun, IsKept}
+use Rattle.recovery.specs.Events.{ticks_in, switches_in, with_work, IsKept}
 use Rattle.action_log.specs.declared.record.Record.{Record}
 use Rattle.action_log.specs.declared.record.Record.TheVariants as records
 use Rattle.world_ticks.specs.Tick.{Actions}
 use Rattle.recovery.proofs.Replay.{words_after-append}
-use Rattle.recovery.proofs.Law.{files_are_sound}
-use Rattle.recovery.proofs.Events.{with_round_opened, logs_later, has_later, coming_more, bases_more, rising_more, begin_more, mark_numbered, tick_numbered, has_more, end_images, end_logs, opened_follows}
-
-pub kept_is_sound : (image_a image_b log_a log_b : List ℕ → Type 0)
-    → (cells : ℕ) (ticks : List (List Action)) (acknowledged : ℕ) (images : Images) (logs : Logs) (queue : List Record)
-    → IsKept cells ticks acknowledged images logs queue → ImagesAre cells images image_a image_b → LogsAre logs log_a log_b → IsSound image_a image_b log_a log_b cells ticks acknowledged
-kept_is_sound image_a image_b log_a log_b cells ticks acknowledged images logs queue k ai al =
-    files_are_sound image_a image_b log_a log_b cells ticks acknowledged k.last images logs (switches_in queue) k.accepted k.images_follow k.logs_follow k.follow_marks ai al
+use Rattle.recovery.proofs.Events.{with_round_begun, with_round_opened, logs_later, has_later, coming_more, bases_more, rising_more, begin_more, mark_numbered, tick_numbered, has_more, end_images, end_logs, opened_follows}
 
 -- ---- a tick ends
 
@@ -88,10 +80,10 @@ mark_follows later images logs mark m none above taken =
       in_order = subst (BeginFrom (logs.base + length (logs.kept ++ logs.pending))) more (begin_more (logs.base + length (logs.kept ++ logs.pending)) mark (coming logs.switch later) taken m.in_order);
     }
 
-pub mark_is_made : (cells : ℕ) (ticks : List (List Action)) (acknowledged : ℕ) (images : Images) (logs : Logs) (queue : List Record)
+marked : (cells : ℕ) (ticks : List (List Action)) (acknowledged : ℕ) (images : Images) (logs : Logs) (queue : List Record)
     → IsKept cells ticks acknowledged images logs queue → images.round ≡ None → images.tick < length ticks
     → IsKept cells ticks acknowledged (with_round_begun images (length ticks)) logs (queue ++ records.Switch (length ticks) ∷ [])
-mark_is_made cells ticks acknowledged images logs queue k none above =
+marked cells ticks acknowledged images logs queue k none above =
     let count : length ticks ≡ k.taken + length (ticks_in queue) = omega (arith, ap length k.left, length-drop k.taken ticks, k.some_taken) in
     record {
       some_cells = k.some_cells;
@@ -106,6 +98,13 @@ mark_is_made cells ticks acknowledged images logs queue k none above =
       numbered = mark_numbered logs.switch k.taken (length ticks) queue count k.numbered;
       has = has_more logs k.taken images.tick logs.switch queue (records.Switch (length ticks)) k.has;
     }
+
+pub mark_is_made : (cells : ℕ) (ticks : List (List Action)) (acknowledged : ℕ) (images next : Images) (logs : Logs) (queue : List Record)
+    → IsKept cells ticks acknowledged images logs queue → images.round ≡ None → images.tick < length ticks → with_round (length ticks) (Newest images) ≡ Newest next
+    → IsKept cells ticks acknowledged next logs (queue ++ records.Switch (length ticks) ∷ [])
+mark_is_made cells ticks acknowledged images next logs queue k none above is =
+    let same : with_round_begun images (length ticks) ≡ next = cc in
+    subst (λ i. IsKept cells ticks acknowledged i logs (queue ++ records.Switch (length ticks) ∷ [])) same (marked cells ticks acknowledged images logs queue k none above)
 
 -- ---- a step of the image keeper
 

@@ -1,5 +1,6 @@
 -- The law of recovery: what the two keepers say of their files makes the four of them sound.
 use Rattle.std.proofs.Common.{◌≡◌, ℕ, ◌+◌, ◌<◌, ◌≤◌, ◌⊎◌, inl, inr, Bool, true, false, cond, ltb, ◌||◌, List, [], ◌∷◌, ◌++◌, length, take, drop, Option, Some, None, Ok, Err, refl, sym, ap, subst, ◌∙◌, arith, eq-eqb}
+use Rattle.std.specs.Prelude.{IfSome}
 use Rattle.std.proofs.lemmas.Bool.{eqb-true, cond-true, cond-false, le-ltb, lt-ltb, cases_lt}
 use Rattle.std.proofs.lemmas.List.{append_assoc, length-append, length-take, length-drop}
 use Rattle.world_actions.specs.declared.refusal.Refusal.TheVariants.{BadImage, BadLog}
@@ -14,11 +15,15 @@ use Rattle.recovery.specs.Sound.{IsWorldAt, HoldsWorld, IsSoundReading, IsSound}
 use Rattle.file_format.specs.Slot.{in_slot, beside_slot}
 use Rattle.image_files.specs.Images.{Round, Images, IsTarget, ImagesAre}
 use Rattle.action_log.specs.Logs.{Logs, IsCurrent, IsOther, LogsAre}
-use Rattle.recovery.specs.Follow.{FollowsFrom, IsRoundOf, ImagesFollow, Reaches, LeadsTo, IsSwitchOf, LogsFollow, round_tick, base_in, coming, RiseFrom, BeginFrom, FollowMarks}
+use Rattle.recovery.specs.Follow.{FollowsFrom, IsRoundOf, ImagesFollow, Reaches, LeadsTo, LogsFollow, round_tick, base_in, coming, RiseFrom, BeginFrom, FollowMarks}
 use Rattle.recovery.proofs.Replay.{world_on, follows_on, follows_front}
 use Rattle.recovery.proofs.Tails.{IsBehind, closed_behind, earlier_behind, next_behind, tail_here, tail_past, tail_before, IsTail, other_order}
 
 -- ---- the log
+
+-- the current segment leads to the switch in work, which comes in no group
+abbrev pub IsSwitchOf : (newest : ℕ) → Logs → Option ℕ → Type 0
+IsSwitchOf newest logs switch = IfSome switch (λ tick. (logs.base < tick) × (logs.pending ≡ []) × Reaches (logs.base + length logs.kept) tick newest)
 
 -- from an image of this tick the log leads on: the current segment begins there, or the log is behind it, or
 -- the other segment, which no switch has touched, begins there

@@ -8,7 +8,7 @@ use Rattle.file_format.specs.declared.slot.Slot.TheVariants.{A}
 use Rattle.image_files.specs.Image.{Closed}
 use Rattle.image_files.specs.declared.phase.ImageAnswer.{ImageAnswer}
 use Rattle.image_files.specs.declared.phase.ImageAnswer.TheVariants as answer
-use Rattle.image_files.specs.Images.{Round, Images, ImagesAre, FirstImages, ImageFiles, NoneYet, Newest, round_in, with_cell, with_taken, StepsImages}
+use Rattle.image_files.specs.Images.{Round, Images, ImagesAre, FirstImages, ImageFiles, NoneYet, Newest, round_in, with_cell, with_taken, with_round, StepsImages}
 use Rattle.action_log.specs.Logs.{started, Start, StartLogsAre, InStart, Writing, LogPlace}
 use Rattle.action_log.specs.LogSteps.{StartStep}
 use Rattle.action_log.specs.declared.record.LogAnswer.{LogAnswer}
@@ -16,10 +16,10 @@ use Rattle.action_log.specs.declared.record.LogAnswer.TheVariants as log_answer
 use Rattle.recovery.specs.Recovery.{words_after, tail, is_bad_segment}
 use Rattle.recovery.specs.Sound.{IsWorldAt, IsSound}
 use Rattle.recovery.specs.Follow.{IsRoundOf, round_tick}
-use Rattle.recovery.specs.Start.{IsStartRound, IsStarting, IsFirstRound, FirstFollows}
-use Rattle.recovery.specs.Events.{with_round_begun, IsKept}
-use Rattle.recovery.proofs.Starting.{start_is_sound}
-use Rattle.recovery.proofs.Events.{with_round_opened, opened_follows}
+use Rattle.recovery.specs.Start.{IsStarting, IsFirstRound, FirstFollows}
+use Rattle.recovery.specs.Events.{IsKept}
+use Rattle.recovery.proofs.Starting.{IsStartRound, start_is_sound}
+use Rattle.recovery.proofs.Events.{with_round_begun, with_round_opened, opened_follows}
 use Rattle.recovery.proofs.Restart.{zeros_at}
 
 pub starting_is_sound : (image_a image_b log_a log_b : List ℕ → Type 0)
@@ -28,16 +28,18 @@ pub starting_is_sound : (image_a image_b log_a log_b : List ℕ → Type 0)
 starting_is_sound image_a image_b log_a log_b cells ticks acknowledged images from start s ai al =
     start_is_sound image_a image_b log_a log_b cells ticks acknowledged s.last images from start s.accepted s.images_follow s.start_follows ai al
 
-pub start_round_begins : (cells : ℕ) (ticks : List (List Action)) (acknowledged : ℕ) (images : Images) (from : ℕ) (start : Start)
-    → 1 ≤ cells → IsStarting cells ticks acknowledged images from start → images.tick < start.tick → IsStarting cells ticks acknowledged (with_round_begun images start.tick) from start
-start_round_begins cells ticks acknowledged images from start some s below =
+pub start_round_begins : (cells : ℕ) (ticks : List (List Action)) (acknowledged : ℕ) (images next : Images) (from : ℕ) (start : Start)
+    → 1 ≤ cells → IsStarting cells ticks acknowledged images from start → images.tick < start.tick → with_round start.tick (Newest images) ≡ Newest next → IsStarting cells ticks acknowledged next from start
+start_round_begins cells ticks acknowledged images next from start some s below is =
     let f = s.start_follows in
-    record {
+    let same : with_round_begun images start.tick ≡ next = cc in
+    let begun : IsStarting cells ticks acknowledged (with_round_begun images start.tick) from start = record {
       last = s.last;
       accepted = s.accepted;
       images_follow = record { newest = s.images_follow.newest; before = s.images_follow.before; round = (below, λ full. absurd (omega (arith, full, some))) };
       start_follows = record { whole = f.whole; ahead = f.ahead; ends = f.ends; replays = f.replays; a_formed = f.a_formed; b_formed = f.b_formed; acknowledges = f.acknowledges; image = f.image; round = refl };
-    }
+    } in
+    subst (λ i. IsStarting cells ticks acknowledged i from start) same begun
 
 -- the round in work has another word, and the same tick
 start_words : (cells : ℕ) (ticks : List (List Action)) (acknowledged : ℕ) (images : Images) (from : ℕ) (start : Start) (round : Round) (taken : List ℕ)

@@ -4,7 +4,7 @@ use Rattle.std.proofs.lemmas.List.{append-nil, length-append, length-drop, drop_
 use Rattle.world_actions.specs.declared.action.Action.{Action}
 use Rattle.image_files.specs.Images.{Images}
 use Rattle.action_log.specs.Logs.{Logs}
-use Rattle.recovery.specs.Follow.{FollowsFrom, Reaches, IsSwitchOf, round_tick, base_in, coming, RiseFrom, BeginFrom}
+use Rattle.recovery.specs.Follow.{FollowsFrom, Reaches, round_tick, base_in, coming, RiseFrom, BeginFrom}
 use Rattle.recovery.specs.Events.{ticks_in, switches_in, with_work, AreNumbered, HasUpTo, IsKept, acknowledged_after, ReceiptIs}
 use Rattle.action_log.specs.Logs.{switched_to}
 use Rattle.action_log.specs.LogSteps.{is_idle, GoesOn, EndsSwitch, Acknowledges, LogsStep}
@@ -14,7 +14,7 @@ use Rattle.action_log.specs.declared.record.Record.{Record}
 use Rattle.action_log.specs.declared.record.Record.TheVariants as records
 use Rattle.action_log.specs.Queue.{StandBefore}
 use Rattle.recovery.proofs.Replay.{follows_front}
-use Rattle.recovery.proofs.Law.{Reached, reached_more, begins}
+use Rattle.recovery.proofs.Law.{IsSwitchOf, Reached, reached_more, begins}
 use Rattle.recovery.proofs.Events.{with_group, with_group_kept, with_switch, reached_max, first_switch, group_at, group_numbered, group_switches, group_ticks, group_follows, bases_done}
 
 idle_count : (logs : Logs) → logs.pending ≡ [] → logs.base + length (logs.kept ++ logs.pending) ≡ logs.base + length logs.kept

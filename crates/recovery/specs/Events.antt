@@ -6,13 +6,12 @@ use Rattle.action_log.specs.declared.record.Record.TheVariants as records
 use Rattle.action_log.specs.declared.record.LogAnswer.{LogAnswer}
 use Rattle.action_log.specs.declared.record.LogAnswer.TheVariants as log_answer
 use Rattle.world_ticks.specs.Tick.{Actions}
-use Rattle.action_log.specs.Logs.{Logs, LogsAre, started, Start, StartLogsAre, InStart, Writing, LogPlace}
+use Rattle.action_log.specs.Logs.{Logs, started, Start, InStart, Writing, LogPlace}
 use Rattle.action_log.specs.LogSteps.{LogsStep, StartStep}
 use Rattle.image_files.specs.declared.phase.ImageAnswer.{ImageAnswer}
-use Rattle.image_files.specs.Images.{Images, ImagesAre, FirstImages, ImageFiles, NoneYet, Newest, round_in, StepsImages}
+use Rattle.image_files.specs.Images.{Images, FirstImages, ImageFiles, NoneYet, Newest, round_in, with_round, StepsImages}
 use Rattle.capture_core.specs.declared.taker.Taken.{Taken}
 use Rattle.world_ticks.specs.After.{after_actions, after_ticks}
-use Rattle.recovery.specs.Sound.{IsSound}
 use Rattle.recovery.specs.Start.{IsStarting, IsFirstRound, FirstFollows}
 use Rattle.recovery.specs.Follow.{IsRoundOf, ImagesFollow, LogsFollow, FollowMarks}
 
@@ -41,9 +40,8 @@ AreNumbered taken (records.Switch number ∷ queue) = (number ≡ taken) × AreN
 
 -- a switch comes first
 abbrev pub IsSwitchFirst : List Record → Type 0
-IsSwitchFirst [] = ⊥
-IsSwitchFirst (records.Tick tick ∷ queue) = ⊥
 IsSwitchFirst (records.Switch number ∷ queue) = Unit {0}
+IsSwitchFirst queue = ⊥
 
 -- The segment and the group in work have all ticks up to this one; or no group is in work, the ticks that the segment
 -- lacks are in the newest image, and a switch comes next.
@@ -51,10 +49,6 @@ abbrev pub HasUpTo : Logs → (taken newest : ℕ) → List Record → Type 0
 HasUpTo logs taken newest queue =
     (logs.base + length (logs.kept ++ logs.pending) ≡ taken)
     ⊎ ((logs.pending ≡ []) × (logs.base + length logs.kept ≤ taken) × (taken ≤ newest) × IsSwitchFirst queue)
-
--- a round begins
-abbrev pub with_round_begun : Images → ℕ → Images
-with_round_begun images tick = record images { round = Some (record { tick = tick; taken = [] }) }
 
 -- What is kept between any two events after a start: all ended ticks were accepted, the data of both keepers follow
 -- them and one another, and the queue has what the log has still to take.
@@ -73,13 +67,6 @@ pub record IsKept (cells : ℕ) (ticks : List (List Action)) (acknowledged : ℕ
 
 -- ---- the events
 
--- what is kept is enough for the law of recovery
-abbrev pub KeptIsSound : (image_a image_b log_a log_b : List ℕ → Type 0) → Type 0
-KeptIsSound image_a image_b log_a log_b =
-    (cells : ℕ) (ticks : List (List Action)) (acknowledged : ℕ) (images : Images) (logs : Logs) (queue : List Record)
-    → IsKept cells ticks acknowledged images logs queue → ImagesAre cells images image_a image_b → LogsAre logs log_a log_b
-    → IsSound image_a image_b log_a log_b cells ticks acknowledged
-
 -- a tick ends whose actions are all accepted, and is queued
 abbrev pub TickEnds : Type 0
 TickEnds =
@@ -91,9 +78,10 @@ TickEnds =
 -- it, and its switch is queued
 abbrev pub MarkIsMade : Type 0
 MarkIsMade =
-    (cells : ℕ) (ticks : List (List Action)) (acknowledged : ℕ) (images : Images) (logs : Logs) (queue : List Record)
+    (cells : ℕ) (ticks : List (List Action)) (acknowledged : ℕ) (images next : Images) (logs : Logs) (queue : List Record)
     → IsKept cells ticks acknowledged images logs queue → images.round ≡ None → images.tick < length ticks
-    → IsKept cells ticks acknowledged (with_round_begun images (length ticks)) logs (queue ++ records.Switch (length ticks) ∷ [])
+    → with_round (length ticks) (Newest images) ≡ Newest next
+    → IsKept cells ticks acknowledged next logs (queue ++ records.Switch (length ticks) ∷ [])
 
 -- a step of the image keeper, whose round is the world after its tick once all cells are taken
 abbrev pub ImageStepKeeps : {S : Type 0} → (S → Option Taken → S → Type 0) → Type 0
@@ -106,10 +94,8 @@ ImageStepKeeps {S = S} took =
 
 -- what is acknowledged after a step of the log keeper: the greatest number in a receipt
 abbrev pub acknowledged_after : ℕ → LogAnswer → ℕ
-acknowledged_after acknowledged log_answer.Idle = acknowledged
-acknowledged_after acknowledged log_answer.Working = acknowledged
 acknowledged_after acknowledged (log_answer.Acked number) = max acknowledged number
-acknowledged_after acknowledged log_answer.Down = acknowledged
+acknowledged_after acknowledged answer = acknowledged
 
 -- a step of the log keeper
 abbrev pub LogStepKeeps : Type 0
@@ -121,10 +107,8 @@ LogStepKeeps =
 
 -- the number in a receipt is that of the ended ticks, less those that still wait
 abbrev pub ReceiptIs : LogAnswer → (ticks : List (List Action)) → (left : List Record) → Type 0
-ReceiptIs log_answer.Idle ticks left = Unit {0}
-ReceiptIs log_answer.Working ticks left = Unit {0}
 ReceiptIs (log_answer.Acked number) ticks left = number + length (ticks_in left) ≡ length ticks
-ReceiptIs log_answer.Down ticks left = Unit {0}
+ReceiptIs answer ticks left = Unit {0}
 
 -- each step's receipt is exact
 abbrev pub ReceiptIsExact : Type 0
@@ -135,19 +119,12 @@ ReceiptIsExact =
 
 -- ---- the events of a start
 
--- what is kept in a start is enough for its law
-abbrev pub StartingIsSound : (image_a image_b log_a log_b : List ℕ → Type 0) → Type 0
-StartingIsSound image_a image_b log_a log_b =
-    (cells : ℕ) (ticks : List (List Action)) (acknowledged : ℕ) (images : Images) (from : ℕ) (start : Start)
-    → IsStarting cells ticks acknowledged images from start → ImagesAre cells images image_a image_b → StartLogsAre start log_a log_b
-    → IsSound image_a image_b log_a log_b cells ticks acknowledged
-
 -- where the log was ahead of the image, the round of the recovered tick begins
 abbrev pub StartRoundBegins : Type 0
 StartRoundBegins =
-    (cells : ℕ) (ticks : List (List Action)) (acknowledged : ℕ) (images : Images) (from : ℕ) (start : Start)
+    (cells : ℕ) (ticks : List (List Action)) (acknowledged : ℕ) (images next : Images) (from : ℕ) (start : Start)
     → 1 ≤ cells → IsStarting cells ticks acknowledged images from start → images.tick < start.tick
-    → IsStarting cells ticks acknowledged (with_round_begun images start.tick) from start
+    → with_round start.tick (Newest images) ≡ Newest next → IsStarting cells ticks acknowledged next from start
 
 -- a step of the image keeper
 abbrev pub StartImageStepKeeps : {S : Type 0} → (S → Option Taken → S → Type 0) → Type 0

@@ -1,5 +1,5 @@
 -- How the data of the two keepers follow the ticks that have ended, and the law that makes their files sound.
-use Rattle.std.specs.Prelude.{◌≡◌, ℕ, ◌+◌, ◌<◌, ◌≤◌, List, [], ◌∷◌, ◌++◌, ◌⊎◌, length, take, drop, Option, Some, None, Ok}
+use Rattle.std.specs.Prelude.{◌≡◌, ℕ, ◌+◌, ◌<◌, ◌≤◌, List, [], ◌∷◌, ◌++◌, ◌⊎◌, length, take, drop, Option, Some, None, IfSome, Ok}
 use Rattle.world_actions.specs.declared.action.Action.{Action}
 use Rattle.world_ticks.specs.After.{after_ticks}
 use Rattle.image_files.specs.Images.{Round, Images, ImagesAre}
@@ -34,17 +34,13 @@ LeadsTo ticks newest base ClosedSegment = Unit {0}
 LeadsTo ticks newest base MalformedSegment = ⊥
 LeadsTo ticks newest base (OpenSegment earlier before) = (earlier < base) × FollowsFrom ticks earlier before × Reaches (earlier + length before) base newest
 
--- the current segment leads to the switch in work, which comes in no group
-abbrev pub IsSwitchOf : (newest : ℕ) → Logs → Option ℕ → Type 0
-IsSwitchOf newest logs None = Unit {0}
-IsSwitchOf newest logs (Some tick) = (logs.base < tick) × (logs.pending ≡ []) × Reaches (logs.base + length logs.kept) tick newest
-
--- the ticks of both segments are those that have ended, and all acknowledged ones are kept or in the newest image
+-- The ticks of both segments are those that have ended, and all acknowledged ones are kept or in the newest image. The
+-- current segment leads to the switch in work, which comes in no group.
 pub record LogsFollow (ticks : List (List Action)) (acknowledged newest : ℕ) (logs : Logs) : Type 0 where
   pub taken : FollowsFrom ticks logs.base (logs.kept ++ logs.pending)
   pub acknowledges : (acknowledged ≤ logs.base + length logs.kept) ⊎ (acknowledged ≤ newest)
   pub before : LeadsTo ticks newest logs.base logs.before
-  pub switch : IsSwitchOf newest logs logs.switch
+  pub switch : IfSome logs.switch (λ tick. (logs.base < tick) × (logs.pending ≡ []) × Reaches (logs.base + length logs.kept) tick newest)
 
 -- the tick of the round in work, if there is one
 abbrev pub round_tick : Option Round → List ℕ
@@ -53,9 +49,8 @@ round_tick (Some round) = round.tick ∷ []
 
 -- the base of an open segment
 abbrev pub base_in : Segment → List ℕ
-base_in ClosedSegment = []
-base_in MalformedSegment = []
 base_in (OpenSegment base ticks) = base ∷ []
+base_in segment = []
 
 -- the switch in work, and those that come later
 abbrev pub coming : Option ℕ → List ℕ → List ℕ

@@ -1,7 +1,7 @@
 -- What the back keeps of its own stays what its seat knows.
 use Rattle.std.proofs.Common.{◌≡◌, ◌≢◌, ℕ, suc, zero, ◌+◌, ◌-◌, ◌<◌, ◌≤◌, ◌/◌, ◌%◌, Bool, List, [], ◌∷◌, ◌++◌, length, replicate, get_or, Option, Some, None, sym, refl, ap, ◌∙◌, subst, ⊎_elim, arith, true, false, not, length-append, append_assoc, append-nil}
 use Rattle.std.proofs.lemmas.List.{length-replicate}
-use Rattle.std.proofs.lemmas.Option.{get_or_from_slice_get, slice_get_within, slice_get-get_or}
+use Rattle.std.proofs.lemmas.Option.{slice_get-get_or}
 use Rattle.std.specs.List.{slice_get}
 use Rattle.std.proofs.lemmas.Bool.{true≢false}
 use mathlib.Core.Logic.{dite}
@@ -20,7 +20,7 @@ use Rattle.shared_capture.specs.Methods.{is_word}
 use Rattle.shared_capture.specs.Rounds.{flag_at, padded, Agree, IsTakenOf, snapshots_as}
 use Rattle.shared_capture.specs.Table.{HasCells}
 use Rattle.shared_capture.specs.Start.{back_start}
-use Rattle.shared_capture.specs.Steps.{back_of, after_look, looked_as, after_fetch, after_known, after_finish, front_of}
+use Rattle.shared_capture.specs.Steps.{back_of, after_look, looked_as, after_known, front_of}
 use Rattle.shared_capture.specs.Meeting.{met_as, after_meet, Met}
 use Rattle.shared_capture.specs.Seats.{TableSeat, IsBack, IsBackOf, IsSame, IsFetched, IsFront, IsSeated}
 use Rattle.shared_capture.specs.States.{snapshots, back_state}
@@ -54,35 +54,6 @@ padded_past l i le = (let e : i - length l ≡ 0 = omega arith in ap (λ (z : �
 pub padded_taken : (i : ℕ) (t : Taken) (b : BackView) → length b.now.taken ≤ i → padded (i + 1) (after_known i t b).now.taken ≡ padded i b.now.taken ++ t ∷ []
 padded_taken i (Word v) b le = padded_past (padded i b.now.taken ++ Word v ∷ []) (i + 1) (omega (arith, length-append (padded i b.now.taken) (Word v ∷ []), length-padded b.now.taken i le))
 padded_taken i Same b le = padded_more b.now.taken i le
-
--- ## Marks fetched
-
-marked_longer : (marks : List ℕ) (m j : ℕ) → j / 64 < length marks → marked (marks ++ m ∷ []) j ≡ marked marks j
-marked_longer marks m j l = ap (λ (z : ℕ). is_set z (j % 64)) (Rattle.std.proofs.lemmas.List.get_or_append_left marks (m ∷ []) 0 (j / 64) l)
-
-pub fetched_now : (t : TableId) (i m : ℕ) (b : BackView) (seat : TableSeat) → i % 64 ≡ 0 → length b.marks ≡ chunks i → IsBack t (after_fetch m b) seat → IsFetched i m b (back_of seat.me.0)
-fetched_now t i m b seat first long k = subst (λ (z : BackView). IsFetched i m b z) (sym (back_view t (after_fetch m b) seat k)) record {
-  now = refl;
-  same = (refl, refl, refl, refl, refl);
-  steps = omega arith;
-  fetched = length-append b.marks (m ∷ []) ∙ omega (arith, long);
-  mark_is = at_last b.marks m (i / 64) (omega (arith, long));
-  others = λ j l. marked_longer b.marks m j (omega (arith, long));
-}
-
-pub fetched_before : (i m : ℕ) (b : BackView) → i % 64 ≢ 0 → length b.marks ≡ chunks i → slice_get b.marks (i / 64) ≡ Some m → IsFetched i m b b
-fetched_before i m b later long is = record {
-  now = refl;
-  same = (refl, refl, refl, refl, refl);
-  steps = omega arith;
-  fetched = long ∙ omega arith;
-  mark_is = is;
-  others = λ j l. refl;
-}
-
--- the mark of a cell whose mark word this is
-pub mark_known : (marks : List ℕ) (i m : ℕ) → slice_get marks (i / 64) ≡ Some m → (marked marks i ≡ is_set m (i % 64)) × (i / 64 < length marks)
-mark_known marks i m is = (ap (λ (z : ℕ). is_set z (i % 64)) (get_or_from_slice_get marks (i / 64) m 0 is), slice_get_within marks (i / 64) m is)
 
 -- ## What the back keeps
 
@@ -131,20 +102,6 @@ module _ (kind : Kind) (t : TableId) (n : ℕ) (seat new : TableSeat) (cells tic
         fetched = ap length marks ∙ k.fetched;
         mark_is = λ p. ap (λ (z : List ℕ). slice_get z ((at + 1) / 64)) marks ∙ (let e : (at + 1) / 64 ≡ at / 64 = omega arith in ap (slice_get c.marks) e ∙ k.mark_is);
       }
-
-  pub back_finished : 0 < tick → at ≡ n → IsBack t (after_finish b) new → (m : ℕ) → IsBackOf kind t n new cells 0 0 m (not current)
-  back_finished some all sits m = let is = back_view t (after_finish b) new sits in record {
-    sits = resits_back t (after_finish b) new sits;
-    has = ok.has;
-    cells_are = (ap (λ (z : BackView). z.cells) is ∙ ok.cells_are.0, ok.cells_are.1);
-    current_is = ap (λ (z : BackView). z.current) is ∙ ap not ok.current_is;
-    idle = λ _. (ap (λ (z : BackView). z.working) is, refl);
-    busy = λ p. absurd (omega arith);
-    within = omega arith;
-    known = subst (IsSame kind 0) (sym is) record { most = omega arith; fetched = omega arith; same = λ j l p. absurd (omega arith) };
-    fetched = ap (λ (z : BackView). length z.marks) is;
-    mark_is = λ p. absurd (omega arith);
-  }
 
   pub back_looked : (found : ℕ) → tick ≡ 0 → IsBack t (after_look found b) new → IsBackOf kind t n new cells found at mark current
   back_looked found none sits = go (Rattle.std.proofs.Common.eqb found 0) refl

@@ -69,17 +69,9 @@ one_more : (x : Bool) (f : FrontState) (b : BackState) → KnowsOpen x f b → b
 one_more true f b k w = absurd (true≢false (sym w ∙ k.1))
 one_more false f b k w = k.0
 
-even_closed : (x : Bool) (f : FrontState) (b : BackState) → KnowsOpen x f b → length f.rounds ≡ length b.done → x ≡ true
-even_closed true f b k e = refl
-even_closed false f b k e = absurd (omega (arith, k.0))
-
 odd_open : (x : Bool) (f : FrontState) (b : BackState) → KnowsOpen x f b → length f.rounds ≡ length b.done + 1 → b.working ≡ true
 odd_open true f b k e = absurd (omega (arith, k.0))
 odd_open false f b k e = k.1
-
-idle_closed : (x : Bool) (f : FrontState) (b : BackState) → KnowsOpen x f b → b.working ≡ false → x ≡ true
-idle_closed true f b k e = refl
-idle_closed false f b k e = absurd (true≢false (sym k.1 ∙ e))
 
 closed_even : (x : Bool) (f : FrontState) (b : BackState) → KnowsOpen x f b → x ≡ true → (length f.rounds ≡ length b.done) × (b.working ≡ false)
 closed_even true f b k e = k
@@ -167,31 +159,6 @@ module _ (f : FrontState) (b : BackState) (ok : IsJoined f b) where
           rest = ap (λ (l : List (Option ℕ)). record (content_of f b) { left = l })
               ((ap (λ (w : Bool). left_as w (length c.now.taken) last) on ∙ ap (λ (z : ℕ). drop z (entries last.touched last.words)) more) ∙ sym (ap (λ (l : List (Option ℕ)). drop 1 l) left));
         }
-
-  -- ## A round's end
-
-  pub joined_ended : (a c : BackState) (closed : Bool) → b.working ≡ true → (a.pair ≡ b.pair) × (a.cells ≡ b.cells) → (a.done ≡ b.done ++ b.now ∷ []) × (a.working ≡ false) → MetBack a c → Agree f.rounds (snapshots c) → KnowsOpen closed (record f { closed = closed }) c
-      → IsJoined (record f { closed = closed }) c × (closed ≡ true) × (c.working ≡ false) × (length f.rounds ≡ length c.done)
-  joined_ended a c closed working same done met agree level =
-      let g : FrontState = record f { closed = closed } in
-      let even : length f.rounds ≡ length c.done = one_more f.closed f b ok.level working ∙ (sym (length-append b.done (b.now ∷ [])) ∙ (sym (ap length done.0) ∙ ap length (sym met.same.2))) in
-      let shut = even_closed closed g c level even in let idle = (closed_even closed g c level shut).1 in (
-        record {
-          pair = ok.pair ∙ (sym same.0 ∙ sym met.same.0);
-          cells = ok.cells ∙ (sym same.1 ∙ sym met.same.1);
-          marks = ok.marks ∙ (sym same.1 ∙ sym met.same.1);
-          agrees = agree;
-          level = level;
-          ticks = ok.ticks;
-          long = λ w. absurd (true≢false (sym w ∙ idle));
-        },
-        shut,
-        idle,
-        even,
-      )
-
-  pub joined_idle : b.working ≡ false → (f.closed ≡ true) × (length f.rounds ≡ length b.done)
-  joined_idle idle = let shut = idle_closed f.closed f b ok.level idle in (shut, (closed_even f.closed f b ok.level shut).0)
 
   -- ## A mark, and a meeting after it
 

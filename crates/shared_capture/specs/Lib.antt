@@ -2,9 +2,10 @@ pub mod Methods
 pub mod Rounds
 pub mod Table
 pub mod Start
-pub mod Rule
 pub mod Steps
-pub mod Meeting
 pub mod Seats
 pub mod States
 pub mod Joined
+-- inside: for private functions alone
+pub mod Rule
+pub mod Meeting

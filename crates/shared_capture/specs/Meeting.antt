@@ -1,3 +1,4 @@
+-- Inside: for the proofs of this crate's private functions.
 -- The two seats meet: they are joined to one, which loads the phase, and part again.
 use Rattle.std.specs.Prelude.{Some, ◌≡◌, ℕ, ◌+◌, ◌==◌, length, slice_index, slice_get, Bool, true, false}
 use Rattle.atomic_table.specs.Table.{Step}

@@ -1,3 +1,4 @@
+-- Inside: for the proofs of this crate's private functions.
 -- The rule of the table: what is true of its words and of what the two seats know, between any two steps.
 use Rattle.std.specs.Prelude.{Some, ◌≡◌, ℕ, ◌+◌, ◌<◌, ◌≤◌, List, [], length, slice_index, slice_get, Bool, true, false, not}
 use mathlib.Core.Option as maybe

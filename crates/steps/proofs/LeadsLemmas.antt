@@ -1,7 +1,6 @@
 -- What a line leads to, from what the calls of a core ensure.
 use Rattle.std.proofs.Common.{refl, sym, ap, subst, ◌≡◌, ◌≢◌, ◌∙◌, ℕ, List, codes, Option, Some, None, Result, Ok, Err, IfOk, OnOk}
 use Rattle.world_actions.specs.declared.refusal.Refusal.{Refusal}
-use Rattle.world_actions.specs.declared.refusal.Refusal.TheVariants.{BadLine}
 use Rattle.disk_model.specs.declared.leaving.Leaving.{Leaving}
 use Rattle.image_files.specs.declared.phase.ImageAnswer.{ImageAnswer}
 use Rattle.action_log.specs.declared.record.LogAnswer.{LogAnswer}
@@ -19,9 +18,9 @@ use Rattle.steps.specs.declared.line.Line.{Line}
 use Rattle.steps.specs.declared.line.Method.{Method}
 use Rattle.steps.specs.declared.line.Line.TheVariants.{Open, Command, Mark, Image, Log, Images, Logs, Crash, World}
 use Rattle.steps.specs.Text.{answer_text}
-use Rattle.steps.specs.Script.{RunsFirst, LineRuns}
+use Rattle.steps.specs.Script.{LineRuns}
 use Rattle.steps.specs.Played.{Played, Opens, Plays, Runs, Starts}
-use Rattle.steps.specs.OpenCore.{Leads, MovesOn, IsNoOpening, method_after}
+use Rattle.steps.specs.OpenCore.{Leads, MovesOn, method_after}
 use Rattle.steps.specs.Progress.{IsAt, LineLeads}
 
 -- a line that is one move
@@ -90,29 +89,6 @@ on_ok P Q (Ok a) follows holds = follows holds
 on_ok P Q (Err e) follows holds = tt
 
 -- ---- a line of a script
-
--- a line that means nothing
-pub bad_leads : (core : Option State) → LineLeads None core (answer_text (answer.Refused BadLine)) core
-bad_leads core = record { on = λ from at. (from, at, (refl, refl)) }
-
--- a line before any core is open
-first_runs : (line : Line) → IsNoOpening line → RunsFirst line (answer_text (answer.Refused BadLine)) None
-first_runs (Open method cells) other = absurd other
-first_runs (Command command) other = (refl, refl)
-first_runs Mark other = (refl, refl)
-first_runs Image other = (refl, refl)
-first_runs Log other = (refl, refl)
-first_runs (Images fate) other = (refl, refl)
-first_runs (Logs fate) other = (refl, refl)
-first_runs (Crash leaving) other = (refl, refl)
-first_runs World other = (refl, refl)
-
-pub first_leads : (line : Line) → IsNoOpening line → LineLeads (Some line) None (answer_text (answer.Refused BadLine)) None
-first_leads line other = record { on = on_first }
-  where
-    on_first : (from : Option Played) → IsAt from None → (to : Option Played) × IsAt to None × LineRuns (Some line) from (answer_text (answer.Refused BadLine)) to
-    on_first None at = (None, at, first_runs line other)
-    on_first (Some from) at = let is = at.state in absurd cc
 
 -- an opening
 pub opens_leads : (method : Method) (cells : ℕ) (core : Option State) (past : Past) (state : State) → IsCoreAt past state

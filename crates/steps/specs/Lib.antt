@@ -1,6 +1,7 @@
 pub mod Line
 pub mod Text
 pub mod Played
-pub mod OpenCore
 pub mod Script
+-- inside: for private functions alone
+pub mod OpenCore
 pub mod Progress

@@ -1,4 +1,5 @@
--- What contracts see of an open core: its state, and by which method its words are captured.
+-- Inside: for the proofs of this crate's private functions.
+-- What is seen of an open core: its state, and by which method its words are captured.
 use Rattle.std.specs.Prelude.{Option, Some, None, ℕ, List}
 use Rattle.world_core.specs.declared.moves.Move.{Move}
 use Rattle.world_core.specs.declared.moves.Answer.{Answer}

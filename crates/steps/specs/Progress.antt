@@ -1,7 +1,7 @@
+-- Inside: for the proofs of this crate's private functions.
 -- How far a script has come, for the functions that run it byte by byte.
-use Rattle.std.specs.Prelude.{◌≡◌, ◌≢◌, ℕ, ◌+◌, List, [], ◌∷◌, ◌++◌, Option, Some, None, option_map, take, ◌⊎◌}
+use Rattle.std.specs.Prelude.{◌≡◌, ◌≢◌, ℕ, ◌+◌, List, [], ◌∷◌, ◌++◌, Option, Some, None, option_map, take}
 use Rattle.world_actions.specs.declared.refusal.Refusal.{Refusal}
-use Rattle.world_actions.specs.declared.refusal.Refusal.TheVariants.{NoMemory, Device}
 use Rattle.line_grammar.specs.declared.command.TheConstants.{LINE_BYTES}
 use Rattle.steps.specs.declared.line.Line.{Line}
 use Rattle.world_core.specs.State.{State}
@@ -71,7 +71,3 @@ pub record Completes (script : ScriptState) (written : List ℕ) : Type 0 where
 -- with these bytes left, a fault came when this was written
 pub record BreaksOff (script : ScriptState) (left written : List ℕ) (refusal : Refusal) : Type 0 where
   pub on : (input prior : List ℕ) → Stands input script left prior → IsCutOff input (prior ++ written) refusal
-
--- the refusals that end a script
-abbrev pub IsFault : Refusal → Type 0
-IsFault refusal = (refusal ≡ NoMemory) ⊎ (refusal ≡ Device)

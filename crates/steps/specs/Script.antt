@@ -1,7 +1,7 @@
 -- The text that a script writes.
 use Rattle.std.specs.Prelude.{◌≡◌, ℕ, List, [], ◌∷◌, ◌++◌, Option, Some, None, ◌==◌, if◌then◌else◌, codes, length, take, ◌⊎◌}
 use Rattle.world_actions.specs.declared.refusal.Refusal.{Refusal}
-use Rattle.world_actions.specs.declared.refusal.Refusal.TheVariants.{BadLine, NoMemory}
+use Rattle.world_actions.specs.declared.refusal.Refusal.TheVariants.{BadLine, NoMemory, Device}
 use Rattle.world_core.specs.declared.moves.Answer.TheVariants.{Refused}
 use Rattle.steps.specs.declared.line.Line.{Line}
 use Rattle.steps.specs.declared.line.Line.TheVariants.{Open}
@@ -49,6 +49,10 @@ pub record IsScriptText (input text : List ℕ) : Type 0 where
 -- some bytes are the front of others
 abbrev pub IsFront : List ℕ → List ℕ → Type 0
 IsFront front whole = (rest : List ℕ) × (whole ≡ front ++ rest)
+
+-- the refusals that end a script
+abbrev pub IsFault : Refusal → Type 0
+IsFault refusal = (refusal ≡ NoMemory) ⊎ (refusal ≡ Device)
 
 -- what stands after a fault: whole answers to the lines before it, and then at most a front of the next answer;
 -- no part of one where memory was wanting

@@ -3,8 +3,8 @@ ghost use Rattle.std.specs.Io.KnownBytes.{Appends, IsAtEnd};
 ghost use Rattle.steps.specs.declared.line.Line.{Line};
 ghost use Rattle.steps.specs.Line.{LineIsInBounds};
 ghost use Rattle.steps.specs.OpenCore.{state_of, method_of, method_after};
-ghost use Rattle.steps.specs.Script.{IsScriptText, IsCutOff, AnswersEach};
-ghost use Rattle.steps.specs.Progress.{kept_of, KeptMeans, LineLeads, IsFrontOf, LeadsOn, Completes, BreaksOff, IsFault};
+ghost use Rattle.steps.specs.Script.{IsScriptText, IsFault, IsCutOff, AnswersEach};
+ghost use Rattle.steps.specs.Progress.{kept_of, KeptMeans, LineLeads, IsFrontOf, LeadsOn, Completes, BreaksOff};
 
 use crate::line::{Line, read_line};
 use crate::open_core::OpenCore;

@@ -5,7 +5,7 @@ use Rattle.world_actions.specs.declared.refusal.Refusal.TheVariants.{Starting, L
 use Rattle.image_files.specs.declared.phase.Phase.{Phase}
 use Rattle.image_files.specs.declared.phase.Phase.TheVariants.{Idle, Closing, ClosingSync, Header, Taking, Reading, Writing as WritingChunk, BodySync, Opening, OpeningSync, Down}
 use Rattle.image_files.specs.Images.{Round, round_in}
-use Rattle.world_core.specs.Standing.{tick_refusal, mark_refusal, is_starting, is_round_open, is_log_waiting, tick_refusal_at, mark_refusal_at, queue_most}
+use Rattle.world_core.specs.Standing.{tick_refusal, mark_refusal, is_starting, is_round_open, is_log_waiting, mark_refusal_at, queue_most}
 use Rattle.world_core.specs.Past.{Past}
 use Rattle.world_core.specs.State.{State, is_down, is_in_round, newest_tick}
 use Rattle.world_core.specs.Laws.{KeeperLaws}
@@ -67,14 +67,6 @@ open_is past state c = ap is_some c.round ∙ some_tick (round_in c.images)
 
 pub waiting_is : KeeperLaws → (past : Past) (state : State) → IsCoreAt past state → (state.log.starting && is_in_round state.images.phase) ≡ is_log_waiting past.standing
 waiting_is laws past state c = (λ i. starting_is laws past state c i && (round_is laws past state c ∙ sym (open_is past state c)) i)
-
-pub tick_refusal_is : KeeperLaws → (past : Past) (state : State) → IsCoreAt past state
-    → tick_refusal state.log.starting state.log.down state.ended state.since ≡ tick_refusal_at past.standing (length past.history.ticks)
-tick_refusal_is laws past state c =
-    ap (λ b. tick_refusal b state.log.down state.ended state.since) (starting_is laws past state c)
-    ∙ ap (λ b. tick_refusal (is_starting past.standing) b state.ended state.since) (sym c.log_down)
-    ∙ ap (λ n. tick_refusal (is_starting past.standing) past.standing.is_log_down n state.since) c.counted.ended
-    ∙ ap (λ n. tick_refusal (is_starting past.standing) past.standing.is_log_down (length past.history.ticks) n) c.counted.since
 
 pub mark_refusal_is : KeeperLaws → (past : Past) (state : State) → IsCoreAt past state
     → mark_refusal state.log.starting state.log.down (is_down state.images.phase) (is_in_round state.images.phase) state.ended (newest_tick state.images.newest) (length state.queue) state.running

@@ -9,7 +9,7 @@ use Rattle.image_files.specs.declared.phase.ImageAnswer.{ImageAnswer}
 use Rattle.image_files.specs.declared.phase.ImageAnswer.TheVariants as given_
 use Rattle.image_files.specs.Images.{Round, Images, FirstImages, ImageFiles, NoneYet, Newest, round_in, newest_in, with_cell, with_taken, with_opened, StepsImages}
 use Rattle.action_log.specs.Logs.{Journal, InStart, Writing, Start}
-use Rattle.recovery.specs.Start.{IsStarting, IsStartRound}
+use Rattle.recovery.specs.Start.{IsStarting}
 use Rattle.image_files.specs.Image.{Open}
 use Rattle.file_format.specs.Slot.{other_slot}
 use Rattle.recovery.specs.Events.{IsKept}
@@ -25,7 +25,7 @@ use Rattle.world_core.specs.Laws.{EventLaws, KeeperLaws, StoreLaws}
 use Rattle.world_core.specs.Exact.{Progresses, IsImageAnswer}
 use Rattle.capture_core.specs.Taken.{taken_of}
 use Rattle.image_files.specs.Progress.{Progress, cells_taken, moves_left, left_of, opened_keeper}
-use Rattle.std.specs.Prelude.{slice_get}
+use Rattle.std.specs.Prelude.{slice_get, IfSome}
 use Rattle.world_core.specs.Moving.{StepsImageKeeper}
 use Rattle.world_core.specs.Facts.{IsCoreAt, HasPhase, IsAtRest, is_known}
 
@@ -171,8 +171,8 @@ none_open : (cell : Taken) (newest : List ℕ) (round : Option Round) (r : Round
 none_open cell newest None r e h = absurd (let g = e in cc)
 none_open cell newest (Some round) r e h = absurd (let g = h in cc)
 
-start_tick : {tick : ℕ} {round : Option Round} {r : Round} → IsStartRound tick round → round ≡ Some r → r.tick ≡ tick
-start_tick {tick} {round} {r} h e = (let g : IsStartRound tick (Some r) = subst (IsStartRound tick) e h in g)
+start_tick : {tick : ℕ} {round : Option Round} {r : Round} → IfSome round (λ (some : Round). some.tick ≡ tick) → round ≡ Some r → r.tick ≡ tick
+start_tick {tick} {round} {r} h e = (let g : r.tick ≡ tick = subst (λ (o : Option Round). IfSome o (λ (some : Round). some.tick ≡ tick)) e h in g)
 
 -- with no round in work the newest image is of the recovered tick
 caught : (cells : ℕ) (ticks : List (List Action)) (acknowledged from : ℕ) (old new : Content) (given : ImageAnswer) (images : Images) (start : Start) (next : ImageFiles) (after : Images) → StepsImages Takes cells (Newest images) given next old new → next ≡ Newest after

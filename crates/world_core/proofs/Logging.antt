@@ -15,7 +15,7 @@ use Rattle.recovery.specs.Events.{acknowledged_after as log_acknowledged}
 use Rattle.world_core.specs.declared.moves.Fate.{Fate}
 use Rattle.world_core.specs.declared.moves.Move.TheVariants as move
 use Rattle.world_core.specs.declared.moves.Answer.TheVariants as answer
-use Rattle.world_core.specs.History.{acknowledged_after, opens}
+use Rattle.world_core.specs.History.{acknowledged_after}
 use Rattle.world_core.specs.Standing.{Standing, standing_after, queued_of}
 use Rattle.world_core.specs.Past.{Past, past_after}
 use Rattle.world_core.specs.State.{State, HasLog}
@@ -51,9 +51,6 @@ down_after standing running fate old new given_.Idle down stays e = e ∙ both_u
 down_after standing running fate old new given_.Working down stays e = e ∙ both_up old new given_.Working (λ h. let g = h in cc) down stays
 down_after standing running fate old new (given_.Acked number) down stays e = e ∙ both_up old new (given_.Acked number) (λ h. let g = h in cc) down stays
 down_after standing running fate old new given_.Down down stays e = sym (down.0 refl)
-
-no_opening : (given : LogAnswer) → opens (answer.Log given) ≡ false
-no_opening given = refl
 
 -- ---- the phase
 
@@ -191,32 +188,3 @@ log_keeps laws past old new fate given c waits d =
       newest = st.newest ∙ c.newest;
     } in
     subst (IsCoreAt after) (sym d.rest) is
-
-same_phase : (past : Past) (state : State) (fate : Fate) (images : ImageFiles) (journal : Journal) → HasPhase state.cells past state images journal → HasPhase state.cells (past_after past (move.Log fate) (answer.Log given_.Idle)) state images journal
-same_phase past state fate (NoneYet images) (InStart start) p = record { no_ticks = p.no_ticks; none_acknowledged = p.none_acknowledged; follows = p.follows; in_work = p.in_work }
-same_phase past state fate (NoneYet images) (Writing logs) p = p
-same_phase past state fate (Newest images) (InStart start) p = record { from = p.from; starting = p.starting; caught_up = p.caught_up }
-same_phase past state fate (Newest images) (Writing logs) p = p
-
--- a move that waits for the start's image changes nothing
-pub idle_keeps : (past : Past) (state : State) (fate : Fate) → IsCoreAt past state → IsCoreAt (past_after past (move.Log fate) (answer.Log given_.Idle)) state
-idle_keeps past state fate c = record {
-  some_cells = c.some_cells;
-  few_cells = c.few_cells;
-  keeper_cells = c.keeper_cells;
-  live = record { last = c.live.last; after_ended = c.live.after_ended; live = c.live.live; all = c.live.all; running = c.live.running };
-  counted = record { ended = c.counted.ended; since = c.counted.since; numbered = c.counted.numbered; few = c.counted.few; within = c.counted.within; queue_follows = c.counted.queue_follows; queue_end = c.counted.queue_end; taken = c.counted.taken; records = c.counted.records };
-  images = c.images;
-  place = c.place;
-  has_images = c.has_images;
-  has_log = c.has_log;
-  store = c.store;
-  phase = same_phase past state fate c.images c.place.journal c.phase;
-  at_rest = c.at_rest;
-  is_image_known = c.is_image_known;
-  start_left = c.start_left;
-  image_down = c.image_down;
-  log_down = c.log_down;
-  round = c.round;
-  newest = c.newest;
-}

@@ -207,7 +207,7 @@ mark_keeps laws queues keepers stores past old new number c none idle at_rest ne
     let count : (end_of old.log old.queue).count ≡ old.since = ap (λ (e : QueueEnd). e.count) k.queue_end in
     let base : (end_of old.log old.queue).base ≡ old.ended - old.since = ap (λ (e : QueueEnd). e.base) k.queue_end in
     let q = queues.switch old.log old.queue old.ended k.queue_follows (omega (arith, count, base, k.within)) k.numbered in
-    let kept = laws.mark old.cells ticks past.acknowledged s.newest s.logs old.queue s.kept no_round above in
+    let kept = laws.mark old.cells ticks past.acknowledged s.newest (record s.newest { round = Some (record { tick = length ticks; taken = [] }) }) s.logs old.queue s.kept no_round above refl in
     let mark_kept : IsKept old.cells ticks past.acknowledged images s.logs (old.queue ++ records.Switch old.ended ∷ []) =
     subst (λ n. IsKept old.cells ticks past.acknowledged (record s.newest { round = Some (record { tick = n; taken = [] }) }) s.logs (old.queue ++ records.Switch n ∷ [])) (sym k.ended) kept in
     let is : IsCoreAt after next = record {

@@ -122,7 +122,9 @@ recovered_phase : EventLaws → (cells : ℕ) (past : Past) (r : Recovery) (ia i
     → HasPhase cells (recovered_past past r la lb) new (images_begun round r.tick (Newest (recovered_images r (image_of ia) (image_of ib)))) (InStart (start_at r.tick a b))
 recovered_phase events cells past r ia ib la lb a b new some s true e = record {
   from = r.from;
-  starting = events.round_begins cells (take r.tick past.history.ticks) past.acknowledged (recovered_images r (image_of ia) (image_of ib)) r.from (recovered_start r a b) some s.starting (ltb-true r.from r.tick e);
+  starting = events.round_begins cells (take r.tick past.history.ticks) past.acknowledged (recovered_images r (image_of ia) (image_of ib))
+      (record (recovered_images r (image_of ia) (image_of ib)) { round = Some (record { tick = r.tick; taken = [] }) })
+      r.from (recovered_start r a b) some s.starting (ltb-true r.from r.tick e) refl;
   caught_up = λ none. absurd (let g = none in cc);
 }
 recovered_phase events cells past r ia ib la lb a b new some s false e = record {

@@ -8,4 +8,5 @@ pub mod Exact
 pub mod Facts
 pub mod Headline
 pub mod Repeating
+-- inside: for private functions alone
 pub mod Laws

@@ -4,7 +4,10 @@ use action_log::{log_outcomes, log_queues, segments_read_once};
 use capture_core::PlainCopy;
 use disk_model::{Fused, ModelFile};
 use image_files::images_stay;
-use recovery::{crash_restarts, events_keep, keepers_make_sound, start_events_keep};
+use recovery::{
+    crash_restarts, events_keep, law_of_first_start, law_of_recovery, law_of_start,
+    start_events_keep,
+};
 use restart::stores_follow;
 use world_ticks::actions_go_on;
 
@@ -17,8 +20,8 @@ pub fn event_laws()
     ensures { EventLaws }
 {
     actions_go_on();
-    events_keep::<File, PlainCopy>();
-    start_events_keep::<File, PlainCopy>();
+    events_keep::<PlainCopy>();
+    start_events_keep::<PlainCopy>();
 }
 
 /// Laws: which records may be queued.
@@ -41,7 +44,11 @@ pub fn keeper_laws()
 pub fn safety_laws()
     ensures { SafetyLaws }
 {
-    keepers_make_sound::<File>();
+    images_stay::<File>();
+    log_outcomes::<File>();
+    law_of_recovery::<File>();
+    law_of_start::<File>();
+    law_of_first_start::<File>();
     crash_restarts();
     segments_read_once();
 }

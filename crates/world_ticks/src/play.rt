@@ -100,53 +100,13 @@ fn put<C: Cells>(c: &mut C, a: &Action, change: Change)
 #[cfg(test)]
 mod tests {
     use super::*;
-    use std::marker::Model;
+    use crate::words::Words;
     use std::test::Fail;
     use world_actions::LIMIT;
 
-    #[derive(Drop)]
-    struct Memory {
-        words: Vec<u64>,
-    }
-
-    impl Model for Memory {
-        ghost use Rattle.std.specs.Prelude.{ℕ, List, All};
-        ghost use Rattle.world_actions.specs.World.{IsWord};
-
-        ghost Value = { List ℕ };
-
-        ghost view = { λ memory. memory.words.items };
-
-        ghost invariant = { λ memory. All IsWord memory.words.items };
-    }
-
-    impl Cells for Memory {
-        ghost use Rattle.std.specs.Prelude.{◌≡◌, [], ◌∷◌};
-        ghost use Rattle.world_actions.specs.Effect.{written};
-        ghost use Rattle.world_ticks.specs.Cells.{writes_among};
-
-        ghost words = { λ words. words };
-
-        ghost accessed = { λ old access new. new ≡ written old (writes_among (access ∷ [])) };
-
-        fn len(&self) -> usize {
-            self.words.len()
-        }
-
-        fn read(&mut self, i: usize) -> u64 {
-            self.words[i]
-        }
-
-        fn write(&mut self, i: usize, v: u64) {
-            self.words[i] = v;
-        }
-    }
-
     #[test]
     fn does_actions(rt: HostRuntime) -> Result<(), Fail> {
-        let mut memory = Memory {
-            words: vec![in rt.alloc(); 0, 20, LIMIT]?,
-        };
+        let mut memory = Words::new(vec![in rt.alloc(); 0, 20, LIMIT]?);
         let mut tick = Tick::new(rt.alloc());
         let set = Action::Set { cell: 0, value: 7 };
         let add = Action::Add { cell: 1, by: -5 };
@@ -158,7 +118,7 @@ mod tests {
         act(&mut memory, &mut tick, set)?;
         act(&mut memory, &mut tick, add)?;
         act(&mut memory, &mut tick, transfer)?;
-        assert_eq!(rt; memory.words.as_slice(), [7, 19, LIMIT - 4].as_slice());
+        assert_eq!(rt; memory.as_slice(), [7, 19, LIMIT - 4].as_slice());
         let refused = Action::Add { cell: 3, by: 1 };
         assert_eq!(rt; act(&mut memory, &mut tick, refused), Err(Refusal::BadCell));
         assert_eq!(rt; tick.actions(), [set, add, transfer].as_slice());
@@ -167,9 +127,7 @@ mod tests {
 
     #[test]
     fn takes_256_actions(rt: HostRuntime) -> Result<(), Fail> {
-        let mut memory = Memory {
-            words: vec![in rt.alloc(); 0]?,
-        };
+        let mut memory = Words::new(vec![in rt.alloc(); 0]?);
         let mut tick = Tick::new(rt.alloc());
         let add = Action::Add { cell: 0, by: 2 };
         for _ in 0..256 {
@@ -177,18 +135,16 @@ mod tests {
         }
         assert!(rt; tick.is_full());
         assert_eq!(rt; act(&mut memory, &mut tick, add), Err(Refusal::TickFull));
-        assert_eq!(rt; memory.words.as_slice(), [512].as_slice());
+        assert_eq!(rt; memory.as_slice(), [512].as_slice());
         tick.clear();
         act(&mut memory, &mut tick, add)?;
-        assert_eq!(rt; memory.words.as_slice(), [514].as_slice());
+        assert_eq!(rt; memory.as_slice(), [514].as_slice());
         Ok(())
     }
 
     #[test]
     fn replays_up_to_a_refused_action(rt: HostRuntime) -> Result<(), Fail> {
-        let mut memory = Memory {
-            words: vec![in rt.alloc(); 0, 0]?,
-        };
+        let mut memory = Words::new(vec![in rt.alloc(); 0, 0]?);
         let mut tick = Tick::new(rt.alloc());
         tick.reserve(3)?;
         tick.push_reserved(Action::Set { cell: 0, value: 5 });
@@ -198,14 +154,14 @@ mod tests {
             amount: 2,
         });
         replay(&mut memory, &tick)?;
-        assert_eq!(rt; memory.words.as_slice(), [3, 2].as_slice());
+        assert_eq!(rt; memory.as_slice(), [3, 2].as_slice());
         tick.push_reserved(Action::Transfer {
             from: 0,
             to: 1,
             amount: 4,
         });
         assert_eq!(rt; replay(&mut memory, &tick), Err(Refusal::BadLog));
-        assert_eq!(rt; memory.words.as_slice(), [3, 4].as_slice());
+        assert_eq!(rt; memory.as_slice(), [3, 4].as_slice());
         Ok(())
     }
 }

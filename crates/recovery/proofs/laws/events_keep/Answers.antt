@@ -1,9 +1,6 @@
-use Rattle.recovery.proofs.Kept.{kept_is_sound, tick_ends, mark_is_made, image_step_keeps}
+use Rattle.recovery.proofs.Kept.{tick_ends, mark_is_made, image_step_keeps}
 use Rattle.recovery.proofs.Steps.{log_step_keeps, receipt_is_exact}
-use Rattle.recovery.proofs.keeping.events_keep.Goals as goal
-
-pub returns-clause-sound : goal.returns-clause-sound
-returns-clause-sound g c = λ image_a image_b log_a log_b. kept_is_sound (g.D.Disk.may_leave image_a) (g.D.Disk.may_leave image_b) (g.D.Disk.may_leave log_a) (g.D.Disk.may_leave log_b)
+use Rattle.recovery.proofs.laws.events_keep.Goals as goal
 
 pub returns-clause-tick_ends : goal.returns-clause-tick_ends
 returns-clause-tick_ends g c = tick_ends
