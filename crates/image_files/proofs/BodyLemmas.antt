@@ -10,14 +10,14 @@ use Rattle.file_format.proofs.NumberLemmas.{length-number_bytes}
 use Rattle.capture_core.specs.declared.taker.Taken.{Taken}
 use Rattle.image_files.specs.declared.phase.Phase.{Phase}
 use Rattle.image_files.specs.declared.phase.Phase.TheVariants.{Header, Taking, Opening, OpeningSync, Down}
-use Rattle.image_files.specs.Image.{Image, image_of, number_at, words_from, is_word}
+use Rattle.image_files.specs.Image.{Image, image_of, header_bytes, cells_in, tick_in, number_at, words_from, is_word}
 use Rattle.image_files.specs.Taken.{filled_words}
 use Rattle.image_files.specs.Images.{IsTarget}
-use Rattle.image_files.specs.Progress.{Progress, IsInOrder, PhaseFits, done, newest_words}
-use Rattle.image_files.specs.Keeper.{HasBody, Fits, TargetFits, TargetEndures}
+use Rattle.image_files.specs.Progress.{Progress, IsInOrder, PhaseFits, done, newest_words, opened_keeper}
+use Rattle.image_files.specs.Keeper.{HasBody, Fits, TargetFits, TargetEndures, Endures}
 use Rattle.image_files.specs.Steps.{IsOpenedImage}
 use Rattle.image_files.proofs.WordLemmas.{number_written, length-words_from}
-use Rattle.image_files.proofs.SpellingLemmas.{whole_reads}
+use Rattle.image_files.proofs.SpellingLemmas.{whole_reads, open_file}
 use Rattle.image_files.proofs.GateLemmas.{shut_reads_closed}
 
 -- ---- files that are alike behind a place
@@ -61,8 +61,8 @@ in_phase keeper order is = subst (λ (p : Phase). PhaseFits p keeper) is order.b
 
 -- ---- the header
 
-pub header_fits : (old bytes : List ℕ) (cells tick : ℕ) → 1 ≤ length old → cells < 256 ^ 8 → tick < 256 ^ 8 → HasShutGate old → bytes ≡ number_bytes 8 cells ++ number_bytes 8 tick
-    → HasShutGate (overwritten old 1 bytes) × (number_at (overwritten old 1 bytes) 1 ≡ cells) × (number_at (overwritten old 1 bytes) 9 ≡ tick) × (17 ≤ length (overwritten old 1 bytes))
+pub header_fits : (old bytes : List ℕ) (cells tick : ℕ) → 1 ≤ length old → cells < 256 ^ 8 → tick < 256 ^ 8 → HasShutGate old → bytes ≡ header_bytes cells tick
+    → HasShutGate (overwritten old 1 bytes) × (cells_in (overwritten old 1 bytes) ≡ cells) × (tick_in (overwritten old 1 bytes) ≡ tick) × (17 ≤ length (overwritten old 1 bytes))
 header_fits old bytes cells tick long small_cells small_tick shut is =
     let file = overwritten old 1 bytes in
     let rest = drop (1 + length bytes) old in
@@ -74,8 +74,8 @@ header_fits old bytes cells tick long small_cells small_tick shut is =
     let second : file ≡ (take 1 old ++ number_bytes 8 cells) ++ (number_bytes 8 tick ++ rest) = first ∙ sym (append_assoc (take 1 old) (number_bytes 8 cells) (number_bytes 8 tick ++ rest)) in
     let gate : get_or file 0 0 ≡ get_or old 0 0 = first_kept old (bytes ++ rest) (append_assoc (take 1 old) bytes rest) long in (
       (omega (arith, long_file), λ is_open. shut.1 (sym gate ∙ is_open)),
-      ap (λ (l : List ℕ). number_at l 1) first ∙ number_written (take 1 old) (number_bytes 8 tick ++ rest) 1 cells front small_cells,
-      ap (λ (l : List ℕ). number_at l 9) second ∙ number_written (take 1 old ++ number_bytes 8 cells) rest 9 tick (omega (arith, length-append (take 1 old) (number_bytes 8 cells), front, length-number_bytes 8 cells)) small_tick,
+      ap cells_in first ∙ number_written (take 1 old) (number_bytes 8 tick ++ rest) 1 cells front small_cells,
+      ap tick_in second ∙ number_written (take 1 old ++ number_bytes 8 cells) rest 9 tick (omega (arith, length-append (take 1 old) (number_bytes 8 cells), front, length-number_bytes 8 cells)) small_tick,
       omega (arith, long_file),
     )
   where
@@ -84,7 +84,7 @@ header_fits old bytes cells tick long small_cells small_tick shut is =
     first_kept (x ∷ l) m same le = ap (λ (k : List ℕ). get_or k 0 0) same
 
 pub header_written : (keeper : Progress) (old new newest bytes : List ℕ) → keeper.phase ≡ Header → HasShutGate old
-    → new ≡ overwritten old 1 bytes → bytes ≡ number_bytes 8 keeper.cells ++ number_bytes 8 keeper.tick → Fits keeper old newest → Fits (record keeper { phase = Taking }) new newest
+    → new ≡ overwritten old 1 bytes → bytes ≡ header_bytes keeper.cells keeper.tick → Fits keeper old newest → Fits (record keeper { phase = Taking }) new newest
 header_written keeper old new newest bytes phase shut is bytes_are fits =
     let order = fits.in_order in
     let first : PhaseFits Header keeper = in_phase keeper order phase in
@@ -99,8 +99,8 @@ header_written keeper old new newest bytes phase shut is bytes_are fits =
         subst HasShutGate (sym is) parts.0,
         record {
           room = omega (arith, ap length is, parts.3, none);
-          cells = ap (λ (l : List ℕ). number_at l 1) is ∙ parts.1;
-          tick = ap (λ (l : List ℕ). number_at l 9) is ∙ parts.2;
+          cells = ap cells_in is ∙ parts.1;
+          tick = ap tick_in is ∙ parts.2;
           words = ap (λ (n : ℕ). list_all is_word (words_from new 17 n)) none;
         },
       );
@@ -188,16 +188,41 @@ opened_down keeper old newest phase fits new same before after within read stood
     subst (λ (words : List ℕ). IsTarget keeper.cells read (Some (record { tick = keeper.tick; taken = words })) (image_of left)) (sym (done_behind keeper Down old new newest (ap (drop 1) same)))
     (inr (⊎_elim (λ closed. inl closed) (λ is. inr (is, length_done keeper old newest order.0 order.1)) (was left (within left outcome))))
 
--- where it is made durable, the image is opened
-pub opened_image : (keeper : Progress) (old newest : List ℕ) → keeper.phase ≡ OpeningSync → Fits keeper old newest → (new : List ℕ) → new ≡ old → (outcomes : List ℕ → Type 0) → Only old outcomes
-    → (tick : ℕ) → tick ≡ keeper.tick → IsOpenedImage keeper (done keeper old newest) new outcomes tick
-opened_image keeper old newest phase fits new same outcomes only tick of_the_round =
-    let order = in_phase keeper fits.in_order phase in
-    let target = subst (λ (p : Phase). TargetFits p keeper old) phase fits.of_target in
-    record {
-      of_the_round = of_the_round;
-      image = ap image_of same ∙ body_reads keeper old fits.in_order target.0 target.1 order.0
-          ∙ ap (λ (t : ℕ). Image.Open t (words_from old 17 keeper.written)) (sym of_the_round) ∙ ap (Image.Open tick) (sym (done_whole keeper old newest order.1));
-      whole = length_done keeper old newest order.0 order.1;
-      durable = λ left outcome. only left outcome ∙ sym same;
-    }
+-- where it is made durable, the image is opened, and the files have changed their parts
+module _ (keeper : Progress) (old newest : List ℕ) (phase : keeper.phase ≡ OpeningSync) (fits : Fits keeper old newest) (new : List ℕ) (same : new ≡ old) where
+  opened_order : PhaseFits OpeningSync keeper
+  opened_order = in_phase keeper fits.in_order phase
+
+  opened_target : TargetFits OpeningSync keeper old
+  opened_target = subst (λ (p : Phase). TargetFits p keeper old) phase fits.of_target
+
+  opened_reads : image_of new ≡ Image.Open keeper.tick (words_from old 17 keeper.written)
+  opened_reads = ap image_of same ∙ body_reads keeper old fits.in_order opened_target.0 opened_target.1 opened_order.0
+
+  pub opened_fits : Fits (opened_keeper keeper) newest new
+  opened_fits =
+      let words : words_from old 17 keeper.written ≡ words_from new 17 keeper.cells = ap (words_from old 17) opened_order.0 ∙ ap (λ (l : List ℕ). words_from l 17 keeper.cells) (sym same) in
+      record {
+        in_order = record { some = fits.in_order.some; most = fits.in_order.most; ticks = fits.in_order.ticks; within = fits.in_order.within; by_phase = tt };
+        image = opened_reads ∙ ap (Image.Open keeper.tick) words;
+        newest_shut = λ shut. absurd (cc shut);
+        of_target = fits.newest_shut;
+        chunk = fits.chunk;
+      }
+
+  pub opened_image : (after : List ℕ → Type 0) → Only old after → (tick : ℕ) → tick ≡ keeper.tick → IsOpenedImage keeper (done keeper old newest) new after tick
+  opened_image after only tick of_the_round = record {
+    of_the_round = of_the_round;
+    image = opened_reads ∙ ap (λ (t : ℕ). Image.Open t (words_from old 17 keeper.written)) (sym of_the_round) ∙ ap (Image.Open tick) (sym (done_whole keeper old newest opened_order.1));
+    whole = length_done keeper old newest opened_order.0 opened_order.1;
+    durable = λ left outcome. only left outcome ∙ sym same;
+  }
+
+-- what a crash may leave then
+pub opened_endures : (keeper : Progress) (old newest new words : List ℕ) (before beside after : List ℕ → Type 0) (tick : ℕ) (read : Image) → IsOpenedImage keeper words new after tick
+    → Endures keeper read old newest before beside → Endures (opened_keeper keeper) (image_of newest) newest new beside after
+opened_endures keeper old newest new words before beside after tick read image stood = record {
+  newest_stays = image.durable;
+  newest_not_shut = λ not_shut. inr (open_file new tick words image.image).gate;
+  of_target = (stood.newest_stays, refl, stood.newest_not_shut);
+}

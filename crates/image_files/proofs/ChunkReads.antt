@@ -11,7 +11,8 @@ use Rattle.image_files.specs.declared.phase.Phase.{Phase}
 use Rattle.image_files.specs.declared.phase.Phase.TheVariants.{Reading, Writing}
 use Rattle.image_files.specs.Image.{Image, image_of, number_at, words_from, is_word}
 use Rattle.image_files.specs.Taken.{filled_words, word_of, has_same}
-use Rattle.image_files.specs.Progress.{Progress, PhaseFits, IsInOrder, newest_words, done, read_cells}
+use Rattle.image_files.specs.Progress.{Progress, PhaseFits, IsInOrder, newest_words, done}
+use Rattle.image_files.specs.Calls.{read_cells}
 use Rattle.image_files.specs.Keeper.{Fits, TargetFits}
 use Rattle.image_files.proofs.WordLemmas.{number_same, words_from-append, length-words_from}
 use Rattle.image_files.proofs.SpellingLemmas.{both, open_file}
@@ -76,13 +77,19 @@ image_in None file words is some = absurd (cc some)
 image_in (Some image) file words is some = (image.1, is)
 
 -- it has room for its words, and these may stand in cells
-pub newest_file : (keeper : Progress) (target newest : List ℕ) → Fits keeper target newest → is_some keeper.newest ≡ true
+newest_file : (keeper : Progress) (target newest : List ℕ) → Fits keeper target newest → is_some keeper.newest ≡ true
     → (17 + 8 * keeper.cells ≤ length newest) × (list_all is_word (words_from newest 17 keeper.cells) ≡ true)
 newest_file keeper target newest fits some =
     let words = words_from newest 17 keeper.cells in
     let image = image_in keeper.newest newest words fits.image some in
     let file = open_file newest image.0 words image.1 in
     (omega (arith, file.room, length-words_from newest 17 keeper.cells), file.pass)
+
+-- a chunk is read of one that is there
+pub room_in : (keeper : Progress) (newest : List ℕ) → keeper.phase ≡ Reading → (target : List ℕ) × Fits keeper target newest → 17 + 8 * keeper.cells ≤ length newest
+room_in keeper newest phase image =
+    let order = in_phase keeper image.1.in_order phase in
+    (newest_file keeper image.0 newest image.1 order.2).0
 
 -- ---- the keeper after the read
 

@@ -15,7 +15,8 @@ use Rattle.image_files.specs.declared.phase.Phase.{Phase}
 use Rattle.image_files.specs.declared.phase.Phase.TheVariants.{Taking, Writing, BodySync, Down}
 use Rattle.image_files.specs.Image.{Image, number_at, words_from, is_word}
 use Rattle.image_files.specs.Taken.{filled_words, has_same}
-use Rattle.image_files.specs.Progress.{Progress, PhaseFits, IsInOrder, newest_words, done, after_chunk, with_chunk_written}
+use Rattle.image_files.specs.Progress.{Progress, PhaseFits, IsInOrder, newest_words, done}
+use Rattle.image_files.specs.Calls.{after_chunk, with_chunk_written}
 use Rattle.image_files.specs.Keeper.{AllShut, HasBody, Fits, TargetFits, TargetEndures}
 use Rattle.image_files.proofs.WordLemmas.{number_same, words_from-append}
 use Rattle.image_files.proofs.SpellingLemmas.{words_written}

@@ -42,10 +42,6 @@ module _ (keeper : Progress) (before : Image) (target newest left : List ℕ) (o
   pub target_left : Fits keeper target newest → TargetEndures keeper.phase keeper before target newest outcomes → IsTarget keeper.cells before (round_of keeper target newest) (image_of left)
   target_left fits stands = reads_so keeper.phase fits.in_order.by_phase fits.of_target stands
 
-pub newest_left : (newest : Option (Slot × ℕ)) (file left words : List ℕ) → left ≡ file → IfSome newest (λ image. image_of file ≡ Image.Open image.1 words) → IfSome newest (λ image. image_of left ≡ Image.Open image.1 words)
-newest_left None file left words same is = is
-newest_left (Some image) file left words same is = ap image_of same ∙ is
-
 -- ---- both files
 
 -- in a round of a keeper with an image the newest file has it, and the other one is the target

@@ -9,7 +9,7 @@ use Rattle.std.specs.List.{list_all, flat_map}
 use Rattle.world_actions.specs.World.{IsWord, IsWorld}
 use Rattle.file_format.specs.Number.{IsBytes, number_of, number_bytes}
 use Rattle.file_format.proofs.NumberLemmas.{length-number_bytes}
-use Rattle.image_files.specs.Image.{Image, image_of, image_bytes, number_at, words_from, is_word, is_open, is_whole}
+use Rattle.image_files.specs.Image.{Image, image_of, image_bytes, header_bytes, cells_in, tick_in, number_at, words_from, is_word, is_open, is_whole}
 use Rattle.image_files.proofs.WordLemmas.{number_written, length-words_from}
 
 -- ---- tests
@@ -51,7 +51,7 @@ words_written front (w ∷ words) rest place at pass =
     ap (λ (x : ℕ). x ∷ words_from file (place + 8) (length words)) head ∙ ap (λ (l : List ℕ). w ∷ l) tail
 
 -- an open gate over a whole header and words is an image
-pub whole_reads : (file : List ℕ) (tick : ℕ) (words : List ℕ) → get_or file 0 0 ≡ 1 → number_at file 1 ≡ length words → number_at file 9 ≡ tick → words_from file 17 (length words) ≡ words
+pub whole_reads : (file : List ℕ) (tick : ℕ) (words : List ℕ) → get_or file 0 0 ≡ 1 → cells_in file ≡ length words → tick_in file ≡ tick → words_from file 17 (length words) ≡ words
     → 17 + 8 * length words ≤ length file → 1 ≤ length words → length words ≤ 65536 → tick ≤ 1000000000000000000 → list_all is_word words ≡ true → image_of file ≡ Image.Open tick words
 unfolding image_of
 whole_reads file tick words gate cells_is tick_is words_are room some most small pass =
@@ -66,16 +66,15 @@ image_read tick words rest small world =
     let pass : list_all is_word words ≡ true = words_pass words world.limit in
     let tail = flat_map (number_bytes 8) words in
     let file = image_bytes tick words ++ rest in
-    let first : file ≡ (1 ∷ []) ++ (number_bytes 8 n ++ ((number_bytes 8 tick ++ tail) ++ rest)) =
-    ap (λ (l : List ℕ). 1 ∷ l) (append_assoc (number_bytes 8 n) (number_bytes 8 tick ++ tail) rest) in
-    let second : file ≡ ((1 ∷ []) ++ number_bytes 8 n) ++ (number_bytes 8 tick ++ (tail ++ rest)) =
-    first ∙ ap (λ (l : List ℕ). 1 ∷ (number_bytes 8 n ++ l)) (append_assoc (number_bytes 8 tick) tail rest) in
+    let first : file ≡ (1 ∷ []) ++ (number_bytes 8 n ++ (number_bytes 8 tick ++ (tail ++ rest))) =
+    ap (λ (l : List ℕ). 1 ∷ l) (append_assoc (header_bytes n tick) tail rest ∙ append_assoc (number_bytes 8 n) (number_bytes 8 tick) (tail ++ rest)) in
+    let second : file ≡ ((1 ∷ []) ++ number_bytes 8 n) ++ (number_bytes 8 tick ++ (tail ++ rest)) = first in
     let third : file ≡ (((1 ∷ []) ++ number_bytes 8 n) ++ number_bytes 8 tick) ++ (tail ++ rest) =
     second ∙ sym (append_assoc ((1 ∷ []) ++ number_bytes 8 n) (number_bytes 8 tick) (tail ++ rest)) in
     let front : length (((1 ∷ []) ++ number_bytes 8 n) ++ number_bytes 8 tick) ≡ 17 =
     omega (arith, length-append ((1 ∷ []) ++ number_bytes 8 n) (number_bytes 8 tick), length-append (1 ∷ []) (number_bytes 8 n), length-number_bytes 8 n, length-number_bytes 8 tick) in
-    let cells_is : number_at file 1 ≡ n = ap (λ (l : List ℕ). number_at l 1) first ∙ number_written (1 ∷ []) ((number_bytes 8 tick ++ tail) ++ rest) 1 n refl (omega (arith, world.most)) in
-    let tick_is : number_at file 9 ≡ tick = ap (λ (l : List ℕ). number_at l 9) second ∙ number_written ((1 ∷ []) ++ number_bytes 8 n) (tail ++ rest) 9 tick (omega (arith, length-append (1 ∷ []) (number_bytes 8 n), length-number_bytes 8 n)) (omega arith) in
+    let cells_is : cells_in file ≡ n = ap cells_in first ∙ number_written (1 ∷ []) (number_bytes 8 tick ++ (tail ++ rest)) 1 n refl (omega (arith, world.most)) in
+    let tick_is : tick_in file ≡ tick = ap tick_in second ∙ number_written ((1 ∷ []) ++ number_bytes 8 n) (tail ++ rest) 9 tick (omega (arith, length-append (1 ∷ []) (number_bytes 8 n), length-number_bytes 8 n)) (omega arith) in
     let words_are : words_from file 17 n ≡ words = ap (λ (l : List ℕ). words_from l 17 n) third ∙ words_written (((1 ∷ []) ++ number_bytes 8 n) ++ number_bytes 8 tick) words rest 17 front pass in
     let long : length file ≡ 17 + length (tail ++ rest) = ap length third ∙ omega (arith, length-append (((1 ∷ []) ++ number_bytes 8 n) ++ number_bytes 8 tick) (tail ++ rest), front) in
     let room : 17 + 8 * n ≤ length file = omega (arith, long, length-append tail rest, length-words words) in
@@ -95,8 +94,8 @@ chosen false b tick t words ws is = absurd (cc is)
 -- what an open image's file has
 pub record OpenFile (file : List ℕ) (tick : ℕ) (words : List ℕ) : Type 0 where
   pub gate : get_or file 0 0 ≡ 1
-  pub cells_is : number_at file 1 ≡ length words
-  pub tick_is : number_at file 9 ≡ tick
+  pub cells_is : cells_in file ≡ length words
+  pub tick_is : tick_in file ≡ tick
   pub words_are : words_from file 17 (length words) ≡ words
   pub some : 1 ≤ length words
   pub most : length words ≤ 65536
@@ -107,8 +106,8 @@ pub record OpenFile (file : List ℕ) (tick : ℕ) (words : List ℕ) : Type 0 w
 pub open_file : (file : List ℕ) (tick : ℕ) (words : List ℕ) → image_of file ≡ Image.Open tick words → OpenFile file tick words
 unfolding image_of
 open_file file tick words is =
-    let n = number_at file 1 in
-    let t = number_at file 9 in
+    let n = cells_in file in
+    let t = tick_in file in
     let parts = chosen (is_open file) (is_whole file n t) t tick (words_from file 17 n) words is in
     let count : n ≡ length words = sym (length-words_from file 17 n) ∙ ap length parts.3 in
     let last = both _ (list_all is_word (words_from file 17 n)) parts.1 in
@@ -160,7 +159,7 @@ image_spelled spelled file tick words are_bytes is =
     let second : drop 9 file ≡ time ++ drop 17 file = split 9 8 time (sym (number_spelled spelled file 9 are_bytes (omega (arith, is.room))) ∙ ap (number_bytes 8) is.tick_is) in
     let third : drop 17 file ≡ body ++ rest = split 17 (8 * n) body (sym (words_spelled spelled file 17 n are_bytes is.room) ∙ ap (flat_map (number_bytes 8)) is.words_are) in
     gate
-    ∙ ap (λ (l : List ℕ). 1 ∷ l) (first ∙ ap (λ (l : List ℕ). cells ++ l) (second ∙ ap (λ (l : List ℕ). time ++ l) third ∙ sym (append_assoc time body rest)) ∙ sym (append_assoc cells (time ++ body) rest))
+    ∙ ap (λ (l : List ℕ). 1 ∷ l) (first ∙ ap (λ (l : List ℕ). cells ++ l) (second ∙ ap (λ (l : List ℕ). time ++ l) third) ∙ sym (append_assoc cells time (body ++ rest)) ∙ sym (append_assoc (cells ++ time) body rest))
   where
     split : (place n : ℕ) (part : List ℕ) → take n (drop place file) ≡ part → drop place file ≡ part ++ drop (place + n) file
     split place n part same =

@@ -7,13 +7,14 @@ use Rattle.file_format.specs.Slot.{other_slot, of_slot, in_slot, beside_slot}
 use Rattle.capture_core.specs.declared.taker.Taken.{Taken}
 use Rattle.image_files.specs.declared.phase.Phase.{Phase}
 use Rattle.image_files.specs.declared.phase.Phase.TheVariants.{Idle, Closing, ClosingSync, Header, Taking, Reading, Writing, BodySync, Opening, OpeningSync, Down}
-use Rattle.image_files.specs.declared.phase.ImageAnswer.{ImageAnswer}
-use Rattle.image_files.specs.declared.phase.ImageAnswer.TheVariants as answer
+use Rattle.image_files.specs.declared.answer.ImageAnswer.{ImageAnswer}
+use Rattle.image_files.specs.declared.answer.ImageAnswer.TheVariants as answer
 use Rattle.image_files.specs.Image.{Image, image_of, words_from}
 use Rattle.image_files.specs.Images.{Round, ImageFiles, NoneYet, Newest, StepsImages, round_in, with_cell, with_taken, with_opened}
 use Rattle.image_files.specs.Progress.{Progress, target_of, newest_words, done, round_so_far, round_in_phase, round_of, cells_taken, opened_keeper}
 use Rattle.image_files.specs.Keeper.{Fits, Endures}
-use Rattle.image_files.specs.Steps.{IfOpened, OnOpened, OnWorking, TookCell, TookWord, IsOpenedImage}
+use Rattle.image_files.specs.Steps.{IfOpened, OnOpened, OnWorking, IsOpenedImage}
+use Rattle.image_files.specs.Calls.{TookCell, TookWord}
 use Rattle.image_files.proofs.TakeLemmas.{length-done}
 use Rattle.image_files.specs.Files.{Stands, StandsFor, IsHeld, before_in}
 

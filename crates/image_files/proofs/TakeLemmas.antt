@@ -13,9 +13,9 @@ use Rattle.image_files.specs.declared.phase.Phase.{Phase}
 use Rattle.image_files.specs.declared.phase.Phase.TheVariants.{Taking, Reading, Writing}
 use Rattle.image_files.specs.Image.{Image, words_from, is_word}
 use Rattle.image_files.specs.Taken.{filled_words, word_of, has_same}
-use Rattle.image_files.specs.Progress.{Progress, PhaseFits, IsInOrder, chunk_size, newest_words, done, cells_taken, after_take, with_taken_cell}
+use Rattle.image_files.specs.Progress.{Progress, PhaseFits, IsInOrder, chunk_size, newest_words, done, cells_taken}
 use Rattle.image_files.specs.Keeper.{Fits, TargetFits, TargetEndures, Endures}
-use Rattle.image_files.specs.Steps.{TookCell, TookWord}
+use Rattle.image_files.specs.Calls.{after_take, with_taken_cell, TookCell, TookWord}
 use Rattle.image_files.proofs.WordLemmas.{length-words_from}
 use Rattle.image_files.proofs.ChunkLemmas.{filled_words-push, length-filled_words}
 use Rattle.image_files.proofs.BodyLemmas.{in_phase}

@@ -22,6 +22,18 @@ abbrev pub words_from : List ℕ → ℕ → ℕ → List ℕ
 words_from bytes place zero = []
 words_from bytes place (suc n) = number_at bytes place ∷ words_from bytes (place + WORD_BYTES) n
 
+-- the number of cells and the tick, as they stand behind the gate
+abbrev pub header_bytes : (cells tick : ℕ) → List ℕ
+header_bytes cells tick = number_bytes WORD_BYTES cells ++ number_bytes WORD_BYTES tick
+
+-- the number of cells that the header has
+abbrev pub cells_in : List ℕ → ℕ
+cells_in bytes = number_at bytes CELLS_PLACE
+
+-- the tick that it has
+abbrev pub tick_in : List ℕ → ℕ
+tick_in bytes = number_at bytes TICK_PLACE
+
 -- whether a number may stand in a cell
 abbrev pub is_word : ℕ → Bool
 is_word word = nat_le word LIMIT
@@ -40,11 +52,10 @@ is_whole bytes cells tick =
 -- what follows the last word is ignored
 unfoldable pub image_of : List ℕ → Image
 image_of bytes =
-    let cells = number_at bytes CELLS_PLACE in
-    let tick = number_at bytes TICK_PLACE in
+    let cells = cells_in bytes in
+    let tick = tick_in bytes in
     if is_open bytes then (if is_whole bytes cells tick then Open tick (words_from bytes HEADER_BYTES cells) else Bad) else Closed
 
 -- the bytes of an open image
 abbrev pub image_bytes : ℕ → List ℕ → List ℕ
-image_bytes tick words =
-    OPEN_GATE ∷ (number_bytes WORD_BYTES (length words) ++ (number_bytes WORD_BYTES tick ++ flat_map (number_bytes WORD_BYTES) words))
+image_bytes tick words = OPEN_GATE ∷ (header_bytes (length words) tick ++ flat_map (number_bytes WORD_BYTES) words)

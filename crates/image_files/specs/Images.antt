@@ -4,8 +4,8 @@ use Rattle.file_format.specs.declared.slot.Slot.{Slot}
 use Rattle.file_format.specs.declared.slot.Slot.TheVariants.{A}
 use Rattle.file_format.specs.Slot.{other_slot, in_slot, beside_slot}
 use Rattle.capture_core.specs.declared.taker.Taken.{Taken}
-use Rattle.image_files.specs.declared.phase.ImageAnswer.{ImageAnswer}
-use Rattle.image_files.specs.declared.phase.ImageAnswer.TheVariants as answer
+use Rattle.image_files.specs.declared.answer.ImageAnswer.{ImageAnswer}
+use Rattle.image_files.specs.declared.answer.ImageAnswer.TheVariants as answer
 use Rattle.image_files.specs.Image.{Image, image_of}
 use Rattle.image_files.specs.Image.Image.{Closed, Open}
 use Rattle.image_files.specs.Taken.{word_of}

@@ -5,5 +5,7 @@ pub mod Images
 pub mod Progress
 pub mod View
 pub mod Keeper
-pub mod Steps
 pub mod Files
+pub mod Steps
+-- inside: for private functions alone
+pub mod Calls

@@ -1,13 +1,12 @@
 -- What contracts see of a keeper.
-use Rattle.std.specs.Prelude.{◌≡◌, ℕ, ◌+◌, ◌-◌, ◌*◌, ◌/◌, ◌<◌, ◌≤◌, min, Bool, true, false, Option, Some, None, is_some, List, [], ◌∷◌, ◌++◌, length, drop, map, nat_lt, if◌then◌else◌, ◌==◌, ◌&&◌}
+use Rattle.std.specs.Prelude.{◌≡◌, ℕ, ◌+◌, ◌-◌, ◌*◌, ◌/◌, ◌<◌, ◌≤◌, min, Bool, true, false, Option, Some, None, is_some, List, [], ◌++◌, length, drop, if◌then◌else◌}
 use Rattle.world_ticks.specs.declared.tick.TheConstants.{TICK_MAX}
 use Rattle.file_format.specs.declared.slot.Slot.{Slot}
 use Rattle.file_format.specs.declared.slot.Slot.TheVariants.{A}
 use Rattle.file_format.specs.Slot.{other_slot, of_slot}
 use Rattle.capture_core.specs.declared.taker.Taken.{Taken}
-use Rattle.capture_core.specs.declared.taker.Taken.TheVariants.{Word}
-use Rattle.image_files.specs.declared.format.TheConstants.{CELLS_MAX, HEADER_BYTES, WORD_BYTES}
-use Rattle.image_files.specs.declared.phase.TheConstants.{CHUNK_CELLS}
+use Rattle.image_files.specs.declared.format.TheConstants.{CELLS_MAX, HEADER_BYTES}
+use Rattle.image_files.specs.declared.chunk.TheConstants.{CHUNK_CELLS}
 use Rattle.image_files.specs.declared.phase.Phase.{Phase}
 use Rattle.image_files.specs.declared.phase.Phase.TheVariants.{Idle, Closing, ClosingSync, Header, Taking, Reading, Writing, BodySync, Opening, OpeningSync, Down}
 use Rattle.image_files.specs.Image.{words_from}
@@ -131,28 +130,6 @@ made_keeper cells newest shut_a shut_b = record {
 -- a round begins
 abbrev pub begun_keeper : ℕ → Progress → Progress
 begun_keeper tick keeper = record keeper { phase = (if keeper.target_shut then Header else Closing); tick = tick; written = 0; chunk = [] }
-
--- what follows a take, with these cells in the chunk
-abbrev pub after_take : Progress → List Taken → Phase
-after_take keeper chunk =
-    if nat_lt (length chunk) (chunk_size keeper) then Taking else (if is_some keeper.newest && has_same chunk then Reading else Writing)
-
--- a cell is taken
-abbrev pub with_taken_cell : Taken → Progress → Progress
-with_taken_cell cell keeper = record keeper { chunk = keeper.chunk ++ cell ∷ []; phase = after_take keeper (keeper.chunk ++ cell ∷ []) }
-
--- the cells of the chunk in work, each with its word, where the newest image has these
-abbrev pub read_cells : Progress → (newest : List ℕ) → List Taken
-read_cells keeper newest =
-    map (λ word. Word word) (filled_words keeper.chunk (words_from newest (HEADER_BYTES + WORD_BYTES * keeper.written) (length keeper.chunk)))
-
--- what follows the write of a chunk
-abbrev pub after_chunk : Progress → Phase
-after_chunk keeper = if keeper.written + length keeper.chunk == keeper.cells then BodySync else Taking
-
--- the chunk in work is written
-abbrev pub with_chunk_written : Progress → Progress
-with_chunk_written keeper = record keeper { phase = after_chunk keeper; chunk = []; written = keeper.written + length keeper.chunk }
 
 -- the image of the round is opened: it is the newest one, and the files change their parts
 abbrev pub opened_keeper : Progress → Progress

@@ -1,7 +1,7 @@
 -- A keeper's fields, as contracts see them.
 use Rattle.std.specs.Prelude.{◌≡◌, ◌*◌, ◌≤◌, length, vec_capacity}
 use Rattle.image_files.specs.declared.format.TheConstants.{WORD_BYTES}
-use Rattle.image_files.specs.declared.phase.TheConstants.{CHUNK_CELLS}
+use Rattle.image_files.specs.declared.chunk.TheConstants.{CHUNK_CELLS}
 use Rattle.image_files.specs.Progress.{Progress, IsInOrder}
 use Rattle.image_files.specs.declared.keeper.ImageKeeper.TheInside.{Inside}
 

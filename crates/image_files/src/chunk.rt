@@ -8,6 +8,9 @@ use crate::format::WORD_BYTES;
 use capture_core::Taken;
 use file_format::{u64_at, write_u64_at};
 
+/// The cells that are written, and read from the newest image, at once.
+pub const CHUNK_CELLS: usize = 64;
+
 /// Whether the word of some cell is the newest image's.
 pub fn any_same(cells: &[Taken]) -> bool
     ensures { result ≡ has_same cells.now }

@@ -2,10 +2,10 @@ ghost use Rattle.std.specs.Prelude.{◌≡◌, ◌*◌, ◌<◌, ◌≤◌, ◌�
 ghost use Rattle.world_actions.specs.World.{IsWorld};
 ghost use Rattle.world_ticks.specs.declared.tick.TheConstants.{TICK_MAX};
 ghost use Rattle.file_format.specs.Gate.{HasOpenGate};
-ghost use Rattle.file_format.specs.Number.{IsBytes, number_bytes};
-ghost use Rattle.image_files.specs.Image.{Image, image_of, image_bytes};
+ghost use Rattle.file_format.specs.Number.{IsBytes};
+ghost use Rattle.image_files.specs.Image.{Image, image_of, image_bytes, header_bytes, cells_in, tick_in};
 
-use file_format::{numbers_read_back, write_u64_at};
+use file_format::{numbers_read_back, u64_at, write_u64_at};
 
 /// The greatest number of cells in an image; the least is 1.
 pub const CELLS_MAX: u64 = 65_536;
@@ -39,13 +39,21 @@ pub fn images_read_back()
     numbers_read_back();
 }
 
-/// Writes the number of cells and the tick to the front of a buffer.
+/// Writes the number of cells and the tick to the front of a buffer, as they stand behind the gate.
 #[tactic(auto, unfolding(file_format::specs::Number::number_bytes))]
 pub fn encode_header(buffer: &mut [u8], cells: u64, tick: u64)
     requires { 2 * WORD_BYTES ≤ length buffer.old }
-    ensures { take (2 * WORD_BYTES) buffer.new
-        ≡ number_bytes WORD_BYTES cells ++ number_bytes WORD_BYTES tick }
+    ensures { take (2 * WORD_BYTES) buffer.new ≡ header_bytes cells tick }
 {
     write_u64_at(buffer, 0, cells);
     write_u64_at(buffer, WORD_BYTES, tick);
+}
+
+/// The number of cells and the tick that the header of a file has.
+pub fn decode_header(bytes: &[u8]) -> (u64, u64)
+    requires { HEADER_BYTES ≤ length bytes.now }
+    ensures cells { result.0 ≡ cells_in bytes.now }
+    ensures tick { result.1 ≡ tick_in bytes.now }
+{
+    (u64_at(bytes, CELLS_PLACE), u64_at(bytes, TICK_PLACE))
 }

@@ -1,7 +1,7 @@
 ghost use Rattle.std.specs.Prelude.{◌≡◌, ◌+◌, ◌≤◌, ◌<◌, ◌⊎◌, ◌↔◌, ℕ, List, [], false, get_or, IsTrue, OnOk, OnErr, IfOk, IfErr, IfNone, Option, Some, None, ⊤};
 ghost use Rattle.world_ticks.specs.declared.tick.TheConstants.{TICK_MAX};
 ghost use Rattle.file_format.specs.Slot.{of_slot};
-ghost use Rattle.disk_model.specs.Disk.{Within, OneCalledAtMostOnce};
+ghost use Rattle.disk_model.specs.Disk.{OneCalledAtMostOnce};
 ghost use Rattle.capture_core.specs.declared.taker.Taken.{Taken};
 ghost use Rattle.image_files.specs.declared.format.TheConstants.{CELLS_MAX};
 ghost use Rattle.image_files.specs.declared.phase.Phase.TheVariants.{Idle, Taking, Down};
@@ -9,11 +9,14 @@ ghost use Rattle.image_files.specs.Image.{Image, image_of};
 ghost use Rattle.image_files.specs.Images.{ImageFiles, StepsImages};
 ghost use Rattle.image_files.specs.Progress.{target_of, done, cells_taken, left_of, made_keeper, begun_keeper, opened_keeper};
 ghost use Rattle.image_files.specs.Keeper.{Fits, Endures};
-ghost use Rattle.image_files.specs.Files.{FitsFiles, Stands};
-ghost use Rattle.image_files.specs.Steps.{IfOpened, OnOpened, OnWorking, Closes, TookCell, TookWord, CallsIn, HasCause, IsOpenedImage};
+ghost use Rattle.image_files.specs.Files.{FitsFiles, Stands, StandsFor};
+ghost use Rattle.image_files.specs.Steps.{IfOpened, OnOpened, OnWorking, Closes, HasCause, IsOnlyRead, IsOpenedImage};
+ghost use Rattle.image_files.specs.Calls.{TookCell, TookWord, CallsIn};
 
+use crate::answer::ImageAnswer;
+use crate::chunk::CHUNK_CELLS;
 use crate::format::WORD_BYTES;
-use crate::phase::{CHUNK_CELLS, ImageAnswer, Phase};
+use crate::phase::Phase;
 use capture_core::{Taken, Taker};
 use disk_model::Disk;
 use file_format::Slot;
@@ -53,7 +56,9 @@ impl Model for ImageKeeper {
 
 impl ImageKeeper {
     /// A keeper of two files for worlds of so many cells, with no round in work. It reserves all
-    /// that it ever uses. `shut` tells of image.a and image.b whether they are known to be shut.
+    /// that it ever uses. `shut` is exactly what `is_shut` says of the durable bytes of image.a and
+    /// image.b. A careful-looking `false` is the dangerous one: a file that is shut and told as not
+    /// shut is closed again, and a crash may leave it open then, over what is no image.
     pub fn new(
         alloc: Global,
         cells: u32,
@@ -157,8 +162,133 @@ impl ImageKeeper {
     /// One take, or at most one call of a device. `target` and `newest` are the keeper's own two
     /// files, which nothing else changes: the one that the round writes, and the other, which holds
     /// the newest image once there is one.
-    #[tactic(auto, unfolding(crate::specs::Image::image_of))]
     pub fn step<T: Taker, D: Disk>(
+        &mut self,
+        from: &mut T,
+        target: &mut D,
+        newest: &mut D,
+    ) -> ImageAnswer
+        requires fits { IsTrue D.honest
+            → Fits self.old (D.content target.old) (D.content newest.old) }
+
+        // Answers: Idle with no round in work, Opened where the last call of a round went well, which ends it, Down
+        // from a failed call on, else Working. With Idle, and once it is down, nothing changes.
+        ensures idle { (result ≡ ImageAnswer.Idle) ↔ (self.old.phase ≡ Idle) }
+        ensures ended { IfOpened result (self.new ≡ opened_keeper self.old)
+            ((self.new.tick ≡ self.old.tick) × (self.new.newest ≡ self.old.newest)) }
+        ensures down { (result ≡ ImageAnswer.Down) ↔ (self.new.phase ≡ Down) }
+        ensures goes_on { OnWorking result (self.new.phase ≡ Idle → ⊥) }
+        ensures rests { (self.old.phase ≡ Idle) ⊎ (self.old.phase ≡ Down)
+            → (self.new ≡ self.old) × (target.new ≡ target.old) × (newest.new ≡ newest.old) }
+
+        // Counts: a round that goes on has less left, but where a take gave no cell with cells still to be taken.
+        ensures working { OnWorking result ((left_of self.new < left_of self.old)
+            ⊎ ((cells_taken self.old < self.old.cells) × T.took from.old None from.new × (from.new ≡ from.old)
+            × (self.new ≡ self.old) × (target.new ≡ target.old) × (newest.new ≡ newest.old))) }
+        ensures cells { self.new.cells ≡ self.old.cells }
+
+        // Takes: a step takes a cell and calls no device, or leaves the taker. All are taken where the image is opened.
+        ensures taken { ((from.new ≡ from.old) × IfOpened result ⊤ (cells_taken self.new ≡ cells_taken self.old))
+            ⊎ ((cell : Taken) × T.took from.old (Some cell) from.new
+            × (cells_taken self.new ≡ cells_taken self.old + 1)
+            × (target.new ≡ target.old) × (newest.new ≡ newest.old)) }
+        ensures all_taken { IfOpened result (cells_taken self.old ≡ self.old.cells) ⊤ }
+
+        // Disks: at most one call on one of them, and the newest image's file is only read. Down comes only once a
+        // call failed, and no failure is passed over.
+        ensures calls { OneCalledAtMostOnce D.called target.old target.new newest.old newest.new }
+        ensures cause { HasCause result self.old.phase (D.faults target.old) (D.faults target.new)
+            (D.faults newest.old) (D.faults newest.new) }
+        ensures newest { IsOnlyRead D.honest D.content D.may_leave newest.old newest.new }
+
+        // Opening: whatever a crash leaves, the target has the image of the round.
+        ensures opened { IsTrue D.honest → OnOpened result (IsOpenedImage self.old
+            (done self.old (D.content target.old) (D.content newest.old))
+            (D.content target.new) (D.may_leave target.new)) }
+
+        // Crashes: the next step may be made, and what keeper and files stand for goes on by takes and openings. An
+        // opened image is the newest one, and its file that one's.
+        ensures fits { IsTrue D.honest → IfOpened result
+            (Fits self.new (D.content newest.new) (D.content target.new))
+            (Fits self.new (D.content target.new) (D.content newest.new)) }
+        ensures stands { IsTrue D.honest → (images : ImageFiles)
+            → StandsFor self.old images (D.content target.old) (D.content newest.old)
+            (D.may_leave target.old) (D.may_leave newest.old)
+            → (next : ImageFiles) × IfOpened result
+            (StandsFor self.new next (D.content newest.new) (D.content target.new)
+            (D.may_leave newest.new) (D.may_leave target.new))
+            (StandsFor self.new next (D.content target.new) (D.content newest.new)
+            (D.may_leave target.new) (D.may_leave newest.new))
+            × StepsImages T.took self.old.cells images result next from.old from.new }
+    {
+        self.step_by_phase(from, target, newest)
+    }
+
+    /// `step` on the keeper's two files by their names.
+    pub fn step_files<T: Taker, D: Disk>(
+        &mut self,
+        from: &mut T,
+        image_a: &mut D,
+        image_b: &mut D,
+    ) -> ImageAnswer
+        requires fits { IsTrue D.honest
+            → FitsFiles self.old (D.content image_a.old) (D.content image_b.old) }
+
+        // Answers: Idle with no round in work, Opened where the last call of a round went well, which ends it, Down
+        // from a failed call on, else Working. With Idle, and once it is down, nothing changes.
+        ensures idle { (result ≡ ImageAnswer.Idle) ↔ (self.old.phase ≡ Idle) }
+        ensures ended { IfOpened result (self.new ≡ opened_keeper self.old)
+            ((self.new.tick ≡ self.old.tick) × (self.new.newest ≡ self.old.newest)) }
+        ensures down { (result ≡ ImageAnswer.Down) ↔ (self.new.phase ≡ Down) }
+        ensures goes_on { OnWorking result (self.new.phase ≡ Idle → ⊥) }
+        ensures rests { (self.old.phase ≡ Idle) ⊎ (self.old.phase ≡ Down)
+            → (self.new ≡ self.old) × (image_a.new ≡ image_a.old) × (image_b.new ≡ image_b.old) }
+
+        // Counts: a round that goes on has less left, but where a take gave no cell with cells still to be taken.
+        ensures working { OnWorking result ((left_of self.new < left_of self.old)
+            ⊎ ((cells_taken self.old < self.old.cells) × T.took from.old None from.new
+            × (from.new ≡ from.old) × (self.new ≡ self.old))) }
+        ensures cells { self.new.cells ≡ self.old.cells }
+
+        // Takes: a step takes a cell, or leaves the taker. All are taken where the image is opened.
+        ensures taken { ((from.new ≡ from.old)
+            × IfOpened result ⊤ (cells_taken self.new ≡ cells_taken self.old))
+            ⊎ ((cell : Taken) × T.took from.old (Some cell) from.new
+            × (cells_taken self.new ≡ cells_taken self.old + 1)) }
+        ensures all_taken { IfOpened result (cells_taken self.old ≡ self.old.cells) ⊤ }
+
+        // Disks: at most one call on one of them. Down comes only once a call failed, and no failure is passed over.
+        // A file is closed by the closed gate, and by no other byte.
+        ensures calls { OneCalledAtMostOnce D.called image_a.old image_a.new image_b.old image_b.new }
+        ensures cause { HasCause result self.old.phase (D.faults image_a.old) (D.faults image_a.new)
+            (D.faults image_b.old) (D.faults image_b.new) }
+        ensures closes { IsTrue D.honest → Closes result self.old.phase
+            (of_slot (target_of self.old.newest) (D.content image_a.old) (D.content image_b.old))
+            (of_slot (target_of self.old.newest) (D.content image_a.new) (D.content image_b.new)) }
+
+        // Crashes: the next step may be made, and what keeper and files stand for goes on by takes and openings.
+        // `images_stay` begins it, and says what a crash leaves of files that stand for it.
+        ensures fits { IsTrue D.honest
+            → FitsFiles self.new (D.content image_a.new) (D.content image_b.new) }
+        ensures stands { IsTrue D.honest → (images : ImageFiles)
+            → Stands self.old images (D.content image_a.old) (D.content image_b.old)
+            (D.may_leave image_a.old) (D.may_leave image_b.old)
+            → (next : ImageFiles)
+            × Stands self.new next (D.content image_a.new) (D.content image_b.new)
+            (D.may_leave image_a.new) (D.may_leave image_b.new)
+            × StepsImages T.took self.old.cells images result next from.old from.new }
+    {
+        match self.target() {
+            Slot::A => self.step_by_phase(from, image_a, image_b),
+            Slot::B => self.step_by_phase(from, image_b, image_a),
+        }
+    }
+}
+
+impl ImageKeeper {
+    // A step by the keeper's phase: what it does to the phase, to the words so far, and to what a crash may leave.
+    #[tactic(auto, unfolding(crate::specs::Image::image_of))]
+    fn step_by_phase<T: Taker, D: Disk>(
         &mut self,
         from: &mut T,
         target: &mut D,
@@ -222,8 +352,7 @@ impl ImageKeeper {
             (D.faults newest.old) (D.faults newest.new) }
 
         // No step writes to the newest image's file.
-        ensures newest { IsTrue D.honest → (D.content newest.new ≡ D.content newest.old)
-            × Within (D.may_leave newest.old) (D.may_leave newest.new) }
+        ensures newest { IsOnlyRead D.honest D.content D.may_leave newest.old newest.new }
     {
         match self.phase {
             Phase::Idle => ImageAnswer::Idle,
@@ -246,64 +375,6 @@ impl ImageKeeper {
         }
     }
 
-    /// `step` on the keeper's two files by their names.
-    pub fn step_files<T: Taker, D: Disk>(
-        &mut self,
-        from: &mut T,
-        image_a: &mut D,
-        image_b: &mut D,
-    ) -> ImageAnswer
-        requires fits { IsTrue D.honest
-            → FitsFiles self.old (D.content image_a.old) (D.content image_b.old) }
-
-        ensures fits { IsTrue D.honest
-            → FitsFiles self.new (D.content image_a.new) (D.content image_b.new) }
-        // What the keeper and its files stand for goes on by takes and openings.
-        ensures stands { IsTrue D.honest → (images : ImageFiles)
-            → Stands self.old images (D.content image_a.old) (D.content image_b.old)
-            (D.may_leave image_a.old) (D.may_leave image_b.old)
-            → (next : ImageFiles)
-            × Stands self.new next (D.content image_a.new) (D.content image_b.new)
-            (D.may_leave image_a.new) (D.may_leave image_b.new)
-            × StepsImages T.took self.old.cells images result next from.old from.new }
-
-        // A cell is taken, or none, whatever the disks are.
-        ensures taken { ((from.new ≡ from.old)
-            × IfOpened result ⊤ (cells_taken self.new ≡ cells_taken self.old))
-            ⊎ ((cell : Taken) × T.took from.old (Some cell) from.new
-            × (cells_taken self.new ≡ cells_taken self.old + 1)) }
-        ensures all_taken { IfOpened result (cells_taken self.old ≡ self.old.cells) ⊤ }
-
-        // It goes on, but where a take gave no cell with cells still to be taken.
-        ensures working { OnWorking result ((left_of self.new < left_of self.old)
-            ⊎ ((cells_taken self.old < self.old.cells) × T.took from.old None from.new
-            × (from.new ≡ from.old) × (self.new ≡ self.old))) }
-        ensures goes_on { OnWorking result (self.new.phase ≡ Idle → ⊥) }
-        ensures idle { (result ≡ ImageAnswer.Idle) ↔ (self.old.phase ≡ Idle) }
-        ensures down { (result ≡ ImageAnswer.Down) ↔ (self.new.phase ≡ Down) }
-
-        ensures closes { IsTrue D.honest → Closes result self.old.phase
-            (of_slot (target_of self.old.newest) (D.content image_a.old) (D.content image_b.old))
-            (of_slot (target_of self.old.newest) (D.content image_a.new) (D.content image_b.new)) }
-
-        ensures cells { self.new.cells ≡ self.old.cells }
-        ensures ended { IfOpened result (self.new ≡ opened_keeper self.old)
-            ((self.new.tick ≡ self.old.tick) × (self.new.newest ≡ self.old.newest)) }
-        ensures rests { (self.old.phase ≡ Idle) ⊎ (self.old.phase ≡ Down)
-            → (self.new ≡ self.old) × (image_a.new ≡ image_a.old) × (image_b.new ≡ image_b.old) }
-
-        ensures calls { OneCalledAtMostOnce D.called image_a.old image_a.new image_b.old image_b.new }
-        ensures cause { HasCause result self.old.phase (D.faults image_a.old) (D.faults image_a.new)
-            (D.faults image_b.old) (D.faults image_b.new) }
-    {
-        match self.target() {
-            Slot::A => self.step(from, image_a, image_b),
-            Slot::B => self.step(from, image_b, image_a),
-        }
-    }
-}
-
-impl ImageKeeper {
     fn go_down(&mut self)
         ensures { self.new ≡ record self.old { phase = Down } }
     {

@@ -10,6 +10,7 @@
 //! round are those that a `Taker` handed out, and the newest image's where it handed out none.
 #![tactic(auto)]
 
+mod answer;
 mod chunk;
 mod format;
 mod keeper;
@@ -17,9 +18,11 @@ mod laws;
 mod phase;
 mod reader;
 
+pub use answer::ImageAnswer;
+pub use chunk::CHUNK_CELLS;
 pub use file_format::{Slot, is_shut};
 pub use format::{CELLS_MAX, CELLS_PLACE, HEADER_BYTES, TICK_PLACE, WORD_BYTES, images_read_back};
 pub use keeper::ImageKeeper;
-pub use laws::{images_stay, keepers_endure};
-pub use phase::{CHUNK_CELLS, ImageAnswer, Phase};
+pub use laws::images_stay;
+pub use phase::Phase;
 pub use reader::{ImageState, read_image};

@@ -1,6 +1,3 @@
-/// The cells that are written, and read from the newest image, at once.
-pub const CHUNK_CELLS: usize = 64;
-
 /// What a keeper's next step does.
 #[derive(Clone, Copy, Debug, PartialEq, Eq)]
 pub enum Phase {
@@ -8,7 +5,7 @@ pub enum Phase {
     Idle,
     /// Writes the target's closed gate.
     Closing,
-    /// Makes it durable.
+    /// Makes the closed gate durable.
     ClosingSync,
     /// Writes the number of cells and the tick.
     Header,
@@ -22,21 +19,8 @@ pub enum Phase {
     BodySync,
     /// Writes the open gate.
     Opening,
-    /// Makes it durable.
+    /// Makes the open gate durable.
     OpeningSync,
     /// Nothing: a call of a device failed.
-    Down,
-}
-
-/// What came of a step.
-#[derive(Clone, Copy, Debug, PartialEq, Eq)]
-pub enum ImageAnswer {
-    /// No round is in work.
-    Idle,
-    /// The round goes on.
-    Working,
-    /// The image of this tick is durable, and the round has ended.
-    Opened(u64),
-    /// A call of a device failed, in this step or an earlier one.
     Down,
 }

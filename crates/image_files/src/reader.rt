@@ -2,7 +2,7 @@ ghost use Rattle.std.specs.Prelude.{◌≡◌, ◌+◌, ◌*◌, ◌≤◌, leng
 ghost use Rattle.std.specs.List.{list_all};
 ghost use Rattle.image_files.specs.Image.{image_of, is_whole, is_word, words_from};
 
-use crate::format::{CELLS_MAX, CELLS_PLACE, HEADER_BYTES, TICK_PLACE, WORD_BYTES};
+use crate::format::{CELLS_MAX, HEADER_BYTES, WORD_BYTES, decode_header};
 use file_format::{OPEN_GATE, u64_at};
 use std::alloc::Global;
 use world_actions::{LIMIT, Refusal};
@@ -28,8 +28,7 @@ pub fn read_image(alloc: Global, bytes: &[u8]) -> Result<ImageState, Refusal>
     if bytes.len() < HEADER_BYTES || bytes[0] != OPEN_GATE {
         return Ok(ImageState::Closed);
     }
-    let cells = u64_at(bytes, CELLS_PLACE);
-    let tick = u64_at(bytes, TICK_PLACE);
+    let (cells, tick) = decode_header(bytes);
     if !is_whole(bytes, cells, tick) {
         return Err(Refusal::BadImage);
     }

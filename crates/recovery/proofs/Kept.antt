@@ -5,8 +5,8 @@ use Rattle.std.proofs.lemmas.List.{append-nil, append_assoc, length-append, leng
 use Rattle.world_actions.specs.declared.action.Action.{Action}
 use Rattle.world_ticks.specs.After.{and_then, after_actions, after_ticks}
 use Rattle.capture_core.specs.declared.taker.Taken.{Taken}
-use Rattle.image_files.specs.declared.phase.ImageAnswer.{ImageAnswer}
-use Rattle.image_files.specs.declared.phase.ImageAnswer.TheVariants as answer
+use Rattle.image_files.specs.declared.answer.ImageAnswer.{ImageAnswer}
+use Rattle.image_files.specs.declared.answer.ImageAnswer.TheVariants as answer
 use Rattle.image_files.specs.Images.{Round, Images, ImageFiles, Newest, round_in, with_cell, with_taken, with_round, StepsImages}
 use Rattle.action_log.specs.Logs.{Logs}
 use Rattle.recovery.specs.Recovery.{words_after}

@@ -6,8 +6,8 @@ use Rattle.world_actions.specs.declared.action.Action.{Action}
 use Rattle.capture_core.specs.declared.taker.Taken.{Taken}
 use Rattle.file_format.specs.declared.slot.Slot.TheVariants.{A}
 use Rattle.image_files.specs.Image.{Closed}
-use Rattle.image_files.specs.declared.phase.ImageAnswer.{ImageAnswer}
-use Rattle.image_files.specs.declared.phase.ImageAnswer.TheVariants as answer
+use Rattle.image_files.specs.declared.answer.ImageAnswer.{ImageAnswer}
+use Rattle.image_files.specs.declared.answer.ImageAnswer.TheVariants as answer
 use Rattle.image_files.specs.Images.{Round, Images, ImagesAre, FirstImages, ImageFiles, NoneYet, Newest, round_in, with_cell, with_taken, with_round, StepsImages}
 use Rattle.action_log.specs.Logs.{started, Start, StartLogsAre, InStart, Writing, LogPlace}
 use Rattle.action_log.specs.LogSteps.{StartStep}

@@ -8,7 +8,7 @@ use Rattle.action_log.specs.declared.record.LogAnswer.TheVariants as log_answer
 use Rattle.world_ticks.specs.Tick.{Actions}
 use Rattle.action_log.specs.Logs.{Logs, started, Start, InStart, Writing, LogPlace}
 use Rattle.action_log.specs.LogSteps.{LogsStep, StartStep}
-use Rattle.image_files.specs.declared.phase.ImageAnswer.{ImageAnswer}
+use Rattle.image_files.specs.declared.answer.ImageAnswer.{ImageAnswer}
 use Rattle.image_files.specs.Images.{Images, FirstImages, ImageFiles, NoneYet, Newest, round_in, with_round, StepsImages}
 use Rattle.capture_core.specs.declared.taker.Taken.{Taken}
 use Rattle.world_ticks.specs.After.{after_actions, after_ticks}

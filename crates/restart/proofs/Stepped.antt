@@ -8,8 +8,8 @@ use Rattle.world_ticks.specs.After.{after_ticks}
 use Rattle.capture_core.specs.declared.taker.Taken.{Taken}
 use Rattle.capture_core.specs.Taken.{taken_of}
 use Rattle.capture_core.specs.Content.{Content, Takes, Covers}
-use Rattle.image_files.specs.declared.phase.ImageAnswer.{ImageAnswer}
-use Rattle.image_files.specs.declared.phase.ImageAnswer.TheVariants as answer
+use Rattle.image_files.specs.declared.answer.ImageAnswer.{ImageAnswer}
+use Rattle.image_files.specs.declared.answer.ImageAnswer.TheVariants as answer
 use Rattle.image_files.specs.Taken.{word_of}
 use Rattle.image_files.specs.Images.{Round, Images, FirstImages, ImageFiles, NoneYet, Newest, round_in, with_cell, with_taken, with_opened, StepsImages}
 use Rattle.recovery.specs.Sound.{IsWorldAt}

@@ -3,7 +3,7 @@ use Rattle.std.specs.Prelude.{◌≡◌, ℕ, Bool, List, [], ◌++◌, length, 
 use Rattle.world_actions.specs.declared.action.Action.{Action}
 use Rattle.capture_core.specs.Content.{Content, Marks, Takes, Covers}
 use Rattle.capture_core.specs.Taken.{taken_of}
-use Rattle.image_files.specs.declared.phase.ImageAnswer.{ImageAnswer}
+use Rattle.image_files.specs.declared.answer.ImageAnswer.{ImageAnswer}
 use Rattle.image_files.specs.Taken.{filled_words}
 use Rattle.image_files.specs.Images.{Round, Images, FirstImages, ImageFiles, NoneYet, Newest, round_in, StepsImages}
 use Rattle.recovery.specs.Sound.{IsWorldAt}

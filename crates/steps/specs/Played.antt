@@ -5,7 +5,7 @@ use Rattle.world_actions.specs.declared.refusal.Refusal.TheVariants.{NoMemory}
 use Rattle.line_grammar.specs.declared.command.Command as commands
 use Rattle.line_grammar.specs.declared.command.Command.TheVariants as command
 use Rattle.disk_model.specs.declared.leaving.Leaving.{Leaving}
-use Rattle.image_files.specs.declared.phase.ImageAnswer.{ImageAnswer}
+use Rattle.image_files.specs.declared.answer.ImageAnswer.{ImageAnswer}
 use Rattle.action_log.specs.declared.record.LogAnswer.{LogAnswer}
 use Rattle.world_core.specs.declared.moves.Remains.{Remains}
 use Rattle.world_core.specs.declared.moves.Fate.TheVariants.{Done}

@@ -1,7 +1,7 @@
 -- The text of an answer.
 use Rattle.std.specs.Prelude.{ℕ, List, ◌++◌, decimal, codes}
 use Rattle.world_actions.specs.Refusal.{code_of}
-use Rattle.image_files.specs.declared.phase.ImageAnswer.TheVariants as image_answer
+use Rattle.image_files.specs.declared.answer.ImageAnswer.TheVariants as image_answer
 use Rattle.action_log.specs.declared.record.LogAnswer.TheVariants as log_answer
 use Rattle.world_core.specs.declared.moves.Answer.{Answer}
 use Rattle.world_core.specs.declared.moves.Answer.TheVariants.{Did, Word, Ended, Started, Image, Log, Recovered, Blank, Refused}

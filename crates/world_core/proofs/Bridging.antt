@@ -6,8 +6,8 @@ use Rattle.capture_core.specs.Content.{Content, Takes}
 use Rattle.disk_model.specs.Disk.{last_count, Grew, OneCalledAtMostOnce}
 use Rattle.disk_model.specs.FileState.{FileState, Calls}
 use Rattle.disk_model.specs.Fused.{CallsThrough}
-use Rattle.image_files.specs.declared.phase.ImageAnswer.{ImageAnswer}
-use Rattle.image_files.specs.declared.phase.ImageAnswer.TheVariants as image_answer
+use Rattle.image_files.specs.declared.answer.ImageAnswer.{ImageAnswer}
+use Rattle.image_files.specs.declared.answer.ImageAnswer.TheVariants as image_answer
 use Rattle.image_files.specs.declared.phase.Phase.{Phase}
 use Rattle.image_files.specs.declared.phase.Phase.TheVariants.{Idle, Down}
 use Rattle.image_files.specs.Images.{ImageFiles, StepsImages}

@@ -7,8 +7,8 @@ use Rattle.action_log.specs.declared.record.LogAnswer.TheVariants as log_answer
 use Rattle.action_log.specs.declared.record.Record.{Record}
 use Rattle.action_log.specs.Progress.{rest_of, work_of}
 use Rattle.action_log.specs.Logs.{Journal, InStart, Writing}
-use Rattle.image_files.specs.declared.phase.ImageAnswer.{ImageAnswer}
-use Rattle.image_files.specs.declared.phase.ImageAnswer.TheVariants as image_answer
+use Rattle.image_files.specs.declared.answer.ImageAnswer.{ImageAnswer}
+use Rattle.image_files.specs.declared.answer.ImageAnswer.TheVariants as image_answer
 use Rattle.world_core.specs.declared.moves.Fate.{Fate}
 use Rattle.world_core.specs.declared.moves.Fate.TheVariants.{Done}
 use Rattle.world_core.specs.declared.moves.Move.{Move}

@@ -6,8 +6,8 @@ use Rattle.world_ticks.specs.Tick.{Actions, decision}
 use Rattle.capture_core.specs.Content.{content_after, Marks, Takes, Covers}
 use Rattle.disk_model.specs.Disk.{last_count}
 use Rattle.image_files.specs.declared.phase.Phase.TheVariants.{Idle, Down}
-use Rattle.image_files.specs.declared.phase.ImageAnswer.{ImageAnswer}
-use Rattle.image_files.specs.declared.phase.ImageAnswer.TheVariants as image_answer
+use Rattle.image_files.specs.declared.answer.ImageAnswer.{ImageAnswer}
+use Rattle.image_files.specs.declared.answer.ImageAnswer.TheVariants as image_answer
 use Rattle.image_files.specs.Progress.{begun_keeper, opened_keeper, left_of, cells_taken}
 use Rattle.image_files.specs.Steps.{IfOpened, OnWorking}
 use Rattle.image_files.specs.Images.{ImageFiles, StepsImages}

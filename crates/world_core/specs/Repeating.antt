@@ -3,8 +3,8 @@ use Rattle.std.specs.Prelude.{◌≡◌, ◌⊎◌, ℕ, ◌+◌, ◌≤◌, tru
 use Rattle.disk_model.specs.declared.leaving.Leaving.{Leaving}
 use Rattle.disk_model.specs.Leaving.{left_by}
 use Rattle.disk_model.specs.FileState.{FileState}
-use Rattle.image_files.specs.declared.phase.ImageAnswer.{ImageAnswer}
-use Rattle.image_files.specs.declared.phase.ImageAnswer.TheVariants as image_answer
+use Rattle.image_files.specs.declared.answer.ImageAnswer.{ImageAnswer}
+use Rattle.image_files.specs.declared.answer.ImageAnswer.TheVariants as image_answer
 use Rattle.image_files.specs.Progress.{left_of}
 use Rattle.action_log.specs.declared.record.LogAnswer.{LogAnswer}
 use Rattle.action_log.specs.declared.record.LogAnswer.TheVariants as log_answer

@@ -10,7 +10,7 @@ use Rattle.action_log.specs.declared.record.Record.{Record}
 use Rattle.action_log.specs.declared.record.Record.TheVariants as record_
 use Rattle.action_log.specs.declared.record.LogAnswer.TheVariants as log_answer
 use Rattle.action_log.specs.Logs.{start_moves}
-use Rattle.image_files.specs.declared.phase.ImageAnswer.TheVariants as image_answer
+use Rattle.image_files.specs.declared.answer.ImageAnswer.TheVariants as image_answer
 use Rattle.restart.specs.Start.{is_shut}
 use Rattle.world_core.specs.declared.moves.Move.{Move}
 use Rattle.world_core.specs.declared.moves.Move.TheVariants as move

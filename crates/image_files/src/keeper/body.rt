@@ -1,20 +1,18 @@
-ghost use Rattle.std.specs.Prelude.{◌≡◌, ◌+◌, ◌*◌, ◌≤◌, ◌<◌, ℕ, List, [], length, take, drop, IsTrue, OnOk, OnErr, IfNone, Option, Some};
-ghost use Rattle.std.specs.List.{flat_map};
-ghost use Rattle.disk_model.specs.Disk.{counted, Within, Torn, Follows, overwritten};
-ghost use Rattle.file_format.specs.Number.{number_bytes};
+ghost use Rattle.std.specs.Prelude.{◌≡◌, ◌+◌, ◌*◌, ◌≤◌, ◌<◌, ℕ, List, length, take, drop, IsTrue, OnOk, OnErr, IfNone, Option, Some};
+ghost use Rattle.disk_model.specs.Disk.{counted};
 ghost use Rattle.file_format.specs.Gate.{HasShutGate};
 ghost use Rattle.capture_core.specs.declared.taker.Taken.{Taken};
 ghost use Rattle.capture_core.specs.Taken.{IsTakenWord};
 ghost use Rattle.image_files.specs.declared.phase.Phase.TheVariants.{Header, Taking, Reading, Writing, BodySync, Opening, Down};
-ghost use Rattle.image_files.specs.Taken.{filled_words};
-ghost use Rattle.image_files.specs.Progress.{left_of, done, with_chunk_written, read_cells};
+ghost use Rattle.image_files.specs.Progress.{left_of};
 ghost use Rattle.image_files.specs.Keeper.{Fits};
-ghost use Rattle.image_files.specs.Steps.{TookCell, KeepsFits, KeepsWords, KeepsOutcomes};
+ghost use Rattle.image_files.specs.Steps.{IsOnlyRead};
+ghost use Rattle.image_files.specs.Calls.{with_chunk_written, read_cells, TookCell, GoesOn, Reads};
 
 use super::ImageKeeper;
-use crate::chunk::{any_same, encode, fill};
+use crate::chunk::{CHUNK_CELLS, any_same, encode, fill};
 use crate::format::{CELLS_PLACE, HEADER_BYTES, WORD_BYTES, encode_header};
-use crate::phase::{CHUNK_CELLS, Phase};
+use crate::phase::Phase;
 use capture_core::{Taken, Taker};
 use disk_model::Disk;
 use world_actions::Refusal;
@@ -28,13 +26,7 @@ impl ImageKeeper {
         requires gate { IsTrue D.honest → HasShutGate (D.content target.old) }
         ensures ok { OnOk result (self.new ≡ record self.old { phase = Taking }) }
         ensures failed { OnErr result (self.new ≡ record self.old { phase = Down }) }
-        ensures fits { IsTrue D.honest
-            → KeepsFits self.old self.new (D.content target.old) (D.content target.new) }
-        ensures done { IsTrue D.honest
-            → KeepsWords self.old self.new (D.content target.old) (D.content target.new) }
-        ensures endures { IsTrue D.honest
-            → KeepsOutcomes self.old self.new (D.content target.old) (D.content target.new)
-            (D.may_leave target.old) (D.may_leave target.new) }
+        ensures goes_on { GoesOn D.honest D.content D.may_leave self.old self.new target.old target.new }
         ensures lowers { OnOk result (left_of self.new < left_of self.old) }
         ensures faults { D.faults target.new ≡ counted (D.faults target.old) result }
         ensures called { D.called target.old target.new }
@@ -84,36 +76,10 @@ impl ImageKeeper {
             → (target : List ℕ) × Fits self.old target (D.content newest.old) }
         ensures ok { OnOk result ((chunk : List Taken)
             × (self.new ≡ record self.old { phase = Writing; chunk = chunk })
-            × (length chunk ≡ length self.old.chunk)) }
-        ensures failed { OnErr result (self.new ≡ record self.old { phase = Down }) }
-        ensures fits { IsTrue D.honest → (target : List ℕ)
-            → Fits self.old target (D.content newest.old)
-            → Fits self.new target (D.content newest.new) }
-        ensures done { IsTrue D.honest → (target : List ℕ)
-            → Fits self.old target (D.content newest.old)
-            → done self.new target (D.content newest.new)
-            ≡ done self.old target (D.content newest.old) }
-        ensures content { IsTrue D.honest → D.content newest.new ≡ D.content newest.old }
-        ensures crash { IsTrue D.honest → Within (D.may_leave newest.old) (D.may_leave newest.new) }
-        ensures lowers { OnOk result (left_of self.new < left_of self.old) }
-        ensures faults { D.faults newest.new ≡ counted (D.faults newest.old) result }
-        ensures called { D.called newest.old newest.new }
-    {
-        self.get_chunk(newest)?;
-        Ok(())
-    }
-
-    fn get_chunk<D: Disk>(&mut self, newest: &mut D) -> Result<(), Refusal>
-        requires phase { self.old.phase ≡ Reading }
-        requires room { IsTrue D.honest
-            → HEADER_BYTES + WORD_BYTES * self.old.cells ≤ length (D.content newest.old) }
-        ensures failed { OnErr result (self.new ≡ record self.old { phase = Down }) }
-        ensures ok { OnOk result ((chunk : List Taken)
-            × (self.new ≡ record self.old { phase = Writing; chunk = chunk })
             × (length chunk ≡ length self.old.chunk)
             × (IsTrue D.honest → chunk ≡ read_cells self.old (D.content newest.old))) }
-        ensures content { IsTrue D.honest → D.content newest.new ≡ D.content newest.old }
-        ensures crash { IsTrue D.honest → Within (D.may_leave newest.old) (D.may_leave newest.new) }
+        ensures failed { OnErr result (self.new ≡ record self.old { phase = Down }) }
+        ensures goes_on { Reads D.honest D.content D.may_leave self.old self.new newest.old newest.new }
         ensures lowers { OnOk result (left_of self.new < left_of self.old) }
         ensures faults { D.faults newest.new ≡ counted (D.faults newest.old) result }
         ensures called { D.called newest.old newest.new }
@@ -136,38 +102,7 @@ impl ImageKeeper {
             → HEADER_BYTES + WORD_BYTES * self.old.written ≤ length (D.content target.old) }
         ensures ok { OnOk result (self.new ≡ with_chunk_written self.old) }
         ensures failed { OnErr result (self.new ≡ record self.old { phase = Down }) }
-        ensures fits { IsTrue D.honest
-            → KeepsFits self.old self.new (D.content target.old) (D.content target.new) }
-        ensures done { IsTrue D.honest
-            → KeepsWords self.old self.new (D.content target.old) (D.content target.new) }
-        ensures endures { IsTrue D.honest
-            → KeepsOutcomes self.old self.new (D.content target.old) (D.content target.new)
-            (D.may_leave target.old) (D.may_leave target.new) }
-        ensures lowers { OnOk result (left_of self.new < left_of self.old) }
-        ensures faults { D.faults target.new ≡ counted (D.faults target.old) result }
-        ensures called { D.called target.old target.new }
-    {
-        self.put_chunk(target)?;
-        Ok(())
-    }
-
-    fn put_chunk<D: Disk>(&mut self, target: &mut D) -> Result<(), Refusal>
-        requires phase { self.old.phase ≡ Writing }
-        requires room { IsTrue D.honest
-            → HEADER_BYTES + WORD_BYTES * self.old.written ≤ length (D.content target.old) }
-        ensures ok { OnOk result (self.new ≡ with_chunk_written self.old) }
-        ensures failed { OnErr result (self.new ≡ record self.old { phase = Down }) }
-        ensures written { IsTrue D.honest → OnOk result (D.content target.new
-            ≡ overwritten (D.content target.old) (HEADER_BYTES + WORD_BYTES * self.old.written)
-            (flat_map (number_bytes WORD_BYTES) (filled_words self.old.chunk []))) }
-        ensures torn { IsTrue D.honest → OnErr result
-            (Torn (HEADER_BYTES + WORD_BYTES * self.old.written)
-            (WORD_BYTES * length self.old.chunk)
-            (D.content target.old) (D.content target.new)) }
-        ensures crash { IsTrue D.honest
-            → Follows (Torn (HEADER_BYTES + WORD_BYTES * self.old.written)
-            (WORD_BYTES * length self.old.chunk))
-            (D.may_leave target.old) (D.may_leave target.new) }
+        ensures goes_on { GoesOn D.honest D.content D.may_leave self.old self.new target.old target.new }
         ensures lowers { OnOk result (left_of self.new < left_of self.old) }
         ensures faults { D.faults target.new ≡ counted (D.faults target.old) result }
         ensures called { D.called target.old target.new }
@@ -179,14 +114,23 @@ impl ImageKeeper {
             self.go_down();
             return Err(refusal);
         }
+        self.end_chunk();
+        Ok(())
+    }
+
+    // Goes on to the next chunk, or to the end of the body.
+    fn end_chunk(&mut self)
+        requires phase { self.old.phase ≡ Writing }
+        ensures ended { self.new ≡ with_chunk_written self.old }
+        ensures lowers { left_of self.new < left_of self.old }
+    {
+        self.written += self.chunk.len();
         self.chunk.clear();
-        self.phase = if self.written + count == self.cells {
+        self.phase = if self.written == self.cells {
             Phase::BodySync
         } else {
             Phase::Taking
         };
-        self.written += count;
-        Ok(())
     }
 
     // Makes header and words durable.
@@ -195,13 +139,7 @@ impl ImageKeeper {
         requires phase { self.old.phase ≡ BodySync }
         ensures ok { OnOk result (self.new ≡ record self.old { phase = Opening }) }
         ensures failed { OnErr result (self.new ≡ record self.old { phase = Down }) }
-        ensures fits { IsTrue D.honest
-            → KeepsFits self.old self.new (D.content target.old) (D.content target.new) }
-        ensures done { IsTrue D.honest
-            → KeepsWords self.old self.new (D.content target.old) (D.content target.new) }
-        ensures endures { IsTrue D.honest
-            → KeepsOutcomes self.old self.new (D.content target.old) (D.content target.new)
-            (D.may_leave target.old) (D.may_leave target.new) }
+        ensures goes_on { GoesOn D.honest D.content D.may_leave self.old self.new target.old target.new }
         ensures lowers { OnOk result (left_of self.new < left_of self.old) }
         ensures faults { D.faults target.new ≡ counted (D.faults target.old) result }
         ensures called { D.called target.old target.new }
@@ -226,8 +164,7 @@ fn read_front<D: Disk>(
     requires inside { IsTrue D.honest → at + count ≤ length (D.content disk.old) }
     ensures read { IsTrue D.honest
         → OnOk result (take count buffer.new ≡ take count (drop at (D.content disk.old))) }
-    ensures content { IsTrue D.honest → D.content disk.new ≡ D.content disk.old }
-    ensures crash { IsTrue D.honest → Within (D.may_leave disk.old) (D.may_leave disk.new) }
+    ensures stays { IsOnlyRead D.honest D.content D.may_leave disk.old disk.new }
     ensures faults { D.faults disk.new ≡ counted (D.faults disk.old) result }
     ensures called { D.called disk.old disk.new }
 {

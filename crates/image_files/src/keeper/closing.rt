@@ -2,7 +2,8 @@ ghost use Rattle.std.specs.Prelude.{◌≡◌, ◌<◌, true, IsTrue, OnOk, OnEr
 ghost use Rattle.disk_model.specs.Disk.{counted};
 ghost use Rattle.image_files.specs.declared.phase.Phase.TheVariants.{Closing, ClosingSync, Header, Down};
 ghost use Rattle.image_files.specs.Progress.{left_of};
-ghost use Rattle.image_files.specs.Steps.{closed, KeepsFits, KeepsWords, KeepsOutcomes};
+ghost use Rattle.image_files.specs.Steps.{closed};
+ghost use Rattle.image_files.specs.Calls.{GoesOn};
 
 use super::ImageKeeper;
 use crate::phase::Phase;
@@ -20,13 +21,7 @@ impl ImageKeeper {
         ensures failed { OnErr result (self.new ≡ record self.old { phase = Down }) }
         ensures written { IsTrue D.honest
             → OnOk result (D.content target.new ≡ closed (D.content target.old)) }
-        ensures fits { IsTrue D.honest
-            → KeepsFits self.old self.new (D.content target.old) (D.content target.new) }
-        ensures done { IsTrue D.honest
-            → KeepsWords self.old self.new (D.content target.old) (D.content target.new) }
-        ensures endures { IsTrue D.honest
-            → KeepsOutcomes self.old self.new (D.content target.old) (D.content target.new)
-            (D.may_leave target.old) (D.may_leave target.new) }
+        ensures goes_on { GoesOn D.honest D.content D.may_leave self.old self.new target.old target.new }
         ensures lowers { OnOk result (left_of self.new < left_of self.old) }
         ensures faults { D.faults target.new ≡ counted (D.faults target.old) result }
         ensures called { D.called target.old target.new }
@@ -45,13 +40,7 @@ impl ImageKeeper {
         ensures ok { OnOk result
             (self.new ≡ record self.old { phase = Header; target_shut = true }) }
         ensures failed { OnErr result (self.new ≡ record self.old { phase = Down }) }
-        ensures fits { IsTrue D.honest
-            → KeepsFits self.old self.new (D.content target.old) (D.content target.new) }
-        ensures done { IsTrue D.honest
-            → KeepsWords self.old self.new (D.content target.old) (D.content target.new) }
-        ensures endures { IsTrue D.honest
-            → KeepsOutcomes self.old self.new (D.content target.old) (D.content target.new)
-            (D.may_leave target.old) (D.may_leave target.new) }
+        ensures goes_on { GoesOn D.honest D.content D.may_leave self.old self.new target.old target.new }
         ensures lowers { OnOk result (left_of self.new < left_of self.old) }
         ensures faults { D.faults target.new ≡ counted (D.faults target.old) result }
         ensures called { D.called target.old target.new }

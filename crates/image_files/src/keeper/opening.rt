@@ -1,9 +1,8 @@
-ghost use Rattle.std.specs.Prelude.{◌≡◌, ◌<◌, ℕ, List, IsTrue, OnOk, OnErr, IfOk};
+ghost use Rattle.std.specs.Prelude.{◌≡◌, ◌<◌, OnOk, OnErr, IfOk};
 ghost use Rattle.disk_model.specs.Disk.{counted};
 ghost use Rattle.image_files.specs.declared.phase.Phase.TheVariants.{Opening, OpeningSync, Down};
-ghost use Rattle.image_files.specs.Progress.{left_of, done, opened_keeper};
-ghost use Rattle.image_files.specs.Keeper.{Fits};
-ghost use Rattle.image_files.specs.Steps.{KeepsFits, KeepsWords, KeepsOutcomes, IsOpenedImage};
+ghost use Rattle.image_files.specs.Progress.{left_of, opened_keeper};
+ghost use Rattle.image_files.specs.Calls.{GoesOn, Opens};
 
 use super::ImageKeeper;
 use crate::phase::Phase;
@@ -18,13 +17,7 @@ impl ImageKeeper {
         requires phase { self.old.phase ≡ Opening }
         ensures ok { OnOk result (self.new ≡ record self.old { phase = OpeningSync }) }
         ensures failed { OnErr result (self.new ≡ record self.old { phase = Down }) }
-        ensures fits { IsTrue D.honest
-            → KeepsFits self.old self.new (D.content target.old) (D.content target.new) }
-        ensures done { IsTrue D.honest
-            → KeepsWords self.old self.new (D.content target.old) (D.content target.new) }
-        ensures endures { IsTrue D.honest
-            → KeepsOutcomes self.old self.new (D.content target.old) (D.content target.new)
-            (D.may_leave target.old) (D.may_leave target.new) }
+        ensures goes_on { GoesOn D.honest D.content D.may_leave self.old self.new target.old target.new }
         ensures lowers { OnOk result (left_of self.new < left_of self.old) }
         ensures faults { D.faults target.new ≡ counted (D.faults target.old) result }
         ensures called { D.called target.old target.new }
@@ -39,22 +32,12 @@ impl ImageKeeper {
 
     // Makes the open gate durable. The target holds the newest image then, and the files change their
     // parts.
-    #[tactic(auto, unfolding(crate::specs::Image::image_of))]
     pub(super) fn finish<D: Disk>(&mut self, target: &mut D) -> Result<u64, Refusal>
         requires phase { self.old.phase ≡ OpeningSync }
         ensures ok { OnOk result (self.new ≡ opened_keeper self.old) }
         ensures failed { OnErr result (self.new ≡ record self.old { phase = Down }) }
-        ensures content { IsTrue D.honest → D.content target.new ≡ D.content target.old }
-        ensures opened { IsTrue D.honest → (newest : List ℕ)
-            → Fits self.old (D.content target.old) newest
-            → IfOk result (IsOpenedImage self.old (done self.old (D.content target.old) newest)
-            (D.content target.new) (D.may_leave target.new)) }
-        ensures fits { IsTrue D.honest → (newest : List ℕ)
-            → Fits self.old (D.content target.old) newest
-            → OnOk result (Fits self.new newest (D.content target.new)) }
-        ensures down { IsTrue D.honest → OnErr result
-            (KeepsOutcomes self.old self.new (D.content target.old) (D.content target.new)
-            (D.may_leave target.old) (D.may_leave target.new)) }
+        ensures opened { IfOk result (Opens D.honest D.content D.may_leave self.old self.new target.old target.new) }
+        ensures goes_on { OnErr result (GoesOn D.honest D.content D.may_leave self.old self.new target.old target.new) }
         ensures lowers { OnOk result (left_of self.new < left_of self.old) }
         ensures faults { D.faults target.new ≡ counted (D.faults target.old) result }
         ensures called { D.called target.old target.new }

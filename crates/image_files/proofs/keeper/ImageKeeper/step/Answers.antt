@@ -1,22 +1,27 @@
-use Rattle.std.proofs.Common.{◌≡◌, sym, ◌∙◌, ap}
-use Rattle.image_files.specs.declared.phase.Phase.TheVariants.{Taking}
-use Rattle.image_files.specs.Progress.{Progress}
-use Rattle.image_files.proofs.TakeLemmas.{take_fits, take_endures, take_word}
+use Rattle.image_files.proofs.StandsLemmas.{kept}
 use Rattle.image_files.proofs.keeper.ImageKeeper.step.Goals as goal
 
-pub returns-in-Taking-clause-fits : goal.returns-in-Taking-clause-fits
-returns-in-Taking-clause-fits g c honest =
-    let phase : c.args.self.now.phase ≡ Taking = ap (λ (k : Progress). k.phase) (sym c.self.view_is) ∙ c.in-Taking.is in
-    let took = c.take_cell.ensures.took in
-    take_fits took.0 c.args.self.now _ _ _ phase took.3 (c.requires.fits honest)
-
-pub returns-in-Taking-clause-endures : goal.returns-in-Taking-clause-endures
-returns-in-Taking-clause-endures g c honest before endures =
-    let phase : c.args.self.now.phase ≡ Taking = ap (λ (k : Progress). k.phase) (sym c.self.view_is) ∙ c.in-Taking.is in
-    let took = c.take_cell.ensures.took in
-    take_endures took.0 c.args.self.now _ before _ _ _ _ phase (c.requires.fits honest).in_order took.3 endures
-
-pub returns-in-Taking-clause-took : goal.returns-in-Taking-clause-took
-returns-in-Taking-clause-took g c phase =
-    let took = c.take_cell.ensures.took in
-    (took.0, took.1, took.2, took.3, λ honest. take_word took.0 c.args.self.now _ _ _ phase (c.requires.fits honest).in_order took.3)
+pub returns-clause-stands : goal.returns-clause-stands
+returns-clause-stands g c honest images stands =
+    let e = c.step_by_phase.ensures in
+    let D = g.D.Disk in
+    kept g.T.Taker.took c.args.self.now c.step_by_phase.new.self c.args.from.now c.step_by_phase.new.from
+    (D.content c.args.target.now) (D.content c.step_by_phase.new.target) (D.content c.args.newest.now) (D.content c.step_by_phase.new.newest)
+    (D.may_leave c.args.target.now) (D.may_leave c.step_by_phase.new.target) (D.may_leave c.args.newest.now) (D.may_leave c.step_by_phase.new.newest)
+    images stands c.step_by_phase.result
+    (record {
+      fits = e.fits honest;
+      endures = e.endures honest;
+      opened_image = e.opened honest;
+      took_cell = λ taking. let took = e.took taking in (took.0, took.1, took.2, took.3, took.4 honest);
+      not_took = e.not_took;
+      words = λ not_taking. e.done not_taking honest;
+      goes_on = e.goes_on;
+      takes = e.takes;
+      idle = e.idle;
+      down = e.down;
+      cells = e.cells;
+      ended = e.ended;
+      rests = e.rests;
+      stays = (e.newest honest).0;
+    })

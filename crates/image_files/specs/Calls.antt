@@ -1,0 +1,94 @@
+-- Inside: for the contracts of this crate's private functions.
+-- What a step does by its phase, and what a call of one of the two files keeps.
+use Rattle.std.specs.Prelude.{◌≡◌, ℕ, ◌+◌, ◌*◌, Bool, Option, Some, None, is_some, List, [], ◌∷◌, ◌++◌, length, map, get_or, IsTrue, nat_lt, if◌then◌else◌, ◌==◌, ◌&&◌}
+use Rattle.capture_core.specs.declared.taker.Taken.{Taken}
+use Rattle.capture_core.specs.declared.taker.Taken.TheVariants.{Word}
+use Rattle.capture_core.specs.Taken.{IsTakenWord}
+use Rattle.image_files.specs.declared.format.TheConstants.{HEADER_BYTES, WORD_BYTES}
+use Rattle.image_files.specs.declared.phase.Phase.{Phase}
+use Rattle.image_files.specs.declared.phase.Phase.TheVariants.{Idle, Taking, Reading, Writing, BodySync, Down}
+use Rattle.image_files.specs.Image.{Image, words_from}
+use Rattle.image_files.specs.Taken.{word_of, filled_words, has_same}
+use Rattle.image_files.specs.Progress.{Progress, chunk_size, newest_words, done}
+use Rattle.image_files.specs.Keeper.{Fits, TargetEndures}
+use Rattle.image_files.specs.Steps.{IsOnlyRead, IsOpenedImage}
+
+-- ---- how a call changes the keeper
+
+-- what follows a take, with these cells in the chunk
+abbrev pub after_take : Progress → List Taken → Phase
+after_take keeper chunk =
+    if nat_lt (length chunk) (chunk_size keeper) then Taking else (if is_some keeper.newest && has_same chunk then Reading else Writing)
+
+-- a cell is taken
+abbrev pub with_taken_cell : Taken → Progress → Progress
+with_taken_cell cell keeper = record keeper { chunk = keeper.chunk ++ cell ∷ []; phase = after_take keeper (keeper.chunk ++ cell ∷ []) }
+
+-- the cells of the chunk in work, each with its word, where the newest image has these
+abbrev pub read_cells : Progress → (newest : List ℕ) → List Taken
+read_cells keeper newest =
+    map (λ word. Word word) (filled_words keeper.chunk (words_from newest (HEADER_BYTES + WORD_BYTES * keeper.written) (length keeper.chunk)))
+
+-- what follows the write of a chunk
+abbrev pub after_chunk : Progress → Phase
+after_chunk keeper = if keeper.written + length keeper.chunk == keeper.cells then BodySync else Taking
+
+-- the chunk in work is written
+abbrev pub with_chunk_written : Progress → Progress
+with_chunk_written keeper = record keeper { phase = after_chunk keeper; chunk = []; written = keeper.written + length keeper.chunk }
+
+-- ---- what a step does by its phase
+
+-- the keeper after a take that gave this
+abbrev pub TookCell : Option Taken → Progress → Progress → Type 0
+TookCell None old new = new ≡ old
+TookCell (Some cell) old new = IsTakenWord cell × (new ≡ with_taken_cell cell old)
+
+-- the words after it: a cell's own, or the newest image's word of that cell, or 0 where there is no image
+abbrev pub TookWord : Option Taken → Progress → (newest done_before done_after : List ℕ) → Type 0
+TookWord None keeper newest done_before done_after = done_after ≡ done_before
+TookWord (Some cell) keeper newest done_before done_after =
+    done_after ≡ done_before ++ word_of cell (get_or (newest_words keeper newest) (length done_before) 0) ∷ []
+
+-- the disk that is called, once, by phase: none, the newest image's, or the target
+abbrev pub CallsIn : Phase → {D : Type 0} → (called : D → D → Type 0) → (target_before target_after newest_before newest_after : D) → Type 0
+CallsIn Idle called target_before target_after newest_before newest_after = (target_after ≡ target_before) × (newest_after ≡ newest_before)
+CallsIn Taking called target_before target_after newest_before newest_after = (target_after ≡ target_before) × (newest_after ≡ newest_before)
+CallsIn Down called target_before target_after newest_before newest_after = (target_after ≡ target_before) × (newest_after ≡ newest_before)
+CallsIn Reading called target_before target_after newest_before newest_after = (target_after ≡ target_before) × called newest_before newest_after
+CallsIn phase called target_before target_after newest_before newest_after = called target_before target_after × (newest_after ≡ newest_before)
+
+-- ---- by a call of the target, whatever the newest image's file holds
+
+-- the two files go on to hold what the keeper takes them to hold
+abbrev pub KeepsFits : Bool → (old new : Progress) → (before after : List ℕ) → Type 0
+KeepsFits honest old new before after = IsTrue honest → (newest : List ℕ) → Fits old before newest → Fits new after newest
+
+-- the words so far stay
+abbrev pub KeepsWords : Bool → (old new : Progress) → (before after : List ℕ) → Type 0
+KeepsWords honest old new before after = IsTrue honest → (newest : List ℕ) → Fits old before newest → done new after newest ≡ done old before newest
+
+-- what a crash may leave of the target goes on to be what the phase says
+abbrev pub KeepsOutcomes : Bool → (old new : Progress) → (before after : List ℕ) → (outcomes_before outcomes_after : List ℕ → Type 0) → Type 0
+KeepsOutcomes honest old new before after outcomes_before outcomes_after =
+    IsTrue honest → (read : Image) (newest : List ℕ) → Fits old before newest
+    → TargetEndures old.phase old read before newest outcomes_before → TargetEndures new.phase new read after newest outcomes_after
+
+-- the three together
+pub record GoesOn {D : Type 0} (honest : Bool) (content : D → List ℕ) (may_leave : D → List ℕ → Type 0) (old new : Progress) (before after : D) : Type 0 where
+  pub fits : KeepsFits honest old new (content before) (content after)
+  pub done : KeepsWords honest old new (content before) (content after)
+  pub endures : KeepsOutcomes honest old new (content before) (content after) (may_leave before) (may_leave after)
+
+-- the image of the round was opened, and the two files have changed their parts
+pub record Opens {D : Type 0} (honest : Bool) (content : D → List ℕ) (may_leave : D → List ℕ → Type 0) (old new : Progress) (before after : D) (tick : ℕ) : Type 0 where
+  pub fits : IsTrue honest → (newest : List ℕ) → Fits old (content before) newest → Fits new newest (content after)
+  pub opened : IsTrue honest → (newest : List ℕ) → Fits old (content before) newest → IsOpenedImage old (done old (content before) newest) (content after) (may_leave after) tick
+
+-- ---- by a call of the newest image's file, whatever the target holds
+
+-- the two files go on to hold what the keeper takes them to hold, the words so far stay, and the file is only read
+pub record Reads {D : Type 0} (honest : Bool) (content : D → List ℕ) (may_leave : D → List ℕ → Type 0) (old new : Progress) (before after : D) : Type 0 where
+  pub fits : IsTrue honest → (target : List ℕ) → Fits old target (content before) → Fits new target (content after)
+  pub done : IsTrue honest → (target : List ℕ) → Fits old target (content before) → done new target (content after) ≡ done old target (content before)
+  pub stays : IsOnlyRead honest content may_leave before after
