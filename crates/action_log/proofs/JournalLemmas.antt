@@ -7,18 +7,18 @@ use Rattle.file_format.specs.Slot.{of_slot, other_slot}
 use Rattle.action_log.specs.declared.format.TheConstants.{GROUP_TICKS}
 use Rattle.action_log.specs.declared.phase.Phase.{Phase}
 use Rattle.action_log.specs.declared.phase.Phase.TheVariants.{Retiring, RetiringSync, Ready, BodySync, Gate, GateSync, Closing, ClosingSync, Header, HeaderSync, Opening, OpeningSync}
-use Rattle.action_log.specs.declared.phase.Outcome.{Outcome}
-use Rattle.action_log.specs.declared.phase.Outcome.TheVariants as outcome
+use Rattle.action_log.specs.declared.outcome.Outcome.{Outcome}
+use Rattle.action_log.specs.declared.outcome.Outcome.TheVariants as outcome
 use Rattle.action_log.specs.declared.progress.Progress.{Progress}
 use Rattle.action_log.specs.declared.record.Record.{Record}
-use Rattle.action_log.specs.declared.record.LogAnswer.{LogAnswer}
-use Rattle.action_log.specs.declared.record.LogAnswer.TheVariants as answer
+use Rattle.action_log.specs.declared.answer.LogAnswer.{LogAnswer}
+use Rattle.action_log.specs.declared.answer.LogAnswer.TheVariants as answer
 use Rattle.action_log.specs.Segment.{Tick, joined, Segment, ClosedSegment, OpenSegment, IsSegment}
 use Rattle.action_log.specs.Queue.{group_of, ticks_before, StandBefore}
-use Rattle.action_log.specs.Progress.{is_of_start, IsInOrder, rest_in, rest_of, switch_in, switch_of, phase_after, after_call}
-use Rattle.action_log.specs.Written.{Written, with_pending, with_group_kept, renewed}
+use Rattle.action_log.specs.Progress.{is_of_start, IsInOrder, rest_in, rest_of, switch_in, switch_of}
+use Rattle.action_log.specs.Written.{Written}
 use Rattle.action_log.specs.Files.{CurrentFits, Holds, Endures}
-use Rattle.action_log.specs.Steps.{goes_on, Moved, answer_by}
+use Rattle.action_log.specs.Steps.{phase_after, after_call, with_pending, with_group_kept, renewed, goes_on, Moved, answer_by}
 use Rattle.action_log.specs.Logs.{Logs, started, Start, Journal, InStart, Writing, LogPlace}
 use Rattle.action_log.specs.LogSteps.{TakesGroup, TakesSwitch, LogsStep, StepIn}
 use Rattle.action_log.specs.Stands.{logs_of, StandsAfterStart, StandsInStart, StandsBy, Stands}
@@ -48,31 +48,31 @@ some_rest Opening shut is = omega arith
 some_rest OpeningSync shut is = absurd cc
 
 -- after the start the switch in work is the same behind a call
-same_switch : (p : Phase) (shut failed : Bool) (target : ℕ) → goes_on p failed ≡ true → IsTrue (is_of_start p false) → switch_in (phase_after p shut failed) target ≡ switch_in p target
-same_switch Retiring shut failed target is start = absurd cc
-same_switch RetiringSync shut failed target is start = absurd cc
-same_switch Ready shut failed target is start = absurd cc
-same_switch BodySync shut true target is start = refl
-same_switch BodySync shut false target is start = refl
-same_switch Gate shut failed target is start = refl
-same_switch GateSync shut true target is start = refl
-same_switch GateSync shut false target is start = absurd cc
-same_switch Closing shut failed target is start = refl
-same_switch ClosingSync shut true target is start = refl
-same_switch ClosingSync shut false target is start = refl
-same_switch Header shut failed target is start = refl
-same_switch HeaderSync shut true target is start = refl
-same_switch HeaderSync shut false target is start = refl
-same_switch Opening shut failed target is start = refl
-same_switch OpeningSync shut true target is start = refl
-same_switch OpeningSync shut false target is start = absurd cc
+same_switch : (p : Phase) (shut failed : Bool) (next_base : ℕ) → goes_on p failed ≡ true → IsTrue (is_of_start p false) → switch_in (phase_after p shut failed) next_base ≡ switch_in p next_base
+same_switch Retiring shut failed next_base is start = absurd cc
+same_switch RetiringSync shut failed next_base is start = absurd cc
+same_switch Ready shut failed next_base is start = absurd cc
+same_switch BodySync shut true next_base is start = refl
+same_switch BodySync shut false next_base is start = refl
+same_switch Gate shut failed next_base is start = refl
+same_switch GateSync shut true next_base is start = refl
+same_switch GateSync shut false next_base is start = absurd cc
+same_switch Closing shut failed next_base is start = refl
+same_switch ClosingSync shut true next_base is start = refl
+same_switch ClosingSync shut false next_base is start = refl
+same_switch Header shut failed next_base is start = refl
+same_switch HeaderSync shut true next_base is start = refl
+same_switch HeaderSync shut false next_base is start = refl
+same_switch Opening shut failed next_base is start = refl
+same_switch OpeningSync shut true next_base is start = refl
+same_switch OpeningSync shut false next_base is start = absurd cc
 
-switch_at : (phase : Phase) (k : Progress) → k.phase ≡ phase → switch_of k ≡ switch_in phase k.target
-switch_at phase k is = ap (λ (p : Phase). switch_in p k.target) is
+switch_at : (phase : Phase) (k : Progress) → k.phase ≡ phase → switch_of k ≡ switch_in phase k.next_base
+switch_at phase k is = ap (λ (p : Phase). switch_in p k.next_base) is
 
-begun_switch : (shut : Bool) (number : ℕ) → switch_in (if shut then HeaderSync else ClosingSync) number ≡ Some number
-begun_switch true number = refl
-begun_switch false number = refl
+begun_switch : (shut : Bool) (tick : ℕ) → switch_in (if shut then HeaderSync else ClosingSync) tick ≡ Some tick
+begun_switch true tick = refl
+begun_switch false tick = refl
 
 -- a keeper in the start isn't in these phases
 never_ready : (k : Progress) → k.phase ≡ Ready → k.starting ≡ true → IsInOrder k → ⊥
@@ -89,12 +89,12 @@ module _ (old new : Progress) (queue left : List Record) (a b new_a new_b : List
   -- ---- in the start
 
   -- the start goes on
-  still_starting : (start : Start) (n m : ℕ) → new.starting ≡ old.starting → new.target ≡ old.target → 0 < m → (new.down ≡ false → m ≡ rest_of new) → (s : StandsInStart old a b leaves_a leaves_b start n)
+  still_starting : (start : Start) (n m : ℕ) → new.starting ≡ old.starting → new.next_base ≡ old.next_base → 0 < m → (new.down ≡ false → m ≡ rest_of new) → (s : StandsInStart old a b leaves_a leaves_b start n)
       → Holds new s.written new_a new_b → Endures new s.written new_a new_b new_leaves_a new_leaves_b → StandsInStart new new_a new_b new_leaves_a new_leaves_b (record start { begun = true }) m
-  still_starting start n m same target some is s holds endures = record {
+  still_starting start n m same next_base some is s holds endures = record {
     written = s.written;
     in_work = same ∙ s.in_work;
-    tick = s.tick ∙ sym target;
+    tick = s.tick ∙ sym next_base;
     some_left = some;
     left_is = is;
     holds = holds;
@@ -108,31 +108,31 @@ module _ (old new : Progress) (queue left : List Record) (a b new_a new_b : List
   in_start : (o : Outcome) (start : Start) (n : ℕ) → Moved o old new queue left → HoldsNext o old new queue a b new_a new_b → LastsNext o old new queue a b new_a new_b leaves_a leaves_b new_leaves_a new_leaves_b
       → StandsInStart old a b leaves_a leaves_b start n → Next o (InStart start) n
   in_start outcome.Idle start n moved holds lasts s = absurd (never_ready old moved.1 s.in_work s.holds.in_order)
-  in_start (outcome.Took failed) start n moved holds lasts s = absurd (never_ready old moved.1 s.in_work s.holds.in_order)
-  in_start (outcome.Switched failed) start n moved holds lasts s = absurd (never_ready old moved.2 s.in_work s.holds.in_order)
-  in_start (outcome.Acked number) start n moved holds lasts s = absurd (never_acked old moved.1 s.in_work s.holds.in_order)
+  in_start (outcome.TookGroup failed) start n moved holds lasts s = absurd (never_ready old moved.1 s.in_work s.holds.in_order)
+  in_start (outcome.TookSwitch failed) start n moved holds lasts s = absurd (never_ready old moved.2 s.in_work s.holds.in_order)
+  in_start (outcome.Acked tick) start n moved holds lasts s = absurd (never_acked old moved.1 s.in_work s.holds.in_order)
   in_start outcome.Working start n moved holds lasts s =
       let rest = rest_on old.phase old.other_shut moved.1 in
       let some = some_rest old.phase old.other_shut moved.1 in
       let is = s.left_is moved.0 in
       let next_rest = ap (λ (k : Progress). rest_of k) moved.2 in (
         record { journal = InStart (record start { begun = true }); left = n - 1 },
-        still_starting start n (n - 1) (ap (λ (k : Progress). k.starting) moved.2) (ap (λ (k : Progress). k.target) moved.2) (omega (arith, rest, some, is)) (λ up. omega (arith, rest, is, next_rest)) s (holds s.written s.holds) (lasts s.written s.holds s.endures),
+        still_starting start n (n - 1) (ap (λ (k : Progress). k.starting) moved.2) (ap (λ (k : Progress). k.next_base) moved.2) (omega (arith, rest, some, is)) (λ up. omega (arith, rest, is, next_rest)) s (holds s.written s.holds) (lasts s.written s.holds s.endures),
         (inl (omega (arith, rest, some, is), refl), moved.3),
       )
   in_start outcome.Failed start n moved holds lasts s =
       let down : new.down ≡ true = ap (λ (k : Progress). k.down) moved.2 in (
         record { journal = InStart (record start { begun = true }); left = n },
-        still_starting start n n (ap (λ (k : Progress). k.starting) moved.2) (ap (λ (k : Progress). k.target) moved.2) s.some_left (λ up. absurd cc) s (holds s.written s.holds) (lasts s.written s.holds s.endures),
+        still_starting start n n (ap (λ (k : Progress). k.starting) moved.2) (ap (λ (k : Progress). k.next_base) moved.2) s.some_left (λ up. absurd cc) s (holds s.written s.holds) (lasts s.written s.holds s.endures),
         ((s.some_left, refl), moved.3),
       )
   in_start outcome.Down start n moved holds lasts s =
       let down : new.down ≡ true = ap (λ (k : Progress). k.down) moved.1 ∙ moved.0 in (
         record { journal = InStart (record start { begun = true }); left = n },
-        still_starting start n n (ap (λ (k : Progress). k.starting) moved.1) (ap (λ (k : Progress). k.target) moved.1) s.some_left (λ up. absurd cc) s (holds s.written s.holds) (lasts s.written s.holds s.endures),
+        still_starting start n n (ap (λ (k : Progress). k.starting) moved.1) (ap (λ (k : Progress). k.next_base) moved.1) s.some_left (λ up. absurd cc) s (holds s.written s.holds) (lasts s.written s.holds s.endures),
         ((s.some_left, refl), moved.2),
       )
-  in_start outcome.Changed start n moved holds lasts s =
+  in_start outcome.Switched start n moved holds lasts s =
       let file = of_slot old.current a b in
       let held = current_at OpeningSync old s.written file (of_slot old.current b a) moved.1 s.holds.fits in
       let shut : HasShutGate file = subst (λ (x : Bool). CurrentFits OpeningSync x old.down old.base s.written file) s.in_work held in
@@ -146,7 +146,7 @@ module _ (old new : Progress) (queue left : List Record) (a b new_a new_b : List
             holds = holds s.written s.holds;
             endures = lasts s.written s.holds s.endures;
             before = shut_is_closed file shut;
-            is = ap (λ (t : ℕ). started t) s.tick ∙ ap (λ (x : Slot). record (started old.target) { slot = other_slot x }) (sym is_b) ∙ ap (λ (k : Progress). logs_of k next ClosedSegment) (sym moved.2);
+            is = ap (λ (t : ℕ). started t) s.tick ∙ ap (λ (x : Slot). record (started old.next_base) { slot = other_slot x }) (sym is_b) ∙ ap (λ (k : Progress). logs_of k next ClosedSegment) (sym moved.2);
           },
           refl,
         ),
@@ -179,9 +179,9 @@ module _ (old new : Progress) (queue left : List Record) (a b new_a new_b : List
     went_on : (failed : Bool) → goes_on old.phase failed ≡ true → new ≡ after_call old failed → logs_of new s.written logs.before ≡ now
     went_on failed is moved =
         let running = subst (λ (x : Bool). IsTrue (is_of_start old.phase x)) s.over s.holds.in_order.of_start in
-        ap (λ (k : Progress). logs_of k s.written logs.before) moved ∙ ap (λ (x : Option ℕ). record now { switch = x }) (same_switch old.phase old.other_shut failed old.target is running)
+        ap (λ (k : Progress). logs_of k s.written logs.before) moved ∙ ap (λ (x : Option ℕ). record now { switch = x }) (same_switch old.phase old.other_shut failed old.next_base is running)
 
-    took : (failed : Bool) → Moved (outcome.Took failed) old new queue left → TakesGroup now queue (logs_of new (with_pending s.written (group_of GROUP_TICKS queue)) logs.before) left
+    took : (failed : Bool) → Moved (outcome.TookGroup failed) old new queue left → TakesGroup now queue (logs_of new (with_pending s.written (group_of GROUP_TICKS queue)) logs.before) left
     took failed moved =
         let group = group_of GROUP_TICKS queue in
         let no_switch = switch_at Ready old moved.1 in
@@ -195,7 +195,7 @@ module _ (old new : Progress) (queue left : List Record) (a b new_a new_b : List
           is = ap (λ (k : Progress). logs_of k (with_pending s.written group) logs.before) moved.3 ∙ ap (λ (x : Option ℕ). record now { pending = group; switch = x }) (sym no_switch);
         }
 
-    switched : (failed : Bool) → Moved (outcome.Switched failed) old new queue left → TakesSwitch now queue (logs_of new s.written logs.before) left
+    switched : (failed : Bool) → Moved (outcome.TookSwitch failed) old new queue left → TakesSwitch now queue (logs_of new s.written logs.before) left
     switched failed moved =
         record {
           idle = (pending_at Ready old s.written current (of_slot old.current b a) moved.2 s.holds.fits, switch_at Ready old moved.2);
@@ -210,19 +210,19 @@ module _ (old new : Progress) (queue left : List Record) (a b new_a new_b : List
         let same : next ≡ now = ap (λ (k : Progress). logs_of k s.written logs.before) moved.3 in
         after_start logs n outcome.Idle s.written logs.before none (ap (λ (k : Progress). k.starting) moved.3 ∙ s.over) (holds s.written s.holds) (lasts s.written s.holds s.endures) s.before
         (stepped_as answer.Idle next ((pending_at Ready old s.written current (of_slot old.current b a) moved.1 s.holds.fits, switch_at Ready old moved.1), moved.2, same, moved.4))
-    writing (outcome.Took true) moved holds lasts =
+    writing (outcome.TookGroup true) moved holds lasts =
         let next = with_pending s.written (group_of GROUP_TICKS queue) in
-        after_start logs n (outcome.Took true) next logs.before none (ap (λ (k : Progress). k.starting) moved.3 ∙ s.over) (holds s.written s.holds) (lasts s.written s.holds s.endures) s.before
+        after_start logs n (outcome.TookGroup true) next logs.before none (ap (λ (k : Progress). k.starting) moved.3 ∙ s.over) (holds s.written s.holds) (lasts s.written s.holds s.endures) s.before
         (stepped_as answer.Down (logs_of new next logs.before) (inr (inl (took true moved))))
-    writing (outcome.Took false) moved holds lasts =
+    writing (outcome.TookGroup false) moved holds lasts =
         let next = with_pending s.written (group_of GROUP_TICKS queue) in
-        after_start logs n (outcome.Took false) next logs.before none (ap (λ (k : Progress). k.starting) moved.3 ∙ s.over) (holds s.written s.holds) (lasts s.written s.holds s.endures) s.before
+        after_start logs n (outcome.TookGroup false) next logs.before none (ap (λ (k : Progress). k.starting) moved.3 ∙ s.over) (holds s.written s.holds) (lasts s.written s.holds s.endures) s.before
         (stepped_as answer.Working (logs_of new next logs.before) (inl (inr (inl (took false moved)))))
-    writing (outcome.Switched true) moved holds lasts =
-        after_start logs n (outcome.Switched true) s.written logs.before none (ap (λ (k : Progress). k.starting) moved.4 ∙ s.over) (holds s.written s.holds) (lasts s.written s.holds s.endures) s.before
+    writing (outcome.TookSwitch true) moved holds lasts =
+        after_start logs n (outcome.TookSwitch true) s.written logs.before none (ap (λ (k : Progress). k.starting) moved.4 ∙ s.over) (holds s.written s.holds) (lasts s.written s.holds s.endures) s.before
         (stepped_as answer.Down (logs_of new s.written logs.before) (inr (inr (switched true moved))))
-    writing (outcome.Switched false) moved holds lasts =
-        after_start logs n (outcome.Switched false) s.written logs.before none (ap (λ (k : Progress). k.starting) moved.4 ∙ s.over) (holds s.written s.holds) (lasts s.written s.holds s.endures) s.before
+    writing (outcome.TookSwitch false) moved holds lasts =
+        after_start logs n (outcome.TookSwitch false) s.written logs.before none (ap (λ (k : Progress). k.starting) moved.4 ∙ s.over) (holds s.written s.holds) (lasts s.written s.holds s.endures) s.before
         (stepped_as answer.Working (logs_of new s.written logs.before) (inl (inr (inr (switched false moved)))))
     writing outcome.Working moved holds lasts =
         after_start logs n outcome.Working s.written logs.before none (ap (λ (k : Progress). k.starting) moved.2 ∙ s.over) (holds s.written s.holds) (lasts s.written s.holds s.endures) s.before
@@ -233,7 +233,7 @@ module _ (old new : Progress) (queue left : List Record) (a b new_a new_b : List
     writing outcome.Down moved holds lasts =
         after_start logs n outcome.Down s.written logs.before none (ap (λ (k : Progress). k.starting) moved.1 ∙ s.over) (holds s.written s.holds) (lasts s.written s.holds s.endures) s.before
         (stepped_as answer.Down (logs_of new s.written logs.before) (inl (ap (λ (k : Progress). logs_of k s.written logs.before) moved.1, moved.2)))
-    writing outcome.Changed moved holds lasts =
+    writing outcome.Switched moved holds lasts =
         let fits = s.holds.fits in
         let sum = length-append (joined s.written.groups) s.written.pending in
         let none_pending = pending_at OpeningSync old s.written current (of_slot old.current b a) moved.1 fits in
@@ -241,25 +241,25 @@ module _ (old new : Progress) (queue left : List Record) (a b new_a new_b : List
         let reads = closed_reads old.base s.written.groups current groups.0 fits.groups (omega (arith, s.holds.in_order.few, fits.count, sum)) (omega (arith, s.holds.in_order.numbered, fits.count, sum)) groups.1 in
         let next = renewed s.written current in
         let before = OpenSegment old.base (joined s.written.groups) in
-        after_start logs n outcome.Changed next before none (ap (λ (k : Progress). k.starting) moved.2) (holds s.written s.holds) (lasts s.written s.holds s.endures) reads
+        after_start logs n outcome.Switched next before none (ap (λ (k : Progress). k.starting) moved.2) (holds s.written s.holds) (lasts s.written s.holds s.endures) reads
         (stepped_as answer.Working (logs_of new next before) (inr (record {
-          tick = old.target;
+          tick = old.next_base;
           in_work = switch_at OpeningSync old moved.1;
           no_group = none_pending;
           is = ap (λ (k : Progress). logs_of k next before) moved.2;
           queue_is = moved.3;
         })))
-    writing (outcome.Acked number) moved holds lasts =
+    writing (outcome.Acked tick) moved holds lasts =
         let fits = s.holds.fits in
         let no_switch = switch_at GateSync old moved.1 in
         let group = pending_at GateSync old s.written current (of_slot old.current b a) moved.1 fits in
         let next = with_group_kept s.written in
         let kept = joined s.written.groups ++ s.written.pending in
-        after_start logs n (outcome.Acked number) next logs.before none (ap (λ (k : Progress). k.starting) moved.2 ∙ s.over) (holds s.written s.holds) (lasts s.written s.holds s.endures) s.before
-        (stepped_as (answer.Acked number) (logs_of new next logs.before) (record {
+        after_start logs n (outcome.Acked tick) next logs.before none (ap (λ (k : Progress). k.starting) moved.2 ∙ s.over) (holds s.written s.holds) (lasts s.written s.holds s.endures) s.before
+        (stepped_as (answer.Acked tick) (logs_of new next logs.before) (record {
           some = group.0.0;
           no_switch = no_switch;
-          number_is = moved.3 ∙ ap (λ (m : ℕ). old.base + m) fits.count;
+          tick_is = moved.3 ∙ ap (λ (m : ℕ). old.base + m) fits.count;
           is = ap (λ (k : Progress). logs_of k next logs.before) moved.2
               ∙ ap (λ (ticks : List Tick). record now { kept = ticks; pending = []; switch = None }) (joined_with s.written.groups s.written.pending)
               ∙ ap (λ (x : Option ℕ). record now { kept = kept; pending = []; switch = x }) (sym no_switch);

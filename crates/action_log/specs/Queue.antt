@@ -11,33 +11,33 @@ abbrev pub group_of : ℕ → List Record → List Tick
 group_of zero queue = []
 group_of (suc n) [] = []
 group_of (suc n) (records.Tick tick ∷ queue) = tick.list ∷ group_of n queue
-group_of (suc n) (records.Switch number ∷ queue) = []
+group_of (suc n) (records.Switch tick ∷ queue) = []
 
 -- all ticks in front of the first switch
 abbrev pub ticks_before : List Record → List Tick
 ticks_before [] = []
 ticks_before (records.Tick tick ∷ queue) = tick.list ∷ ticks_before queue
-ticks_before (records.Switch number ∷ queue) = []
+ticks_before (records.Switch tick ∷ queue) = []
 
 -- these ticks stand in front of a queue, and these records follow them
 abbrev pub StandBefore : List Tick → List Record → List Record → Type 0
 StandBefore [] queue left = queue ≡ left
-StandBefore (tick ∷ ticks) [] left = ⊥
-StandBefore (tick ∷ ticks) (records.Tick first ∷ queue) left = (first.list ≡ tick) × StandBefore ticks queue left
-StandBefore (tick ∷ ticks) (records.Switch number ∷ queue) left = ⊥
+StandBefore (actions ∷ ticks) [] left = ⊥
+StandBefore (actions ∷ ticks) (records.Tick first ∷ queue) left = (first.list ≡ actions) × StandBefore ticks queue left
+StandBefore (actions ∷ ticks) (records.Switch tick ∷ queue) left = ⊥
 
 -- how many steps the records need: four a tick by itself, six a switch
 abbrev pub queue_work : List Record → ℕ
 queue_work [] = 0
 queue_work (records.Tick tick ∷ queue) = 4 + queue_work queue
-queue_work (records.Switch number ∷ queue) = 6 + queue_work queue
+queue_work (records.Switch tick ∷ queue) = 6 + queue_work queue
 
--- Behind so many ticks since this base a switch has no smaller number than the last tick before it, and no segment gets
--- more ticks, nor a tick a greater number, than the format takes.
+-- Behind so many ticks since this base a switch is at no smaller tick than the last one before it, and no segment gets
+-- more ticks, nor greater ones, than the format takes.
 abbrev pub QueueFits : ℕ → ℕ → List Record → Type 0
 QueueFits base count [] = ⊤
 QueueFits base count (records.Tick tick ∷ queue) = (count < SEGMENT_TICKS) × (base + count < TICK_MAX) × QueueFits base (count + 1) queue
-QueueFits base count (records.Switch number ∷ queue) = (base + count ≤ number) × (number ≤ TICK_MAX) × QueueFits number 0 queue
+QueueFits base count (records.Switch tick ∷ queue) = (base + count ≤ tick) × (tick ≤ TICK_MAX) × QueueFits tick 0 queue
 
 -- the base behind a queue, and the ticks since
 pub record QueueEnd : Type 0 where
@@ -47,4 +47,4 @@ pub record QueueEnd : Type 0 where
 abbrev pub queue_end : ℕ → ℕ → List Record → QueueEnd
 queue_end base count [] = record { base = base; count = count }
 queue_end base count (records.Tick tick ∷ queue) = queue_end base (count + 1) queue
-queue_end base count (records.Switch number ∷ queue) = queue_end number 0 queue
+queue_end base count (records.Switch tick ∷ queue) = queue_end tick 0 queue

@@ -76,7 +76,7 @@ impl LogModel {
         self.queue.len() >= RECORDS
     }
 
-    /// The greatest number of a receipt, or the start's tick before the first one.
+    /// The greatest tick of a receipt, or the start's tick before the first one.
     pub fn acknowledged(&self) -> u64 {
         self.acknowledged
     }

@@ -77,7 +77,7 @@ fn run(alloc: Global, failing: Option<u32>, tally: &mut Tally) -> Result<u32, Re
     Ok(STEPS)
 }
 
-/// A keeper with its queue and its two files, and the number of its greatest receipt.
+/// A keeper with its queue and its two files, and the tick of its greatest receipt.
 #[derive(Drop)]
 struct LogTrial {
     alloc: Global,
@@ -88,7 +88,7 @@ struct LogTrial {
     acked: u64,
 }
 
-// Contracts see the number of the greatest receipt.
+// Contracts see the tick of the greatest receipt.
 impl Model for LogTrial {
     ghost use Rattle.std.specs.Prelude.{ℕ};
     ghost use Rattle.disk_model.specs.CrashOutcome.{IsCrashOutcome};
@@ -122,7 +122,6 @@ impl LogTrial {
     }
 
     fn step(&mut self) -> LogAnswer {
-        log_outcomes::<Fused<ModelFile>>();
         let answer = self
             .keeper
             .step(&mut self.queue, &mut self.log_a, &mut self.log_b);

@@ -92,7 +92,7 @@ begins_lower low more (tick ∷ ticks) le h = omega (arith, h)
 pub first_switch : (taken : ℕ) (queue : List Record) → AreNumbered taken queue → BeginFrom taken (switches_in queue)
 first_switch taken [] n = tt
 first_switch taken (records.Tick tick ∷ queue) n = begins_lower taken (taken + 1) (switches_in queue) (omega arith) (first_switch (taken + 1) queue n)
-first_switch taken (records.Switch number ∷ queue) n = omega (arith, n.0)
+first_switch taken (records.Switch tick ∷ queue) n = omega (arith, n.0)
 
 -- where a tick comes first, the segment has all ticks before it
 pub group_at : (logs : Logs) (taken newest : ℕ) (group : List (List Action)) (queue left : List Record) → StandBefore group queue left → 1 ≤ length group → HasUpTo logs taken newest queue → logs.base + length (logs.kept ++ logs.pending) ≡ taken
@@ -100,26 +100,26 @@ group_at logs taken newest [] queue left stand some h = absurd (omega (arith, so
 group_at logs taken newest (tick ∷ group) [] left stand some h = absurd stand
 group_at logs taken newest (tick ∷ group) (records.Tick first ∷ queue) left stand some (inl e) = e
 group_at logs taken newest (tick ∷ group) (records.Tick first ∷ queue) left stand some (inr h) = absurd h.3
-group_at logs taken newest (tick ∷ group) (records.Switch number ∷ queue) left stand some h = absurd stand
+group_at logs taken newest (actions ∷ group) (records.Switch tick ∷ queue) left stand some h = absurd stand
 
 pub group_numbered : (taken : ℕ) (group : List (List Action)) (queue left : List Record) → StandBefore group queue left → AreNumbered taken queue → AreNumbered (taken + length group) left
 group_numbered taken [] queue left stand n = subst (λ m. AreNumbered m left) (let e : taken ≡ taken + 0 = omega arith in e) (subst (AreNumbered taken) stand n)
 group_numbered taken (tick ∷ group) [] left stand n = absurd stand
 group_numbered taken (tick ∷ group) (records.Tick first ∷ queue) left stand n =
     subst (λ m. AreNumbered m left) (let e : taken + 1 + length group ≡ taken + length (tick ∷ group) = omega arith in e) (group_numbered (taken + 1) group queue left stand.1 n)
-group_numbered taken (tick ∷ group) (records.Switch number ∷ queue) left stand n = absurd stand
+group_numbered taken (actions ∷ group) (records.Switch tick ∷ queue) left stand n = absurd stand
 
 pub group_switches : (group : List (List Action)) (queue left : List Record) → StandBefore group queue left → switches_in queue ≡ switches_in left
 group_switches [] queue left stand = ap switches_in stand
 group_switches (tick ∷ group) [] left stand = absurd stand
 group_switches (tick ∷ group) (records.Tick first ∷ queue) left stand = group_switches group queue left stand.1
-group_switches (tick ∷ group) (records.Switch number ∷ queue) left stand = absurd stand
+group_switches (actions ∷ group) (records.Switch tick ∷ queue) left stand = absurd stand
 
 pub group_ticks : (group : List (List Action)) (queue left : List Record) → StandBefore group queue left → ticks_in queue ≡ group ++ ticks_in left
 group_ticks [] queue left stand = ap ticks_in stand
 group_ticks (tick ∷ group) [] left stand = absurd stand
 group_ticks (tick ∷ group) (records.Tick first ∷ queue) left stand = ap (λ t. t ∷ ticks_in queue) stand.0 ∙ ap (λ l. tick ∷ l) (group_ticks group queue left stand.1)
-group_ticks (tick ∷ group) (records.Switch number ∷ queue) left stand = absurd stand
+group_ticks (actions ∷ group) (records.Switch tick ∷ queue) left stand = absurd stand
 
 -- the group follows the ticks of the segment
 pub group_follows : (ticks : List (List Action)) (base : ℕ) (kept group rest : List (List Action)) → FollowsFrom ticks base kept → drop (base + length kept) ticks ≡ group ++ rest → FollowsFrom ticks base (kept ++ group)
@@ -190,7 +190,7 @@ begin_more low mark (tick ∷ ticks) le h = h
 mark_numbered_in : (taken mark : ℕ) (queue : List Record) → mark ≡ taken + length (ticks_in queue) → AreNumbered taken queue → AreNumbered taken (queue ++ records.Switch mark ∷ [])
 mark_numbered_in taken mark [] e n = (omega arith, tt)
 mark_numbered_in taken mark (records.Tick tick ∷ queue) e n = mark_numbered_in (taken + 1) mark queue (omega arith) n
-mark_numbered_in taken mark (records.Switch number ∷ queue) e n = (n.0, mark_numbered_in taken mark queue e n.1)
+mark_numbered_in taken mark (records.Switch tick ∷ queue) e n = (n.0, mark_numbered_in taken mark queue e n.1)
 
 pub mark_numbered : (switch : Option ℕ) (taken mark : ℕ) (queue : List Record) → mark ≡ taken + length (ticks_in queue) → AreNumbered taken (with_work switch queue) → AreNumbered taken (with_work switch (queue ++ records.Switch mark ∷ []))
 mark_numbered None taken mark queue e n = mark_numbered_in taken mark queue e n
@@ -199,7 +199,7 @@ mark_numbered (Some number) taken mark queue e n = (n.0, mark_numbered_in taken 
 tick_numbered_in : (taken : ℕ) (tick : Actions) (queue : List Record) → AreNumbered taken queue → AreNumbered taken (queue ++ records.Tick tick ∷ [])
 tick_numbered_in taken tick [] n = tt
 tick_numbered_in taken tick (records.Tick first ∷ queue) n = tick_numbered_in (taken + 1) tick queue n
-tick_numbered_in taken tick (records.Switch number ∷ queue) n = (n.0, tick_numbered_in taken tick queue n.1)
+tick_numbered_in taken actions (records.Switch tick ∷ queue) n = (n.0, tick_numbered_in taken actions queue n.1)
 
 pub tick_numbered : (switch : Option ℕ) (taken : ℕ) (tick : Actions) (queue : List Record) → AreNumbered taken (with_work switch queue) → AreNumbered taken (with_work switch (queue ++ records.Tick tick ∷ []))
 tick_numbered None taken tick queue n = tick_numbered_in taken tick queue n
@@ -208,7 +208,7 @@ tick_numbered (Some number) taken tick queue n = (n.0, tick_numbered_in taken ti
 first_more : (switch : Option ℕ) (queue : List Record) (added : Record) → IsSwitchFirst (with_work switch queue) → IsSwitchFirst (with_work switch (queue ++ added ∷ []))
 first_more None [] added h = absurd h
 first_more None (records.Tick tick ∷ queue) added h = absurd h
-first_more None (records.Switch number ∷ queue) added h = tt
+first_more None (records.Switch tick ∷ queue) added h = tt
 first_more (Some number) queue added h = tt
 
 pub has_more : (logs : Logs) (taken newest : ℕ) (switch : Option ℕ) (queue : List Record) (added : Record) → HasUpTo logs taken newest (with_work switch queue) → HasUpTo logs taken newest (with_work switch (queue ++ added ∷ []))

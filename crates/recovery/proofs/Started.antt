@@ -11,8 +11,8 @@ use Rattle.image_files.specs.declared.answer.ImageAnswer.TheVariants as answer
 use Rattle.image_files.specs.Images.{Round, Images, ImagesAre, FirstImages, ImageFiles, NoneYet, Newest, round_in, with_cell, with_taken, with_round, StepsImages}
 use Rattle.action_log.specs.Logs.{started, Start, StartLogsAre, InStart, Writing, LogPlace}
 use Rattle.action_log.specs.LogSteps.{StartStep}
-use Rattle.action_log.specs.declared.record.LogAnswer.{LogAnswer}
-use Rattle.action_log.specs.declared.record.LogAnswer.TheVariants as log_answer
+use Rattle.action_log.specs.declared.answer.LogAnswer.{LogAnswer}
+use Rattle.action_log.specs.declared.answer.LogAnswer.TheVariants as log_answer
 use Rattle.recovery.specs.Recovery.{words_after, tail, is_bad_segment}
 use Rattle.recovery.specs.Sound.{IsWorldAt, IsSound}
 use Rattle.recovery.specs.Follow.{IsRoundOf, round_tick}
@@ -132,7 +132,7 @@ module _ (cells : ℕ) (ticks : List (List Action)) (acknowledged : ℕ) (images
       inl (record start { begun = true }, ap (λ (place : LogPlace). place.journal) on.1, start_log_begins cells ticks acknowledged images from start s at)
   start_log_step_keeps left log_answer.Working next some s at none (inr end) =
       inr (ap (λ (place : LogPlace). place.journal) end.1, start_ends cells ticks acknowledged images from start some s at none)
-  start_log_step_keeps left (log_answer.Acked number) next some s at none step = absurd step
+  start_log_step_keeps left (log_answer.Acked tick) next some s at none step = absurd step
   start_log_step_keeps left log_answer.Down next some s at none step =
       inl (record start { begun = true }, ap (λ (place : LogPlace). place.journal) step.1, start_log_begins cells ticks acknowledged images from start s at)
 

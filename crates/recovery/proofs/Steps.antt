@@ -8,8 +8,8 @@ use Rattle.recovery.specs.Follow.{FollowsFrom, Reaches, round_tick, base_in, com
 use Rattle.recovery.specs.Events.{ticks_in, switches_in, with_work, AreNumbered, HasUpTo, IsKept, acknowledged_after, ReceiptIs}
 use Rattle.action_log.specs.Logs.{switched_to}
 use Rattle.action_log.specs.LogSteps.{is_idle, GoesOn, EndsSwitch, Acknowledges, LogsStep}
-use Rattle.action_log.specs.declared.record.LogAnswer.{LogAnswer}
-use Rattle.action_log.specs.declared.record.LogAnswer.TheVariants as answer
+use Rattle.action_log.specs.declared.answer.LogAnswer.{LogAnswer}
+use Rattle.action_log.specs.declared.answer.LogAnswer.TheVariants as answer
 use Rattle.action_log.specs.declared.record.Record.{Record}
 use Rattle.action_log.specs.declared.record.Record.TheVariants as records
 use Rattle.action_log.specs.Queue.{StandBefore}
@@ -155,22 +155,22 @@ module _ (cells : ℕ) (ticks : List (List Action)) (acknowledged : ℕ) (images
   group_taken : (queue : List Record) (k : IsKept cells ticks acknowledged images logs queue) → 1 ≤ length logs.pending → logs.base + length (logs.kept ++ logs.pending) ≡ k.taken
   group_taken queue k some = elim k.has [ inl e ↦ e | inr h ↦ absurd (omega (arith, some, ap length h.0)) ]
 
-  acknowledging_keeps : (queue : List Record) (next : Logs) (left : List Record) (number : ℕ) → IsKept cells ticks acknowledged images logs queue → Acknowledges logs queue next left number → IsKept cells ticks (max acknowledged number) images next left
-  acknowledging_keeps queue next left number k a =
+  acknowledging_keeps : (queue : List Record) (next : Logs) (left : List Record) (tick : ℕ) → IsKept cells ticks acknowledged images logs queue → Acknowledges logs queue next left tick → IsKept cells ticks (max acknowledged tick) images next left
+  acknowledging_keeps queue next left tick k a =
       let f = k.logs_follow in
       let m = k.follow_marks in
       let end = logs.base + length (logs.kept ++ logs.pending) in
       let same : logs.kept ++ logs.pending ≡ (logs.kept ++ logs.pending) ++ [] = sym (append-nil (logs.kept ++ logs.pending)) in
       let count : logs.base + length (logs.kept ++ logs.pending) ≡ logs.base + length ((logs.kept ++ logs.pending) ++ []) = ap (λ l. logs.base + length l) same in
       let more : logs.base + length logs.kept ≤ logs.base + length (logs.kept ++ logs.pending) = omega (arith, length-append logs.kept logs.pending) in
-      let after : IsKept cells ticks (max acknowledged number) images (with_group_kept logs) queue = record {
+      let after : IsKept cells ticks (max acknowledged tick) images (with_group_kept logs) queue = record {
         some_cells = k.some_cells;
         last = k.last;
         accepted = k.accepted;
         images_follow = k.images_follow;
         logs_follow = record {
           taken = subst (FollowsFrom ticks logs.base) same f.taken;
-          acknowledges = reached_max acknowledged number (logs.base + length (logs.kept ++ logs.pending)) images.tick (reached_more acknowledged (logs.base + length logs.kept) (logs.base + length (logs.kept ++ logs.pending)) images.tick f.acknowledges more) (inl (omega (arith, a.number_is)));
+          acknowledges = reached_max acknowledged tick (logs.base + length (logs.kept ++ logs.pending)) images.tick (reached_more acknowledged (logs.base + length logs.kept) (logs.base + length (logs.kept ++ logs.pending)) images.tick f.acknowledges more) (inl (omega (arith, a.tick_is)));
           before = f.before;
           switch = subst (IsSwitchOf images.tick (with_group_kept logs)) (sym a.no_switch) tt;
         };
@@ -181,13 +181,13 @@ module _ (cells : ℕ) (ticks : List (List Action)) (acknowledged : ℕ) (images
         numbered = k.numbered;
         has = inl (sym count ∙ group_taken queue k a.some);
       } in
-      subst (λ l. IsKept cells ticks (max acknowledged number) images l left) (sym a.is) (subst (λ q. IsKept cells ticks (max acknowledged number) images (with_group_kept logs) q) (sym a.queue_is) after)
+      subst (λ l. IsKept cells ticks (max acknowledged tick) images l left) (sym a.is) (subst (λ q. IsKept cells ticks (max acknowledged tick) images (with_group_kept logs) q) (sym a.queue_is) after)
 
   pub log_step_keeps : (queue : List Record) (given : LogAnswer) (next : Logs) (left : List Record) → IsKept cells ticks acknowledged images logs queue → LogsStep logs queue given next left → IsKept cells ticks (acknowledged_after acknowledged given) images next left
   log_step_keeps queue answer.Idle next left k s = going_on_keeps queue next left k (inl (s.2, s.3))
   log_step_keeps queue answer.Working next left k (inl s) = going_on_keeps queue next left k s
   log_step_keeps queue answer.Working next left k (inr s) = switching_keeps queue next left k s
-  log_step_keeps queue (answer.Acked number) next left k s = acknowledging_keeps queue next left number k s
+  log_step_keeps queue (answer.Acked tick) next left k s = acknowledging_keeps queue next left tick k s
   log_step_keeps queue answer.Down next left k s = going_on_keeps queue next left k s
 
   -- ---- the number in a receipt
@@ -195,7 +195,7 @@ module _ (cells : ℕ) (ticks : List (List Action)) (acknowledged : ℕ) (images
   pub receipt_is_exact : (queue : List Record) (given : LogAnswer) (next : Logs) (left : List Record) → IsKept cells ticks acknowledged images logs queue → LogsStep logs queue given next left → ReceiptIs given ticks left
   receipt_is_exact queue answer.Idle next left k s = tt
   receipt_is_exact queue answer.Working next left k s = tt
-  receipt_is_exact queue (answer.Acked number) next left k a =
+  receipt_is_exact queue (answer.Acked tick) next left k a =
       let wait : length (ticks_in left) ≡ length (drop k.taken ticks) = ap (λ q. length (ticks_in q)) a.queue_is ∙ ap length (sym k.left) in
-      omega (arith, a.number_is, group_taken queue k a.some, wait, length-drop k.taken ticks, k.some_taken)
+      omega (arith, a.tick_is, group_taken queue k a.some, wait, length-drop k.taken ticks, k.some_taken)
   receipt_is_exact queue answer.Down next left k s = tt

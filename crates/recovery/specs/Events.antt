@@ -3,8 +3,8 @@ use Rattle.std.specs.Prelude.{◌≡◌, ◌⊎◌, ℕ, ◌+◌, ◌<◌, ◌�
 use Rattle.world_actions.specs.declared.action.Action.{Action}
 use Rattle.action_log.specs.declared.record.Record.{Record}
 use Rattle.action_log.specs.declared.record.Record.TheVariants as records
-use Rattle.action_log.specs.declared.record.LogAnswer.{LogAnswer}
-use Rattle.action_log.specs.declared.record.LogAnswer.TheVariants as log_answer
+use Rattle.action_log.specs.declared.answer.LogAnswer.{LogAnswer}
+use Rattle.action_log.specs.declared.answer.LogAnswer.TheVariants as log_answer
 use Rattle.world_ticks.specs.Tick.{Actions}
 use Rattle.action_log.specs.Logs.{Logs, started, Start, InStart, Writing, LogPlace}
 use Rattle.action_log.specs.LogSteps.{LogsStep, StartStep}
@@ -19,13 +19,13 @@ use Rattle.recovery.specs.Follow.{IsRoundOf, ImagesFollow, LogsFollow, FollowMar
 abbrev pub ticks_in : List Record → List (List Action)
 ticks_in [] = []
 ticks_in (records.Tick tick ∷ queue) = tick.list ∷ ticks_in queue
-ticks_in (records.Switch number ∷ queue) = ticks_in queue
+ticks_in (records.Switch tick ∷ queue) = ticks_in queue
 
 -- the ticks of the switches that wait, in order
 abbrev pub switches_in : List Record → List ℕ
 switches_in [] = []
 switches_in (records.Tick tick ∷ queue) = switches_in queue
-switches_in (records.Switch number ∷ queue) = number ∷ switches_in queue
+switches_in (records.Switch tick ∷ queue) = tick ∷ switches_in queue
 
 -- the switch in work, as if it stood in the queue, and the queue
 abbrev pub with_work : Option ℕ → List Record → List Record
@@ -36,11 +36,11 @@ with_work (Some tick) queue = records.Switch tick ∷ queue
 abbrev pub AreNumbered : ℕ → List Record → Type 0
 AreNumbered taken [] = Unit {0}
 AreNumbered taken (records.Tick tick ∷ queue) = AreNumbered (taken + 1) queue
-AreNumbered taken (records.Switch number ∷ queue) = (number ≡ taken) × AreNumbered taken queue
+AreNumbered taken (records.Switch tick ∷ queue) = (tick ≡ taken) × AreNumbered taken queue
 
 -- a switch comes first
 abbrev pub IsSwitchFirst : List Record → Type 0
-IsSwitchFirst (records.Switch number ∷ queue) = Unit {0}
+IsSwitchFirst (records.Switch tick ∷ queue) = Unit {0}
 IsSwitchFirst queue = ⊥
 
 -- The segment and the group in work have all ticks up to this one; or no group is in work, the ticks that the segment
@@ -92,9 +92,9 @@ ImageStepKeeps {S = S} took =
     → IsRoundOf cells ticks images.tick (round_in next)
     → (after : Images) × (next ≡ Newest after) × IsKept cells ticks acknowledged after logs queue
 
--- what is acknowledged after a step of the log keeper: the greatest number in a receipt
+-- what is acknowledged after a step of the log keeper: the greatest tick of a receipt
 abbrev pub acknowledged_after : ℕ → LogAnswer → ℕ
-acknowledged_after acknowledged (log_answer.Acked number) = max acknowledged number
+acknowledged_after acknowledged (log_answer.Acked tick) = max acknowledged tick
 acknowledged_after acknowledged answer = acknowledged
 
 -- a step of the log keeper
@@ -105,9 +105,9 @@ LogStepKeeps =
     → IsKept cells ticks acknowledged images logs queue → LogsStep logs queue answer next left
     → IsKept cells ticks (acknowledged_after acknowledged answer) images next left
 
--- the number in a receipt is that of the ended ticks, less those that still wait
+-- a receipt's tick is the number of ended ticks, less those that still wait
 abbrev pub ReceiptIs : LogAnswer → (ticks : List (List Action)) → (left : List Record) → Type 0
-ReceiptIs (log_answer.Acked number) ticks left = number + length (ticks_in left) ≡ length ticks
+ReceiptIs (log_answer.Acked tick) ticks left = tick + length (ticks_in left) ≡ length ticks
 ReceiptIs answer ticks left = Unit {0}
 
 -- each step's receipt is exact

@@ -3,7 +3,7 @@ use Rattle.std.proofs.Common.{refl, sym, ap, subst, ◌≡◌, ◌≢◌, ◌∙
 use Rattle.world_actions.specs.declared.refusal.Refusal.{Refusal}
 use Rattle.disk_model.specs.declared.leaving.Leaving.{Leaving}
 use Rattle.image_files.specs.declared.answer.ImageAnswer.{ImageAnswer}
-use Rattle.action_log.specs.declared.record.LogAnswer.{LogAnswer}
+use Rattle.action_log.specs.declared.answer.LogAnswer.{LogAnswer}
 use Rattle.world_core.specs.declared.moves.Fate.{Fate}
 use Rattle.world_core.specs.declared.moves.Remains.{Remains}
 use Rattle.world_core.specs.declared.moves.Move.{Move}

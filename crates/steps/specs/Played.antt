@@ -6,7 +6,7 @@ use Rattle.line_grammar.specs.declared.command.Command as commands
 use Rattle.line_grammar.specs.declared.command.Command.TheVariants as command
 use Rattle.disk_model.specs.declared.leaving.Leaving.{Leaving}
 use Rattle.image_files.specs.declared.answer.ImageAnswer.{ImageAnswer}
-use Rattle.action_log.specs.declared.record.LogAnswer.{LogAnswer}
+use Rattle.action_log.specs.declared.answer.LogAnswer.{LogAnswer}
 use Rattle.world_core.specs.declared.moves.Remains.{Remains}
 use Rattle.world_core.specs.declared.moves.Fate.TheVariants.{Done}
 use Rattle.world_core.specs.declared.moves.Move.{Move}

@@ -2,7 +2,7 @@
 use Rattle.std.specs.Prelude.{ℕ, List, ◌++◌, decimal, codes}
 use Rattle.world_actions.specs.Refusal.{code_of}
 use Rattle.image_files.specs.declared.answer.ImageAnswer.TheVariants as image_answer
-use Rattle.action_log.specs.declared.record.LogAnswer.TheVariants as log_answer
+use Rattle.action_log.specs.declared.answer.LogAnswer.TheVariants as log_answer
 use Rattle.world_core.specs.declared.moves.Answer.{Answer}
 use Rattle.world_core.specs.declared.moves.Answer.TheVariants.{Did, Word, Ended, Started, Image, Log, Recovered, Blank, Refused}
 

@@ -15,8 +15,8 @@ use Rattle.image_files.specs.Progress.{Progress as ImageProgress, left_of, cells
 use Rattle.image_files.specs.Steps.{IfOpened, OnWorking, HasCause}
 use Rattle.action_log.specs.declared.phase.Phase.TheVariants.{Ready, GateSync}
 use Rattle.action_log.specs.declared.progress.Progress.{Progress as LogProgress}
-use Rattle.action_log.specs.declared.record.LogAnswer.{LogAnswer}
-use Rattle.action_log.specs.declared.record.LogAnswer.TheVariants as log_answer
+use Rattle.action_log.specs.declared.answer.LogAnswer.{LogAnswer}
+use Rattle.action_log.specs.declared.answer.LogAnswer.TheVariants as log_answer
 use Rattle.action_log.specs.Progress.{QueueFollows, end_of, work_of, taken}
 use Rattle.action_log.specs.Logs.{LogPlace}
 use Rattle.action_log.specs.LogSteps.{JournalStep}
@@ -191,7 +191,7 @@ pub record StepsArmedLog (was : State) (armed_a armed_b : File) (given : LogAnsw
   pub follows : QueueFollows new.log new.queue
   pub end : end_of new.log new.queue ≡ end_of was.log was.queue
   pub idle : (given ≡ log_answer.Idle) ↔ ((was.log.down ≡ false) × (was.log.phase ≡ Ready) × (was.queue ≡ []))
-  pub receipt : (number : ℕ) → (given ≡ log_answer.Acked number) ↔ ((was.log.phase ≡ GateSync) × (was.log.down ≡ false) × (new.log.down ≡ false) × (number ≡ new.log.base + new.log.count))
+  pub receipt : (tick : ℕ) → (given ≡ log_answer.Acked tick) ↔ ((was.log.phase ≡ GateSync) × (was.log.down ≡ false) × (new.log.down ≡ false) × (tick ≡ new.log.base + new.log.count))
   pub down : (given ≡ log_answer.Down) ↔ (new.log.down ≡ true)
   pub rests : (given ≡ log_answer.Idle) ⊎ (was.log.down ≡ true) → (new.log ≡ was.log) × (new.queue ≡ was.queue)
   pub cause : given ≡ log_answer.Down → (was.log.down ≡ true) ⊎ (Grew (failures armed_a) (failures stepped_a) ⊎ Grew (failures armed_b) (failures stepped_b))

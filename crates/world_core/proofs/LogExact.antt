@@ -4,8 +4,8 @@ use Rattle.image_files.specs.Images.{ImageFiles, NoneYet, Newest}
 use Rattle.action_log.specs.declared.phase.Phase.{Phase}
 use Rattle.action_log.specs.declared.phase.Phase.TheVariants.{Retiring, RetiringSync, Ready, BodySync, Gate, GateSync, Closing, ClosingSync, Header, HeaderSync, Opening, OpeningSync}
 use Rattle.action_log.specs.declared.progress.Progress.{Progress}
-use Rattle.action_log.specs.declared.record.LogAnswer.{LogAnswer}
-use Rattle.action_log.specs.declared.record.LogAnswer.TheVariants as given_
+use Rattle.action_log.specs.declared.answer.LogAnswer.{LogAnswer}
+use Rattle.action_log.specs.declared.answer.LogAnswer.TheVariants as given_
 use Rattle.action_log.specs.declared.record.Record.{Record}
 use Rattle.action_log.specs.declared.record.Record.TheVariants as records
 use Rattle.action_log.specs.Queue.{queue_work}
@@ -31,7 +31,7 @@ use Rattle.world_core.proofs.Logging.{up_of, stays_down}
 work_in : (p : Phase) (other_shut : Bool) (queue : List Record) → ((p ≡ Ready) × (queue ≡ []) → ⊥) → 0 < rest_in p other_shut + queue_work queue
 work_in Ready shut [] h = absurd (h (refl, refl))
 work_in Ready shut (records.Tick tick ∷ queue) h = omega arith
-work_in Ready shut (records.Switch number ∷ queue) h = omega arith
+work_in Ready shut (records.Switch tick ∷ queue) h = omega arith
 work_in Retiring true queue h = omega arith
 work_in Retiring false queue h = omega arith
 work_in RetiringSync true queue h = omega arith
@@ -65,27 +65,27 @@ module _ (old new : State) (fate : Fate) (given : LogAnswer) (d : StepsLogKeeper
 pub log_progress : (old new : State) (fate : Fate) (given : LogAnswer) → StepsLogKeeper fate old given new → Progresses (move.Log fate) (answer.Log given) old new
 log_progress old new fate given_.Idle d = tt
 log_progress old new fate given_.Working d = less_work old new fate given_.Working d (λ e. let g = e in cc) (λ e. let g = e in cc)
-log_progress old new fate (given_.Acked number) d = less_work old new fate (given_.Acked number) d (λ e. let g = e in cc) (λ e. let g = e in cc)
+log_progress old new fate (given_.Acked tick) d = less_work old new fate (given_.Acked tick) d (λ e. let g = e in cc) (λ e. let g = e in cc)
 log_progress old new fate given_.Down d = tt
 
 -- ---- the answer
 
 -- a receipt comes after the start
-receipt_in : EventLaws → (past : Past) (old new : State) (number : ℕ) (images : ImageFiles) (journal : Journal) (left : ℕ) (next : LogPlace) → HasLog old (record { journal = journal; left = left })
-    → HasPhase old.cells past old images journal → StepIn journal left old.queue (given_.Acked number) next new.queue → (left ≡ 0) × (number + length (ticks_in old.queue) ≡ length past.history.ticks)
-receipt_in laws past old new number images (InStart start) left next stands phase s = absurd s.0
-receipt_in laws past old new number (NoneYet images) (Writing logs) left next stands phase s = absurd phase
-receipt_in laws past old new number (Newest images) (Writing logs) left next stands phase s = (
+receipt_in : EventLaws → (past : Past) (old new : State) (tick : ℕ) (images : ImageFiles) (journal : Journal) (left : ℕ) (next : LogPlace) → HasLog old (record { journal = journal; left = left })
+    → HasPhase old.cells past old images journal → StepIn journal left old.queue (given_.Acked tick) next new.queue → (left ≡ 0) × (tick + length (ticks_in old.queue) ≡ length past.history.ticks)
+receipt_in laws past old new tick images (InStart start) left next stands phase s = absurd s.0
+receipt_in laws past old new tick (NoneYet images) (Writing logs) left next stands phase s = absurd phase
+receipt_in laws past old new tick (Newest images) (Writing logs) left next stands phase s = (
   stands.1,
-  ap (λ q. number + length (ticks_in q)) (sym s.2.queue_is) ∙ laws.receipt old.cells past.history.ticks past.acknowledged images logs old.queue (given_.Acked number) s.0 new.queue phase s.2,
+  ap (λ q. tick + length (ticks_in q)) (sym s.2.queue_is) ∙ laws.receipt old.cells past.history.ticks past.acknowledged images logs old.queue (given_.Acked tick) s.0 new.queue phase s.2,
 )
 
 pub log_exact : EventLaws → (past : Past) (old new : State) (fate : Fate) (given : LogAnswer) → IsCoreAt past old → is_log_waiting past.standing ≡ false → StepsLogKeeper fate old given new → IsLogAnswer past old given
 log_exact laws past old new fate given_.Idle c going d = (let i = d.idle.0 refl in inr (c.log_down ∙ i.0, no_work old.log old.queue i.1 i.2))
 log_exact laws past old new fate given_.Working c going d =
     (going, c.log_down ∙ was_up old new fate given_.Working d (λ e. let g = e in cc), has_work old new fate given_.Working d (λ e. let g = e in cc) (λ e. let g = e in cc))
-log_exact laws past old new fate (given_.Acked number) c going d =
+log_exact laws past old new fate (given_.Acked tick) c going d =
     let s = d.stands c.place c.has_log in
-    let r = receipt_in laws past old new number c.images c.place.journal c.place.left s.0 c.has_log c.phase s.2 in
-    (ap (nat_lt 0) (c.start_left ∙ r.0), c.log_down ∙ was_up old new fate (given_.Acked number) d (λ e. let g = e in cc), has_work old new fate (given_.Acked number) d (λ e. let g = e in cc) (λ e. let g = e in cc), r.1)
+    let r = receipt_in laws past old new tick c.images c.place.journal c.place.left s.0 c.has_log c.phase s.2 in
+    (ap (nat_lt 0) (c.start_left ∙ r.0), c.log_down ∙ was_up old new fate (given_.Acked tick) d (λ e. let g = e in cc), has_work old new fate (given_.Acked tick) d (λ e. let g = e in cc) (λ e. let g = e in cc), r.1)
 log_exact laws past old new fate given_.Down c going d = going

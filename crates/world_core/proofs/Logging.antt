@@ -3,8 +3,8 @@ use Rattle.std.proofs.Common.{◌≡◌, ◌↔◌, ℕ, ◌-◌, ◌≤◌, inl
 use Rattle.std.proofs.lemmas.List.{map-append}
 use Rattle.world_actions.specs.declared.action.Action.{Action}
 use Rattle.image_files.specs.Images.{Images, ImageFiles, NoneYet, Newest, round_in}
-use Rattle.action_log.specs.declared.record.LogAnswer.{LogAnswer}
-use Rattle.action_log.specs.declared.record.LogAnswer.TheVariants as given_
+use Rattle.action_log.specs.declared.answer.LogAnswer.{LogAnswer}
+use Rattle.action_log.specs.declared.answer.LogAnswer.TheVariants as given_
 use Rattle.action_log.specs.declared.record.Record.{Record}
 use Rattle.action_log.specs.Logs.{Logs, Journal, InStart, Writing, LogPlace, Start, started}
 use Rattle.action_log.specs.LogSteps.{StartStep, StepIn}
@@ -35,7 +35,7 @@ record IsSameRound (new old : Standing) : Type 0 where
 log_standing : (standing : Standing) (running : List Action) (fate : Fate) (given : LogAnswer) → IsSameRound (standing_after standing running (move.Log fate) (answer.Log given)) standing
 log_standing standing running fate given_.Idle = record { newest = refl; round = refl; image_down = refl; since = refl; records = refl }
 log_standing standing running fate given_.Working = record { newest = refl; round = refl; image_down = refl; since = refl; records = refl }
-log_standing standing running fate (given_.Acked number) = record { newest = refl; round = refl; image_down = refl; since = refl; records = refl }
+log_standing standing running fate (given_.Acked tick) = record { newest = refl; round = refl; image_down = refl; since = refl; records = refl }
 log_standing standing running fate given_.Down = record { newest = refl; round = refl; image_down = refl; since = refl; records = refl }
 
 pub up_of : (b : Bool) → (b ≡ true → ⊥) → b ≡ false
@@ -49,7 +49,7 @@ down_after : (standing : Standing) (running : List Action) (fate : Fate) (old ne
     → (standing_after standing running (move.Log fate) (answer.Log given)).is_log_down ≡ new
 down_after standing running fate old new given_.Idle down stays e = e ∙ both_up old new given_.Idle (λ h. let g = h in cc) down stays
 down_after standing running fate old new given_.Working down stays e = e ∙ both_up old new given_.Working (λ h. let g = h in cc) down stays
-down_after standing running fate old new (given_.Acked number) down stays e = e ∙ both_up old new (given_.Acked number) (λ h. let g = h in cc) down stays
+down_after standing running fate old new (given_.Acked tick) down stays e = e ∙ both_up old new (given_.Acked tick) (λ h. let g = h in cc) down stays
 down_after standing running fate old new given_.Down down stays e = sym (down.0 refl)
 
 -- ---- the phase
@@ -63,19 +63,19 @@ left_after standing running fate (InStart start) left queue given_.Working next 
   | inl more ↦ ap (λ n. n - 1) e ∙ ap (λ (p : LogPlace). p.left) (sym more.1)
   | inr last ↦ ap (λ n. n - 1) (e ∙ last.0) ∙ ap (λ (p : LogPlace). p.left) (sym last.1)
 ]
-left_after standing running fate (InStart start) left queue (given_.Acked number) next rest s none e = absurd s.0
+left_after standing running fate (InStart start) left queue (given_.Acked tick) next rest s none e = absurd s.0
 left_after standing running fate (InStart start) left queue given_.Down next rest s none e = e ∙ ap (λ (p : LogPlace). p.left) (sym s.0.1)
 left_after standing running fate (Writing logs) left queue given_.Idle next rest s none e = e ∙ ap (λ (p : LogPlace). p.left) (sym s.1)
 left_after standing running fate (Writing logs) left queue given_.Working next rest s none e =
     ap (λ n. n - 1) (e ∙ none logs refl) ∙ sym (none logs refl) ∙ ap (λ (p : LogPlace). p.left) (sym s.1)
-left_after standing running fate (Writing logs) left queue (given_.Acked number) next rest s none e = e ∙ ap (λ (p : LogPlace). p.left) (sym s.1)
+left_after standing running fate (Writing logs) left queue (given_.Acked tick) next rest s none e = e ∙ ap (λ (p : LogPlace). p.left) (sym s.1)
 left_after standing running fate (Writing logs) left queue given_.Down next rest s none e = e ∙ ap (λ (p : LogPlace). p.left) (sym s.1)
 
 -- both count the same receipts
 counts : (acknowledged : ℕ) (given : LogAnswer) → acknowledged_after acknowledged (answer.Log given) ≡ log_acknowledged acknowledged given
 counts acknowledged given_.Idle = refl
 counts acknowledged given_.Working = refl
-counts acknowledged (given_.Acked number) = refl
+counts acknowledged (given_.Acked tick) = refl
 counts acknowledged given_.Down = refl
 
 abbrev journal_tick : Journal → ℕ
@@ -91,13 +91,13 @@ start_same start left given_.Working next after s e = elim s [
   | inl more ↦ start_tick after (record start { begun = true }) (sym e ∙ ap (λ (p : LogPlace). p.journal) more.1)
   | inr last ↦ absurd (let g : InStart after ≡ Writing (started start.tick) = sym e ∙ ap (λ (p : LogPlace). p.journal) last.1 in cc)
 ]
-start_same start left (given_.Acked number) next after s e = absurd s
+start_same start left (given_.Acked tick) next after s e = absurd s
 start_same start left given_.Down next after s e = start_tick after (record start { begun = true }) (sym e ∙ ap (λ (p : LogPlace). p.journal) s.1)
 
 start_unacknowledged : (acknowledged : ℕ) (start : Start) (left : ℕ) (given : LogAnswer) (next : LogPlace) → StartStep start left given next → acknowledged_after acknowledged (answer.Log given) ≡ acknowledged
 start_unacknowledged acknowledged start left given_.Idle next s = absurd s
 start_unacknowledged acknowledged start left given_.Working next s = refl
-start_unacknowledged acknowledged start left (given_.Acked number) next s = absurd s
+start_unacknowledged acknowledged start left (given_.Acked tick) next s = absurd s
 start_unacknowledged acknowledged start left given_.Down next s = refl
 
 both : (new : State) (journal : Journal) → new.running ≡ [] → new.queue ≡ [] → IsAtRest journal new

@@ -2,7 +2,7 @@
 use Rattle.std.proofs.Common.{◌≡◌, ℕ, ◌+◌, ◌<◌, ◌≤◌, List, [], ◌∷◌, ◌++◌, length, replicate, refl, sym, ap, subst, ◌∙◌, arith}
 use Rattle.std.proofs.lemmas.List.{length-append, length-replicate}
 use Rattle.image_files.specs.declared.answer.ImageAnswer.{ImageAnswer}
-use Rattle.action_log.specs.declared.record.LogAnswer.{LogAnswer}
+use Rattle.action_log.specs.declared.answer.LogAnswer.{LogAnswer}
 use Rattle.world_core.specs.declared.moves.Fate.{Fate}
 use Rattle.world_core.specs.declared.moves.Move.{Move}
 use Rattle.world_core.specs.declared.moves.Move.TheVariants as move

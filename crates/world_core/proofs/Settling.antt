@@ -2,8 +2,8 @@
 use Rattle.std.proofs.Common.{◌≡◌, ℕ, ◌+◌, ◌⊎◌, inl, inr, Bool, true, false, nat_lt, ◌&&◌, List, [], ◌∷◌, ◌++◌, length, replicate, Option, Some, None, is_some, refl, sym, ap, subst, ◌∙◌, arith}
 use Rattle.std.proofs.lemmas.List.{length-append, length-replicate}
 use Rattle.action_log.specs.declared.progress.Progress.{Progress}
-use Rattle.action_log.specs.declared.record.LogAnswer.{LogAnswer}
-use Rattle.action_log.specs.declared.record.LogAnswer.TheVariants as log_answer
+use Rattle.action_log.specs.declared.answer.LogAnswer.{LogAnswer}
+use Rattle.action_log.specs.declared.answer.LogAnswer.TheVariants as log_answer
 use Rattle.action_log.specs.declared.record.Record.{Record}
 use Rattle.action_log.specs.Progress.{rest_of, work_of}
 use Rattle.action_log.specs.Logs.{Journal, InStart, Writing}
@@ -78,7 +78,7 @@ images_end fate (answer.Refused refusal) told result past old new is a = absurd 
 images_end fate (answer.Image image_answer.Working) told result past old new is a = absurd is
 images_end fate (answer.Image (image_answer.Opened tick)) told result past old new is a = absurd is
 images_end fate (answer.Log log_answer.Working) told result past old new is a = absurd is
-images_end fate (answer.Log (log_answer.Acked number)) told result past old new is a = absurd is
+images_end fate (answer.Log (log_answer.Acked tick)) told result past old new is a = absurd is
 
 pub images_settle : (fate : Fate) (past : Past) (old : State) (told : ImageAnswer) (next : Past) (new : State) → RepeatsImages fate past old told next new → ImagesSettled next.standing
 images_settle fate past old told next new r =
@@ -135,7 +135,7 @@ log_end fate (answer.Refused refusal) told result past old new c is a = absurd i
 log_end fate (answer.Image image_answer.Working) told result past old new c is a = absurd is
 log_end fate (answer.Image (image_answer.Opened tick)) told result past old new c is a = absurd is
 log_end fate (answer.Log log_answer.Working) told result past old new c is a = absurd is
-log_end fate (answer.Log (log_answer.Acked number)) told result past old new c is a = absurd is
+log_end fate (answer.Log (log_answer.Acked tick)) told result past old new c is a = absurd is
 
 pub log_settles : (fate : Fate) (past : Past) (old : State) (told : LogAnswer) (next : Past) (new : State) → RepeatsLog fate past old told next new → LogSettled next.standing new
 log_settles fate past old told next new r =
@@ -158,7 +158,7 @@ one_same standing running fate (answer.Started tick) = record { round = refl; do
 one_same standing running fate (answer.Image given) = record { round = refl; down = refl }
 one_same standing running fate (answer.Log log_answer.Idle) = record { round = refl; down = refl }
 one_same standing running fate (answer.Log log_answer.Working) = record { round = refl; down = refl }
-one_same standing running fate (answer.Log (log_answer.Acked number)) = record { round = refl; down = refl }
+one_same standing running fate (answer.Log (log_answer.Acked tick)) = record { round = refl; down = refl }
 one_same standing running fate (answer.Log log_answer.Down) = record { round = refl; down = refl }
 one_same standing running fate (answer.Recovered tick from) = record { round = refl; down = refl }
 one_same standing running fate answer.Blank = record { round = refl; down = refl }

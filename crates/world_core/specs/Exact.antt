@@ -14,8 +14,8 @@ use Rattle.world_core.specs.declared.moves.Answer.TheVariants as answer
 use Rattle.image_files.specs.declared.answer.ImageAnswer.{ImageAnswer}
 use Rattle.image_files.specs.declared.answer.ImageAnswer.TheVariants as image_answer
 use Rattle.image_files.specs.Progress.{left_of}
-use Rattle.action_log.specs.declared.record.LogAnswer.{LogAnswer}
-use Rattle.action_log.specs.declared.record.LogAnswer.TheVariants as log_answer
+use Rattle.action_log.specs.declared.answer.LogAnswer.{LogAnswer}
+use Rattle.action_log.specs.declared.answer.LogAnswer.TheVariants as log_answer
 use Rattle.action_log.specs.Progress.{work_of}
 use Rattle.world_core.specs.Standing.{Standing, is_starting, is_round_open, is_log_waiting, unless_refused, action_answer, get_answer, end_answer, tick_refusal_at, mark_refusal_at}
 use Rattle.world_core.specs.Past.{Past}
@@ -52,15 +52,15 @@ IsImageAnswer standing (image_answer.Opened tick) = (standing.round ≡ Some tic
 IsImageAnswer standing image_answer.Down = is_round_open standing ≡ true
 
 -- What is answered to a step of the log keeper: Idle exactly where the start waits for its image, or the keeper isn't down
--- and has no work. A receipt's number is that of the last ended tick that doesn't wait in the queue.
+-- and has no work. A receipt's tick is the last ended one that doesn't wait in the queue.
 abbrev pub IsLogAnswer : Past → State → LogAnswer → Type 0
 IsLogAnswer past state log_answer.Idle =
     (is_log_waiting past.standing ≡ true) ⊎ ((past.standing.is_log_down ≡ false) × (work_of state.log state.queue ≡ 0))
 IsLogAnswer past state log_answer.Working =
     (is_log_waiting past.standing ≡ false) × (past.standing.is_log_down ≡ false) × (0 < work_of state.log state.queue)
-IsLogAnswer past state (log_answer.Acked number) =
+IsLogAnswer past state (log_answer.Acked tick) =
     (is_starting past.standing ≡ false) × (past.standing.is_log_down ≡ false) × (0 < work_of state.log state.queue)
-    × (number + length (ticks_in state.queue) ≡ length past.history.ticks)
+    × (tick + length (ticks_in state.queue) ≡ length past.history.ticks)
 IsLogAnswer past state log_answer.Down = is_log_waiting past.standing ≡ false
 
 -- what is answered, want of memory apart
@@ -84,5 +84,5 @@ abbrev pub Progresses : Move → Answer → (old new : State) → Type 0
 Progresses (move.Image fate) (answer.Image image_answer.Working) old new = left_of new.images < left_of old.images
 Progresses (move.Image fate) (answer.Image (image_answer.Opened tick)) old new = (left_of new.images ≡ 0) × (0 < left_of old.images)
 Progresses (move.Log fate) (answer.Log log_answer.Working) old new = work_of new.log new.queue < work_of old.log old.queue
-Progresses (move.Log fate) (answer.Log (log_answer.Acked number)) old new = work_of new.log new.queue < work_of old.log old.queue
+Progresses (move.Log fate) (answer.Log (log_answer.Acked tick)) old new = work_of new.log new.queue < work_of old.log old.queue
 Progresses asked given old new = Unit {0}

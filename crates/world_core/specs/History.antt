@@ -1,7 +1,7 @@
 -- What moves and their answers tell of ticks: those that ended and stand, the running one, and what is acknowledged.
 use Rattle.std.specs.Prelude.{ℕ, max, List, [], ◌∷◌, ◌++◌, take, Bool, true, false, ◌||◌}
 use Rattle.world_actions.specs.declared.action.Action.{Action}
-use Rattle.action_log.specs.declared.record.LogAnswer.TheVariants as log_answer
+use Rattle.action_log.specs.declared.answer.LogAnswer.TheVariants as log_answer
 use Rattle.image_files.specs.declared.answer.ImageAnswer.TheVariants as image_answer
 use Rattle.world_core.specs.declared.moves.Move.{Move}
 use Rattle.world_core.specs.declared.moves.Move.TheVariants as move
@@ -35,14 +35,14 @@ history_of history (asked ∷ moves) (given ∷ answers) = history_of (history_a
 abbrev pub ended : List Move → List Answer → List (List Action)
 ended moves answers = (history_of no_history moves answers).ticks
 
--- the greatest number in an answered receipt
+-- the greatest tick in an answered receipt
 abbrev pub acknowledged_after : ℕ → Answer → ℕ
-acknowledged_after number (answer.Log (log_answer.Acked receipt)) = max number receipt
-acknowledged_after number given = number
+acknowledged_after acknowledged (answer.Log (log_answer.Acked tick)) = max acknowledged tick
+acknowledged_after acknowledged given = acknowledged
 
 abbrev pub acknowledged_of : ℕ → List Answer → ℕ
-acknowledged_of number [] = number
-acknowledged_of number (given ∷ answers) = acknowledged_of (acknowledged_after number given) answers
+acknowledged_of acknowledged [] = acknowledged
+acknowledged_of acknowledged (given ∷ answers) = acknowledged_of (acknowledged_after acknowledged given) answers
 
 abbrev pub acked : List Answer → ℕ
 acked answers = acknowledged_of 0 answers

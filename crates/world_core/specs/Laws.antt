@@ -46,8 +46,8 @@ pub record QueueLaws : Type 0 where
   pub tick : (keeper : LogProgress) (queue : List Record) (tick : Actions) → QueueFollows keeper queue
       → (end_of keeper queue).count < SEGMENT_TICKS → (end_of keeper queue).base + (end_of keeper queue).count < TICK_MAX
       → QueueFollows keeper (queue ++ records.Tick tick ∷ []) × (end_of keeper (queue ++ records.Tick tick ∷ []) ≡ record { base = (end_of keeper queue).base; count = (end_of keeper queue).count + 1 })
-  pub switch : (keeper : LogProgress) (queue : List Record) (number : ℕ) → QueueFollows keeper queue → (end_of keeper queue).base + (end_of keeper queue).count ≤ number → number ≤ TICK_MAX
-      → QueueFollows keeper (queue ++ records.Switch number ∷ []) × (end_of keeper (queue ++ records.Switch number ∷ []) ≡ record { base = number; count = 0 })
+  pub switch : (keeper : LogProgress) (queue : List Record) (tick : ℕ) → QueueFollows keeper queue → (end_of keeper queue).base + (end_of keeper queue).count ≤ tick → tick ≤ TICK_MAX
+      → QueueFollows keeper (queue ++ records.Switch tick ∷ []) × (end_of keeper (queue ++ records.Switch tick ∷ []) ≡ record { base = tick; count = 0 })
 
 pub record KeeperLaws : Type 0 where
   pub made : (cells : ℕ) (newest : Option (Slot × ℕ)) (shut_a shut_b : Bool) (images : ImageFiles) (image_a image_b : File) → 1 ≤ cells → cells ≤ CELLS

@@ -12,8 +12,8 @@ use Rattle.image_files.specs.Progress.{begun_keeper, opened_keeper, left_of, cel
 use Rattle.image_files.specs.Steps.{IfOpened, OnWorking}
 use Rattle.image_files.specs.Images.{ImageFiles, StepsImages}
 use Rattle.action_log.specs.declared.phase.Phase.TheVariants.{Ready, GateSync}
-use Rattle.action_log.specs.declared.record.LogAnswer.{LogAnswer}
-use Rattle.action_log.specs.declared.record.LogAnswer.TheVariants as log_answer
+use Rattle.action_log.specs.declared.answer.LogAnswer.{LogAnswer}
+use Rattle.action_log.specs.declared.answer.LogAnswer.TheVariants as log_answer
 use Rattle.action_log.specs.declared.record.Record.TheVariants as records
 use Rattle.action_log.specs.Progress.{QueueFollows, end_of, work_of, taken}
 use Rattle.action_log.specs.Logs.{LogPlace}
@@ -79,7 +79,7 @@ pub record StepsLogKeeper (fate : Fate) (old : State) (given : LogAnswer) (new :
   pub follows : QueueFollows new.log new.queue
   pub end : end_of new.log new.queue ≡ end_of old.log old.queue
   pub idle : (given ≡ log_answer.Idle) ↔ ((old.log.down ≡ false) × (old.log.phase ≡ Ready) × (old.queue ≡ []))
-  pub receipt : (number : ℕ) → (given ≡ log_answer.Acked number) ↔ ((old.log.phase ≡ GateSync) × (old.log.down ≡ false) × (new.log.down ≡ false) × (number ≡ new.log.base + new.log.count))
+  pub receipt : (tick : ℕ) → (given ≡ log_answer.Acked tick) ↔ ((old.log.phase ≡ GateSync) × (old.log.down ≡ false) × (new.log.down ≡ false) × (tick ≡ new.log.base + new.log.count))
   pub down : (given ≡ log_answer.Down) ↔ (new.log.down ≡ true)
   pub rests : (given ≡ log_answer.Idle) ⊎ (old.log.down ≡ true) → (new.log ≡ old.log) × (new.queue ≡ old.queue)
   pub cause : given ≡ log_answer.Down → (old.log.down ≡ true) ⊎ HasFailed old.log_a new.log_a old.log_b new.log_b

@@ -6,8 +6,8 @@ use Rattle.disk_model.specs.FileState.{FileState}
 use Rattle.image_files.specs.declared.answer.ImageAnswer.{ImageAnswer}
 use Rattle.image_files.specs.declared.answer.ImageAnswer.TheVariants as image_answer
 use Rattle.image_files.specs.Progress.{left_of}
-use Rattle.action_log.specs.declared.record.LogAnswer.{LogAnswer}
-use Rattle.action_log.specs.declared.record.LogAnswer.TheVariants as log_answer
+use Rattle.action_log.specs.declared.answer.LogAnswer.{LogAnswer}
+use Rattle.action_log.specs.declared.answer.LogAnswer.TheVariants as log_answer
 use Rattle.action_log.specs.Progress.{work_of}
 use Rattle.world_core.specs.declared.moves.Fate.{Fate}
 use Rattle.world_core.specs.declared.moves.Fate.TheVariants.{Done}
@@ -29,7 +29,7 @@ abbrev pub GoesOn : Answer → Type 0
 GoesOn (answer.Image image_answer.Working) = Unit {0}
 GoesOn (answer.Image (image_answer.Opened tick)) = Unit {0}
 GoesOn (answer.Log log_answer.Working) = Unit {0}
-GoesOn (answer.Log (log_answer.Acked number)) = Unit {0}
+GoesOn (answer.Log (log_answer.Acked tick)) = Unit {0}
 GoesOn given = ⊥
 
 -- after each of these
@@ -40,7 +40,7 @@ AllGoOn (given ∷ answers) = GoesOn given × AllGoOn answers
 -- what is told after this answer: an opened image or a receipt is news
 abbrev pub told_by : Answer → Answer → Answer
 told_by told (answer.Image (image_answer.Opened tick)) = answer.Image (image_answer.Opened tick)
-told_by told (answer.Log (log_answer.Acked number)) = answer.Log (log_answer.Acked number)
+told_by told (answer.Log (log_answer.Acked tick)) = answer.Log (log_answer.Acked tick)
 told_by told given = told
 
 abbrev pub told_of : Answer → List Answer → Answer

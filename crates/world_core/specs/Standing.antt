@@ -8,7 +8,7 @@ use Rattle.world_ticks.specs.declared.tick.TheConstants.{TICK_MAX}
 use Rattle.action_log.specs.declared.format.TheConstants.{SEGMENT_TICKS}
 use Rattle.action_log.specs.declared.record.Record.{Record}
 use Rattle.action_log.specs.declared.record.Record.TheVariants as record_
-use Rattle.action_log.specs.declared.record.LogAnswer.TheVariants as log_answer
+use Rattle.action_log.specs.declared.answer.LogAnswer.TheVariants as log_answer
 use Rattle.action_log.specs.Logs.{start_moves}
 use Rattle.image_files.specs.declared.answer.ImageAnswer.TheVariants as image_answer
 use Rattle.restart.specs.Start.{is_shut}
@@ -24,7 +24,7 @@ pub data Queued : Type 0 where
 
 abbrev pub queued_of : Record → Queued
 queued_of (record_.Tick tick) = QueuedTick tick.list
-queued_of (record_.Switch number) = QueuedSwitch number
+queued_of (record_.Switch tick) = QueuedSwitch tick
 
 -- how many records may be queued
 abbrev pub queue_most : ℕ

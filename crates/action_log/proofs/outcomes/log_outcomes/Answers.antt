@@ -1,8 +1,0 @@
-use Rattle.action_log.proofs.ClaimLemmas.{stands_reads, begun_stands}
-use Rattle.action_log.proofs.outcomes.log_outcomes.Goals as goal
-
-pub returns-clause-reads : goal.returns-clause-reads
-returns-clause-reads g c = λ keeper a b place stands. stands_reads keeper (g.D.Disk.content a) (g.D.Disk.content b) (g.D.Disk.may_leave a) (g.D.Disk.may_leave b) place stands
-
-pub returns-clause-begins : goal.returns-clause-begins
-returns-clause-begins g c = λ tick shut_a shut_b a b. begun_stands tick shut_a shut_b (g.D.Disk.content a) (g.D.Disk.content b) (g.D.Disk.may_leave a) (g.D.Disk.may_leave b)

@@ -1,0 +1,48 @@
+use std::marker::Model;
+
+/// What came of a step of the log keeper.
+#[derive(Clone, Copy, Debug, PartialEq, Eq)]
+pub enum LogAnswer {
+    /// There is nothing to do.
+    Idle,
+    /// A job goes on, or has ended.
+    Working,
+    /// A group is durable, up to this tick.
+    Acked(Receipt),
+    /// A call of a device failed, in this step or an earlier one.
+    Down,
+}
+
+/// That every tick above the current segment's base, up to this one, is durable. Only a keeper of this crate makes one.
+/// Contracts see that tick.
+#[derive(Clone, Copy, Debug, PartialEq, Eq)]
+pub struct Receipt {
+    tick: u64,
+}
+
+impl Model for Receipt {
+    ghost use Rattle.std.specs.Prelude.{ℕ};
+
+    ghost Value = { ℕ };
+
+    ghost view = { λ receipt. receipt.tick };
+
+    ghost inverse = { λ tick. record { tick = tick } };
+}
+
+impl Receipt {
+    ghost use Rattle.std.specs.Prelude.{◌≡◌};
+
+    pub(crate) fn new(tick: u64) -> Self
+        ensures { result ≡ tick }
+    {
+        Receipt { tick }
+    }
+
+    /// The last of these ticks.
+    pub fn tick(self) -> u64
+        ensures { result ≡ self }
+    {
+        self.tick
+    }
+}

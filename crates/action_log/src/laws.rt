@@ -1,0 +1,61 @@
+ghost use Rattle.std.specs.Prelude.{◌≡◌, ◌↔◌, ◌+◌, ◌<◌, ◌≤◌, ℕ, Bool, true, false, IsTrue, ◌++◌, ◌∷◌, [], List};
+ghost use Rattle.world_ticks.specs.declared.tick.TheConstants.{TICK_MAX};
+ghost use Rattle.world_ticks.specs.Tick.{Actions};
+ghost use Rattle.file_format.specs.Gate.{HasShutGate, HasNoShutGate};
+ghost use Rattle.disk_model.specs.Disk.{Only};
+ghost use Rattle.action_log.specs.declared.format.TheConstants.{SEGMENT_TICKS};
+ghost use Rattle.action_log.specs.declared.progress.Progress.{Progress};
+ghost use Rattle.action_log.specs.declared.record.Record.{Record};
+ghost use Rattle.action_log.specs.declared.record.Record.TheVariants as records;
+ghost use Rattle.action_log.specs.Segment.{Segment, IsSegment};
+ghost use Rattle.action_log.specs.Spellings.{LawOfSpellings, ReadsOnce, EachReads};
+ghost use Rattle.action_log.specs.Progress.{begun, start_left, QueueFollows, end_of};
+ghost use Rattle.action_log.specs.Logs.{JournalIs, LogPlace, start_of, start_moves};
+ghost use Rattle.action_log.specs.Stands.{Stands};
+
+use disk_model::Disk;
+use file_format::numbers_read_back;
+
+/// Laws: no spelling of an action, a tick or a group begins another one's, and each list of bytes reads in one way.
+pub fn segments_read_once()
+    ensures apart { LawOfSpellings }
+    ensures once { ReadsOnce }
+    ensures each { EachReads }
+{
+    numbers_read_back();
+}
+
+/// Laws: which records may be queued behind others, and what stands behind them then.
+pub fn log_queues()
+    ensures begins { (tick : ℕ) (shut_a shut_b : Bool) → QueueFollows (begun tick shut_a shut_b) []
+        × (end_of (begun tick shut_a shut_b) [] ≡ record { base = tick; count = 0 }) }
+    ensures tick { (keeper : Progress) (queue : List Record) (tick : Actions) → QueueFollows keeper queue
+        → (end_of keeper queue).count < SEGMENT_TICKS
+        → (end_of keeper queue).base + (end_of keeper queue).count < TICK_MAX
+        → QueueFollows keeper (queue ++ records.Tick tick ∷ [])
+        × (end_of keeper (queue ++ records.Tick tick ∷ [])
+        ≡ record { base = (end_of keeper queue).base; count = (end_of keeper queue).count + 1 }) }
+    ensures switch { (keeper : Progress) (queue : List Record) (tick : ℕ) → QueueFollows keeper queue
+        → (end_of keeper queue).base + (end_of keeper queue).count ≤ tick → tick ≤ TICK_MAX
+        → QueueFollows keeper (queue ++ records.Switch tick ∷ [])
+        × (end_of keeper (queue ++ records.Switch tick ∷ []) ≡ record { base = tick; count = 0 }) }
+{}
+
+/// Laws: what a keeper and its two files stand for, from the beginning of the start on, and that they read so
+/// whatever a crash leaves of them.
+pub fn log_outcomes<D: Disk>()
+    ensures reads { (keeper : Progress) (a b : _) (place : LogPlace)
+        → Stands keeper (D.content a) (D.content b) (D.may_leave a) (D.may_leave b) place
+        → JournalIs place.journal (D.may_leave a) (D.may_leave b) }
+    ensures left { (keeper : Progress) (a b : _) (place : LogPlace)
+        → Stands keeper (D.content a) (D.content b) (D.may_leave a) (D.may_leave b) place
+        → (IsTrue keeper.starting ↔ (0 < place.left))
+        × (keeper.down ≡ false → place.left ≡ start_left keeper) }
+    ensures begins { (tick : ℕ) (shut_a shut_b : Bool) (a b : _) (before_a before_b : Segment)
+        → tick ≤ TICK_MAX → Only (D.content a) (D.may_leave a) → Only (D.content b) (D.may_leave b)
+        → (shut_a ≡ true → HasShutGate (D.content a)) → (shut_a ≡ false → HasNoShutGate (D.content a))
+        → (shut_b ≡ true → HasShutGate (D.content b)) → (shut_b ≡ false → HasNoShutGate (D.content b))
+        → IsSegment (D.content a) before_a → IsSegment (D.content b) before_b
+        → Stands (begun tick shut_a shut_b) (D.content a) (D.content b) (D.may_leave a) (D.may_leave b)
+        (start_of tick before_a before_b (start_moves shut_a shut_b)) }
+{}
