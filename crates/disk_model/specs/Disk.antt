@@ -48,12 +48,23 @@ Grew before now = now ≡ min (before + 1) last_count
 abbrev pub IsDeviceFault : {T : Type 0} → Result T Refusal → Type 0
 IsDeviceFault result = IfErr result (λ refusal. refusal ≡ Device)
 
+-- a call of a disk
+pub data Call : Type 0 where
+  Length : Call
+  Read : (at count : ℕ) → Call
+  Write : (at : ℕ) (bytes : List ℕ) → Call
+  Sync : Call
+
+-- one call was made, and it succeeded or failed
+abbrev pub CalledOnce : {S : Type 0} → (S → Call → Bool → S → Type 0) → S → S → Type 0
+CalledOnce called old new = (call : Call) × (succeeded : Bool) × called old call succeeded new
+
 -- nothing was called, or one call was made
-abbrev pub CalledAtMostOnce : {S : Type 0} → (S → S → Type 0) → S → S → Type 0
-CalledAtMostOnce called old new = (new ≡ old) ⊎ called old new
+abbrev pub CalledAtMostOnce : {S : Type 0} → (S → Call → Bool → S → Type 0) → S → S → Type 0
+CalledAtMostOnce called old new = (new ≡ old) ⊎ CalledOnce called old new
 
 -- one of two disks was called, once, or none was
-abbrev pub OneCalledAtMostOnce : {S : Type 0} → (S → S → Type 0) → (one_before one_after other_before other_after : S) → Type 0
+abbrev pub OneCalledAtMostOnce : {S : Type 0} → (S → Call → Bool → S → Type 0) → (one_before one_after other_before other_after : S) → Type 0
 OneCalledAtMostOnce called one_before one_after other_before other_after =
     (CalledAtMostOnce called one_before one_after × (other_after ≡ other_before))
     ⊎ ((one_after ≡ one_before) × CalledAtMostOnce called other_before other_after)

@@ -1,7 +1,7 @@
 -- A file in memory as contracts see it, and what its calls do to it.
 use Rattle.std.specs.Prelude.{◌≡◌, ◌⊎◌, ℕ, ◌+◌, ◌<◌, ◌≤◌, min, List, Bool, true, false, length, get_or, replicate}
 use Rattle.file_format.specs.Number.{IsBytes}
-use Rattle.disk_model.specs.Disk.{overwritten, last_count}
+use Rattle.disk_model.specs.Disk.{overwritten, last_count, Call, Write, Sync}
 
 -- the places that a table marks
 abbrev pub Marked : List Bool → ℕ → Type 0
@@ -53,9 +53,9 @@ pub record Syncs (old new : FileState) : Type 0 where
 abbrev pub after_fault : FileState → FileState
 after_fault file = record file { faults = min (file.faults + 1) last_count }
 
--- one call: it changes nothing, fails, writes or syncs
-pub data Calls (old new : FileState) : Type 0 where
-  Asks : new ≡ old → Calls old new
-  Fails : new ≡ after_fault old → Calls old new
-  Wrote : (at : ℕ) (bytes : List ℕ) → Writes at bytes old new → Calls old new
-  Synced : Syncs old new → Calls old new
+-- a call that succeeded or failed: a write and a sync change the file, and a failure is counted
+abbrev pub Calls : FileState → Call → (succeeded : Bool) → FileState → Type 0
+Calls old call false new = new ≡ after_fault old
+Calls old (Write at bytes) true new = Writes at bytes old new
+Calls old Sync true new = Syncs old new
+Calls old other true new = new ≡ old

@@ -1,9 +1,7 @@
 -- A disk with a fuse as contracts see it, and what one call of it does.
-use Rattle.std.specs.Prelude.{◌≡◌, ℕ, zero, suc, ◌+◌, min, Bool, List, Option, Some, None, refl, Result, Err, IsTrue, OnOk, OnErr, is_ok, if◌then◌else◌, length}
+use Rattle.std.specs.Prelude.{◌≡◌, ℕ, zero, suc, ◌+◌, min, Bool, false, Option, Some, None, refl, if◌then◌else◌}
 use Rattle.std.specs.Coded.{Coded, code_by, coded×, coded_ℕ, coded_option}
-use Rattle.world_actions.specs.declared.refusal.Refusal.{Refusal}
-use Rattle.world_actions.specs.declared.refusal.Refusal.TheVariants.{Device}
-use Rattle.disk_model.specs.Disk.{last_count, counted, overwritten, Torn, Follows, IsDeviceFault, Grew, CalledAtMostOnce}
+use Rattle.disk_model.specs.Disk.{last_count, Call, Write}
 
 -- the disk below, how many calls still succeed before the one that fails, and how often it was the fuse that failed one
 pub record Fuse (D : Type 0) : Type 0 where
@@ -32,36 +30,19 @@ module _ {D : Type 0} where
   abbrev pub fault_count : (D → ℕ) → Fuse D → ℕ
   fault_count faults disk = min (faults disk.inner + disk.faults) last_count
 
-  -- after the call that was due, which wasn't made below
-  abbrev pub after_own_fault : Fuse D → Fuse D
-  after_own_fault disk = record { inner = disk.inner; left = None; faults = min (disk.faults + 1) last_count }
+  -- the fuse failed once more
+  abbrev pub more_faults : Fuse D → ℕ
+  more_faults disk = min (disk.faults + 1) last_count
 
-  -- One call of a disk with a fuse makes at most one of the disk below, and counts. The one that is due fails; any other
-  -- is made below, and the fuse fails none.
-  pub record CallsThrough (faults : D → ℕ) (called : D → D → Type 0) (old new : Fuse D) : Type 0 where
+  -- The call that is due: a write is made below, and counted as failed where the disk below made it; any other isn't made.
+  abbrev pub Fails : (called : D → Call → Bool → D → Type 0) → (old : Fuse D) → Call → (new : Fuse D) → Type 0
+  Fails called old (Write at bytes) new =
+      (made : Bool) × called old.inner (Write at bytes) made new.inner × (new.faults ≡ (if made then more_faults old else old.faults))
+  Fails called old other new = (new.inner ≡ old.inner) × (new.faults ≡ more_faults old)
+
+  -- One call of a disk with a fuse, which counts it: the one that is due fails, and the disk below makes any other and
+  -- answers so.
+  pub record CallsThrough (called : D → Call → Bool → D → Type 0) (old : Fuse D) (call : Call) (succeeded : Bool) (new : Fuse D) : Type 0 where
     pub counts : new.left ≡ counted_down old.left
-    pub below : CalledAtMostOnce called old.inner new.inner
-    pub due : IsDue old → Grew (fault_count faults old) (fault_count faults new)
-    pub passed : ¬ IsDue old → called old.inner new.inner × (new.faults ≡ old.faults)
-
-  -- a call was made below and answered so, and the fuse failed none
-  pub record PassesOn {T : Type 0} (faults : D → ℕ) (called : D → D → Type 0) (old new : Fuse D) (answer : Result T Refusal) : Type 0 where
-    pub is_call : called old.inner new.inner
-    pub counts_faults : faults new.inner ≡ counted (faults old.inner) answer
-    pub same_faults : new.faults ≡ old.faults
-
-  -- what a disk says of a write that it answered so
-  pub record IsWrite (content : D → List ℕ) (may_leave : D → List ℕ → Type 0) (honest : Bool) (faults : D → ℕ) (called : D → D → Type 0)
-      (at : ℕ) (bytes : List ℕ) (old new : D) (answer : Result (Unit {0}) Refusal) : Type 0 where
-    pub is_written : IsTrue honest → OnOk answer (content new ≡ overwritten (content old) at bytes)
-    pub is_torn : IsTrue honest → OnErr answer (Torn at (length bytes) (content old) (content new))
-    pub leaves : IsTrue honest → Follows (Torn at (length bytes)) (may_leave old) (may_leave new)
-    pub counts_faults : faults new ≡ counted (faults old) answer
-    pub device : IsDeviceFault answer
-    pub is_call : called old new
-
-  -- A write below was answered so, and the fuse hands the answer on, but where the call is due: then it fails, and counts
-  -- that where the disk below didn't.
-  pub record HandsOn (old new : Fuse D) (answer result : Result (Unit {0}) Refusal) : Type 0 where
-    pub due : IsDue old → (result ≡ Err Device) × (new.faults ≡ (if is_ok answer then min (old.faults + 1) last_count else old.faults))
-    pub passed : ¬ IsDue old → (result ≡ answer) × (new.faults ≡ old.faults)
+    pub due : IsDue old → (succeeded ≡ false) × Fails called old call new
+    pub passed : ¬ IsDue old → called old.inner call succeeded new.inner × (new.faults ≡ old.faults)

@@ -1,6 +1,6 @@
-ghost use Rattle.std.specs.Prelude.{◌≡◌, ◌+◌, ◌≤◌, Bool, List, ℕ, IsTrue, length, take, drop, IfOk, OnOk, OnErr};
+ghost use Rattle.std.specs.Prelude.{◌≡◌, ◌+◌, ◌≤◌, Bool, List, ℕ, IsTrue, length, take, drop, IfOk, OnOk, OnErr, is_ok};
 ghost use Rattle.file_format.specs.Number.{IsBytes};
-ghost use Rattle.disk_model.specs.Disk.{overwritten, Torn, Follows, Only, Within, counted, IsDeviceFault, last_count};
+ghost use Rattle.disk_model.specs.Disk.{overwritten, Torn, Follows, Only, Within, counted, IsDeviceFault, last_count, Call, Length, Read, Write, Sync};
 
 use world_actions::Refusal;
 
@@ -19,8 +19,8 @@ pub trait Disk {
     /// How often the device failed, up to the last value of the count.
     ghost faults: { Self → ℕ };
 
-    /// One call may lead from the first state to the second.
-    ghost called: { Self → Self → Type 0 };
+    /// This call, which succeeded or failed, may lead from the first state to the second.
+    ghost called: { Self → Call → Bool → Self → Type 0 };
 
     /// The length of the content.
     fn len(&mut self) -> Result<u64, Refusal>
@@ -29,7 +29,7 @@ pub trait Disk {
         ensures crash { IsTrue honest → Within (may_leave self.old) (may_leave self.new) }
         ensures faults { faults self.new ≡ counted (faults self.old) result }
         ensures device { IsDeviceFault result }
-        ensures called { called self.old self.new };
+        ensures called { called self.old Length (is_ok result) self.new };
 
     /// Reads bytes that lie inside the file. A failed read changes nothing of the file, and may
     /// leave any bytes in the buffer.
@@ -41,7 +41,7 @@ pub trait Disk {
         ensures crash { IsTrue honest → Within (may_leave self.old) (may_leave self.new) }
         ensures faults { faults self.new ≡ counted (faults self.old) result }
         ensures device { IsDeviceFault result }
-        ensures called { called self.old self.new };
+        ensures called { called self.old (Read at (length into.old)) (is_ok result) self.new };
 
     /// Writes over what is there, and past the end. Until a sync a crash may leave any bytes in the
     /// range. After a failure reads may give any bytes there too.
@@ -55,7 +55,7 @@ pub trait Disk {
             → Follows (Torn at (length bytes.now)) (may_leave self.old) (may_leave self.new) }
         ensures faults { faults self.new ≡ counted (faults self.old) result }
         ensures device { IsDeviceFault result }
-        ensures called { called self.old self.new };
+        ensures called { called self.old (Write at bytes.now) (is_ok result) self.new };
 
     /// Afterwards a crash leaves what a read gives. A failed sync makes nothing durable.
     fn sync(&mut self) -> Result<(), Refusal>
@@ -65,7 +65,7 @@ pub trait Disk {
         ensures crash { IsTrue honest → Within (may_leave self.old) (may_leave self.new) }
         ensures faults { faults self.new ≡ counted (faults self.old) result }
         ensures device { IsDeviceFault result }
-        ensures called { called self.old self.new };
+        ensures called { called self.old Sync (is_ok result) self.new };
 
     /// A crash may leave what a read gives.
     ghost stays: { (disk : Self) → IsTrue Self.honest → may_leave disk (content disk) };

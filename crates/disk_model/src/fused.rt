@@ -1,6 +1,6 @@
-ghost use Rattle.std.specs.Prelude.{OnOk, OnErr, IfOk, length, take, drop, ◌≤◌, ◌↔◌, ◌≡◌, ◌+◌, ◌-◌, min, Err, IsTrue, Some, None, Result, Option};
-ghost use Rattle.disk_model.specs.Disk.{last_count, min-last_count, counted, Within, Follows, Torn, Only, overwritten, IsDeviceFault};
-ghost use Rattle.disk_model.specs.Fused.{Fuse, counted_down, IsDue, fault_count, after_own_fault, CallsThrough, PassesOn, IsWrite, HandsOn};
+ghost use Rattle.std.specs.Prelude.{OnOk, OnErr, IfOk, length, take, drop, ◌≤◌, ◌↔◌, ◌≡◌, ◌+◌, ◌-◌, min, Err, IsTrue, is_ok, Some, None, Result, Option};
+ghost use Rattle.disk_model.specs.Disk.{last_count, min-last_count, counted, Within, Follows, Torn, Only, overwritten, IsDeviceFault, Length, Read, Write, Sync};
+ghost use Rattle.disk_model.specs.Fused.{Fuse, counted_down, IsDue, fault_count, more_faults, CallsThrough};
 
 use crate::Disk;
 use std::marker::Model;
@@ -92,7 +92,7 @@ impl<D> Fused<D> {
     // Counts a failure of the fuse.
     fn failed<T>(&mut self) -> Result<T, Refusal>
         ensures counts { self.new
-            ≡ record self.old { faults = min (self.old.faults + 1) last_count } }
+            ≡ record self.old { faults = more_faults self.old } }
         ensures err { result ≡ Err Refusal.Device }
     {
         self.faults = self.faults.saturating_add(1);
@@ -109,7 +109,7 @@ impl<D: Disk> Disk for Fused<D> {
 
     ghost faults = { fault_count D.faults };
 
-    ghost called = { CallsThrough D.faults D.called };
+    ghost called = { CallsThrough D.called };
 
     ghost stays = { λ disk is_honest. D.stays disk.inner is_honest };
 
@@ -119,12 +119,6 @@ impl<D: Disk> Disk for Fused<D> {
 
     /// The call that is due isn't made below.
     fn len(&mut self) -> Result<u64, Refusal>
-        ensures due { IsDue self.old
-            → (result ≡ Err Refusal.Device) × (self.new ≡ after_own_fault self.old) }
-        ensures passed { ¬ IsDue self.old → PassesOn D.faults D.called self.old self.new result }
-        ensures counts { self.new.left ≡ counted_down self.old.left }
-
-        // What each disk says.
         ensures length { IsTrue D.honest
             → IfOk result (λ len. len ≡ length (D.content self.old.inner)) }
         ensures content { IsTrue D.honest → D.content self.new.inner ≡ D.content self.old.inner }
@@ -133,7 +127,7 @@ impl<D: Disk> Disk for Fused<D> {
         ensures faults { fault_count D.faults self.new
             ≡ counted (fault_count D.faults self.old) result }
         ensures device { IsDeviceFault result }
-        ensures called { CallsThrough D.faults D.called self.old self.new }
+        ensures called { CallsThrough D.called self.old Length (is_ok result) self.new }
     {
         if self.burns() {
             return self.failed();
@@ -144,12 +138,6 @@ impl<D: Disk> Disk for Fused<D> {
     /// The call that is due isn't made below.
     fn read_at(&mut self, at: u64, into: &mut [u8]) -> Result<(), Refusal>
         requires { IsTrue D.honest → at + length into.old ≤ length (D.content self.old.inner) }
-        ensures due { IsDue self.old
-            → (result ≡ Err Refusal.Device) × (self.new ≡ after_own_fault self.old) }
-        ensures passed { ¬ IsDue self.old → PassesOn D.faults D.called self.old self.new result }
-        ensures counts { self.new.left ≡ counted_down self.old.left }
-
-        // What each disk says.
         ensures read { IsTrue D.honest
             → OnOk result (into.new ≡ take (length into.old) (drop at (D.content self.old.inner))) }
         ensures content { IsTrue D.honest → D.content self.new.inner ≡ D.content self.old.inner }
@@ -158,7 +146,7 @@ impl<D: Disk> Disk for Fused<D> {
         ensures faults { fault_count D.faults self.new
             ≡ counted (fault_count D.faults self.old) result }
         ensures device { IsDeviceFault result }
-        ensures called { CallsThrough D.faults D.called self.old self.new }
+        ensures called { CallsThrough D.called self.old (Read at (length into.old)) (is_ok result) self.new }
     {
         if self.burns() {
             return self.failed();
@@ -169,13 +157,6 @@ impl<D: Disk> Disk for Fused<D> {
     /// The write that is due is made below, and fails then.
     fn write_at(&mut self, at: u64, bytes: &[u8]) -> Result<(), Refusal>
         requires { IsTrue D.honest → at ≤ length (D.content self.old.inner) }
-        ensures below { (answer : Result _ Refusal)
-            × IsWrite D.content D.may_leave D.honest D.faults D.called
-            at bytes.now self.old.inner self.new.inner answer
-            × HandsOn self.old self.new answer result }
-        ensures counts { self.new.left ≡ counted_down self.old.left }
-
-        // What each disk says.
         ensures written { IsTrue D.honest → OnOk result
             (D.content self.new.inner ≡ overwritten (D.content self.old.inner) at bytes.now) }
         ensures torn { IsTrue D.honest → OnErr result
@@ -185,7 +166,7 @@ impl<D: Disk> Disk for Fused<D> {
         ensures faults { fault_count D.faults self.new
             ≡ counted (fault_count D.faults self.old) result }
         ensures device { IsDeviceFault result }
-        ensures called { CallsThrough D.faults D.called self.old self.new }
+        ensures called { CallsThrough D.called self.old (Write at bytes.now) (is_ok result) self.new }
     {
         let burns = self.burns();
         self.inner.write_at(at, bytes)?;
@@ -197,12 +178,6 @@ impl<D: Disk> Disk for Fused<D> {
 
     /// The call that is due isn't made below.
     fn sync(&mut self) -> Result<(), Refusal>
-        ensures due { IsDue self.old
-            → (result ≡ Err Refusal.Device) × (self.new ≡ after_own_fault self.old) }
-        ensures passed { ¬ IsDue self.old → PassesOn D.faults D.called self.old self.new result }
-        ensures counts { self.new.left ≡ counted_down self.old.left }
-
-        // What each disk says.
         ensures durable { IsTrue D.honest
             → OnOk result (Only (D.content self.old.inner) (D.may_leave self.new.inner)) }
         ensures content { IsTrue D.honest → D.content self.new.inner ≡ D.content self.old.inner }
@@ -211,7 +186,7 @@ impl<D: Disk> Disk for Fused<D> {
         ensures faults { fault_count D.faults self.new
             ≡ counted (fault_count D.faults self.old) result }
         ensures device { IsDeviceFault result }
-        ensures called { CallsThrough D.faults D.called self.old self.new }
+        ensures called { CallsThrough D.called self.old Sync (is_ok result) self.new }
     {
         // A failed sync makes nothing durable.
         if self.burns() {

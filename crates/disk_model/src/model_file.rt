@@ -1,5 +1,5 @@
-ghost use Rattle.std.specs.Prelude.{◌≡◌, ◌+◌, ◌≤◌, ◌<◌, ◌↔◌, true, IsTrue, IsOk, length, take, drop, Err, IfOk, IfErr, OnOk, OnErr, vec_capacity, min};
-ghost use Rattle.disk_model.specs.Disk.{overwritten, last_count, min-last_count, Torn, Follows, Within, Only, counted, IsDeviceFault};
+ghost use Rattle.std.specs.Prelude.{◌≡◌, ◌+◌, ◌≤◌, ◌<◌, ◌↔◌, true, IsTrue, IsOk, length, take, drop, Err, IfOk, IfErr, OnOk, OnErr, vec_capacity, min, is_ok};
+ghost use Rattle.disk_model.specs.Disk.{overwritten, last_count, min-last_count, Torn, Follows, Within, Only, counted, IsDeviceFault, Write, Sync};
 ghost use Rattle.disk_model.specs.FileState.{IsUncertain, IsSynced, Writes, Syncs, after_fault, Calls};
 ghost use Rattle.disk_model.specs.FileKept.{IsKept};
 ghost use Rattle.disk_model.specs.CrashOutcome.{IsCrashOutcome, content_stays};
@@ -193,7 +193,7 @@ impl Disk for ModelFile {
         ensures faults { min self.new.faults last_count
             ≡ counted (min self.old.faults last_count) result }
         ensures device { IsDeviceFault result }
-        ensures called { Calls self.old self.new }
+        ensures called { Calls self.old (Write at bytes.now) (is_ok result) self.new }
     {
         let at = at as usize;
         let (durable, content) = (&mut self.durable, &mut self.content);
@@ -212,7 +212,7 @@ impl Disk for ModelFile {
         ensures succeeds { IsOk result }
 
         // What each disk says.
-        ensures called { Calls self.old self.new }
+        ensures called { Calls self.old Sync (is_ok result) self.new }
         ensures crash { Within (IsCrashOutcome self.old) (IsCrashOutcome self.new) }
     {
         let from = self.first_unsynced;

@@ -1,6 +1,7 @@
 -- Inside: for the contracts of this crate's private functions.
 -- What a step does by its phase, and what a call of one of the two files keeps.
 use Rattle.std.specs.Prelude.{◌≡◌, ℕ, ◌+◌, ◌*◌, Bool, Option, Some, None, is_some, List, [], ◌∷◌, ◌++◌, length, map, get_or, IsTrue, nat_lt, if◌then◌else◌, ◌==◌, ◌&&◌}
+use Rattle.disk_model.specs.Disk.{Call, CalledOnce}
 use Rattle.capture_core.specs.declared.taker.Taken.{Taken}
 use Rattle.capture_core.specs.declared.taker.Taken.TheVariants.{Word}
 use Rattle.capture_core.specs.Taken.{IsTakenWord}
@@ -51,12 +52,12 @@ TookWord (Some cell) keeper newest done_before done_after =
     done_after ≡ done_before ++ word_of cell (get_or (newest_words keeper newest) (length done_before) 0) ∷ []
 
 -- the disk that is called, once, by phase: none, the newest image's, or the target
-abbrev pub CallsIn : Phase → {D : Type 0} → (called : D → D → Type 0) → (target_before target_after newest_before newest_after : D) → Type 0
+abbrev pub CallsIn : Phase → {D : Type 0} → (called : D → Call → Bool → D → Type 0) → (target_before target_after newest_before newest_after : D) → Type 0
 CallsIn Idle called target_before target_after newest_before newest_after = (target_after ≡ target_before) × (newest_after ≡ newest_before)
 CallsIn Taking called target_before target_after newest_before newest_after = (target_after ≡ target_before) × (newest_after ≡ newest_before)
 CallsIn Down called target_before target_after newest_before newest_after = (target_after ≡ target_before) × (newest_after ≡ newest_before)
-CallsIn Reading called target_before target_after newest_before newest_after = (target_after ≡ target_before) × called newest_before newest_after
-CallsIn phase called target_before target_after newest_before newest_after = called target_before target_after × (newest_after ≡ newest_before)
+CallsIn Reading called target_before target_after newest_before newest_after = (target_after ≡ target_before) × CalledOnce called newest_before newest_after
+CallsIn phase called target_before target_after newest_before newest_after = CalledOnce called target_before target_after × (newest_after ≡ newest_before)
 
 -- ---- by a call of the target, whatever the newest image's file holds
 

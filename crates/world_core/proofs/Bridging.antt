@@ -3,9 +3,9 @@ use Rattle.std.proofs.Common.{◌≡◌, ◌↔◌, ◌<◌, ◌+◌, ◌++◌, 
 use Rattle.world_actions.specs.declared.action.Action.{Action}
 use Rattle.capture_core.specs.declared.taker.Taken.{Taken}
 use Rattle.capture_core.specs.Content.{Content, Takes}
-use Rattle.disk_model.specs.Disk.{last_count, Grew, OneCalledAtMostOnce}
+use Rattle.disk_model.specs.Disk.{last_count, Grew, Call, Length, Read, Write, Sync, CalledOnce, OneCalledAtMostOnce}
 use Rattle.disk_model.specs.FileState.{FileState, Calls}
-use Rattle.disk_model.specs.Fused.{CallsThrough}
+use Rattle.disk_model.specs.Fused.{Fails, CallsThrough}
 use Rattle.image_files.specs.declared.answer.ImageAnswer.{ImageAnswer}
 use Rattle.image_files.specs.declared.answer.ImageAnswer.TheVariants as image_answer
 use Rattle.image_files.specs.declared.phase.Phase.{Phase}
@@ -43,8 +43,8 @@ only_read was now content running c r e = (λ i. record was { content = c i; run
 
 -- ---- a call that may be let fail
 
-abbrev pub called : File → File → Type 0
-called = CallsThrough (λ (below : FileState). min below.faults last_count) Calls
+abbrev pub called : File → Call → Bool → File → Type 0
+called = CallsThrough Calls
 
 -- a file, the same armed, after the step, and disarmed
 pub record IsMoved (fate : Fate) (file armed stepped new : File) : Type 0 where
@@ -63,8 +63,8 @@ module _ (fate : Fate) (file armed stepped new : File) (m : IsMoved fate file ar
   rests : stepped ≡ armed → new ≡ file
   rests e = m.new_is ∙ ap (λ (f : File). record f { left = None }) (e ∙ m.armed_is) ∙ (λ i. record file { left = (sym m.unarmed) i })
 
-  own_faults : (armed.left ≡ Some 0 → ⊥) → called armed stepped → new.faults ≡ file.faults
-  own_faults none c = ap (λ (f : File). f.faults) m.new_is ∙ (c.passed none).1 ∙ ap (λ (f : File). f.faults) m.armed_is
+  own_faults : (armed.left ≡ Some 0 → ⊥) → CalledOnce called armed stepped → new.faults ≡ file.faults
+  own_faults none c = ap (λ (f : File). f.faults) m.new_is ∙ (c.2.passed none).1 ∙ ap (λ (f : File). f.faults) m.armed_is
 
   same_faults : stepped ≡ armed → new.faults ≡ file.faults
   same_faults e = ap (λ (f : File). f.faults) (rests e)
@@ -76,8 +76,15 @@ due : (file armed : File) → armed ≡ record file { left = Some 0 } → armed.
 due file armed e = ap (λ (f : File). f.left) e
 
 -- a call that is due counts as failed
-grows : (file armed stepped : File) → armed ≡ record file { left = Some 0 } → called armed stepped → failures armed < last_count → failures stepped ≡ failures armed → ⊥
-grows file armed stepped e c few same = (let g = c.due (due file armed e) in absurd (omega (arith, g, same, few)))
+counts : (call : Call) (armed stepped : File) → Fails Calls armed call stepped → Grew (failures armed) (failures stepped)
+counts (Write at bytes) armed stepped (true, made, own) = omega (arith, made.faults, own)
+counts (Write at bytes) armed stepped (false, failed, own) = (let below = ap (λ (file : FileState). file.faults) failed in omega (arith, below, own))
+counts Length armed stepped (same, own) = (let below = ap (λ (file : FileState). file.faults) same in omega (arith, below, own))
+counts (Read at count) armed stepped (same, own) = (let below = ap (λ (file : FileState). file.faults) same in omega (arith, below, own))
+counts Sync armed stepped (same, own) = (let below = ap (λ (file : FileState). file.faults) same in omega (arith, below, own))
+
+grows : (file armed stepped : File) → armed ≡ record file { left = Some 0 } → CalledOnce called armed stepped → failures armed < last_count → failures stepped ≡ failures armed → ⊥
+grows file armed stepped e c few same = (let g = counts c.0 armed stepped (c.2.due (due file armed e)).1 in absurd (omega (arith, g, same, few)))
 
 pub fails_by : (fate : Fate) (is_down : Type 0) (a armed_a stepped_a new_a b armed_b stepped_b new_b : File) → IsMoved fate a armed_a stepped_a new_a → IsMoved fate b armed_b stepped_b new_b
     → OneCalledAtMostOnce called armed_a stepped_a armed_b stepped_b → is_down ⊎ ((failures stepped_a ≡ failures armed_a) × (failures stepped_b ≡ failures armed_b)) → FailsBy fate is_down a b new_a new_b

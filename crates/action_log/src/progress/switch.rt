@@ -1,9 +1,10 @@
-ghost use Rattle.std.specs.Prelude.{◌≡◌, ◌-◌, ◌≤◌, ℕ, List, true, false, length, vec_capacity, IsTrue, OnOk, OnErr, if◌then◌else◌};
-ghost use Rattle.disk_model.specs.Disk.{Only, counted};
+ghost use Rattle.std.specs.Prelude.{◌≡◌, ◌-◌, ◌≤◌, ℕ, List, true, false, length, vec_capacity, IsTrue, OnOk, OnErr, if◌then◌else◌, is_ok, [], ◌∷◌};
+ghost use Rattle.file_format.specs.declared.gate.TheConstants.{OPEN_GATE, CLOSED_GATE};
+ghost use Rattle.disk_model.specs.Disk.{Only, counted, Write, Sync};
 ghost use Rattle.action_log.specs.declared.format.TheConstants.{BASE_PLACE, HEADER_BYTES};
 ghost use Rattle.action_log.specs.declared.phase.Phase.TheVariants.{Retiring, RetiringSync, Ready, Closing, ClosingSync, Header, HeaderSync, Opening, OpeningSync};
 ghost use Rattle.action_log.specs.Progress.{IsInOrder};
-ghost use Rattle.action_log.specs.Written.{Written};
+ghost use Rattle.action_log.specs.Written.{Written, header};
 ghost use Rattle.action_log.specs.Files.{Fits, OtherEndures};
 ghost use Rattle.action_log.specs.Steps.{with_switch, switched, renewed, KeepsCurrent, KeepsOther, CurrentLasts, OtherLasts};
 
@@ -27,7 +28,7 @@ impl Progress {
         ensures lasts { CurrentLasts D.honest self.old self.new (D.content current.old) (D.content current.new)
             (D.may_leave current.old) (D.may_leave current.new) }
         ensures faults { D.faults current.new ≡ counted (D.faults current.old) result }
-        ensures called { D.called current.old current.new }
+        ensures called { D.called current.old (Write 0 (CLOSED_GATE ∷ [])) (is_ok result) current.new }
     {
         let call = current.write_at(0, &[CLOSED_GATE]);
         self.phase = Phase::RetiringSync;
@@ -46,7 +47,7 @@ impl Progress {
         ensures lasts { CurrentLasts D.honest self.old self.new (D.content current.old) (D.content current.new)
             (D.may_leave current.old) (D.may_leave current.new) }
         ensures faults { D.faults current.new ≡ counted (D.faults current.old) result }
-        ensures called { D.called current.old current.new }
+        ensures called { D.called current.old Sync (is_ok result) current.new }
     {
         if let Err(refusal) = current.sync() {
             self.down = true;
@@ -69,7 +70,7 @@ impl Progress {
         ensures lasts { OtherLasts D.honest self.old self.new (D.content other.old) (D.content other.new)
             (D.may_leave other.old) (D.may_leave other.new) }
         ensures faults { D.faults other.new ≡ counted (D.faults other.old) result }
-        ensures called { D.called other.old other.new }
+        ensures called { D.called other.old (Write 0 (CLOSED_GATE ∷ [])) (is_ok result) other.new }
     {
         let call = other.write_at(0, &[CLOSED_GATE]);
         self.phase = Phase::ClosingSync;
@@ -87,7 +88,7 @@ impl Progress {
         ensures lasts { OtherLasts D.honest self.old self.new (D.content other.old) (D.content other.new)
             (D.may_leave other.old) (D.may_leave other.new) }
         ensures faults { D.faults other.new ≡ counted (D.faults other.old) result }
-        ensures called { D.called other.old other.new }
+        ensures called { D.called other.old Sync (is_ok result) other.new }
     {
         if let Err(refusal) = other.sync() {
             self.down = true;
@@ -113,7 +114,7 @@ impl Progress {
         ensures lasts { OtherLasts D.honest self.old self.new (D.content other.old) (D.content other.new)
             (D.may_leave other.old) (D.may_leave other.new) }
         ensures faults { D.faults other.new ≡ counted (D.faults other.old) result }
-        ensures called { D.called other.old other.new }
+        ensures called { D.called other.old (Write BASE_PLACE (header self.old.next_base)) (is_ok result) other.new }
         ensures capacity { vec_capacity buffer.old ≤ vec_capacity buffer.new }
     {
         put_header(buffer, self.next_base);
@@ -133,7 +134,7 @@ impl Progress {
         ensures lasts { OtherLasts D.honest self.old self.new (D.content other.old) (D.content other.new)
             (D.may_leave other.old) (D.may_leave other.new) }
         ensures faults { D.faults other.new ≡ counted (D.faults other.old) result }
-        ensures called { D.called other.old other.new }
+        ensures called { D.called other.old Sync (is_ok result) other.new }
     {
         if let Err(refusal) = other.sync() {
             self.down = true;
@@ -154,7 +155,7 @@ impl Progress {
         ensures lasts { OtherLasts D.honest self.old self.new (D.content other.old) (D.content other.new)
             (D.may_leave other.old) (D.may_leave other.new) }
         ensures faults { D.faults other.new ≡ counted (D.faults other.old) result }
-        ensures called { D.called other.old other.new }
+        ensures called { D.called other.old (Write 0 (OPEN_GATE ∷ [])) (is_ok result) other.new }
     {
         let call = other.write_at(0, &[OPEN_GATE]);
         self.phase = Phase::OpeningSync;
@@ -181,7 +182,7 @@ impl Progress {
             → OtherEndures self.old written (D.content other.old) (D.may_leave other.old)
             → OnErr result (OtherEndures self.new written (D.content other.new) (D.may_leave other.new)) }
         ensures faults { D.faults other.new ≡ counted (D.faults other.old) result }
-        ensures called { D.called other.old other.new }
+        ensures called { D.called other.old Sync (is_ok result) other.new }
     {
         if let Err(refusal) = other.sync() {
             self.down = true;
@@ -227,7 +228,9 @@ impl Progress {
         ensures lasts { OtherLasts D.honest self.old self.new (D.content other.old) (D.content other.new)
             (D.may_leave other.old) (D.may_leave other.new) }
         ensures faults { D.faults other.new ≡ counted (D.faults other.old) result }
-        ensures called { D.called other.old other.new }
+        ensures called { D.called other.old
+            (if self.old.other_shut then Write BASE_PLACE (header tick) else Write 0 (CLOSED_GATE ∷ []))
+            (is_ok result) other.new }
         ensures capacity { vec_capacity buffer.old ≤ vec_capacity buffer.new }
     {
         self.next_base = tick;

@@ -1,5 +1,9 @@
-ghost use Rattle.std.specs.Prelude.{◌≡◌, ◌+◌, ◌*◌, ◌≤◌, ◌<◌, ℕ, List, length, take, drop, IsTrue, OnOk, OnErr, IfNone, Option, Some};
-ghost use Rattle.disk_model.specs.Disk.{counted};
+ghost use Rattle.std.specs.Prelude.{◌≡◌, ◌+◌, ◌*◌, ◌≤◌, ◌<◌, ℕ, List, length, take, drop, IsTrue, OnOk, OnErr, IfNone, Option, Some, is_ok, []};
+ghost use Rattle.image_files.specs.Image.{header_bytes};
+ghost use Rattle.image_files.specs.Taken.{filled_words};
+ghost use Rattle.std.specs.List.{flat_map};
+ghost use Rattle.file_format.specs.Number.{number_bytes};
+ghost use Rattle.disk_model.specs.Disk.{counted, Read, Write, Sync};
 ghost use Rattle.file_format.specs.Gate.{HasShutGate};
 ghost use Rattle.capture_core.specs.declared.taker.Taken.{Taken};
 ghost use Rattle.capture_core.specs.Taken.{IsTakenWord};
@@ -29,7 +33,9 @@ impl ImageKeeper {
         ensures goes_on { GoesOn D.honest D.content D.may_leave self.old self.new target.old target.new }
         ensures lowers { OnOk result (left_of self.new < left_of self.old) }
         ensures faults { D.faults target.new ≡ counted (D.faults target.old) result }
-        ensures called { D.called target.old target.new }
+        ensures called { D.called target.old
+            (Write CELLS_PLACE (header_bytes self.old.cells self.old.tick))
+            (is_ok result) target.new }
     {
         encode_header(&mut self.buffer, self.cells as u64, self.tick);
         if let Err(refusal) = target.write_at(CELLS_PLACE as u64, &self.buffer[..2 * WORD_BYTES]) {
@@ -82,7 +88,9 @@ impl ImageKeeper {
         ensures goes_on { Reads D.honest D.content D.may_leave self.old self.new newest.old newest.new }
         ensures lowers { OnOk result (left_of self.new < left_of self.old) }
         ensures faults { D.faults newest.new ≡ counted (D.faults newest.old) result }
-        ensures called { D.called newest.old newest.new }
+        ensures called { D.called newest.old
+            (Read (HEADER_BYTES + WORD_BYTES * self.old.written) (WORD_BYTES * length self.old.chunk))
+            (is_ok result) newest.new }
     {
         let place = HEADER_BYTES + WORD_BYTES * self.written;
         let length = WORD_BYTES * self.chunk.len();
@@ -105,7 +113,9 @@ impl ImageKeeper {
         ensures goes_on { GoesOn D.honest D.content D.may_leave self.old self.new target.old target.new }
         ensures lowers { OnOk result (left_of self.new < left_of self.old) }
         ensures faults { D.faults target.new ≡ counted (D.faults target.old) result }
-        ensures called { D.called target.old target.new }
+        ensures called { D.called target.old
+            (Write (HEADER_BYTES + WORD_BYTES * self.old.written) (flat_map (number_bytes WORD_BYTES) (filled_words self.old.chunk [])))
+            (is_ok result) target.new }
     {
         let place = HEADER_BYTES + WORD_BYTES * self.written;
         let count = self.chunk.len();
@@ -142,7 +152,7 @@ impl ImageKeeper {
         ensures goes_on { GoesOn D.honest D.content D.may_leave self.old self.new target.old target.new }
         ensures lowers { OnOk result (left_of self.new < left_of self.old) }
         ensures faults { D.faults target.new ≡ counted (D.faults target.old) result }
-        ensures called { D.called target.old target.new }
+        ensures called { D.called target.old Sync (is_ok result) target.new }
     {
         if let Err(refusal) = target.sync() {
             self.go_down();
@@ -166,7 +176,7 @@ fn read_front<D: Disk>(
         → OnOk result (take count buffer.new ≡ take count (drop at (D.content disk.old))) }
     ensures stays { IsOnlyRead D.honest D.content D.may_leave disk.old disk.new }
     ensures faults { D.faults disk.new ≡ counted (D.faults disk.old) result }
-    ensures called { D.called disk.old disk.new }
+    ensures called { D.called disk.old (Read at count) (is_ok result) disk.new }
 {
     disk.read_at(at, &mut buffer[..count])
 }

@@ -1,5 +1,6 @@
-ghost use Rattle.std.specs.Prelude.{◌≡◌, ◌<◌, true, IsTrue, OnOk, OnErr};
-ghost use Rattle.disk_model.specs.Disk.{counted};
+ghost use Rattle.std.specs.Prelude.{◌≡◌, ◌<◌, true, IsTrue, OnOk, OnErr, is_ok, [], ◌∷◌};
+ghost use Rattle.file_format.specs.declared.gate.TheConstants.{CLOSED_GATE};
+ghost use Rattle.disk_model.specs.Disk.{counted, Write, Sync};
 ghost use Rattle.image_files.specs.declared.phase.Phase.TheVariants.{Closing, ClosingSync, Header, Down};
 ghost use Rattle.image_files.specs.Progress.{left_of};
 ghost use Rattle.image_files.specs.Steps.{closed};
@@ -24,7 +25,7 @@ impl ImageKeeper {
         ensures goes_on { GoesOn D.honest D.content D.may_leave self.old self.new target.old target.new }
         ensures lowers { OnOk result (left_of self.new < left_of self.old) }
         ensures faults { D.faults target.new ≡ counted (D.faults target.old) result }
-        ensures called { D.called target.old target.new }
+        ensures called { D.called target.old (Write 0 (CLOSED_GATE ∷ [])) (is_ok result) target.new }
     {
         if let Err(refusal) = target.write_at(0, &[CLOSED_GATE]) {
             self.go_down();
@@ -43,7 +44,7 @@ impl ImageKeeper {
         ensures goes_on { GoesOn D.honest D.content D.may_leave self.old self.new target.old target.new }
         ensures lowers { OnOk result (left_of self.new < left_of self.old) }
         ensures faults { D.faults target.new ≡ counted (D.faults target.old) result }
-        ensures called { D.called target.old target.new }
+        ensures called { D.called target.old Sync (is_ok result) target.new }
     {
         if let Err(refusal) = target.sync() {
             self.go_down();

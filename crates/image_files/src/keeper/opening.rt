@@ -1,5 +1,6 @@
-ghost use Rattle.std.specs.Prelude.{◌≡◌, ◌<◌, OnOk, OnErr, IfOk};
-ghost use Rattle.disk_model.specs.Disk.{counted};
+ghost use Rattle.std.specs.Prelude.{◌≡◌, ◌<◌, OnOk, OnErr, IfOk, is_ok, [], ◌∷◌};
+ghost use Rattle.file_format.specs.declared.gate.TheConstants.{OPEN_GATE};
+ghost use Rattle.disk_model.specs.Disk.{counted, Write, Sync};
 ghost use Rattle.image_files.specs.declared.phase.Phase.TheVariants.{Opening, OpeningSync, Down};
 ghost use Rattle.image_files.specs.Progress.{left_of, opened_keeper};
 ghost use Rattle.image_files.specs.Calls.{GoesOn, Opens};
@@ -20,7 +21,7 @@ impl ImageKeeper {
         ensures goes_on { GoesOn D.honest D.content D.may_leave self.old self.new target.old target.new }
         ensures lowers { OnOk result (left_of self.new < left_of self.old) }
         ensures faults { D.faults target.new ≡ counted (D.faults target.old) result }
-        ensures called { D.called target.old target.new }
+        ensures called { D.called target.old (Write 0 (OPEN_GATE ∷ [])) (is_ok result) target.new }
     {
         if let Err(refusal) = target.write_at(0, &[OPEN_GATE]) {
             self.go_down();
@@ -40,7 +41,7 @@ impl ImageKeeper {
         ensures goes_on { OnErr result (GoesOn D.honest D.content D.may_leave self.old self.new target.old target.new) }
         ensures lowers { OnOk result (left_of self.new < left_of self.old) }
         ensures faults { D.faults target.new ≡ counted (D.faults target.old) result }
-        ensures called { D.called target.old target.new }
+        ensures called { D.called target.old Sync (is_ok result) target.new }
     {
         let slot = self.target();
         if let Err(refusal) = target.sync() {

@@ -1,5 +1,5 @@
 use Rattle.std.proofs.Common.{◌-◌, ◌∙◌, ap, subst, sym, ℕ, List, Bool, take, drop, ◌++◌}
-use Rattle.disk_model.specs.FileState.{Marked, Synced}
+use Rattle.disk_model.specs.FileState.{Marked}
 use Rattle.disk_model.proofs.ModelFileLemmas.{synced_content, none_left}
 use Rattle.disk_model.proofs.model_file.ModelFileDisk.sync.Goals as goal
 
@@ -22,4 +22,4 @@ returns-clause-syncs c =
     }
 
 pub returns-clause-called : goal.returns-clause-called
-returns-clause-called c = Synced (returns-clause-syncs c)
+returns-clause-called c = returns-clause-syncs c

@@ -1,6 +1,6 @@
 use Rattle.std.proofs.Common.{◌≤◌, ◌∙◌, ap, arith, true, length, replicate}
 use Rattle.disk_model.specs.Disk.{overwritten}
-use Rattle.disk_model.specs.FileState.{after_fault, Fails, Wrote}
+use Rattle.disk_model.specs.FileState.{after_fault}
 use Rattle.disk_model.specs.FileKept.{same_file}
 use Rattle.disk_model.proofs.OutcomeLemmas.{torn_outcome}
 use Rattle.disk_model.proofs.ModelFileLemmas.{kept_written}
@@ -22,7 +22,7 @@ pub returns-in-Ok-clause-crash : goal.returns-in-Ok-clause-crash
 returns-in-Ok-clause-crash c left outcome = torn_outcome c.args.self.now _ c.args.at c.args.bytes.now left c.requires (returns-in-Ok-clause-writes c) outcome
 
 pub returns-in-Ok-clause-called : goal.returns-in-Ok-clause-called
-returns-in-Ok-clause-called c = Wrote c.args.at c.args.bytes.now (returns-in-Ok-clause-writes c)
+returns-in-Ok-clause-called c = returns-in-Ok-clause-writes c
 
 pub returns-in-Err-clause-fails : goal.returns-in-Err-clause-fails
 returns-in-Err-clause-fails c =
@@ -33,7 +33,7 @@ returns-in-Err-clause-fails c =
     ∙ ap after_fault (same_file _ _ (same.durable ∙ ap (λ file. file.durable) is) (same.same_content ∙ ap (λ file. file.content) is) (same.same_marks ∙ ap (λ file. file.unsynced) is) (ap (λ file. file.faults) is)))
 
 pub returns-in-Err-clause-called : goal.returns-in-Err-clause-called
-returns-in-Err-clause-called c = Fails (rw c.failed.ensures.err at (returns-in-Err-clause-fails c))
+returns-in-Err-clause-called c = rw c.failed.ensures.err (rw c.failed.ensures.err at (returns-in-Err-clause-fails c))
 
 pub invariant_of-self-inside : goal.invariant_of-self-inside
 invariant_of-self-inside c =
