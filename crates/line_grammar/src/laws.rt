@@ -1,6 +1,7 @@
-ghost use Rattle.std.specs.Prelude.{◌≡◌, ◌≤◌, ℕ, List, length, Option};
+ghost use Rattle.std.specs.Prelude.{◌≡◌, ◌≤◌, ◌++◌, ◌∷◌, [], ℕ, List, length, Option};
 ghost use Rattle.line_grammar.specs.declared.command.Command.{Command};
 ghost use Rattle.line_grammar.specs.Command.{Means, IsInBounds, spelling};
+ghost use Rattle.line_grammar.specs.Kept.{kept_of, KeptMeans};
 
 use crate::command::LINE_BYTES;
 
@@ -14,3 +15,11 @@ pub fn one_reading()
 pub fn command_length()
     ensures { (command : Command) → IsInBounds command → length (spelling command) ≤ LINE_BYTES }
 {}
+
+/// Laws: what is kept of a line byte by byte is what is kept of it at once, and means what the line means.
+pub fn kept_bytes()
+    ensures next { (line : List ℕ) (byte : ℕ) → kept_of (line ++ byte ∷ []) ≡ kept_of (kept_of line ++ byte ∷ []) }
+    ensures means { (kept : List ℕ) (meaning : Option Command) → Means kept meaning → KeptMeans Means kept meaning }
+{
+    command_length();
+}

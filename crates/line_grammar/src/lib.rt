@@ -8,11 +8,13 @@
 #![tactic(auto)]
 
 mod command;
+mod kept;
 mod laws;
 mod number;
 mod word;
 
 pub use command::{Command, LINE_BYTES, read_command};
-pub use laws::{command_length, one_reading};
+pub use kept::KeptLine;
+pub use laws::{command_length, kept_bytes, one_reading};
 pub use number::{read_cell, read_difference, read_number};
 pub use word::after;

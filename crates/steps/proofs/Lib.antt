@@ -4,4 +4,3 @@ pub mod WordsLemmas
 pub mod LeadsLemmas
 pub mod ScriptLemmas
 pub mod ProgressLemmas
-pub mod StreamLemmas

@@ -1,16 +1,18 @@
 -- What a line of a script means, once.
-use Rattle.std.proofs.Common.{arith, refl, sym, ◌∙◌, ◌≡◌, ◌≢◌, ℕ, ◌/◌, ◌%◌, ◌<◌, ◌≤◌, ◌^◌, ◌==◌, if◌then◌else◌, List, ◌∷◌, ◌++◌, decimal, Some, None, codes, Option, length, ap, lit<, lit≤, take, ◌⊎◌, inl, inr, slice_index}
+use Rattle.std.proofs.Common.{arith, refl, sym, ◌∙◌, ◌≡◌, ◌≢◌, ℕ, ◌/◌, ◌%◌, ◌<◌, ◌≤◌, ◌^◌, ◌==◌, if◌then◌else◌, List, ◌∷◌, ◌++◌, decimal, Some, None, codes, Option, length, ap, lit<, lit≤, ◌⊎◌, slice_index}
 use Rattle.std.proofs.lemmas.Bool.{cases_lt}
 use Rattle.std.proofs.lemmas.Bool.Decides.{nat_tests}
 use Rattle.std.proofs.lemmas.Fmt.{decimal_injective, length-decimal-le}
-use Rattle.std.proofs.lemmas.List.{length-append, take_all, length-take-le}
+use Rattle.std.proofs.lemmas.List.{length-append}
 use Rattle.world_actions.specs.declared.world.TheConstants.{CELLS}
 use Rattle.world_actions.specs.declared.action.Action.TheVariants.{Set, Add, Transfer}
 use Rattle.line_grammar.specs.declared.command.Command.{Command}
 use Rattle.line_grammar.specs.declared.command.Command.TheVariants as command
 use Rattle.line_grammar.specs.declared.command.TheConstants.{LINE_BYTES}
 use Rattle.line_grammar.specs.Command.{Means, IsInBounds, spelling}
+use Rattle.line_grammar.specs.Kept.{KeptMeans}
 use Rattle.line_grammar.proofs.ReadingLemmas.{reading_unique}
+use Rattle.line_grammar.proofs.KeptLemmas.{kept_is_read}
 use Rattle.line_grammar.proofs.WordLemmas.{same_first}
 use Rattle.world_core.specs.declared.moves.Fate.{Fate}
 use Rattle.disk_model.specs.declared.leaving.Leaving.{Leaving}
@@ -20,7 +22,6 @@ use Rattle.steps.specs.declared.line.Method.{Method}
 use Rattle.steps.specs.declared.line.Method.TheVariants.{Plain, Zigzag, PingPong, ZigzagShared, PingPongShared}
 use Rattle.steps.specs.declared.line.Line.{Line}
 use Rattle.steps.specs.declared.line.Line.TheVariants as line
-use Rattle.steps.specs.Progress.{KeptMeans}
 use Rattle.steps.specs.Line.{LineMeans, LineIsInBounds, line_spelling, method_word, hex_digit, hex_text}
 
 -- Each kind of line has a number, which is that of its text: told by first bytes and lengths. A client's lines have 0.
@@ -237,24 +238,6 @@ line_length short (line.Crash Keep) bounds = lit≤ tt
 line_length short (line.Crash (Fill byte)) bounds = lit≤ tt
 line_length short line.World bounds = lit≤ tt
 
--- a longer line means nothing, whatever it is
-long_means : CommandsAreShort → (bytes other : List ℕ) (meaning : Option Line) → LINE_BYTES < length bytes → LINE_BYTES < length other → LineMeans bytes meaning → LineMeans other meaning
-long_means short bytes other None long other_long means = λ l bounds is.
-    let most = line_length short l bounds in
-    let same = ap length is in
-    omega (arith, most, same)
-long_means short bytes other (Some l) long other_long means =
-    let most = line_length short l means.0 in
-    let same = ap length means.1 in
-    absurd (omega (arith, most, same))
-
 -- what is kept of a line means what the line means
-pub kept_means : CommandsAreShort → (kept : List ℕ) (meaning : Option Line) → LineMeans kept meaning → KeptMeans kept meaning
-kept_means short kept meaning means line is = by_length (cases_lt 81 (length line))
-  where
-    by_length : (81 < length line) ⊎ (length line ≤ 81) → LineMeans line meaning
-    by_length (inr few) = let same : kept ≡ line = sym is ∙ take_all 81 line few in rw (← same) means
-    by_length (inl many) =
-        let whole : length (take 81 line) ≡ 81 = length-take-le 81 line (omega arith) in
-        let kept_length : length kept ≡ 81 = ap length (sym is) ∙ whole in
-        long_means short kept line meaning (omega (arith, kept_length)) (omega arith) means
+pub kept_means : CommandsAreShort → (kept : List ℕ) (meaning : Option Line) → LineMeans kept meaning → KeptMeans LineMeans kept meaning
+kept_means short = kept_is_read line_spelling LineIsInBounds (line_length short)

@@ -1,40 +1,23 @@
 -- One byte of a script at a time: what stands after it.
-use Rattle.std.proofs.Common.{append-nil, arith, refl, ap, sym, ◌∙◌, ◌≡◌, ◌≢◌, ℕ, suc, ◌<◌, ◌≤◌, List, [], ◌∷◌, ◌++◌, append_assoc, length, get_or, take, drop, Option, None, ◌⊎◌, inl, inr}
+use Rattle.std.proofs.Common.{append-nil, refl, ap, sym, ◌∙◌, ◌≡◌, ◌≢◌, ℕ, suc, ◌<◌, List, [], ◌∷◌, ◌++◌, append_assoc, length, get_or, take, drop, Option, None, ◌⊎◌, inl, inr}
 use Rattle.std.proofs.Math.Seq.{drop-cons}
-use Rattle.std.proofs.lemmas.Bool.{cases_lt}
-use Rattle.std.proofs.lemmas.List.{length-append, length-take-le, take-append-le, take_all, take-append-drop}
+use Rattle.std.proofs.lemmas.List.{take-append-drop}
 use Rattle.world_actions.specs.declared.refusal.Refusal.{Refusal}
 use Rattle.world_actions.specs.declared.refusal.Refusal.TheVariants.{NoMemory}
 use Rattle.world_core.specs.State.{State}
+use Rattle.byte_streams.specs.Front.{IsFront}
+use Rattle.line_grammar.specs.Kept.{HasNoNewline, kept_of, KeptMeans}
+use Rattle.line_grammar.proofs.KeptLemmas.{kept_of-snoc, HasNoNewline-snoc}
 use Rattle.steps.specs.declared.line.Line.{Line}
 use Rattle.steps.specs.Line.{LineMeans}
 use Rattle.steps.specs.Played.{Played}
-use Rattle.steps.specs.Script.{lines_of, Replies, IsFront, IsCutOff}
-use Rattle.steps.specs.Progress.{ScriptState, HasNoNewline, kept_of, KeptMeans, IsAt, LineLeads, IsFrontOf, Stands, LeadsOn, Completes, BreaksOff}
-use Rattle.steps.proofs.ScriptLemmas.{lines_of-line, lines_of-last, HasNoNewline-snoc, Replies-snoc}
+use Rattle.steps.specs.Script.{lines_of, Replies, IsCutOff}
+use Rattle.steps.specs.Progress.{ScriptState, IsAt, LineLeads, IsFrontOf, Stands, LeadsOn, Completes, BreaksOff}
+use Rattle.steps.proofs.ScriptLemmas.{lines_of-line, lines_of-last, Replies-snoc}
 
 -- before anything is read
 pub stands_fresh : (input : List ℕ) → Stands input (record { core = None; kept = [] }) input []
 stands_fresh input = record { answered = []; line = []; split = refl; played = None; is_at = record { state = refl; stands = tt }; replies = (refl, refl); unbroken = tt; kept_is = refl }
-
--- what is kept of a line with one byte more
-kept_of-snoc : (line : List ℕ) (b : ℕ) → kept_of (line ++ b ∷ []) ≡ kept_of (kept_of line ++ b ∷ [])
-kept_of-snoc line b = by_length (cases_lt 81 (length line))
-  where
-    by_length : (81 < length line) ⊎ (length line ≤ 81) → kept_of (line ++ b ∷ []) ≡ kept_of (kept_of line ++ b ∷ [])
-    by_length (inr short) = rw (take_all 81 line short) refl
-    by_length (inl long) =
-        let many : 81 ≤ length line = omega arith in
-        let whole : length (take 81 line) ≡ 81 = length-take-le 81 line many in
-        take-append-le 81 line (b ∷ []) many
-        ∙ (sym (take_all 81 (take 81 line) (omega (arith, whole))) ∙ sym (take-append-le 81 (take 81 line) (b ∷ []) (omega (arith, whole))))
-
--- what is kept with one byte more, where there is room and where there is none
-pub keep_more : (kept : List ℕ) (b : ℕ) → length kept ≤ 80 → kept ++ b ∷ [] ≡ kept_of (kept ++ b ∷ [])
-keep_more kept b short = sym (take_all 81 (kept ++ b ∷ []) (simp length-append (omega arith)))
-
-pub keep_same : (kept : List ℕ) (b : ℕ) → length kept ≡ 81 → kept ≡ kept_of (kept ++ b ∷ [])
-keep_same kept b full = sym (take-append-le 81 kept (b ∷ []) (omega arith) ∙ take_all 81 kept (omega arith))
 
 -- no byte
 pub leads_nothing : (script : ScriptState) → LeadsOn script [] script []
@@ -64,7 +47,7 @@ leads_kept old new b other core kept = record {
 }
 
 -- the end of the line
-pub leads_answered : (old new : ScriptState) (b : ℕ) (meaning : Option Line) (said : List ℕ) → b ≡ 10 → KeptMeans old.kept meaning
+pub leads_answered : (old new : ScriptState) (b : ℕ) (meaning : Option Line) (said : List ℕ) → b ≡ 10 → KeptMeans LineMeans old.kept meaning
     → LineLeads meaning old.core said new.core → new.kept ≡ [] → LeadsOn old (b ∷ []) new (said ++ 10 ∷ [])
 leads_answered old new b meaning said newline means leads empty = record {
   on = λ input left prior stands.
@@ -110,7 +93,7 @@ cut_line input script played answered later line prior front meaning refusal spl
 }
 
 -- a fault at the end of a line
-pub breaks_line : (old : ScriptState) (b : ℕ) (meaning : Option Line) (front : List ℕ) (refusal : Refusal) → b ≡ 10 → KeptMeans old.kept meaning
+pub breaks_line : (old : ScriptState) (b : ℕ) (meaning : Option Line) (front : List ℕ) (refusal : Refusal) → b ≡ 10 → KeptMeans LineMeans old.kept meaning
     → (front ≡ []) ⊎ IsFrontOf meaning old.core front → (refusal ≡ NoMemory → front ≡ []) → (left : List ℕ) → BreaksOff old (b ∷ left) front refusal
 breaks_line old b meaning front refusal newline means part memory left = record {
   on = λ input prior stands.
@@ -150,7 +133,7 @@ some_line : (script : ScriptState) (line : List ℕ) → script.kept ≡ kept_of
 some_line script line kept some none = some (kept ∙ ap kept_of none)
 
 -- the input ends in a line with no newline
-pub completes_answered : (script : ScriptState) (new : Option State) (meaning : Option Line) (said : List ℕ) → script.kept ≢ [] → KeptMeans script.kept meaning
+pub completes_answered : (script : ScriptState) (new : Option State) (meaning : Option Line) (said : List ℕ) → script.kept ≢ [] → KeptMeans LineMeans script.kept meaning
     → LineLeads meaning script.core said new → Completes script (said ++ 10 ∷ [])
 completes_answered script new meaning said some means leads = record {
   on = λ input prior stands.
@@ -163,7 +146,7 @@ completes_answered script new meaning said some means leads = record {
       };
 }
 
-pub breaks_last : (script : ScriptState) (meaning : Option Line) (front : List ℕ) (refusal : Refusal) → script.kept ≢ [] → KeptMeans script.kept meaning
+pub breaks_last : (script : ScriptState) (meaning : Option Line) (front : List ℕ) (refusal : Refusal) → script.kept ≢ [] → KeptMeans LineMeans script.kept meaning
     → (front ≡ []) ⊎ IsFrontOf meaning script.core front → (refusal ≡ NoMemory → front ≡ []) → BreaksOff script [] front refusal
 breaks_last script meaning front refusal some means part memory = record {
   on = λ input prior stands.

@@ -5,7 +5,7 @@ use Rattle.steps.specs.declared.line.Line.{Line}
 use Rattle.steps.specs.Line.{LineMeans}
 use Rattle.steps.specs.Played.{Played}
 use Rattle.steps.specs.Script.{onto_first, lines_of, LineRuns, Replies, IsScriptText, text_of, AnswersEach}
-use Rattle.steps.specs.Progress.{HasNoNewline}
+use Rattle.line_grammar.specs.Kept.{HasNoNewline}
 
 -- a byte that is no newline belongs to the first line
 other_first : (b : ℕ) (bytes : List ℕ) → b ≢ 10 → lines_of (b ∷ bytes) ≡ onto_first b (lines_of bytes)
@@ -21,10 +21,6 @@ lines_of-line (b ∷ line) bytes unbroken =
 pub lines_of-last : (b : ℕ) (line : List ℕ) → HasNoNewline (b ∷ line) → lines_of (b ∷ line) ≡ (b ∷ line) ∷ []
 lines_of-last b [] unbroken = rw (other_first b [] unbroken.0) refl
 lines_of-last b (c ∷ line) unbroken = rw (other_first b (c ∷ line) unbroken.0, lines_of-last c line unbroken.1) refl
-
-pub HasNoNewline-snoc : (line : List ℕ) (b : ℕ) → HasNoNewline line → b ≢ 10 → HasNoNewline (line ++ b ∷ [])
-HasNoNewline-snoc [] b unbroken other = (other, tt)
-HasNoNewline-snoc (c ∷ line) b unbroken other = (unbroken.0, HasNoNewline-snoc line b unbroken.1 other)
 
 -- some lines and then others
 pub Replies-append : (core middle last : Option Played) (first more : List (List ℕ)) (text rest : List ℕ)

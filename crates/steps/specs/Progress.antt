@@ -1,32 +1,19 @@
 -- Inside: for the proofs of this crate's private functions.
 -- How far a script has come, for the functions that run it byte by byte.
-use Rattle.std.specs.Prelude.{◌≡◌, ◌≢◌, ℕ, ◌+◌, List, [], ◌∷◌, ◌++◌, Option, Some, None, option_map, take}
+use Rattle.std.specs.Prelude.{◌≡◌, ℕ, List, [], ◌∷◌, ◌++◌, Option, Some, None, option_map}
 use Rattle.world_actions.specs.declared.refusal.Refusal.{Refusal}
-use Rattle.line_grammar.specs.declared.command.TheConstants.{LINE_BYTES}
+use Rattle.byte_streams.specs.Front.{IsFront}
+use Rattle.line_grammar.specs.Kept.{kept_of, HasNoNewline}
 use Rattle.steps.specs.declared.line.Line.{Line}
 use Rattle.world_core.specs.State.{State}
 use Rattle.world_core.specs.Facts.{IsCoreAt}
-use Rattle.steps.specs.Line.{LineMeans}
 use Rattle.steps.specs.Played.{Played}
-use Rattle.steps.specs.Script.{lines_of, LineRuns, Replies, IsScriptText, IsFront, IsCutOff}
+use Rattle.steps.specs.Script.{lines_of, LineRuns, Replies, IsScriptText, IsCutOff}
 
 -- the open core, and the bytes that are kept of the line that has not ended
 pub record ScriptState : Type 0 where
   pub core : Option State
   pub kept : List ℕ
-
--- no byte is a newline
-abbrev pub HasNoNewline : List ℕ → Type 0
-HasNoNewline [] = Unit {0}
-HasNoNewline (b ∷ bytes) = (b ≢ 10) × HasNoNewline bytes
-
--- the bytes that are kept of a line: one more than a line that means something can have
-abbrev pub kept_of : List ℕ → List ℕ
-kept_of line = take (LINE_BYTES + 1) line
-
--- what each line means of which these bytes are kept
-abbrev pub KeptMeans : List ℕ → Option Line → Type 0
-KeptMeans kept meaning = (line : List ℕ) → kept_of line ≡ kept → LineMeans line meaning
 
 -- a core stands
 abbrev pub Stand : Option Played → Type 0

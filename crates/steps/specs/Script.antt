@@ -3,6 +3,7 @@ use Rattle.std.specs.Prelude.{◌≡◌, ℕ, List, [], ◌∷◌, ◌++◌, Opt
 use Rattle.world_actions.specs.declared.refusal.Refusal.{Refusal}
 use Rattle.world_actions.specs.declared.refusal.Refusal.TheVariants.{BadLine, NoMemory, Device}
 use Rattle.world_core.specs.declared.moves.Answer.TheVariants.{Refused}
+use Rattle.byte_streams.specs.Front.{IsFront}
 use Rattle.steps.specs.declared.line.Line.{Line}
 use Rattle.steps.specs.declared.line.Line.TheVariants.{Open}
 use Rattle.steps.specs.Line.{LineMeans}
@@ -45,10 +46,6 @@ Replies from (line ∷ lines) text last =
 pub record IsScriptText (input text : List ℕ) : Type 0 where
   pub last : Option Played
   pub replies : Replies None (lines_of input) text last
-
--- some bytes are the front of others
-abbrev pub IsFront : List ℕ → List ℕ → Type 0
-IsFront front whole = (rest : List ℕ) × (whole ≡ front ++ rest)
 
 -- the refusals that end a script
 abbrev pub IsFault : Refusal → Type 0

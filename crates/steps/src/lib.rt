@@ -9,7 +9,6 @@ mod core_lines;
 mod line;
 mod open_core;
 mod script;
-mod stream;
 mod text;
 
 pub use line::{Line, Method, line_has_one_meaning, read_line};

@@ -1,16 +1,17 @@
 ghost use Rattle.std.specs.Prelude.{◌≡◌, ◌++◌, ◌∷◌, ℕ, List, [], Option, OnOk, IfOk, IfErr, IfSome, None, Some, ◌⊎◌, option_map};
 ghost use Rattle.std.specs.Io.KnownBytes.{Appends, IsAtEnd};
 ghost use Rattle.steps.specs.declared.line.Line.{Line};
-ghost use Rattle.steps.specs.Line.{LineIsInBounds};
+ghost use Rattle.steps.specs.Line.{LineMeans, LineIsInBounds};
 ghost use Rattle.steps.specs.OpenCore.{state_of, method_of, method_after};
 ghost use Rattle.steps.specs.Script.{IsScriptText, IsFault, IsCutOff, AnswersEach};
-ghost use Rattle.steps.specs.Progress.{kept_of, KeptMeans, LineLeads, IsFrontOf, LeadsOn, Completes, BreaksOff};
+ghost use Rattle.line_grammar.specs.Kept.{KeptMeans};
+ghost use Rattle.steps.specs.Progress.{LineLeads, IsFrontOf, LeadsOn, Completes, BreaksOff};
 
 use crate::line::{Line, read_line};
 use crate::open_core::OpenCore;
-use crate::stream::{read_some, write_whole};
 use crate::text::{push_answer, push_bytes};
-use line_grammar::{LINE_BYTES, command_length};
+use byte_streams::{read_some, write_whole};
+use line_grammar::{KeptLine, command_length};
 use std::alloc::Global;
 use std::io::{Read, Write};
 use std::marker::Model;
@@ -53,21 +54,18 @@ pub fn script_answers_each_line()
 struct Script {
     alloc: Global,
     core: Option<OpenCore>,
-    line: Vec<u8>,
+    line: KeptLine,
     answer: Vec<u8>,
 }
 
 impl Model for Script {
-    ghost use Rattle.std.specs.Prelude.{◌≤◌, ◌+◌, option_map, vec_len, vec_capacity};
+    ghost use Rattle.std.specs.Prelude.{option_map};
     ghost use Rattle.steps.specs.OpenCore.{state_of};
-    ghost use Rattle.line_grammar.specs.declared.command.TheConstants.{LINE_BYTES};
     ghost use Rattle.steps.specs.Progress.{ScriptState};
 
     ghost Value = { ScriptState };
 
-    ghost view = { λ script. record { core = option_map state_of script.core; kept = script.line.items } };
-
-    ghost invariant = { λ script. (vec_len script.line ≤ LINE_BYTES + 1) × (LINE_BYTES + 1 ≤ vec_capacity script.line) };
+    ghost view = { λ script. record { core = option_map state_of script.core; kept = script.line } };
 }
 
 impl Script {
@@ -79,7 +77,7 @@ impl Script {
         Ok(Script {
             alloc,
             core: None,
-            line: Vec::with_capacity(alloc, LINE_BYTES + 1)?,
+            line: KeptLine::new(alloc)?,
             answer: Vec::new(alloc),
         })
     }
@@ -98,7 +96,7 @@ impl Script {
         Ok(())
     }
 
-    // Keeps a byte of the line, drops it where the line is too long, or answers the line that ends.
+    // Takes a byte of the line, or answers the line that ends.
     fn take_byte<W: Write>(&mut self, byte: u8, w: &mut W) -> Result<(), Refusal>
         ensures done { OnOk result ((written : List ℕ) × Appends (W.contents w.old) (W.contents w.new) written
             × LeadsOn self.old (byte ∷ []) self.new written) }
@@ -110,18 +108,8 @@ impl Script {
             self.answer_line(w)?;
             return Ok(());
         }
-        self.keep(byte);
+        self.line.push(byte);
         Ok(())
-    }
-
-    // Keeps a byte of the line, unless so many are kept that the line means nothing whatever follows.
-    fn keep(&mut self, byte: u8)
-        ensures core { self.new.core ≡ self.old.core }
-        ensures kept { self.new.kept ≡ kept_of (self.old.kept ++ byte ∷ []) }
-    {
-        if self.line.len() <= LINE_BYTES {
-            self.line.push_reserved(byte);
-        }
     }
 
     // Answers what is left at the end of the input, if anything is.
@@ -132,7 +120,7 @@ impl Script {
             × (written : List ℕ) × Appends (W.contents w.old) (W.contents w.new) written
             × BreaksOff self.old [] written refusal) }
     {
-        if self.line.is_empty() {
+        if self.line.bytes().is_empty() {
             return Ok(());
         }
         self.answer_line(w)?;
@@ -141,16 +129,16 @@ impl Script {
 
     // Answers the kept line, and keeps nothing of it.
     fn answer_line<W: Write>(&mut self, w: &mut W) -> Result<(), Refusal>
-        ensures done { OnOk result ((meaning : Option Line) × KeptMeans self.old.kept meaning
+        ensures done { OnOk result ((meaning : Option Line) × KeptMeans LineMeans self.old.kept meaning
             × (said : List ℕ) × LineLeads meaning self.old.core said self.new.core × (self.new.kept ≡ [])
             × Appends (W.contents w.old) (W.contents w.new) (said ++ 10 ∷ [])) }
         ensures fault { IfErr result (λ refusal. IsFault refusal
-            × (meaning : Option Line) × KeptMeans self.old.kept meaning
+            × (meaning : Option Line) × KeptMeans LineMeans self.old.kept meaning
             × (front : List ℕ) × ((front ≡ []) ⊎ IsFrontOf meaning self.old.core front)
             × (refusal ≡ Refusal.NoMemory → front ≡ [])
             × Appends (W.contents w.old) (W.contents w.new) front) }
     {
-        let meaning = read_kept(&self.line);
+        let meaning = read_kept(self.line.bytes());
         self.line.clear();
         self.answer.clear();
         push_reply(self.alloc, &mut self.core, meaning, &mut self.answer)?;
@@ -162,7 +150,7 @@ impl Script {
 
 // What a line asks for of which these bytes are kept.
 fn read_kept(kept: &[u8]) -> Option<Line>
-    ensures meaning { KeptMeans kept.now result }
+    ensures meaning { KeptMeans LineMeans kept.now result }
     ensures bounds { IfSome result LineIsInBounds }
 {
     command_length();

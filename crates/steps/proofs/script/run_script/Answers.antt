@@ -1,6 +1,6 @@
 use Rattle.std.proofs.Common.{[], ◌++◌, take}
 use Rattle.std.proofs.lemmas.Result.{err_from_is_err_and}
-use Rattle.steps.proofs.StreamLemmas.{Appends-none, Appends-both, consumed, none_left, if_some}
+use Rattle.byte_streams.proofs.StreamLemmas.{Appends-none, Appends-both, consumed, none_left, if_some}
 use Rattle.steps.proofs.ProgressLemmas.{stands_fresh, cut_between}
 use Rattle.steps.proofs.script.run_script.Goals as goal
 

@@ -1,6 +1,8 @@
-use Rattle.std.proofs.Common.{rules, [], ◌++◌, ◌∷◌}
+use Rattle.std.proofs.Common.{rules, ap, ◌∙◌, [], ◌++◌, ◌∷◌}
 use Rattle.std.proofs.lemmas.Result.{err_from_is_err_and}
-use Rattle.steps.proofs.StreamLemmas.{Appends-none}
+use Rattle.line_grammar.specs.Kept.{kept_of}
+use Rattle.steps.specs.Progress.{ScriptState}
+use Rattle.byte_streams.proofs.StreamLemmas.{Appends-none}
 use Rattle.steps.proofs.ProgressLemmas.{leads_kept, leads_answered, breaks_line}
 use Rattle.steps.proofs.script.Script.take_byte.Goals as goal
 
@@ -16,4 +18,4 @@ returns-then-byte-eq10-clause-done g c =
     (done.2 ++ 10 ∷ [], done.5, leads_answered _ _ _ done.0 done.2 c.if-byte-eq10.true done.1 done.3 done.4)
 
 pub returns-clause-done : goal.returns-clause-done
-returns-clause-done g c = ([], Appends-none _, leads_kept _ _ _ (search rules) c.keep.ensures.core c.keep.ensures.kept)
+returns-clause-done g c = ([], Appends-none _, leads_kept _ _ _ (search rules) (ap (λ (s : ScriptState). s.core) c.self.view_is) (c.push.ensures ∙ ap (λ (s : ScriptState). kept_of (s.kept ++ c.args.byte ∷ [])) c.self.view_is))

@@ -1,7 +1,7 @@
 use Rattle.std.proofs.Common.{[], ◌++◌, drop, suc, add-one}
 use Rattle.std.proofs.Math.Seq.{take-suc}
 use Rattle.std.proofs.lemmas.Result.{err_from_is_err_and}
-use Rattle.steps.proofs.StreamLemmas.{Appends-none, Appends-both}
+use Rattle.byte_streams.proofs.StreamLemmas.{Appends-none, Appends-both}
 use Rattle.steps.proofs.ProgressLemmas.{leads_nothing, leads_then, breaks_after, piece_at}
 use Rattle.steps.proofs.script.Script.take_piece.Goals as goal
 

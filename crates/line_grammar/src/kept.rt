@@ -1,0 +1,79 @@
+ghost use Rattle.std.specs.Prelude.{◌≡◌, ◌++◌, ◌∷◌, [], IfOk, IfErr};
+ghost use Rattle.line_grammar.specs.Kept.{kept_of};
+
+use crate::command::LINE_BYTES;
+use std::alloc::Global;
+use std::marker::Model;
+use world_actions::Refusal;
+
+/// The bytes of a line that has not ended, as many as tell what it means: one more than a line that
+/// means something can have. Contracts see these bytes.
+#[derive(Drop)]
+pub struct KeptLine {
+    bytes: Vec<u8>,
+}
+
+impl Model for KeptLine {
+    ghost use Rattle.std.specs.Prelude.{◌≤◌, ◌+◌, ℕ, List, vec_len, vec_capacity};
+    ghost use Rattle.line_grammar.specs.declared.command.TheConstants.{LINE_BYTES};
+
+    ghost Value = { List ℕ };
+
+    ghost view = { λ line. line.bytes.items };
+
+    ghost invariant = { λ line. (vec_len line.bytes ≤ LINE_BYTES + 1) × (LINE_BYTES + 1 ≤ vec_capacity line.bytes) };
+}
+
+impl KeptLine {
+    /// A line with no byte. It reserves all that it ever uses.
+    pub fn new(alloc: Global) -> Result<Self, Refusal>
+        ensures empty { IfOk result (λ line. line ≡ []) }
+        ensures memory { IfErr result (λ refusal. refusal ≡ Refusal.NoMemory) }
+    {
+        Ok(KeptLine {
+            bytes: Vec::with_capacity(alloc, LINE_BYTES + 1)?,
+        })
+    }
+
+    /// Takes the line's next byte, and keeps it unless so many are kept that the line means nothing
+    /// whatever follows.
+    pub fn push(&mut self, byte: u8)
+        ensures { self.new ≡ kept_of (self.old ++ byte ∷ []) }
+    {
+        if self.bytes.len() <= LINE_BYTES {
+            self.bytes.push_reserved(byte);
+        }
+    }
+
+    /// The kept bytes.
+    pub fn bytes(&self) -> &[u8]
+        ensures { result.now ≡ self.now }
+    {
+        &self.bytes
+    }
+
+    /// Begins the next line.
+    pub fn clear(&mut self)
+        ensures { self.new ≡ [] }
+    {
+        self.bytes.clear();
+    }
+}
+
+#[cfg(test)]
+mod tests {
+    use super::*;
+
+    #[test]
+    fn keeps_81_bytes_of_a_line(rt: HostRuntime) -> Result<(), Fail> {
+        let mut line = KeptLine::new(rt.alloc())?;
+        for count in 1..=100 {
+            line.push(b'7');
+            assert_eq!(rt; line.bytes().len(), count.min(81));
+        }
+        line.clear();
+        line.push(b'9');
+        assert_eq!(rt; line.bytes(), b"9".as_slice());
+        Ok(())
+    }
+}
