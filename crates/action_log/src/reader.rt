@@ -1,6 +1,6 @@
 ghost use Rattle.std.specs.Prelude.{◌≡◌, ◌⊎◌, ◌≤◌, length, Err, IfOk, IfErr};
 ghost use Rattle.action_log.specs.declared.format.TheConstants.{HEADER_BYTES};
-ghost use Rattle.action_log.specs.Segment.{MalformedSegment, IsSegment, HasOpenSegment};
+ghost use Rattle.action_log.specs.Segment.{MalformedSegment, IsSegment, HasTicks};
 ghost use Rattle.action_log.specs.Reading.{read_base};
 ghost use Rattle.action_log.specs.LogState.{segment_in};
 
@@ -23,12 +23,12 @@ pub enum LogState {
 }
 
 /// Reads a segment, as recovery does. It refuses `BadLog` exactly where it is malformed, and `NoMemory` only
-/// where it is open: it is judged, and its ticks are counted, before memory is asked for them.
+/// where it has a tick: it is judged, and its ticks are counted, before memory is asked for them.
 pub fn read_log(alloc: Global, bytes: &[u8]) -> Result<LogState, Refusal>
     ensures reads { IfOk result (λ state. IsSegment bytes.now (segment_in state)) }
     ensures refuses { IfErr result (λ refusal. (refusal ≡ Refusal.NoMemory) ⊎ ((refusal ≡ Refusal.BadLog)
         × IsSegment bytes.now MalformedSegment)) }
-    ensures memory { result ≡ Err Refusal.NoMemory → HasOpenSegment bytes.now }
+    ensures memory { result ≡ Err Refusal.NoMemory → HasTicks bytes.now }
 {
     numbers_read_back();
     if bytes.len() < HEADER_BYTES || bytes[0] != OPEN_GATE {
@@ -43,6 +43,10 @@ pub fn read_log(alloc: Global, bytes: &[u8]) -> Result<LogState, Refusal>
     let Some(count) = count_ticks(groups, most) else {
         return Err(Refusal::BadLog);
     };
+    if count == 0 {
+        let ticks = Vec::new(alloc);
+        return Ok(LogState::Open { base, ticks });
+    }
     let ticks = read_ticks(alloc, groups, count)?;
     Ok(LogState::Open { base, ticks })
 }
