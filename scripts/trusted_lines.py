@@ -2,8 +2,9 @@
 """Counts the lines that a reader has to believe: the contracts of what each crate hands out, and
 the definitions in specs/ that they reach. Run at the top of the repository:
 
-    scripts/trusted_lines.py              the counts
-    scripts/trusted_lines.py unreached    the definitions that no such contract reaches, too
+    scripts/trusted_lines.py                  the counts
+    scripts/trusted_lines.py unreached        the definitions that no such contract reaches, too
+    scripts/trusted_lines.py of CRATE NAME    the lines that one function's contract asks one to believe
 
 A line counts unless it is blank, a comment or an import; tests don't count. It goes by the text:
 a name stands for the definition that its file has or imports.
@@ -38,9 +39,19 @@ def imported(text):
     return found
 
 
+def out_of_modules(text):
+    """The text with what stands in a module at the margin."""
+    inside, lines = False, []
+    for line in text.splitlines():
+        if line[:1].strip():
+            inside = line.startswith("module ")
+        lines.append(line[2:] if inside and line.startswith("  ") else line)
+    return "\n".join(lines)
+
+
 def definitions(crate, path):
     """The definitions of a file: for each how many lines it has, and what it stands on."""
-    text = path.read_text()
+    text = out_of_modules(path.read_text())
     lines, same, name = collections.defaultdict(list), {}, None
     for line in text.splitlines():
         start = DEFINITION.match(line)
@@ -62,15 +73,16 @@ def definitions(crate, path):
 
 
 def clauses(path, exported):
-    """The clauses of a file's items that the crate hands out."""
-    found, owner, is_trait, public, open_braces = [], None, False, False, 0
+    """The clauses of a file's items that the crate hands out, each with the item's name."""
+    found, name, owner, is_trait, public, open_braces = [], None, None, False, False, 0
     for line in path.read_text().splitlines():
         text = line.strip()
         if open_braces > 0:
-            found.append(line)
+            found.append((name, line))
             open_braces += text.count("{") - text.count("}")
             continue
         block, item = IMPL.match(line), ITEM.match(text)
+        name = item[3] if item else name
         if block:
             owner, is_trait, public = block[2], bool(block[1]), block[2] in exported
         elif item and line[0] != " ":
@@ -79,7 +91,7 @@ def clauses(path, exported):
         elif item and item[2] == "fn":
             public = owner in exported and (is_trait or item[1] == "pub ")
         if public and CLAUSE.match(text):
-            found.append(line)
+            found.append((name, line))
             open_braces = text.count("{") - text.count("}")
     return found
 
@@ -88,7 +100,19 @@ def is_test(path):
     return path.stem == "tests" or "tests" in path.parts
 
 
+def reached_from(names, known):
+    """The definitions that stand behind these names."""
+    reached, waiting = set(), list(names)
+    while waiting:
+        name = waiting.pop()
+        if name in known and name not in reached:
+            reached.add(name)
+            waiting += known[name][1]
+    return reached
+
+
 def main():
+    one = sys.argv[2:] if sys.argv[1:2] == ["of"] else None
     known, lines, believed, waiting = {}, collections.Counter(), collections.Counter(), []
     for crate in sorted(pathlib.Path("crates").iterdir()):
         for kind in ("src", "specs", "proofs"):
@@ -102,17 +126,12 @@ def main():
             continue
         exported = {name.strip() for _, group, one in EXPORT.findall(lib.read_text()) for name in (group or one).split(",")}
         for path in filter(lambda path: not is_test(path), (crate / "src").rglob("*.rt")):
-            found = clauses(path, exported)
+            found = [line for name, line in clauses(path, exported) if one in (None, [crate.name, name])]
             believed["contracts"] += len(found)
             names = imported(path.read_text())
             waiting += [names[word] for word in NAME.findall("\n".join(found)) if word in names]
-    reached = set()
-    while waiting:
-        name = waiting.pop()
-        if name in known and name not in reached:
-            reached.add(name)
-            believed["definitions"] += known[name][0]
-            waiting += known[name][1]
+    reached = reached_from(waiting, known)
+    believed["definitions"] = sum(known[name][0] for name in reached)
     everything, all_believed = sum(lines.values()), sum(believed.values())
     print(f"code {lines['src']}, specs {lines['specs']}, proofs {lines['proofs']}: {everything} lines")
     print(f"contracts {believed['contracts']}, definitions {believed['definitions']}")
