@@ -11,6 +11,7 @@ ghost use Rattle.action_log.specs.Segment.{Segment, IsSegment};
 ghost use Rattle.action_log.specs.Spellings.{LawOfSpellings, ReadsOnce, EachReads};
 ghost use Rattle.action_log.specs.Progress.{begun, start_left, QueueFollows, end_of};
 ghost use Rattle.action_log.specs.Logs.{JournalIs, LogPlace, start_of, start_moves};
+ghost use Rattle.action_log.specs.Files.{FitsFiles};
 ghost use Rattle.action_log.specs.Stands.{Stands};
 
 use disk_model::Disk;
@@ -47,6 +48,9 @@ pub fn log_outcomes<D: Disk>()
     ensures reads { (keeper : Progress) (a b : _) (place : LogPlace)
         → Stands keeper (D.content a) (D.content b) (D.may_leave a) (D.may_leave b) place
         → JournalIs place.journal (D.may_leave a) (D.may_leave b) }
+    ensures fits { (keeper : Progress) (a b : _) (place : LogPlace)
+        → Stands keeper (D.content a) (D.content b) (D.may_leave a) (D.may_leave b) place
+        → FitsFiles keeper (D.content a) (D.content b) }
     ensures left { (keeper : Progress) (a b : _) (place : LogPlace)
         → Stands keeper (D.content a) (D.content b) (D.may_leave a) (D.may_leave b) place
         → (IsTrue keeper.starting ↔ (0 < place.left))

@@ -122,6 +122,7 @@ impl LogTrial {
     }
 
     fn step(&mut self) -> LogAnswer {
+        log_outcomes::<Fused<ModelFile>>();
         let answer = self
             .keeper
             .step(&mut self.queue, &mut self.log_a, &mut self.log_b);

@@ -20,6 +20,7 @@ use ping_pong::PingPong;
 use std::io;
 use std::process::ExitCode;
 use tally::Tally;
+use trial_kit::ended;
 use world_actions::Refusal;
 use zigzag::Zigzag;
 
@@ -30,14 +31,7 @@ const SIZES: [u32; 4] = [1, 64, 65, 130];
 const GROUPS: [u64; 3] = [1, 8, 32];
 
 fn main(rt: HostRuntime) -> ExitCode {
-    match run(&rt) {
-        Ok(true) => ExitCode::SUCCESS,
-        Ok(false) => ExitCode::from(1),
-        Err(error) => {
-            let _ = eprintln!(rt; "error: {error}");
-            ExitCode::from(1)
-        }
-    }
+    ended(&rt, run(&rt))
 }
 
 // Whether nothing was wrong.

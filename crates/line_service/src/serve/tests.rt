@@ -121,7 +121,14 @@ fn answers_whole_batches(rt: HostRuntime) -> Result<(), Fail> {
     try_pieces(&rt, rt.alloc(), &BATCH[..BATCH.len() - 4], Ok(()), b"", 0)?;
     try_pieces(&rt, rt.alloc(), b"end\n", Ok(()), b"tick 1:\n", 1)?;
     let two = b"set 0 5\nend\nget 0\nset 0 6\nend\nset 0 7\nend";
-    try_pieces(&rt, rt.alloc(), two, Ok(()), b"tick 1: +\ntick 2: =5 +\n", 2)?;
+    try_pieces(
+        &rt,
+        rt.alloc(),
+        two,
+        Ok(()),
+        b"tick 1: +\ntick 2: =5 +\n",
+        2,
+    )?;
     try_pieces(&rt, rt.alloc(), b"", Ok(()), b"", 0)
 }
 
@@ -136,7 +143,14 @@ fn a_batch_of_1025_lines_ends_the_session(rt: HostRuntime) -> Result<(), Fail> {
     try_pieces(&rt, rt.alloc(), &input, refused, b"fault 16\n", 0)?;
     let mut later = Vec::from_slice(rt.alloc(), BATCH)?;
     later.extend_from_slice(&input)?;
-    try_pieces(&rt, rt.alloc(), &later, refused, b"tick 1: + =5 -3 -16\nfault 16\n", 1)
+    try_pieces(
+        &rt,
+        rt.alloc(),
+        &later,
+        refused,
+        b"tick 1: + =5 -3 -16\nfault 16\n",
+        1,
+    )
 }
 
 #[test]

@@ -5,12 +5,7 @@ use world_actions::LIMIT;
 use world_ticks::Words;
 
 // What is answered to the first batch of an input, as the tick of this number.
-fn answered(
-    alloc: Global,
-    words: &mut Words,
-    input: &[u8],
-    number: u64,
-) -> Result<Vec<u8>, Fail> {
+fn answered(alloc: Global, words: &mut Words, input: &[u8], number: u64) -> Result<Vec<u8>, Fail> {
     let mut reader = BatchReader::new(alloc)?;
     reader.take(input);
     let mut tick = Tick::new(alloc);

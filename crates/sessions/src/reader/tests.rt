@@ -47,7 +47,10 @@ fn takes_no_byte_behind_an_end(rt: HostRuntime) -> Result<(), Fail> {
     assert_eq!(rt; reader.batch().requests(), [Request::Get(2)].as_slice());
     reader.clear();
     assert_eq!(rt; reader.take(&input[20..]), (5, Fed::More));
-    assert!(rt; reader.batch().requests().is_empty(), "the last line has not ended");
+    assert!(rt;
+        reader.batch().requests().is_empty(),
+        "the last line has not ended"
+    );
     assert_eq!(rt; reader.take(b""), (0, Fed::More));
     Ok(())
 }

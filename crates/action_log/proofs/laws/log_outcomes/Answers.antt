@@ -1,4 +1,4 @@
-use Rattle.action_log.proofs.ClaimLemmas.{stands_reads, begun_stands}
+use Rattle.action_log.proofs.ClaimLemmas.{stands_reads, stands_holds, begun_stands}
 use Rattle.action_log.proofs.laws.log_outcomes.Goals as goal
 
 pub returns-clause-reads : goal.returns-clause-reads
@@ -6,3 +6,6 @@ returns-clause-reads g c = λ keeper a b place stands. stands_reads keeper (g.D.
 
 pub returns-clause-begins : goal.returns-clause-begins
 returns-clause-begins g c = λ tick shut_a shut_b a b. begun_stands tick shut_a shut_b (g.D.Disk.content a) (g.D.Disk.content b) (g.D.Disk.may_leave a) (g.D.Disk.may_leave b)
+
+pub returns-clause-fits : goal.returns-clause-fits
+returns-clause-fits g c = λ keeper a b place. stands_holds keeper (g.D.Disk.content a) (g.D.Disk.content b) (g.D.Disk.may_leave a) (g.D.Disk.may_leave b) place
