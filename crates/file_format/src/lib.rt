@@ -1,8 +1,9 @@
 //! What all files of a world have in common: they come in twos of a kind, a gate in byte 0 says whether
 //! the rest counts, and numbers have their lowest byte first.
 //!
-//! A file's gate is opened last, after the rest is durable, and closed first. A gate of any other value
-//! than `OPEN_GATE` is closed, so a torn write of it reads as closed or as whole.
+//! A file's gate is opened last, after the rest is durable, and closed before anything that it vouches
+//! for changes. A gate of any other value than `OPEN_GATE` is closed, so a torn write of it reads as
+//! closed or as whole.
 #![tactic(auto)]
 
 mod gate;
