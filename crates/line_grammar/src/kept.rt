@@ -63,6 +63,7 @@ impl KeptLine {
 #[cfg(test)]
 mod tests {
     use super::*;
+    use std::test::Fail;
 
     #[test]
     fn keeps_81_bytes_of_a_line(rt: HostRuntime) -> Result<(), Fail> {
