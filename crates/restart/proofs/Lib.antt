@@ -1,3 +1,7 @@
-pub mod Marked
-pub mod Stepped
+pub mod Beginning
 pub mod Begun
+pub mod Marked
+pub mod Played
+pub mod Safe
+pub mod Stages
+pub mod Stepped

@@ -1,2 +1,3 @@
+pub mod InStep
 pub mod Rounds
 pub mod Start

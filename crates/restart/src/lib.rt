@@ -8,7 +8,9 @@
 #![tactic(auto)]
 
 mod following;
+mod in_step;
 mod start;
 
 pub use following::stores_follow;
+pub use in_step::{worlds_are_safe, worlds_go_on};
 pub use start::{has_round, images_of, log_of, store_of, zeros};

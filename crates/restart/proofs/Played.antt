@@ -1,0 +1,99 @@
+-- Ticks and marks keep a world in step, and a log with no work left has acknowledged all.
+use Rattle.std.proofs.Common.{◌≡◌, ℕ, ◌+◌, ◌<◌, ◌≤◌, ◌⊎◌, inl, inr, List, [], ◌∷◌, ◌++◌, length, replicate, Some, None, Result, Ok, refl, sym, ap, subst, ◌∙◌, arith}
+use Rattle.std.specs.List.{flat_map}
+use Rattle.std.proofs.lemmas.Grind.{flat_map-append}
+use Rattle.std.proofs.lemmas.List.{take_all, append-nil, length-drop}
+use Rattle.world_actions.specs.declared.action.Action.{Action}
+use Rattle.world_actions.specs.declared.refusal.Refusal.{Refusal}
+use Rattle.world_ticks.specs.Tick.{Actions}
+use Rattle.world_ticks.specs.After.{and_then, after_actions, after_ticks}
+use Rattle.capture_core.specs.Content.{Content, Marks, Covers}
+use Rattle.image_files.specs.Images.{Images, ImageFiles, NoneYet, Newest, with_round}
+use Rattle.action_log.specs.declared.record.Record.{Record}
+use Rattle.action_log.specs.declared.record.Record.TheVariants as records
+use Rattle.action_log.specs.Logs.{Logs, Writing}
+use Rattle.recovery.specs.Sound.{IsWorldAt}
+use Rattle.recovery.specs.Events.{IsKept, TickEnds, MarkIsMade}
+use Rattle.restart.specs.Rounds.{StoreFollows}
+use Rattle.restart.specs.InStep.{HasPhase, InStep}
+use Rattle.restart.proofs.Marked.{mark_follows, writes_follow, ticks_follow}
+
+ok_injective : (v w : List ℕ) → ◌≡◌ {A = Result (List ℕ) Refusal} (Ok v) (Ok w) → v ≡ w
+ok_injective v w e = cc
+
+-- ---- a tick
+
+-- the world after one more tick
+one_more : ((world : List ℕ) (before after : List Action) → after_actions world (before ++ after) ≡ and_then (after_actions world before) (λ next. after_actions next after))
+    → (cells : ℕ) (ticks : List (List Action)) (tick : List Action) (last live : List ℕ) → after_ticks cells ticks ≡ Ok last → after_actions last tick ≡ Ok live → after_ticks cells (ticks ++ tick ∷ []) ≡ Ok live
+one_more append cells ticks tick last live e h =
+    ap (after_actions (replicate cells 0)) (flat_map-append (λ t. t) ticks (tick ∷ []) ∙ ap (λ l. flat_map (λ t. t) ticks ++ l) (append-nil tick))
+    ∙ append (replicate cells 0) (flat_map (λ t. t) ticks) tick
+    ∙ ap (λ r. and_then r (λ next. after_actions next tick)) e ∙ h
+
+tick_phase : TickEnds → (cells : ℕ) (ticks : List (List Action)) (acknowledged : ℕ) (images : ImageFiles) (logs : Logs) (queue : List Record) (tick : Actions) (live next : List ℕ)
+    → after_ticks cells ticks ≡ Ok live → after_actions live tick.list ≡ Ok next → HasPhase cells ticks acknowledged images (Writing logs) queue
+    → HasPhase cells (ticks ++ tick.list ∷ []) acknowledged images (Writing logs) (queue ++ records.Tick tick ∷ [])
+tick_phase ends cells ticks acknowledged (NoneYet images) logs queue tick live next e h phase = absurd phase
+tick_phase ends cells ticks acknowledged (Newest images) logs queue tick live next e h phase =
+    let same : phase.last ≡ live = ok_injective phase.last live (sym phase.accepted ∙ e) in
+    ends cells ticks acknowledged images logs queue phase tick next (ap (λ w. after_actions w tick.list) same ∙ h)
+
+pub tick_goes_on : ((world : List ℕ) (before after : List Action) → after_actions world (before ++ after) ≡ and_then (after_actions world before) (λ next. after_actions next after)) → TickEnds
+    → (cells : ℕ) (ticks : List (List Action)) (acknowledged : ℕ) (images : ImageFiles) (logs : Logs) (queue : List Record) (tick : Actions) (old new : Content)
+    → after_ticks cells ticks ≡ Ok old.live → after_actions old.live tick.list ≡ Ok new.live
+    → new.left ≡ old.left → ((image : List ℕ) → Covers image old → Covers image new) → InStep cells ticks acknowledged old images (Writing logs) queue
+    → (after_ticks cells (ticks ++ tick.list ∷ []) ≡ Ok new.live) × InStep cells (ticks ++ tick.list ∷ []) acknowledged new images (Writing logs) (queue ++ records.Tick tick ∷ [])
+tick_goes_on append ends cells ticks acknowledged images logs queue tick old new e h left covers w = (
+  one_more append cells ticks tick.list old.live new.live e h,
+  record {
+    store = ticks_follow cells ticks (tick.list ∷ []) new images (writes_follow cells ticks old new images left covers w.store);
+    phase = tick_phase ends cells ticks acknowledged images logs queue tick old.live new.live e h w.phase;
+  },
+)
+
+-- ---- a mark
+
+pub mark_goes_on : MarkIsMade → (cells : ℕ) (ticks : List (List Action)) (acknowledged : ℕ) (images : Images) (logs : Logs) (queue : List Record) (old new : Content)
+    → images.round ≡ None → images.tick < length ticks → after_ticks cells ticks ≡ Ok old.live → length old.live ≡ cells → Marks old new
+    → InStep cells ticks acknowledged old (Newest images) (Writing logs) queue
+    → InStep cells ticks acknowledged new (with_round (length ticks) (Newest images)) (Writing logs) (queue ++ records.Switch (length ticks) ∷ [])
+mark_goes_on made cells ticks acknowledged images logs queue old new none above e all marks w =
+    let at : IsWorldAt cells ticks (length ticks) old.live = record { ended = omega arith; words_are = ap (after_ticks cells) (take_all (length ticks) ticks (omega arith)) ∙ e } in
+    let idle : StoreFollows cells ticks old images.words None = subst (StoreFollows cells ticks old images.words) none w.store in
+    record {
+      store = mark_follows cells ticks (length ticks) images.words old new all at idle.1 marks;
+      phase = made cells ticks acknowledged images (record images { round = Some (record { tick = length ticks; taken = [] }) }) logs queue w.phase none above refl;
+    }
+
+-- ---- no work is left
+
+-- with nothing queued the current segment and the newest image have all ticks
+kept_all : (cells : ℕ) (ticks : List (List Action)) (acknowledged : ℕ) (images : Images) (logs : Logs) → logs.pending ≡ [] → (k : IsKept cells ticks acknowledged images logs [])
+    → (length ticks ≤ logs.base + length logs.kept) ⊎ (length ticks ≤ images.tick)
+kept_all cells ticks acknowledged images logs none k =
+    let all : length ticks ≤ k.taken = omega (arith, ap length k.left, length-drop k.taken ticks, k.some_taken) in
+    let front : length (logs.kept ++ logs.pending) ≡ length logs.kept = ap (λ p. length (logs.kept ++ p)) none ∙ ap length (append-nil logs.kept) in
+    elim k.has [ inl all_taken ↦ inl (omega (arith, all, all_taken, front)) | inr in_image ↦ inr (omega (arith, all, in_image.2)) ]
+
+all_phase : (cells : ℕ) (ticks : List (List Action)) (acknowledged : ℕ) (images : ImageFiles) (logs : Logs) → logs.pending ≡ [] → HasPhase cells ticks acknowledged images (Writing logs) []
+    → HasPhase cells ticks (length ticks) images (Writing logs) []
+all_phase cells ticks acknowledged (NoneYet images) logs none phase = absurd phase
+all_phase cells ticks acknowledged (Newest images) logs none phase =
+    record {
+      some_cells = phase.some_cells;
+      last = phase.last;
+      accepted = phase.accepted;
+      images_follow = phase.images_follow;
+      logs_follow = record { taken = phase.logs_follow.taken; acknowledges = kept_all cells ticks acknowledged images logs none phase; before = phase.logs_follow.before; switch = phase.logs_follow.switch };
+      follow_marks = phase.follow_marks;
+      taken = phase.taken;
+      some_taken = phase.some_taken;
+      left = phase.left;
+      numbered = phase.numbered;
+      has = phase.has;
+    }
+
+pub all_acknowledged : (cells : ℕ) (ticks : List (List Action)) (acknowledged : ℕ) (content : Content) (images : ImageFiles) (logs : Logs) → logs.pending ≡ []
+    → InStep cells ticks acknowledged content images (Writing logs) [] → InStep cells ticks (length ticks) content images (Writing logs) []
+all_acknowledged cells ticks acknowledged content images logs none w = record { store = w.store; phase = all_phase cells ticks acknowledged images logs none w.phase }

@@ -1,0 +1,121 @@
+-- Store, images, log and queue of a world in step with its ticks: before the first image, in a start, and after it.
+use Rattle.std.specs.Prelude.{◌≡◌, ◌<◌, ◌≤◌, ℕ, true, false, List, [], ◌∷◌, ◌++◌, length, take, replicate, nat_lt, Some, None, Ok}
+use Rattle.world_actions.specs.declared.action.Action.{Action}
+use Rattle.world_ticks.specs.Tick.{Actions}
+use Rattle.world_ticks.specs.After.{after_actions, after_ticks}
+use Rattle.capture_core.specs.Content.{Content, Marks, Takes, Covers}
+use Rattle.image_files.specs.declared.answer.ImageAnswer.{ImageAnswer}
+use Rattle.image_files.specs.Image.{Image}
+use Rattle.image_files.specs.Images.{Round, Images, FirstImages, ImageFiles, NoneYet, Newest, round_in, with_round, StepsImages}
+use Rattle.action_log.specs.declared.answer.LogAnswer.{LogAnswer}
+use Rattle.action_log.specs.declared.record.Record.{Record}
+use Rattle.action_log.specs.declared.record.Record.TheVariants as records
+use Rattle.action_log.specs.Segment.{Segment, ClosedSegment}
+use Rattle.action_log.specs.Logs.{Logs, Start, Journal, InStart, Writing, LogPlace}
+use Rattle.action_log.specs.LogSteps.{JournalStep}
+use Rattle.recovery.specs.Recovery.{Recovery}
+use Rattle.recovery.specs.Sound.{IsSound, IsFresh}
+use Rattle.recovery.specs.Start.{IsStarting, FirstFollows}
+use Rattle.recovery.specs.Events.{IsKept, acknowledged_after}
+use Rattle.recovery.specs.Restart.{Restarts, recovered_images, recovered_start}
+use Rattle.restart.specs.Start.{IsBuilt, images_begun}
+use Rattle.restart.specs.Rounds.{StoreFollowsImages}
+
+-- in the start of a fresh world, before its first image is open
+pub record IsBeforeFirst (cells : ℕ) (ticks : List (List Action)) (acknowledged : ℕ) (images : FirstImages) (start : Start) : Type 0 where
+  pub no_ticks : ticks ≡ []
+  pub none_acknowledged : acknowledged ≡ 0
+  pub follows : FirstFollows cells images start
+  pub in_work : (round : Round) × (images.round ≡ Some round)
+
+-- in a start, once there is an image: the log's part waits for the image of the start's tick
+pub record IsInStart (cells : ℕ) (ticks : List (List Action)) (acknowledged : ℕ) (images : Images) (start : Start) : Type 0 where
+  pub from : ℕ
+  pub starting : IsStarting cells ticks acknowledged images from start
+  pub caught_up : images.round ≡ None → images.tick ≡ start.tick
+
+-- nothing is queued in a start
+abbrev pub HasPhase : (cells : ℕ) → List (List Action) → (acknowledged : ℕ) → ImageFiles → Journal → List Record → Type 0
+HasPhase cells ticks acknowledged (NoneYet images) (InStart start) queue = IsBeforeFirst cells ticks acknowledged images start × (queue ≡ [])
+HasPhase cells ticks acknowledged (Newest images) (InStart start) queue = IsInStart cells ticks acknowledged images start × (queue ≡ [])
+HasPhase cells ticks acknowledged (NoneYet images) (Writing logs) queue = ⊥
+HasPhase cells ticks acknowledged (Newest images) (Writing logs) queue = IsKept cells ticks acknowledged images logs queue
+
+-- these ticks have ended, so many of them are acknowledged, and the store and the keepers' data follow them
+pub record InStep (cells : ℕ) (ticks : List (List Action)) (acknowledged : ℕ) (content : Content) (images : ImageFiles) (journal : Journal) (queue : List Record) : Type 0 where
+  pub store : StoreFollowsImages cells ticks content images
+  pub phase : HasPhase cells ticks acknowledged images journal queue
+
+-- ---- what begins it
+
+-- A start after a recovery, on a store that was built of the recovered words, keeps the recovered ticks.
+abbrev pub RecoveryBegins : Type 0
+RecoveryBegins =
+    (cells : ℕ) (ticks : List (List Action)) (acknowledged : ℕ) (r : Recovery) (image_a image_b : Image) (log_a log_b : Segment) (content : Content)
+    → 1 ≤ cells → Restarts cells ticks acknowledged r image_a image_b log_a log_b → IsBuilt r.words (nat_lt r.from r.tick) content
+    → InStep cells (take r.tick ticks) acknowledged content
+    (images_begun (nat_lt r.from r.tick) r.tick (Newest (recovered_images r image_a image_b))) (InStart (recovered_start r log_a log_b)) []
+
+-- the start of a fresh world, of closed segments
+abbrev pub FreshBegins : Type 0
+FreshBegins =
+    (cells : ℕ) (content : Content) → 1 ≤ cells → IsBuilt (replicate cells 0) true content
+    → InStep cells [] 0 content (images_begun true 0 (NoneYet (record { round = None })))
+    (InStart (record { tick = 0; before_a = ClosedSegment; before_b = ClosedSegment; begun = false })) []
+
+-- ---- what keeps it
+
+-- a step of the image keeper
+abbrev pub ImageStepGoesOn : Type 0
+ImageStepGoesOn =
+    (cells : ℕ) (ticks : List (List Action)) (acknowledged : ℕ) (images : ImageFiles) (journal : Journal) (queue : List Record)
+    (answer : ImageAnswer) (next : ImageFiles) (old new : Content)
+    → StepsImages Takes cells images answer next old new
+    → InStep cells ticks acknowledged old images journal queue → InStep cells ticks acknowledged new next journal queue
+
+-- a start's log waits until no round is in work
+abbrev pub NoneWaitedFor : Journal → ImageFiles → Type 0
+NoneWaitedFor (InStart start) images = round_in images ≡ None
+NoneWaitedFor (Writing logs) images = Unit {0}
+
+-- a step of the log keeper, whose receipt acknowledges
+abbrev pub LogStepGoesOn : Type 0
+LogStepGoesOn =
+    (cells : ℕ) (ticks : List (List Action)) (acknowledged : ℕ) (content : Content) (images : ImageFiles) (place : LogPlace) (queue : List Record)
+    (answer : LogAnswer) (next : LogPlace) (left : List Record)
+    → 1 ≤ cells → NoneWaitedFor place.journal images → JournalStep place queue answer next left
+    → InStep cells ticks acknowledged content images place.journal queue
+    → InStep cells ticks (acknowledged_after acknowledged answer) content images next.journal left
+
+-- a tick whose actions were done on the store ends, and is queued
+abbrev pub TickGoesOn : Type 0
+TickGoesOn =
+    (cells : ℕ) (ticks : List (List Action)) (acknowledged : ℕ) (images : ImageFiles) (logs : Logs) (queue : List Record)
+    (tick : Actions) (old new : Content)
+    → after_ticks cells ticks ≡ Ok old.live → after_actions old.live tick.list ≡ Ok new.live
+    → new.left ≡ old.left → ((image : List ℕ) → Covers image old → Covers image new)
+    → InStep cells ticks acknowledged old images (Writing logs) queue
+    → (after_ticks cells (ticks ++ tick.list ∷ []) ≡ Ok new.live)
+    × InStep cells (ticks ++ tick.list ∷ []) acknowledged new images (Writing logs) (queue ++ records.Tick tick ∷ [])
+
+-- with no round in work, and a tick ended since the newest image, the store is marked, and the switch of the mark is queued
+abbrev pub MarkGoesOn : Type 0
+MarkGoesOn =
+    (cells : ℕ) (ticks : List (List Action)) (acknowledged : ℕ) (images : Images) (logs : Logs) (queue : List Record) (old new : Content)
+    → images.round ≡ None → images.tick < length ticks → after_ticks cells ticks ≡ Ok old.live → length old.live ≡ cells → Marks old new
+    → InStep cells ticks acknowledged old (Newest images) (Writing logs) queue
+    → InStep cells ticks acknowledged new (with_round (length ticks) (Newest images)) (Writing logs) (queue ++ records.Switch (length ticks) ∷ [])
+
+-- once nothing waits and no group is in work, all ended ticks are acknowledged
+abbrev pub AllAreAcknowledged : Type 0
+AllAreAcknowledged =
+    (cells : ℕ) (ticks : List (List Action)) (acknowledged : ℕ) (content : Content) (images : ImageFiles) (logs : Logs)
+    → logs.pending ≡ [] → InStep cells ticks acknowledged content images (Writing logs) []
+    → InStep cells ticks (length ticks) content images (Writing logs) []
+
+-- ---- what it gives
+
+-- before there is an image the files are those of a fresh world, and sound since
+abbrev pub IsSafe : ImageFiles → (image_a image_b log_a log_b : List ℕ → Type 0) → (cells : ℕ) → List (List Action) → (acknowledged : ℕ) → Type 0
+IsSafe (NoneYet images) image_a image_b log_a log_b cells ticks acknowledged = IsFresh image_a image_b log_a log_b cells × (ticks ≡ []) × (acknowledged ≡ 0)
+IsSafe (Newest images) image_a image_b log_a log_b cells ticks acknowledged = IsSound image_a image_b log_a log_b cells ticks acknowledged

@@ -1,0 +1,46 @@
+ghost use Rattle.std.specs.Prelude.{ℕ, List};
+ghost use Rattle.world_actions.specs.declared.action.Action.{Action};
+ghost use Rattle.capture_core.specs.Content.{Content};
+ghost use Rattle.image_files.specs.Images.{ImageFiles, ImageFilesAre};
+ghost use Rattle.action_log.specs.declared.record.Record.{Record};
+ghost use Rattle.action_log.specs.Logs.{Journal, JournalIs};
+ghost use Rattle.restart.specs.InStep.{InStep, RecoveryBegins, FreshBegins, ImageStepGoesOn, LogStepGoesOn, TickGoesOn, MarkGoesOn, AllAreAcknowledged, IsSafe};
+
+use crate::following::stores_follow;
+use capture_core::PlainCopy;
+use disk_model::Disk;
+use recovery::{events_keep, law_of_first_start, law_of_recovery, law_of_start, start_events_keep};
+use world_ticks::actions_go_on;
+
+/// Laws: a start begins in step with the ticks that it keeps, and store, images, log and queue go on in step, event by
+/// event.
+pub fn worlds_go_on()
+    ensures recovery { RecoveryBegins }
+    ensures fresh { FreshBegins }
+    ensures image_step { ImageStepGoesOn }
+    ensures log_step { LogStepGoesOn }
+    ensures tick { TickGoesOn }
+    ensures mark { MarkGoesOn }
+    ensures all_acknowledged { AllAreAcknowledged }
+{
+    actions_go_on();
+    events_keep::<PlainCopy>();
+    start_events_keep::<PlainCopy>();
+    stores_follow();
+}
+
+/// Law: whatever a crash leaves of the files of a world in step with its ticks, recovery gives the world after the first
+/// n of them, for some n not below the acknowledged count, and each open image is the world after its tick.
+pub fn worlds_are_safe<D: Disk>()
+    ensures { (image_a image_b log_a log_b : D) (cells : ℕ) (ticks : List (List Action)) (acknowledged : ℕ)
+        (content : Content) (images : ImageFiles) (journal : Journal) (queue : List Record)
+        → InStep cells ticks acknowledged content images journal queue
+        → ImageFilesAre cells images (D.may_leave image_a) (D.may_leave image_b)
+        → JournalIs journal (D.may_leave log_a) (D.may_leave log_b)
+        → IsSafe images (D.may_leave image_a) (D.may_leave image_b) (D.may_leave log_a) (D.may_leave log_b)
+        cells ticks acknowledged }
+{
+    law_of_recovery::<D>();
+    law_of_start::<D>();
+    law_of_first_start::<D>();
+}
