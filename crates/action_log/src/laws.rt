@@ -1,16 +1,17 @@
-ghost use Rattle.std.specs.Prelude.{◌≡◌, ◌↔◌, ◌+◌, ◌<◌, ◌≤◌, ℕ, Bool, true, false, IsTrue, ◌++◌, ◌∷◌, [], List};
+ghost use Rattle.std.specs.Prelude.{◌≡◌, ◌↔◌, ◌+◌, ◌<◌, ◌≤◌, ℕ, Bool, true, false, IsTrue, ◌++◌, ◌∷◌, [], List, None};
 ghost use Rattle.world_ticks.specs.declared.tick.TheConstants.{TICK_MAX};
 ghost use Rattle.world_ticks.specs.Tick.{Actions};
 ghost use Rattle.file_format.specs.Gate.{HasShutGate, HasNoShutGate};
 ghost use Rattle.disk_model.specs.Disk.{Only};
 ghost use Rattle.action_log.specs.declared.format.TheConstants.{SEGMENT_TICKS};
+ghost use Rattle.action_log.specs.declared.phase.Phase.TheVariants.{Ready};
 ghost use Rattle.action_log.specs.declared.progress.Progress.{Progress};
 ghost use Rattle.action_log.specs.declared.record.Record.{Record};
 ghost use Rattle.action_log.specs.declared.record.Record.TheVariants as records;
 ghost use Rattle.action_log.specs.Segment.{Segment, IsSegment};
 ghost use Rattle.action_log.specs.Spellings.{LawOfSpellings, ReadsOnce, EachReads};
 ghost use Rattle.action_log.specs.Progress.{begun, start_left, QueueFollows, end_of};
-ghost use Rattle.action_log.specs.Logs.{JournalIs, LogPlace, start_of, start_moves};
+ghost use Rattle.action_log.specs.Logs.{Logs, Writing, JournalIs, LogPlace, start_of, start_moves};
 ghost use Rattle.action_log.specs.Files.{FitsFiles};
 ghost use Rattle.action_log.specs.Stands.{Stands};
 
@@ -43,7 +44,8 @@ pub fn log_queues()
 {}
 
 /// Laws: what a keeper and its two files stand for, from the beginning of the start on, and that they read so
-/// whatever a crash leaves of them.
+/// whatever a crash leaves of them. A keeper just made fits its files by their contents alone, and one that is
+/// ready has nothing in work.
 pub fn log_outcomes<D: Disk>()
     ensures reads { (keeper : Progress) (a b : _) (place : LogPlace)
         → Stands keeper (D.content a) (D.content b) (D.may_leave a) (D.may_leave b) place
@@ -62,4 +64,11 @@ pub fn log_outcomes<D: Disk>()
         → IsSegment (D.content a) before_a → IsSegment (D.content b) before_b
         → Stands (begun tick shut_a shut_b) (D.content a) (D.content b) (D.may_leave a) (D.may_leave b)
         (start_of tick before_a before_b (start_moves shut_a shut_b)) }
+    ensures made { (tick : ℕ) (shut_a shut_b : Bool) (log_a log_b : List ℕ) → tick ≤ TICK_MAX
+        → (shut_a ≡ true → HasShutGate log_a) → (shut_b ≡ true → HasShutGate log_b)
+        → FitsFiles (begun tick shut_a shut_b) log_a log_b }
+    ensures ready { (keeper : Progress) (a b : _) (logs : Logs) (left : ℕ)
+        → Stands keeper (D.content a) (D.content b) (D.may_leave a) (D.may_leave b)
+        (record { journal = Writing logs; left = left }) → keeper.phase ≡ Ready
+        → (logs.pending ≡ []) × (logs.switch ≡ None) × (logs.base ≡ keeper.base) }
 {}

@@ -1,4 +1,4 @@
-use Rattle.action_log.proofs.ClaimLemmas.{stands_reads, stands_holds, begun_stands}
+use Rattle.action_log.proofs.ClaimLemmas.{stands_reads, stands_holds, begun_stands, begun_holds, first_written, nothing_in_work}
 use Rattle.action_log.proofs.laws.log_outcomes.Goals as goal
 
 pub returns-clause-reads : goal.returns-clause-reads
@@ -9,3 +9,9 @@ returns-clause-begins g c = λ tick shut_a shut_b a b. begun_stands tick shut_a 
 
 pub returns-clause-fits : goal.returns-clause-fits
 returns-clause-fits g c = λ keeper a b place. stands_holds keeper (g.D.Disk.content a) (g.D.Disk.content b) (g.D.Disk.may_leave a) (g.D.Disk.may_leave b) place
+
+pub returns-clause-made : goal.returns-clause-made
+returns-clause-made g c = λ tick shut_a shut_b log_a log_b few gate_a gate_b. (first_written log_a log_b, begun_holds tick shut_a shut_b log_a log_b few gate_a gate_b)
+
+pub returns-clause-ready : goal.returns-clause-ready
+returns-clause-ready g c = λ keeper a b logs left stands. nothing_in_work keeper (g.D.Disk.content a) (g.D.Disk.content b) (g.D.Disk.may_leave a) (g.D.Disk.may_leave b) logs stands.0
