@@ -1,10 +1,13 @@
-//! What a start begins with, and how a store of words follows the images that are written of it.
+//! What a start begins with, how a store of words follows the images that are written of it, and how a
+//! whole world goes on in step with its ticks.
 //!
 //! After a recovery, and for a fresh world, store and keepers are built new: the store from the words,
 //! marked where the start has a round; the image keeper with that round begun; the log keeper with the
 //! start as its first job. From then on the words taken in a round and those that it has left are the
 //! words at its mark, whatever is written in between, so its image is the world at its tick
-//! (`stores_follow`).
+//! (`stores_follow`). Store, images, log and queue are so in step with the ticks that have ended, from the
+//! beginning of a start on and through each event (`worlds_go_on`), and then a crash leaves files from
+//! which recovery gives the world (`worlds_are_safe`).
 #![tactic(auto)]
 
 mod following;
