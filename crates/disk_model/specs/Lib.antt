@@ -4,3 +4,5 @@ pub mod FileKept
 pub mod CrashOutcome
 pub mod Leaving
 pub mod Fused
+pub mod KnownFile
+pub mod FourFiles

@@ -6,18 +6,27 @@
 //!
 //! `ModelFile` is a file in memory that is exactly that: it keeps what is durable beside the
 //! content, and takes any crash that may happen. `Fused` lets a call of any disk fail.
+//!
+//! `FileDisk` is a file of the operating system. No contract says what it holds, or that it keeps to
+//! the disk model: it is not `honest`.
 #![tactic(auto)]
 
 mod disk;
+mod file_disk;
+mod four_files;
 mod fused;
 mod leaving;
 mod model_file;
 mod places;
+mod whole_file;
 
 pub use disk::Disk;
+pub use file_disk::FileDisk;
+pub use four_files::FourFiles;
 pub use fused::Fused;
 pub use leaving::Leaving;
 pub use model_file::ModelFile;
+pub use whole_file::read_all;
 
 #[cfg(test)]
 mod tests;

@@ -1,0 +1,160 @@
+ghost use Rattle.std.specs.Prelude.{◌≡◌, ◌↔◌, false, min, max, [], Ok, Err, IsOk, IfOk, IsOkAnd, OnOk, OnErr, ⊤};
+ghost use Rattle.std.specs.Fs.{metadata_len};
+ghost use Rattle.std.proofs.lemmas.Bool.{false≢true};
+ghost use Rattle.disk_model.specs.Disk.{last_count, min-last_count, IsDeviceFault};
+ghost use Rattle.disk_model.specs.KnownFile.{after_failure, CallsFile};
+
+use crate::Disk;
+use std::fs::{File, Metadata};
+use std::io;
+use std::marker::Model;
+use std::os::unix::fs::FileExt;
+use world_actions::Refusal;
+
+/// A file of the operating system. Contracts see how long it is at least, and how often a call of it
+/// failed, and nothing of what it holds. Each read and each write is one call of the system.
+#[derive(Drop)]
+pub struct FileDisk {
+    file: File,
+    known_length: u64,
+    faults: u64,
+}
+
+impl Model for FileDisk {
+    ghost use Rattle.disk_model.specs.KnownFile.{KnownFile, known_code};
+
+    ghost Value = { KnownFile };
+
+    ghost coded = { known_code };
+
+    ghost view = { λ disk. record { known_length = disk.known_length; faults = disk.faults } };
+}
+
+impl FileDisk {
+    /// Takes a regular file that isn't open for appending, and syncs it: what it reads as is then what
+    /// a crash leaves.
+    pub fn open(file: File) -> Result<FileDisk, Refusal>
+        ensures no_faults { IfOk result (λ disk. disk.faults ≡ 0) }
+        ensures device { IsDeviceFault result }
+    {
+        let synced = file.sync_all();
+        let metadata = file.metadata();
+        FileDisk::opened(file, synced, metadata)
+    }
+
+    // What the system answered to the sync, and of the file.
+    fn opened(
+        file: File,
+        synced: io::Result<()>,
+        metadata: io::Result<Metadata>,
+    ) -> Result<FileDisk, Refusal>
+        ensures opened { IfOk result (λ disk. IsOk synced × IsOkAnd metadata
+            (λ told. disk ≡ record { known_length = metadata_len told; faults = 0 })) }
+        ensures succeeds { IsOk synced → IsOk metadata → IsOk result }
+        ensures device { IsDeviceFault result }
+    {
+        match (synced, metadata) {
+            (Ok(()), Ok(metadata)) => Ok(FileDisk {
+                file,
+                known_length: metadata.len(),
+                faults: 0,
+            }),
+            _ => Err(Refusal::Device),
+        }
+    }
+
+    // What the system answered; its error is a failure.
+    fn answered<T>(&mut self, answer: io::Result<T>) -> Result<T, Refusal>
+        ensures ok { IfOk answer (λ value. (result ≡ Ok value) × (self.new ≡ self.old)) }
+        ensures err { OnErr answer ((result ≡ Err Refusal.Device) × (self.new ≡ after_failure self.old)) }
+    {
+        match answer {
+            Ok(value) => Ok(value),
+            Err(_) => self.failed(),
+        }
+    }
+
+    // What the system answered where it was asked to move so many bytes: fewer are a failure.
+    fn moved(&mut self, answer: io::Result<usize>, asked: usize) -> Result<(), Refusal>
+        ensures whole { IsOk result ↔ (answer ≡ Ok asked) }
+        ensures ok { OnOk result (self.new ≡ self.old) }
+        ensures err { OnErr result (self.new ≡ after_failure self.old) }
+        ensures device { IsDeviceFault result }
+    {
+        if self.answered(answer)? != asked {
+            return self.failed();
+        }
+        Ok(())
+    }
+
+    // What the system answered to a write of so many bytes up to this end.
+    fn wrote(&mut self, answer: io::Result<usize>, asked: usize, end: u64) -> Result<(), Refusal>
+        ensures whole { IsOk result ↔ (answer ≡ Ok asked) }
+        ensures ok { OnOk result (self.new
+            ≡ record self.old { known_length = max self.old.known_length end }) }
+        ensures err { OnErr result (self.new ≡ after_failure self.old) }
+        ensures device { IsDeviceFault result }
+    {
+        self.moved(answer, asked)?;
+        self.known_length = self.known_length.max(end);
+        Ok(())
+    }
+
+    // Counts a failure.
+    fn failed<T>(&mut self) -> Result<T, Refusal>
+        ensures counts { self.new ≡ after_failure self.old }
+        ensures err { result ≡ Err Refusal.Device }
+    {
+        self.faults = self.faults.saturating_add(1);
+        Err(Refusal::Device)
+    }
+}
+
+impl Disk for FileDisk {
+    ghost content = { λ disk. [] };
+
+    ghost may_leave = { λ disk left. ⊤ };
+
+    ghost honest = { false };
+
+    ghost faults = { λ disk. min disk.faults last_count };
+
+    ghost called = { CallsFile };
+
+    ghost stays = { λ disk is_honest. absurd (false≢true is_honest) };
+
+    ghost are_bytes = { λ disk left is_honest outcome. absurd (false≢true is_honest) };
+
+    ghost few_faults = { λ disk. min-last_count disk.faults };
+
+    fn len(&mut self) -> Result<u64, Refusal> {
+        let answer = self.file.metadata();
+        Ok(self.answered(answer)?.len())
+    }
+
+    /// A read that ends past the end of the file fails.
+    fn read_at(&mut self, at: u64, into: &mut [u8]) -> Result<(), Refusal> {
+        let answer = self.file.read_at(into, at);
+        self.moved(answer, into.len())
+    }
+
+    /// A write that begins past the known length fails, and isn't made: a failed write may have made
+    /// the file longer, but it isn't known how much.
+    fn write_at(&mut self, at: u64, bytes: &[u8]) -> Result<(), Refusal> {
+        match at.checked_add(bytes.len() as u64) {
+            Some(end) if at <= self.known_length => {
+                let answer = self.file.write_at(bytes, at);
+                self.wrote(answer, bytes.len(), end)
+            }
+            _ => self.failed(),
+        }
+    }
+
+    fn sync(&mut self) -> Result<(), Refusal> {
+        let answer = self.file.sync_data();
+        self.answered(answer)
+    }
+}
+
+#[cfg(test)]
+mod tests;
