@@ -1,5 +1,7 @@
 pub mod Beginning
 pub mod Begun
+pub mod Fitting
+pub mod Gates
 pub mod Marked
 pub mod Played
 pub mod Safe

@@ -16,4 +16,4 @@ mod start;
 
 pub use following::stores_follow;
 pub use in_step::{worlds_are_safe, worlds_go_on};
-pub use start::{has_round, images_of, log_of, store_of, zeros};
+pub use start::{gates_are_told, has_round, images_of, log_of, store_of, zeros};

@@ -1,14 +1,17 @@
-ghost use Rattle.std.specs.Prelude.{◌≡◌, ◌≤◌, All, replicate, IfOk, IfErr};
+ghost use Rattle.std.specs.Prelude.{◌≡◌, ◌≤◌, ℕ, List, All, replicate, IfOk, IfErr};
 ghost use Rattle.world_actions.specs.World.{IsWord};
 ghost use Rattle.world_actions.specs.declared.world.TheConstants.{CELLS};
 ghost use Rattle.world_ticks.specs.declared.tick.TheConstants.{TICK_MAX};
 ghost use Rattle.image_files.specs.Progress.{made_keeper};
+ghost use Rattle.image_files.specs.Files.{FitsFiles as ImagesFit, HoldsNewest, TellsShut};
 ghost use Rattle.action_log.specs.Progress.{begun};
+ghost use Rattle.action_log.specs.Files.{FitsFiles as LogFits};
 ghost use Rattle.restart.specs.Start.{has_round, started_keeper, IsBuilt, is_shut as is_shut_file};
 
-use action_log::LogKeeper;
+use action_log::{LogKeeper, log_outcomes};
 use capture_core::Capture;
-use image_files::{ImageKeeper, Slot, is_shut};
+use disk_model::ModelFile;
+use image_files::{ImageKeeper, Slot, images_stay, is_shut};
 use std::alloc::Global;
 use world_actions::Refusal;
 
@@ -50,8 +53,12 @@ pub fn images_of(
     requires numbered { tick ≤ TICK_MAX }
     ensures made { IfOk result (λ keeper. keeper ≡ started_keeper round tick
         (made_keeper cells newest (is_shut_file image_a.now) (is_shut_file image_b.now))) }
+    ensures fits { HoldsNewest cells newest image_a.now image_b.now
+        → IfOk result (λ keeper. ImagesFit keeper image_a.now image_b.now) }
     ensures memory { IfErr result (λ refusal. refusal ≡ Refusal.NoMemory) }
 {
+    images_stay::<ModelFile>();
+    gates_are_told();
     let shut = [known_shut(image_a), known_shut(image_b)];
     let mut images = ImageKeeper::new(alloc, cells, newest, shut)?;
     if round {
@@ -65,10 +72,18 @@ pub fn log_of(alloc: Global, tick: u64, log_a: &[u8], log_b: &[u8]) -> Result<Lo
     requires { tick ≤ TICK_MAX }
     ensures made { IfOk result (λ keeper. keeper
         ≡ begun tick (is_shut_file log_a.now) (is_shut_file log_b.now)) }
+    ensures fits { IfOk result (λ keeper. LogFits keeper log_a.now log_b.now) }
     ensures memory { IfErr result (λ refusal. refusal ≡ Refusal.NoMemory) }
 {
+    log_outcomes::<ModelFile>();
+    gates_are_told();
     LogKeeper::new(alloc, tick, [known_shut(log_a), known_shut(log_b)])
 }
+
+/// Law: whether a gate is shut is told rightly of any bytes.
+pub fn gates_are_told()
+    ensures { (file : List ℕ) → TellsShut (is_shut_file file) file }
+{}
 
 fn known_shut(file: &[u8]) -> bool
     ensures { result ≡ is_shut_file file.now }
