@@ -2,11 +2,12 @@
 use Rattle.std.proofs.Common.{◌+◌, ◌<◌, length, get_or, take, drop, add-one, suc, IsErr, ◌≡◌, ℕ, List, [], ◌∷◌, ◌++◌, Ok, Err, refl, ◌∙◌, ap, sym, Result, append_assoc, append-nil}
 use Rattle.world_actions.specs.declared.action.Action.{Action}
 use Rattle.world_actions.specs.declared.refusal.Refusal.{Refusal}
-use Rattle.std.specs.Prelude.{Option, Some, None, slice_set}
+use Rattle.std.specs.Prelude.{Option, Some, None, slice_set, replicate}
 use Rattle.world_actions.specs.Effect.{Write, effect, refusal_of, writes_of, written, unless}
 use Rattle.std.proofs.Math.Seq.{drop-cons, take-suc}
-use Rattle.std.proofs.lemmas.List.{take-append-drop}
-use Rattle.world_ticks.specs.After.{and_then, after_actions, writes_then, accepted_writes, StopsAt}
+use Rattle.std.specs.List.{flat_map}
+use Rattle.std.proofs.lemmas.List.{take-append-drop, length-set, length-replicate}
+use Rattle.world_ticks.specs.After.{and_then, after_actions, after_ticks, writes_then, accepted_writes, StopsAt}
 
 -- actions one part after the other
 pub after_actions-append : (world : List ℕ) (before after : List Action)
@@ -43,6 +44,13 @@ writes_one : (r : Result (List ℕ) Refusal) (next : List ℕ) (writes : List Wr
 writes_one (Ok now) next writes is = append-nil writes
 writes_one (Err e) next writes is = cc
 
+-- what one more accepted action writes
+pub accepted_writes-snoc : (world now next : List ℕ) (before : List Action) (a : Action) → after_actions world before ≡ Ok now → effect now a ≡ Ok next
+    → accepted_writes world (before ++ a ∷ []) ≡ accepted_writes world before ++ writes_of now a
+accepted_writes-snoc world now next before a done accepted =
+    accepted_writes-append world now before (a ∷ []) done
+    ∙ ap (λ writes. accepted_writes world before ++ writes) (writes_one (effect now a) next (writes_of now a) accepted)
+
 writes_none : (r : Result (List ℕ) Refusal) (writes : List Write) (more : List ℕ → List Write) → IsErr r → writes_then r writes more ≡ []
 writes_none (Ok next) writes more stops = cc
 writes_none (Err e) writes more stops = refl
@@ -70,8 +78,7 @@ pub writes_next : (world now next : List ℕ) (actions : List Action) (i : ℕ) 
     → accepted_writes world (take (i + 1) actions) ≡ accepted_writes world (take i actions) ++ writes_of now (get_or actions i d)
 writes_next world now next actions i d below done accepted =
     rw (add-one, take-suc actions i d below)
-    (accepted_writes-append world now (take i actions) (get_or actions i d ∷ []) done
-    ∙ ap (λ writes. accepted_writes world (take i actions) ++ writes) (writes_one (effect now (get_or actions i d)) next (writes_of now (get_or actions i d)) accepted))
+    (accepted_writes-snoc world now next (take i actions) (get_or actions i d) done accepted)
 
 -- a refused action is where what is left stops
 pub rest_stops : (world now : List ℕ) (actions : List Action) (i : ℕ) (d : Action) → i < length actions
@@ -131,3 +138,16 @@ written-accepted_writes world after (a ∷ actions) done =
     written_then world (effect world a) after (writes_of world a) (λ next. after_actions next actions) (λ next. accepted_writes next actions)
     (λ next is. accepted_is (refusal_of world a) (written world (writes_of world a)) next is)
     (λ next rest. written-accepted_writes next after actions rest) done
+
+length-written : (world : List ℕ) (writes : List Write) → length (written world writes) ≡ length world
+length-written world [] = refl
+length-written world (write ∷ writes) = length-written (slice_set world write.cell write.word) writes ∙ length-set world write.cell write.word
+
+-- actions leave the number of cells
+pub length-after_actions : (world after : List ℕ) (actions : List Action) → after_actions world actions ≡ Ok after → length after ≡ length world
+length-after_actions world after actions done =
+    ap length (sym (written-accepted_writes world after actions done)) ∙ length-written world (accepted_writes world actions)
+
+pub length-after_ticks : (cells : ℕ) (after : List ℕ) (ticks : List (List Action)) → after_ticks cells ticks ≡ Ok after → length after ≡ cells
+length-after_ticks cells after ticks done =
+    length-after_actions (replicate cells 0) after (flat_map (λ tick. tick) ticks) done ∙ length-replicate cells 0

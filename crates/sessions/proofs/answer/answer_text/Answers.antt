@@ -5,7 +5,8 @@ use Rattle.sessions.specs.declared.batch.Request.{Request}
 use Rattle.sessions.specs.declared.batch.Request.TheVariants.{Act}
 use Rattle.world_actions.specs.declared.action.Action.TheVariants.{Set}
 use Rattle.sessions.specs.Answer.{Play, begun, after_request, reply, replies, writes_by}
-use Rattle.sessions.proofs.AnswerLemmas.{IsPlayed, Performs-append, played_begun, played_all, written_step, after_next, replies_next}
+use Rattle.world_ticks.proofs.PerformsLemmas.{performs_then}
+use Rattle.sessions.proofs.AnswerLemmas.{IsPlayed, played_begun, played_all, written_step, after_next, replies_next}
 use Rattle.sessions.proofs.answer.answer_text.Goals as goal
 
 -- the replies so far, and one more
@@ -35,5 +36,5 @@ loop-request-preserved g c =
       tick_room = (let e = c.put_reply.ensures.tick_room in omega (arith, e, inv.tick_room));
       few = (let e = c.put_reply.ensures.one in omega (arith, e, inv.few));
       performs = subst (λ w. Performs g.C.Cells.accessed c.args.c.now w c.put_reply.new.c) (sym (written_step words play request played) ∙ ap (accepted_writes words) (sym list))
-          (Performs-append g.C.Cells.accessed (accepted_writes words c.loop-request.t.list) (writes_by play request) c.args.c.now c.loop-request.c c.put_reply.new.c inv.performs c.put_reply.ensures.writes);
+          (performs_then inv.performs c.put_reply.ensures.writes);
     }
