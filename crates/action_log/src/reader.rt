@@ -1,12 +1,13 @@
-ghost use Rattle.std.specs.Prelude.{◌≡◌, ◌⊎◌, ◌≤◌, length, Err, IfOk, IfErr};
+ghost use Rattle.std.specs.Prelude.{◌≡◌, ◌⊎◌, ◌≤◌, ℕ, List, length, Some, Err, IfSome, IfOk, IfErr};
+ghost use Rattle.world_actions.specs.declared.action.Action.{Action};
 ghost use Rattle.action_log.specs.declared.format.TheConstants.{HEADER_BYTES};
-ghost use Rattle.action_log.specs.Segment.{MalformedSegment, IsSegment, HasTicks};
-ghost use Rattle.action_log.specs.Reading.{read_base};
+ghost use Rattle.action_log.specs.Segment.{MalformedSegment, IsSegment, IsOpenSegment, HasTicks};
+ghost use Rattle.action_log.specs.Reading.{read_base, IsJudged};
 ghost use Rattle.action_log.specs.LogState.{segment_in};
 
 mod ticks;
 
-use self::ticks::{count_ticks, read_ticks};
+use self::ticks::{Counts, count_all, read_ticks};
 use crate::format::{BASE_PLACE, FIRST_GROUP, HEADER_BYTES, SEGMENT_TICKS};
 use file_format::{OPEN_GATE, numbers_read_back, u64_at};
 use std::alloc::Global;
@@ -30,25 +31,60 @@ pub fn read_log(alloc: Global, bytes: &[u8]) -> Result<LogState, Refusal>
         × IsSegment bytes.now MalformedSegment)) }
     ensures memory { result ≡ Err Refusal.NoMemory → HasTicks bytes.now }
 {
+    match judge(bytes) {
+        Judged::Closed => Ok(LogState::Closed),
+        Judged::Malformed => Err(Refusal::BadLog),
+        Judged::Open { base, counts } => {
+            if counts.ticks == 0 {
+                let ticks = Vec::new(alloc);
+                return Ok(LogState::Open { base, ticks });
+            }
+            let ticks = read_ticks(alloc, &bytes[FIRST_GROUP..], counts.ticks)?;
+            Ok(LogState::Open { base, ticks })
+        }
+    }
+}
+
+/// How many groups an open segment has; `None` where it is closed or malformed. It takes no memory.
+pub fn count_groups(bytes: &[u8]) -> Option<usize>
+    ensures open { IfSome result (λ count. (base : ℕ) × (ticks : List (List Action))
+        × (segment : IsOpenSegment bytes.now base ticks) × (count ≡ length segment.groups)) }
+    ensures each { (base : ℕ) (ticks : List (List Action)) (segment : IsOpenSegment bytes.now base ticks)
+        → result ≡ Some (length segment.groups) }
+{
+    numbers_read_back();
+    match judge(bytes) {
+        Judged::Closed => None,
+        Judged::Malformed => None,
+        Judged::Open { counts, .. } => Some(counts.groups),
+    }
+}
+
+// How a segment reads, as far as that is known without memory for its ticks.
+#[derive(Clone, Copy)]
+enum Judged {
+    Closed,
+    Malformed,
+    Open { base: u64, counts: Counts },
+}
+
+// Judges a segment, and counts its groups and ticks.
+fn judge(bytes: &[u8]) -> Judged
+    ensures { IsJudged bytes.now result }
+{
     numbers_read_back();
     if bytes.len() < HEADER_BYTES || bytes[0] != OPEN_GATE {
-        return Ok(LogState::Closed);
+        return Judged::Closed;
     }
     let base = base_of(bytes);
     if base > TICK_MAX {
-        return Err(Refusal::BadLog);
+        return Judged::Malformed;
     }
     let most = SEGMENT_TICKS.min((TICK_MAX - base) as usize);
-    let groups = &bytes[FIRST_GROUP..];
-    let Some(count) = count_ticks(groups, most) else {
-        return Err(Refusal::BadLog);
-    };
-    if count == 0 {
-        let ticks = Vec::new(alloc);
-        return Ok(LogState::Open { base, ticks });
+    match count_all(&bytes[FIRST_GROUP..], most) {
+        Some(counts) => Judged::Open { base, counts },
+        None => Judged::Malformed,
     }
-    let ticks = read_ticks(alloc, groups, count)?;
-    Ok(LogState::Open { base, ticks })
 }
 
 // The base of bytes that are no shorter than a header.

@@ -3,8 +3,8 @@
 ghost use Rattle.std.specs.Prelude.{◌≡◌, ◌≤◌, ◌<◌, ◌∷◌, List, length, Some, None, IfSome, IfNone};
 ghost use Rattle.world_actions.specs.declared.action.Action.{Action};
 ghost use Rattle.world_ticks.specs.declared.tick.TheConstants.{TICK_ACTIONS};
-ghost use Rattle.action_log.specs.Segment.{EndsGroups};
-ghost use Rattle.action_log.specs.Reading.{number_at, action_at, several_at, tick_at, group_at, ticks_of, found_in, Answers, AnswersAll};
+ghost use Rattle.action_log.specs.Segment.{EndsGroups, joined};
+ghost use Rattle.action_log.specs.Reading.{number_at, action_at, several_at, tick_at, group_at, groups_of, ticks_of, found_in, Answers, AnswersAll};
 ghost use Rattle.action_log.specs.LogState.{actions_in};
 
 use crate::format::{ADD, GROUP_TICKS, SET, TRANSFER};
@@ -136,25 +136,35 @@ fn count_group(bytes: &[u8]) -> Option<(usize, &[u8])>
     Some((count, rest))
 }
 
-/// How many ticks all groups have, where there may be `most`. It takes no memory.
-pub(super) fn count_ticks(bytes: &[u8], most: usize) -> Option<usize>
-    ensures some { IfSome result (λ count. (ticks : List (List Action)) × (ticks_of bytes.now ≡ Some ticks)
-        × (length ticks ≡ count) × (count ≤ most)) }
-    ensures none { IfNone result ((ticks : List (List Action)) → ticks_of bytes.now ≡ Some ticks
-        → most < length ticks) }
+/// How many groups there are, and how many ticks in all of them.
+#[derive(Clone, Copy)]
+pub(super) struct Counts {
+    pub(super) groups: usize,
+    pub(super) ticks: usize,
+}
+
+/// Counts all groups and their ticks, where there may be `most`. It takes no memory.
+pub(super) fn count_all(bytes: &[u8], most: usize) -> Option<Counts>
+    ensures some { IfSome result (λ counts. (groups : List (List (List Action)))
+        × (groups_of bytes.now ≡ Some groups) × (length groups ≡ counts.groups)
+        × (length (joined groups) ≡ counts.ticks) × (counts.ticks ≤ most)) }
+    ensures none { IfNone result ((groups : List (List (List Action))) → groups_of bytes.now ≡ Some groups
+        → most < length (joined groups)) }
 {
     numbers_read_back();
-    let mut count = 0;
+    let mut groups = 0;
+    let mut ticks = 0;
     let mut rest = bytes;
     while let Some(group) = behind_gate(rest) {
         let (more, next) = count_group(group)?;
-        if more > most - count {
+        if more > most - ticks {
             return None;
         }
-        count += more;
+        groups += 1;
+        ticks += more;
         rest = next;
     }
-    Some(count)
+    Some(Counts { groups, ticks })
 }
 
 // A tick, and what follows it.
