@@ -4,7 +4,7 @@ use Rattle.world_ticks.specs.Cells.{Performs}
 use Rattle.sessions.specs.declared.batch.Request.{Request}
 use Rattle.sessions.specs.declared.batch.Request.TheVariants.{Act}
 use Rattle.world_actions.specs.declared.action.Action.TheVariants.{Set}
-use Rattle.sessions.specs.Answer.{Play, begun, after_request, reply, replies, writes_by}
+use Rattle.sessions.specs.Answer.{Play, begun, after_request, reply, replies}
 use Rattle.world_ticks.proofs.PerformsLemmas.{performs_then}
 use Rattle.sessions.proofs.AnswerLemmas.{IsPlayed, played_begun, played_all, written_step, after_next, replies_next}
 use Rattle.sessions.proofs.answer.answer_text.Goals as goal

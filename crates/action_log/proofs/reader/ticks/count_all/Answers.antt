@@ -1,7 +1,8 @@
 use Rattle.std.proofs.Common.{◌++◌, ◌∷◌, [], refl, ap, arith, length, length-append}
 use mir.Facts.{Fits-lt-pow}
 use Rattle.action_log.specs.Segment.{joined}
-use Rattle.action_log.proofs.ReadingLemmas.{Numbers, read_to_start, read_to_next, read_to_bad, read_to_end, read_to_many, joined-snoc}
+use Rattle.action_log.proofs.GroupLemmas.{joined_with}
+use Rattle.action_log.proofs.ReadingLemmas.{Numbers, read_to_start, read_to_next, read_to_bad, read_to_end, read_to_many}
 use Rattle.action_log.proofs.reader.ticks.count_all.Goals as goal
 
 pub loop-group-init : goal.loop-group-init
@@ -24,7 +25,7 @@ returns-then-more-most-clause-none c =
     let group = c.in_ok-more.ensures.some in
     let next = (read_to_next numbers c.args.bytes.now read.done c.loop-group.rest.now c.in-Some.group.now group.0 c.in_ok-more.next.now read.so_far c.in-Some.ensures.gate group.1).0 in
     λ groups e. (let many = read_to_many c.args.bytes.now (read.done ++ group.0 ∷ []) c.in_ok-more.next.now groups next e in
-    omega (arith, many, c.if-more-most.true, read.ticks_are, group.2, ap length (joined-snoc read.done group.0), length-append (joined read.done) group.0, c.loop-group.invariant.few))
+    omega (arith, many, c.if-more-most.true, read.ticks_are, group.2, ap length (joined_with read.done group.0), length-append (joined read.done) group.0, c.loop-group.invariant.few))
 
 pub loop-group-smaller : goal.loop-group-smaller
 loop-group-smaller c =
@@ -47,7 +48,7 @@ loop-group-preserved c =
       so_far = record {
         done = read.done ++ group.0 ∷ [];
         groups_are = omega (arith, length-append read.done (group.0 ∷ []), read.groups_are);
-        ticks_are = omega (arith, ap length (joined-snoc read.done group.0), length-append (joined read.done) group.0, read.ticks_are, group.2);
+        ticks_are = omega (arith, ap length (joined_with read.done group.0), length-append (joined read.done) group.0, read.ticks_are, group.2);
         so_far = next.0;
       };
     }

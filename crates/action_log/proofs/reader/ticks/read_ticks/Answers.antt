@@ -5,7 +5,8 @@ use Rattle.std.proofs.lemmas.Result.{err_from_is_err_and}
 use Rattle.world_ticks.specs.Tick.{Actions}
 use Rattle.action_log.specs.Segment.{Tick}
 use Rattle.action_log.specs.LogState.{actions_in}
-use Rattle.action_log.proofs.ReadingLemmas.{Numbers, IsReadAs, read_to_start, read_to_next, read_to_bad, read_to_end, ticks_by, joined-snoc}
+use Rattle.action_log.proofs.GroupLemmas.{joined_with}
+use Rattle.action_log.proofs.ReadingLemmas.{Numbers, IsReadAs, read_to_start, read_to_next, read_to_bad, read_to_end, ticks_by}
 use Rattle.action_log.proofs.reader.ticks.read_ticks.Goals as goal
 
 pub loop-group-init : goal.loop-group-init
@@ -39,7 +40,7 @@ loop-group-preserved c =
       done = read.done ++ group ∷ [];
       ticks_are =
           ap actions_in c.in_ok-append.ensures.items ∙ map-append (λ (t : Actions). t.list) c.loop-group.ticks.items c.in_ok-more.more.items
-          ∙ ap (λ (l : List Tick). l ++ group) read.ticks_are ∙ sym (joined-snoc read.done group);
+          ∙ ap (λ (l : List Tick). l ++ group) read.ticks_are ∙ sym (joined_with read.done group);
       so_far = (read_to_next numbers c.args.bytes.now read.done c.loop-group.rest.now c.in-Some.group.now group c.in_ok-more.next.now read.so_far c.in-Some.ensures.gate c.in_ok-more.ensures).0;
     }
 
