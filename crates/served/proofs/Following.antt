@@ -1,0 +1,271 @@
+-- What runs and batches do keeps the world in step with its ticks.
+use Rattle.std.proofs.Common.{◌≡◌, ℕ, Bool, ◌+◌, ◌-◌, ◌<◌, ◌≤◌, ◌⊎◌, inl, inr, List, [], ◌∷◌, ◌++◌, length, true, false, Option, Some, None, Ok, if◌then◌else◌, refl, sym, ap, subst, ◌∙◌, arith}
+use Rattle.std.proofs.lemmas.List.{length-append}
+use Rattle.world_actions.specs.declared.action.Action.{Action}
+use Rattle.world_ticks.specs.declared.tick.TheConstants.{TICK_MAX}
+use Rattle.world_ticks.specs.After.{after_actions, after_ticks}
+use Rattle.capture_core.specs.Content.{Content}
+use Rattle.circular_buffer.specs.Buffer.{Buffer}
+use Rattle.disk_model.specs.declared.four_files.FourFiles.{FourFiles}
+use Rattle.file_format.specs.declared.slot.Slot.{Slot}
+use Rattle.file_format.specs.Slot.{in_slot}
+use Rattle.image_files.specs.declared.phase.Phase.TheVariants.{Idle, Closing, Header}
+use Rattle.image_files.specs.Image.{image_of, Open}
+use Rattle.image_files.specs.Images.{Images, ImageFiles, NoneYet, Newest, ImageFilesAre, newest_in, round_in, with_round}
+use Rattle.image_files.specs.Progress.{Progress as ImageProgress, begun_keeper}
+use Rattle.image_files.specs.Files.{Stands as ImagesStand}
+use Rattle.action_log.specs.declared.record.Record.{Record}
+use Rattle.action_log.specs.declared.record.Record.TheVariants as records
+use Rattle.action_log.specs.declared.phase.Phase.{Phase}
+use Rattle.action_log.specs.declared.phase.Phase.TheVariants as phase
+use Rattle.action_log.specs.declared.phase.Phase.TheVariants.{Ready}
+use Rattle.action_log.specs.declared.progress.Progress.{Progress as LogProgress}
+use Rattle.action_log.specs.Queue.{QueueEnd, queue_work}
+use Rattle.action_log.specs.Progress.{rest_in, work_of, end_of}
+use Rattle.action_log.specs.Logs.{Logs, Journal, InStart, Writing, LogPlace}
+use Rattle.action_log.specs.Stands.{Stands as LogStands}
+use Rattle.recovery.specs.Follow.{round_tick, base_in, coming}
+use Rattle.recovery.specs.Events.{IsKept}
+use Rattle.restart.specs.InStep.{HasPhase, InStep, TickGoesOn, MarkGoesOn, AllAreAcknowledged}
+use Rattle.sessions.specs.declared.batch.Request.{Request}
+use Rattle.sessions.specs.Answer.{accepted_of, words_after}
+use Rattle.served.specs.declared.engine.Engine.{Engine}
+use Rattle.served.specs.Running.{RoundGoes, LogGoes}
+use Rattle.served.specs.Engine.{Follows, Plays, BeginsRound, HasImageOf}
+
+-- ---- a log that is idle
+
+no_rest : (p : Phase) (shut : Bool) → rest_in p shut ≡ 0 → p ≡ phase.Ready
+no_rest phase.Retiring true e = absurd (let h = e in cc)
+no_rest phase.Retiring false e = absurd (let h = e in cc)
+no_rest phase.RetiringSync true e = absurd (let h = e in cc)
+no_rest phase.RetiringSync false e = absurd (let h = e in cc)
+no_rest phase.Ready shut e = refl
+no_rest phase.BodySync shut e = absurd (let h = e in cc)
+no_rest phase.Gate shut e = absurd (let h = e in cc)
+no_rest phase.GateSync shut e = absurd (let h = e in cc)
+no_rest phase.Closing shut e = absurd (let h = e in cc)
+no_rest phase.ClosingSync shut e = absurd (let h = e in cc)
+no_rest phase.Header shut e = absurd (let h = e in cc)
+no_rest phase.HeaderSync shut e = absurd (let h = e in cc)
+no_rest phase.Opening shut e = absurd (let h = e in cc)
+no_rest phase.OpeningSync shut e = absurd (let h = e in cc)
+
+no_queue : (queue : List Record) → queue_work queue ≡ 0 → queue ≡ []
+no_queue [] e = refl
+no_queue (records.Tick tick ∷ queue) e = absurd (omega (arith, e))
+no_queue (records.Switch tick ∷ queue) e = absurd (omega (arith, e))
+
+-- with no work left nothing waits
+pub none_waits : (keeper : LogProgress) (queue : List Record) → work_of keeper queue ≡ 0 → (keeper.phase ≡ phase.Ready) × (queue ≡ [])
+none_waits keeper queue e = (no_rest keeper.phase keeper.other_shut (omega (arith, e)), no_queue queue (omega (arith, e)))
+
+-- a keeper that isn't down has no work left
+pub no_work : (keeper : LogProgress) (queue : List Record) → (keeper.down ≡ true) ⊎ (work_of keeper queue ≡ 0) → keeper.down ≡ false → work_of keeper queue ≡ 0
+no_work keeper queue (inl down) up = absurd (let e : true ≡ false = sym down ∙ up in cc)
+no_work keeper queue (inr none) up = none
+
+end_ready : (keeper : LogProgress) → keeper.phase ≡ phase.Ready → end_of keeper [] ≡ record { base = keeper.base; count = keeper.count }
+end_ready keeper ready = ap (λ p. end_of (record keeper { phase = p }) []) ready
+
+base_at_end : (keeper : LogProgress) (queue : List Record) (base count : ℕ) → keeper.phase ≡ phase.Ready → queue ≡ [] → end_of keeper queue ≡ record { base = base; count = count } → keeper.base ≡ base
+base_at_end keeper queue base count ready empty end = ap (λ (e : QueueEnd). e.base) (sym (end_ready keeper ready) ∙ (ap (end_of keeper) (sym empty) ∙ end))
+
+-- ---- a log after its start
+
+logs_in : (keeper : LogProgress) (a b : List ℕ) (leaves_a leaves_b : List ℕ → Type 0) (journal : Journal) (left : ℕ) → keeper.starting ≡ false
+    → LogStands keeper a b leaves_a leaves_b (record { journal = journal; left = left }) → (logs : Logs) × (journal ≡ Writing logs)
+logs_in keeper a b leaves_a leaves_b (InStart start) left over stands = absurd (let e : true ≡ false = sym stands.in_work ∙ over in cc)
+logs_in keeper a b leaves_a leaves_b (Writing logs) left over stands = (logs, refl)
+
+pub logs_of_place : (keeper : LogProgress) (a b : List ℕ) (leaves_a leaves_b : List ℕ → Type 0) (place : LogPlace) → keeper.starting ≡ false
+    → LogStands keeper a b leaves_a leaves_b place → (logs : Logs) × (place.journal ≡ Writing logs)
+logs_of_place keeper a b leaves_a leaves_b place over stands = logs_in keeper a b leaves_a leaves_b place.journal place.left over stands
+
+-- then there is an image
+newest_in_phase : (cells : ℕ) (ticks : List (List Action)) (acknowledged : ℕ) (images : ImageFiles) (logs : Logs) (queue : List Record) → HasPhase cells ticks acknowledged images (Writing logs) queue → (newest : Images) × (images ≡ Newest newest)
+newest_in_phase cells ticks acknowledged (NoneYet images) logs queue phase = absurd phase
+newest_in_phase cells ticks acknowledged (Newest images) logs queue phase = (images, refl)
+
+pub newest_of : (cells : ℕ) (ticks : List (List Action)) (acknowledged : ℕ) (content : Content) (images : ImageFiles) (logs : Logs) (queue : List Record) → InStep cells ticks acknowledged content images (Writing logs) queue → (newest : Images) × (images ≡ Newest newest)
+newest_of cells ticks acknowledged content images logs queue w = newest_in_phase cells ticks acknowledged images logs queue w.phase
+
+-- lists that end with one item each
+last_same : (xs ys : List ℕ) (x y : ℕ) → xs ++ x ∷ [] ≡ ys ++ y ∷ [] → x ≡ y
+last_same [] [] x y e = cc
+last_same [] (b ∷ ys) x y e = absurd (omega (arith, ap length e, length-append ys (y ∷ [])))
+last_same (a ∷ xs) [] x y e = absurd (omega (arith, ap length e, length-append xs (x ∷ [])))
+last_same (a ∷ xs) (b ∷ ys) x y e = last_same xs ys x y cc
+
+-- with nothing queued and no round in work, the log goes on from the tick of the newest image
+newest_is_base : (cells : ℕ) (ticks : List (List Action)) (acknowledged : ℕ) (images : Images) (logs : Logs) → IsKept cells ticks acknowledged images logs [] → images.round ≡ None → logs.switch ≡ None → images.tick ≡ logs.base
+newest_is_base cells ticks acknowledged images logs k none no_switch =
+    let m = k.follow_marks in
+    let bases : base_in logs.before ++ logs.base ∷ [] ≡ m.earlier ++ images.tick ∷ [] =
+    ap (λ s. base_in logs.before ++ logs.base ∷ coming s []) (sym no_switch) ∙ (m.bases ∙ ap (λ r. m.earlier ++ images.tick ∷ round_tick r) none) in
+    sym (last_same (base_in logs.before) m.earlier logs.base images.tick bases)
+
+-- the file of the newest image has it, whatever a crash leaves
+image_in : (cells : ℕ) (images : ImageFiles) (image_a image_b : List ℕ → Type 0) (slot : Slot) (tick : ℕ) → newest_in images ≡ Some (slot, tick) → ImageFilesAre cells images image_a image_b
+    → (at : Slot) × (words : List ℕ) × ((left : List ℕ) → in_slot at image_a image_b left → image_of left ≡ Open tick words)
+image_in cells (NoneYet images) image_a image_b slot tick e are = absurd (let h = e in cc)
+image_in cells (Newest images) image_a image_b slot tick e are =
+    let same : images.tick ≡ tick = ap tick_in e in
+    (images.slot, images.words, λ left h. are.newest left h ∙ ap (λ n. Open n images.words) same)
+  where
+    tick_in : Option (Slot × ℕ) → ℕ
+    tick_in None = 0
+    tick_in (Some image) = image.1
+
+-- ---- a round that began
+
+begun_by : (shut : Bool) → (if shut then Header else Closing) ≡ Idle → ⊥
+begun_by true e = absurd (let h = e in cc)
+begun_by false e = absurd (let h = e in cc)
+
+-- is in work
+pub begun_works : (tick : ℕ) (keeper : ImageProgress) → (begun_keeper tick keeper).phase ≡ Idle → ⊥
+begun_works tick keeper e = begun_by keeper.target_shut e
+
+-- ---- the engine
+
+module _ {C D : Type 0} (content : C → Content) (file : D → List ℕ) (leaves : D → List ℕ → Type 0) where
+  -- a round was run
+  pub image_follows : (old : Engine C) (files : FourFiles D) (store : C) (images : ImageProgress) (a b : D) (ticks : List (List Action)) (acknowledged : ℕ)
+      → images.cells ≡ old.images.cells → (content store).live ≡ (content old.store).live
+      → RoundGoes content file leaves old.images images old.store store files.image_a a files.image_b b
+      → Follows content file leaves old files ticks acknowledged
+      → Follows content file leaves (record old { store = store; images = images }) (record files { image_a = a; image_b = b }) ticks acknowledged
+  image_follows old files store images a b ticks acknowledged cells live goes f =
+      let on = goes ticks f.count f.place.journal old.queue.items (record { images = f.images; stands = f.has_images; in_step = f.in_step }) in
+      record {
+        images = on.images;
+        place = f.place;
+        has_images = on.stands;
+        has_log = f.has_log;
+        count = f.count;
+        at_least = f.at_least;
+        in_step = on.in_step;
+        world = ap (λ n. after_ticks n ticks) cells ∙ (f.world ∙ ap (λ (w : List ℕ). Ok w) (sym live));
+        ended = f.ended;
+      }
+
+  -- the log was run
+  pub log_follows : (old : Engine C) (files : FourFiles D) (log : LogProgress) (queue : Buffer Record) (a b : D) (ticks : List (List Action)) (acknowledged : ℕ)
+      → LogGoes file leaves old.log log old.queue.items queue.items files.log_a a files.log_b b
+      → (f : Follows content file leaves old files ticks acknowledged) → (old.log.starting ≡ false) ⊎ (round_in f.images ≡ None)
+      → Follows content file leaves (record old { log = log; queue = queue }) (record files { log_a = a; log_b = b }) ticks acknowledged
+  log_follows old files log queue a b ticks acknowledged goes f waits =
+      let on = goes old.images.cells ticks acknowledged (content old.store) f.images f.has_images.fits.in_order.some waits
+      (record { place = f.place; stands = f.has_log; count = f.count; at_least = f.at_least; in_step = f.in_step }) in
+      record {
+        images = f.images;
+        place = on.place;
+        has_images = f.has_images;
+        has_log = on.stands;
+        count = on.count;
+        at_least = on.at_least;
+        in_step = on.in_step;
+        world = f.world;
+        ended = f.ended;
+      }
+
+  -- a batch was played
+  pub tick_follows : TickGoesOn → ((requests : List Request) (words : List ℕ) → after_actions words (accepted_of requests words) ≡ Ok (words_after requests words))
+      → (old new : Engine C) (files : FourFiles D) (requests : List Request) (ticks : List (List Action)) (acknowledged : ℕ) → old.log.starting ≡ false → Plays content old new requests
+      → Follows content file leaves old files ticks acknowledged → Follows content file leaves new files (ticks ++ accepted_of requests (content old.store).live ∷ []) acknowledged
+  tick_follows goes accepts old new files requests ticks acknowledged over p f =
+      let live = (content old.store).live in
+      let logs = logs_of_place old.log (file files.log_a) (file files.log_b) (leaves files.log_a) (leaves files.log_b) f.place over f.has_log in
+      let done : after_actions live p.tick.list ≡ Ok (content new.store).live = ap (after_actions live) p.list ∙ (accepts requests live ∙ ap (λ (w : List ℕ). Ok w) (sym p.live)) in
+      let on = goes old.images.cells ticks f.count f.images logs.0 old.queue.items p.tick (content old.store) (content new.store) f.world done p.left p.covers
+      (subst (λ j. InStep old.images.cells ticks f.count (content old.store) f.images j old.queue.items) logs.1 f.in_step) in
+      let mid : Engine C = record old { store = new.store; queue = new.queue; ended = old.ended + 1; since = old.since + 1 } in
+      let after : Follows content file leaves mid files (ticks ++ p.tick.list ∷ []) acknowledged = record {
+        images = f.images;
+        place = f.place;
+        has_images = f.has_images;
+        has_log = f.has_log;
+        count = f.count;
+        at_least = f.at_least;
+        in_step = subst (λ q. InStep old.images.cells (ticks ++ p.tick.list ∷ []) f.count (content new.store) f.images f.place.journal q) (sym p.queue)
+            (subst (λ j. InStep old.images.cells (ticks ++ p.tick.list ∷ []) f.count (content new.store) f.images j (old.queue.items ++ records.Tick p.tick ∷ [])) (sym logs.1) on.1);
+        world = on.0;
+        ended = omega (arith, f.ended, length-append ticks (p.tick.list ∷ []));
+      } in
+      subst (λ l. Follows content file leaves new files (ticks ++ l ∷ []) acknowledged) p.list (subst (λ e. Follows content file leaves e files (ticks ++ p.tick.list ∷ []) acknowledged) (sym p.is) after)
+
+  -- the log has no work left
+  pub all_follows : AllAreAcknowledged
+      → ((keeper : LogProgress) (a b : D) (logs : Logs) (left : ℕ) → LogStands keeper (file a) (file b) (leaves a) (leaves b) (record { journal = Writing logs; left = left }) → keeper.phase ≡ Ready
+      → (logs.pending ≡ []) × (logs.switch ≡ None) × (logs.base ≡ keeper.base))
+      → (s : Engine C) (files : FourFiles D) (ticks : List (List Action)) (acknowledged : ℕ) → s.log.starting ≡ false → work_of s.log s.queue.items ≡ 0
+      → Follows content file leaves s files ticks acknowledged → Follows content file leaves s files ticks s.ended
+  all_follows all ready s files ticks acknowledged over rests f =
+      let idle = none_waits s.log s.queue.items rests in
+      let logs = logs_of_place s.log (file files.log_a) (file files.log_b) (leaves files.log_a) (leaves files.log_b) f.place over f.has_log in
+      let is_ready = ready s.log files.log_a files.log_b logs.0 f.place.left (subst (λ j. LogStands s.log (file files.log_a) (file files.log_b) (leaves files.log_a) (leaves files.log_b) (record { journal = j; left = f.place.left })) logs.1 f.has_log) idle.0 in
+      let empty = subst (λ q. InStep s.images.cells ticks f.count (content s.store) f.images (Writing logs.0) q) idle.1
+      (subst (λ j. InStep s.images.cells ticks f.count (content s.store) f.images j s.queue.items) logs.1 f.in_step) in
+      let on = all s.images.cells ticks f.count (content s.store) f.images logs.0 is_ready.0 empty in
+      record {
+        images = f.images;
+        place = f.place;
+        has_images = f.has_images;
+        has_log = f.has_log;
+        count = length ticks;
+        at_least = omega (arith, f.ended);
+        in_step = subst (λ j. InStep s.images.cells ticks (length ticks) (content s.store) f.images j s.queue.items) (sym logs.1)
+            (subst (λ q. InStep s.images.cells ticks (length ticks) (content s.store) f.images (Writing logs.0) q) (sym idle.1) on);
+        world = f.world;
+        ended = f.ended;
+      }
+
+  -- a checkpoint began
+  pub mark_follows : MarkGoesOn
+      → ((keeper : LogProgress) (a b : D) (logs : Logs) (left : ℕ) → LogStands keeper (file a) (file b) (leaves a) (leaves b) (record { journal = Writing logs; left = left }) → keeper.phase ≡ Ready
+      → (logs.pending ≡ []) × (logs.switch ≡ None) × (logs.base ≡ keeper.base))
+      → ((keeper : ImageProgress) (images : ImageFiles) (a b : D) → ImagesStand keeper images (file a) (file b) (leaves a) (leaves b) → keeper.phase ≡ Idle → round_in images ≡ None)
+      → ((keeper : ImageProgress) (tick : ℕ) (images : ImageFiles) (a b : D) → keeper.phase ≡ Idle → tick ≤ TICK_MAX
+      → ImagesStand keeper images (file a) (file b) (leaves a) (leaves b) → ImagesStand (begun_keeper tick keeper) (with_round tick images) (file a) (file b) (leaves a) (leaves b))
+      → (old new : Engine C) (files : FourFiles D) (ticks : List (List Action)) (acknowledged : ℕ) → old.log.starting ≡ false → work_of old.log old.queue.items ≡ 0 → old.images.phase ≡ Idle
+      → old.images.cells ≡ length (content old.store).live → end_of old.log old.queue.items ≡ record { base = old.ended - old.since; count = old.since } → old.since ≤ old.ended → 0 < old.since → old.ended ≤ TICK_MAX
+      → BeginsRound content old new → Follows content file leaves old files ticks acknowledged → Follows content file leaves new files ticks acknowledged
+  mark_follows goes ready idle_none begins old new files ticks acknowledged over rests idle cells end within some most d f =
+      let waits = none_waits old.log old.queue.items rests in
+      let logs = logs_of_place old.log (file files.log_a) (file files.log_b) (leaves files.log_a) (leaves files.log_b) f.place over f.has_log in
+      let is_ready = ready old.log files.log_a files.log_b logs.0 f.place.left (subst (λ j. LogStands old.log (file files.log_a) (file files.log_b) (leaves files.log_a) (leaves files.log_b) (record { journal = j; left = f.place.left })) logs.1 f.has_log) waits.0 in
+      let here : InStep old.images.cells ticks f.count (content old.store) f.images (Writing logs.0) [] = subst (λ q. InStep old.images.cells ticks f.count (content old.store) f.images (Writing logs.0) q) waits.1
+      (subst (λ j. InStep old.images.cells ticks f.count (content old.store) f.images j old.queue.items) logs.1 f.in_step) in
+      let newest = newest_of old.images.cells ticks f.count (content old.store) f.images logs.0 [] here in
+      let none : newest.0.round ≡ None = ap round_in (sym newest.1) ∙ idle_none old.images f.images files.image_a files.image_b f.has_images idle in
+      let same : newest.0.tick ≡ old.log.base = newest_is_base old.images.cells ticks f.count newest.0 logs.0 (subst (λ i. HasPhase old.images.cells ticks f.count i (Writing logs.0) []) newest.1 here.phase) none is_ready.1 ∙ is_ready.2 in
+      let at_end : old.log.base ≡ old.ended - old.since = base_at_end old.log old.queue.items (old.ended - old.since) old.since waits.0 waits.1 end in
+      let above : newest.0.tick < length ticks = omega (arith, same, at_end, within, some, f.ended) in
+      let on = goes old.images.cells ticks f.count newest.0 logs.0 [] (content old.store) (content new.store) none above f.world (sym cells) d.marks
+      (subst (λ i. InStep old.images.cells ticks f.count (content old.store) i (Writing logs.0) []) newest.1 here) in
+      let mid : Engine C = record old { store = new.store; images = begun_keeper old.ended old.images; queue = new.queue; since = 0 } in
+      let queue : new.queue.items ≡ records.Switch (length ticks) ∷ [] = d.queue ∙ (ap (λ q. q ++ records.Switch old.ended ∷ []) waits.1 ∙ ap (λ n. records.Switch n ∷ []) f.ended) in
+      let after : Follows content file leaves mid files ticks acknowledged = record {
+        images = with_round old.ended f.images;
+        place = f.place;
+        has_images = begins old.images old.ended f.images files.image_a files.image_b idle most f.has_images;
+        has_log = f.has_log;
+        count = f.count;
+        at_least = f.at_least;
+        in_step = subst (λ j. InStep old.images.cells ticks f.count (content new.store) (with_round old.ended f.images) j new.queue.items) (sym logs.1)
+            (subst (λ i. InStep old.images.cells ticks f.count (content new.store) (with_round old.ended i) (Writing logs.0) new.queue.items) (sym newest.1)
+            (subst (λ n. InStep old.images.cells ticks f.count (content new.store) (with_round n (Newest newest.0)) (Writing logs.0) new.queue.items) (sym f.ended)
+            (subst (λ q. InStep old.images.cells ticks f.count (content new.store) (with_round (length ticks) (Newest newest.0)) (Writing logs.0) q) (sym queue) on)));
+        world = f.world ∙ ap (λ (w : List ℕ). Ok w) (sym d.marks.live);
+        ended = f.ended;
+      } in
+      subst (λ e. Follows content file leaves e files ticks acknowledged) (sym d.is) after
+
+  -- the newest image is of this tick
+  pub image_is : ((keeper : ImageProgress) (images : ImageFiles) (a b : D) → ImagesStand keeper images (file a) (file b) (leaves a) (leaves b) → keeper.newest ≡ newest_in images)
+      → ((keeper : ImageProgress) (images : ImageFiles) (a b : D) → ImagesStand keeper images (file a) (file b) (leaves a) (leaves b) → ImageFilesAre keeper.cells images (leaves a) (leaves b))
+      → (s : Engine C) (files : FourFiles D) (ticks : List (List Action)) (acknowledged : ℕ) (slot : Slot) (tick : ℕ) → s.images.newest ≡ Some (slot, tick)
+      → Follows content file leaves s files ticks acknowledged → HasImageOf leaves files tick
+  image_is newest are s files ticks acknowledged slot tick is f =
+      image_in s.images.cells f.images (leaves files.image_a) (leaves files.image_b) slot tick (sym (newest s.images f.images files.image_a files.image_b f.has_images) ∙ is) (are s.images f.images files.image_a files.image_b f.has_images)

@@ -1,0 +1,46 @@
+use Rattle.std.proofs.Common.{◌≡◌, subst, ◌∙◌, arith, take}
+use Rattle.served.specs.Opening.{IsNotOpened, AreSound}
+use Rattle.served.specs.Engine.{Follows}
+use Rattle.served.proofs.Recovered.{if_err}
+use Rattle.served.proofs.Sound.{follows_sound, sound_of_more}
+use Rattle.served.proofs.opening.open_engine.Goals as goal
+
+pub returns-in_err-start-clause-left : goal.returns-in_err-start-clause-left
+returns-in_err-start-clause-left g c = λ honest.
+    let file = g.D.Disk.content in
+    let leaves = g.D.Disk.may_leave in
+    let files = c.args.files.now in
+    let after = c.start.new.files in
+    let refusal = c.in_err-start.field-0.0 in
+    let read = c.in_ok-engine.ensures.read honest in
+    if_err c.from_residual-in_err-start.result refusal (λ r. IsNotOpened file leaves files r after) c.from_residual-in_err-start.ensures.1
+    (record {
+      kept = λ other. absurd (other c.in_err-start.ensures.refused);
+      sound = λ cells ticks acknowledged synced sound.
+          (let f = read.follows cells ticks acknowledged synced sound in
+          let on = c.start.ensures.follows honest (take read.recovery.tick ticks) acknowledged f.1 in
+          let has = c.start.ensures.newest read.newest in
+          let s = follows_sound g.C.Capture.content file leaves c.images_stay.ensures.newest c.images_stay.ensures.left c.log_outcomes.ensures.reads c.worlds_are_safe.ensures c.start.new.self after (take read.recovery.tick ticks) acknowledged has on in
+          let named : AreSound file leaves after cells (take read.recovery.tick ticks) acknowledged = subst (λ n. AreSound file leaves after n (take read.recovery.tick ticks) acknowledged) (c.start.ensures.cells ∙ f.0) s in
+          sound_of_more (leaves after.image_a) (leaves after.image_b) (leaves after.log_a) (leaves after.log_b) cells ticks read.recovery.tick acknowledged acknowledged (omega arith) named);
+    })
+
+pub returns-clause-started : goal.returns-clause-started
+returns-clause-started g c = λ honest.
+    let file = g.D.Disk.content in
+    let leaves = g.D.Disk.may_leave in
+    let last = c.start.new.self in
+    let after = c.start.new.files in
+    let read = c.in_ok-engine.ensures.read honest in
+    let ended : last.ended ≡ read.recovery.tick = c.start.ensures.ended.0 ∙ read.ended in
+    record {
+      recovery = read.recovery;
+      recovers = read.recovers;
+      is_from = read.is_from;
+      words = c.start.ensures.live ∙ read.words;
+      ended = ended;
+      follows = λ cells ticks acknowledged synced sound.
+          (let f = read.follows cells ticks acknowledged synced sound in
+          (c.start.ensures.cells ∙ f.0,
+          subst (λ n. Follows g.C.Capture.content file leaves last after (take read.recovery.tick ticks) n) ended (c.in_ok-start.ensures.acknowledges honest (take read.recovery.tick ticks) acknowledged f.1)));
+    }

@@ -1,0 +1,4 @@
+pub mod Engine
+pub mod Opening
+pub mod Running
+pub mod Serving

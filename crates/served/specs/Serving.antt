@@ -1,0 +1,56 @@
+-- What a batch on a served world does and is answered.
+use Rattle.std.specs.Prelude.{◌≡◌, ◌≤◌, ◌⊎◌, ℕ, ◌+◌, Bool, true, false, IsTrue, List, [], ◌∷◌, ◌++◌, Some, None, Result, Ok, Err}
+use Rattle.world_actions.specs.declared.action.Action.{Action}
+use Rattle.world_actions.specs.declared.refusal.Refusal.{Refusal}
+use Rattle.world_actions.specs.declared.refusal.Refusal.TheVariants.{LogDown, NoMemory}
+use Rattle.capture_core.specs.Content.{Content}
+use Rattle.image_files.specs.declared.phase.Phase.TheVariants.{Down}
+use Rattle.sessions.specs.declared.batch.Request.{Request}
+use Rattle.sessions.specs.Answer.{answer, accepted_of, words_after}
+use Rattle.served.specs.declared.serving.Serving.{Serving}
+use Rattle.served.specs.Engine.{batch_refusal, Follows, HasImageOf}
+
+module _ {C D : Type 0} (content : C → Content) (file : D → List ℕ) (leaves : D → List ℕ → Type 0) (honest : Bool) where
+  -- the words of the world
+  abbrev pub words_of : Serving C D → List ℕ
+  words_of s = (content s.engine.store).live
+
+  -- the start is over, these ticks have ended, as many as are told are acknowledged, and the world and its files follow them
+  pub record Serves (s : Serving C D) (ticks : List (List Action)) : Type 0 where
+    pub started : s.engine.log.starting ≡ false
+    pub follows : Follows content file leaves s.engine s.files ticks s.acked
+
+  -- the tick of a batch ended: it is one tick, also where nothing was accepted
+  pub record PlaysTick (old : Serving C D) (requests : List Request) (new : Serving C D) : Type 0 where
+    pub allowed : batch_refusal old.engine.log.down old.engine.ended old.engine.since ≡ None
+    pub ended : new.engine.ended ≡ old.engine.ended + 1
+    pub words : words_of new ≡ words_after requests (words_of old)
+    pub same : (new.every ≡ old.every) × (new.recovered ≡ old.recovered)
+    pub serves : IsTrue honest → (ticks : List (List Action)) → Serves old ticks → Serves new (ticks ++ accepted_of requests (words_of old) ∷ [])
+
+  -- A batch was answered with this text: its tick is acknowledged, and where so many ticks ended since the last mark or
+  -- start there is an image of it, or the image keeper is down.
+  pub record Answered (old : Serving C D) (requests : List Request) (text : List ℕ) (new : Serving C D) : Type 0 where
+    pub plays : PlaysTick old requests new
+    pub text_is : text ≡ answer requests (words_of old) (old.engine.ended + 1)
+    pub acked : new.acked ≡ new.engine.ended
+    pub image : IsTrue honest → (ticks : List (List Action)) → Serves old ticks → old.every ≤ old.engine.since + 1
+        → (new.engine.images.phase ≡ Down) ⊎ HasImageOf leaves new.files new.engine.ended
+
+  -- the log went down before the tick of a batch was acknowledged
+  pub record LosesLog (old : Serving C D) (requests : List Request) (refusal : Refusal) (new : Serving C D) : Type 0 where
+    pub plays : PlaysTick old requests new
+    pub is : refusal ≡ LogDown
+    pub down : new.engine.log.down ≡ true
+    pub acked : new.acked ≡ old.acked
+
+  -- a batch was refused, and nothing changed: by the first refusal that holds, or for want of memory where none holds
+  abbrev pub IsRefusedWith : (old : Serving C D) → Refusal → Type 0
+  IsRefusedWith old refusal =
+      (batch_refusal old.engine.log.down old.engine.ended old.engine.since ≡ Some refusal)
+      ⊎ ((batch_refusal old.engine.log.down old.engine.ended old.engine.since ≡ None) × (refusal ≡ NoMemory))
+
+  -- a batch leads from the first state to the second with this answer
+  abbrev pub Runs : (old : Serving C D) → List Request → Result (List ℕ) Refusal → (new : Serving C D) → Type 0
+  Runs old requests (Ok text) new = Answered old requests text new
+  Runs old requests (Err refusal) new = ((new ≡ old) × IsRefusedWith old refusal) ⊎ LosesLog old requests refusal new

@@ -1,0 +1,89 @@
+ghost use Rattle.std.specs.Prelude.{◌≡◌, false, IsTrue, IfOk, IfErr};
+ghost use Rattle.served.specs.Serving.{Runs};
+ghost use Rattle.served.specs.Opening.{IsOpened, IsRefused, IsNotOpened};
+
+use crate::serving::Serving;
+use capture_core::Capture;
+use disk_model::{Disk, FourFiles};
+use line_service::World;
+use sessions::Batch;
+use std::alloc::Global;
+use std::marker::Model;
+use world_actions::Refusal;
+
+/// A world that is served from its four files, whatever its store and whatever disks they are on.
+#[derive(Drop)]
+pub struct Served<C: Capture, D: Disk> {
+    serving: Serving<C, D>,
+}
+
+impl<C: Capture, D: Disk> Model for Served<C, D> {
+    ghost use Rattle.served.specs.declared.serving.Serving.{Serving as State};
+    ghost use Rattle.served.specs.Engine.{IsAtRest};
+
+    ghost Value = { State C D };
+
+    ghost view = { λ served. served.serving };
+
+    ghost invariant = { λ served. IsAtRest C.content D.content D.honest served.serving.engine served.serving.files };
+}
+
+impl<C: Capture, D: Disk> Served<C, D> {
+    /// Opens the world that stands in the files: recovers it, and runs the start to its end. A checkpoint
+    /// is made after every `every` ticks, 1 to 65,536. Refused, it gives the files back.
+    pub fn open(
+        alloc: Global,
+        files: FourFiles<D>,
+        every: u32,
+    ) -> Result<Self, (FourFiles<D>, Refusal)>
+        ensures opened { IsTrue D.honest
+            → IfOk result (IsOpened C.content D.content D.may_leave D.honest files) }
+        ensures up { IfOk result (λ served. served.engine.log.down ≡ false) }
+        ensures every { IfOk result (λ served. served.every ≡ every) }
+        ensures acked { IfOk result (λ served. served.acked ≡ served.engine.ended) }
+        ensures refused { IfErr result (λ refused. IsRefused D.content D.honest files refused.1) }
+        ensures left { IsTrue D.honest → IfErr result (λ refused.
+            IsNotOpened D.content D.may_leave files refused.1 refused.0) }
+    {
+        Ok(Served {
+            serving: Serving::open(alloc, files, every)?,
+        })
+    }
+
+    /// The number of the greatest receipt, before the first one the recovered tick.
+    pub fn acked(&self) -> u64
+        ensures { result ≡ self.now.acked }
+    {
+        self.serving.acked
+    }
+
+    /// The recovered tick, and that of the image that it was built from.
+    pub fn recovered(&self) -> (u64, u64)
+        ensures { result ≡ self.now.recovered }
+    {
+        self.serving.recovered
+    }
+
+    /// Gives the files back.
+    pub fn into_files(self) -> FourFiles<D>
+        ensures { result ≡ self.files }
+    {
+        let Served { serving } = self;
+        let Serving {
+            engine: _,
+            files,
+            every: _,
+            acked: _,
+            recovered: _,
+        } = serving;
+        files
+    }
+}
+
+impl<C: Capture, D: Disk> World for Served<C, D> {
+    ghost runs = { Runs C.content D.content D.may_leave D.honest };
+
+    fn batch(&mut self, b: &Batch) -> Result<Vec<u8>, Refusal> {
+        self.serving.batch(b)
+    }
+}

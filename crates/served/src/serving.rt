@@ -1,0 +1,112 @@
+ghost use Rattle.std.specs.Prelude.{◌≡◌, ◌⊎◌, ◌≤◌, ◌<◌, ℕ, List, Ok, Err, false, IsTrue, IfOk, IfErr};
+ghost use Rattle.world_actions.specs.declared.action.Action.{Action};
+ghost use Rattle.image_files.specs.declared.phase.Phase.TheVariants.{Down};
+ghost use Rattle.served.specs.Engine.{IsAtRest, HasImageOf};
+ghost use Rattle.served.specs.Serving.{Serves, Runs};
+ghost use Rattle.served.specs.Opening.{IsOpened, IsRefused, IsNotOpened};
+
+use crate::engine::Engine;
+use crate::opening::open_engine;
+use action_log::{log_outcomes, log_queues};
+use capture_core::Capture;
+use disk_model::{Disk, FourFiles};
+use restart::worlds_go_on;
+use sessions::{Batch, answers_are_ticks};
+use std::alloc::Global;
+use world_actions::Refusal;
+
+/// A world with its files, and what is told of it.
+#[derive(Drop)]
+pub struct Serving<C: Capture, D: Disk> {
+    pub engine: Engine<C>,
+    pub files: FourFiles<D>,
+    /// After how many ticks a checkpoint is made.
+    pub every: u32,
+    /// The number of the greatest receipt, before the first one the recovered tick.
+    pub acked: u64,
+    /// The recovered tick, and that of the image that it was built from.
+    pub recovered: (u64, u64),
+}
+
+impl<C: Capture, D: Disk> Serving<C, D> {
+    /// Opens the world that stands in the files, or gives them back with the reason.
+    pub fn open(
+        alloc: Global,
+        files: FourFiles<D>,
+        every: u32,
+    ) -> Result<Self, (FourFiles<D>, Refusal)>
+        ensures rest { IfOk result (λ serving.
+            IsAtRest C.content D.content D.honest serving.engine serving.files) }
+        ensures opened { IsTrue D.honest
+            → IfOk result (IsOpened C.content D.content D.may_leave D.honest files) }
+        ensures up { IfOk result (λ serving. serving.engine.log.down ≡ false) }
+        ensures every { IfOk result (λ serving. serving.every ≡ every) }
+        ensures acked { IfOk result (λ serving. serving.acked ≡ serving.engine.ended) }
+        ensures refused { IfErr result (λ refused. IsRefused D.content D.honest files refused.1) }
+        ensures left { IsTrue D.honest → IfErr result (λ refused.
+            IsNotOpened D.content D.may_leave files refused.1 refused.0) }
+    {
+        let mut files = files;
+        match open_engine(alloc, &mut files) {
+            Ok((engine, from)) => {
+                let tick = engine.ended;
+                Ok(Serving {
+                    engine,
+                    files,
+                    every,
+                    acked: tick,
+                    recovered: (tick, from),
+                })
+            }
+            Err(refusal) => Err((files, refusal)),
+        }
+    }
+
+    /// Plays a batch as one tick, has it logged, and makes a checkpoint where one is due.
+    pub fn batch(&mut self, b: &Batch) -> Result<Vec<u8>, Refusal>
+        requires { IsAtRest C.content D.content D.honest self.old.engine self.old.files }
+        ensures rest { IsAtRest C.content D.content D.honest self.new.engine self.new.files }
+        ensures answered { IfOk result (λ text.
+            Runs C.content D.content D.may_leave D.honest self.old b.now.list (Ok text.items) self.new) }
+        ensures refused { IfErr result (λ refusal.
+            Runs C.content D.content D.may_leave D.honest self.old b.now.list (Err refusal) self.new) }
+    {
+        worlds_go_on();
+        log_outcomes::<D>();
+        log_queues();
+        answers_are_ticks();
+        if let Some(refusal) = self.engine.refusal() {
+            return Err(refusal);
+        }
+        let text = self.engine.play(b)?;
+        self.engine.write_log(&mut self.files);
+        if self.engine.log.is_down() {
+            return Err(Refusal::LogDown);
+        }
+        self.acked = self.engine.ended;
+        self.checkpoint_if_due();
+        Ok(text)
+    }
+
+    // A checkpoint, where so many ticks ended since the last mark or start, and images can be written.
+    fn checkpoint_if_due(&mut self)
+        requires rest { IsAtRest C.content D.content D.honest self.old.engine self.old.files }
+        requires up { self.old.engine.log.down ≡ false }
+        requires some { 0 < self.old.engine.since }
+        ensures rest { IsAtRest C.content D.content D.honest self.new.engine self.new.files }
+        ensures ended { self.new.engine.ended ≡ self.old.engine.ended }
+        ensures live { (C.content self.new.engine.store).live ≡ (C.content self.old.engine.store).live }
+        ensures same { self.new ≡ record self.old { engine = self.new.engine; files = self.new.files } }
+        ensures serves { IsTrue D.honest → (ticks : List (List Action))
+            → Serves C.content D.content D.may_leave D.honest self.old ticks
+            → Serves C.content D.content D.may_leave D.honest self.new ticks }
+        ensures image { IsTrue D.honest → (ticks : List (List Action))
+            → Serves C.content D.content D.may_leave D.honest self.old ticks
+            → self.old.every ≤ self.old.engine.since
+            → (self.new.engine.images.phase ≡ Down) ⊎ HasImageOf D.may_leave self.new.files self.new.engine.ended }
+    {
+        if self.engine.since >= u64::from(self.every) && !self.engine.images.has_open_round() {
+            self.engine.checkpoint(&mut self.files);
+        }
+    }
+}
