@@ -52,7 +52,7 @@ recovers_on {a} {b} {c} {d} {a2} {b2} {c2} {d2} x ea eb ec ed e =
 
 module _ {C D : Type 0} (content : C → Content) (file : D → List ℕ) (leaves : D → List ℕ → Type 0) where
   -- what was read stays synced
-  synced_on : (files left : FourFiles D) → EachFile files left (KeepsFile file leaves) → AreSynced file leaves files → AreSynced file leaves left
+  pub synced_on : (files left : FourFiles D) → EachFile files left (KeepsFile file leaves) → AreSynced file leaves files → AreSynced file leaves left
   synced_on files left kept s = record {
     image_a = λ bytes h. s.image_a bytes (kept.image_a.crash bytes h) ∙ sym kept.image_a.same_content;
     image_b = λ bytes h. s.image_b bytes (kept.image_b.crash bytes h) ∙ sym kept.image_b.same_content;
@@ -85,11 +85,12 @@ module _ {C D : Type 0} (content : C → Content) (file : D → List ℕ) (leave
       let few : cells ≤ CELLS = omega (arith, s.whole, world.most) in
       let here = subst (λ n. Begins content n (Some (r.slot, r.from)) r.tick r.words ia ib la lb engine) s.whole b in
       let step = begins cells ticks acknowledged r (image_of ia) (image_of ib) e.a e.b (content engine.store) some s b.store in
-      let count : length (take r.tick ticks) ≡ r.tick = length-take-le r.tick ticks s.world.ended in
-      (ap (λ (k : ImageProgress). k.cells) here.images ∙ started_cells (nat_lt r.from r.tick) r.tick _,
-      start_follows content file leaves false laws cells (Some (r.slot, r.from)) r.tick r.words engine files here some few most synced.image_a synced.image_b synced.log_a synced.log_b
-      (Newest (recovered_images r (image_of ia) (image_of ib))) (refl, refl, s.newest_whole, by_slot r.slot ia ib ∙ s.chosen, by_other r.slot ia ib)
-      e.a e.b e.reads_a e.reads_b (take r.tick ticks) acknowledged step s.world.words_are (sym count))
+      let count : length (take r.tick ticks) ≡ r.tick = length-take-le r.tick ticks s.world.ended in (
+        ap (λ (k : ImageProgress). k.cells) here.images ∙ started_cells (nat_lt r.from r.tick) r.tick _,
+        start_follows content file leaves false laws cells (Some (r.slot, r.from)) r.tick r.words engine files here some few most synced.image_a synced.image_b synced.log_a synced.log_b
+            (Newest (recovered_images r (image_of ia) (image_of ib))) (refl, refl, s.newest_whole, by_slot r.slot ia ib ∙ s.chosen, by_other r.slot ia ib)
+            e.a e.b e.reads_a e.reads_b (take r.tick ticks) acknowledged step s.world.words_are (sym count),
+      )
 
   -- what was read, recovered and begun
   pub is_read : StartLaws content file leaves false → ReadsOnce → SoundRestarts → RecoveryBegins → ((disk : D) → leaves disk (file disk))

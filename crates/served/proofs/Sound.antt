@@ -59,7 +59,7 @@ safe_is_sound : (images : ImageFiles) (a b la lb : List ℕ → Type 0) (cells :
 safe_is_sound (NoneYet images) a b la lb cells ticks acknowledged has s = absurd (has refl)
 safe_is_sound (Newest images) a b la lb cells ticks acknowledged has s = s
 
-fewer_sound : (a b la lb : List ℕ → Type 0) (cells : ℕ) (ticks : List (List Action)) (acknowledged count : ℕ) → acknowledged ≤ count → IsSound a b la lb cells ticks count → IsSound a b la lb cells ticks acknowledged
+pub fewer_sound : (a b la lb : List ℕ → Type 0) (cells : ℕ) (ticks : List (List Action)) (acknowledged count : ℕ) → acknowledged ≤ count → IsSound a b la lb cells ticks count → IsSound a b la lb cells ticks acknowledged
 fewer_sound a b la lb cells ticks acknowledged count fewer s x y z w hx hy hz hw =
     let r = s x y z w hx hy hz hw in
     let k = r.holds in

@@ -8,14 +8,14 @@
 #![tactic(auto)]
 
 mod engine;
-//F
+mod fresh;
 mod laws;
 mod log_run;
 mod opening;
 mod round;
-mod serving;
 mod served;
+mod serving;
 
-//f
+pub use fresh::fresh_files;
 pub use laws::served_worlds_are_safe;
 pub use served::Served;

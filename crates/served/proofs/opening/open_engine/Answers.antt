@@ -40,7 +40,8 @@ returns-clause-started g c = λ honest.
       words = c.start.ensures.live ∙ read.words;
       ended = ended;
       follows = λ cells ticks acknowledged synced sound.
-          (let f = read.follows cells ticks acknowledged synced sound in
-          (c.start.ensures.cells ∙ f.0,
-          subst (λ n. Follows g.C.Capture.content file leaves last after (take read.recovery.tick ticks) n) ended (c.in_ok-start.ensures.acknowledges honest (take read.recovery.tick ticks) acknowledged f.1)));
+          (let f = read.follows cells ticks acknowledged synced sound in (
+            c.start.ensures.cells ∙ f.0,
+            subst (λ n. Follows g.C.Capture.content file leaves last after (take read.recovery.tick ticks) n) ended (c.in_ok-start.ensures.acknowledges honest (take read.recovery.tick ticks) acknowledged f.1),
+          ));
     }

@@ -10,13 +10,19 @@ returns-in_err-found-clause-refused g c =
     if_err c.from_residual-in_err-found.result c.in_err-found.field-0.0 (IsRefused g.D.Disk.content g.D.Disk.honest c.args.files.now) c.from_residual-in_err-found.ensures.1
     (elim c.in_err-found.ensures.refused [
       | inl none ↦ inl none
-      | inr refused ↦ inr (inr (c.deref.result.now, c.deref-2.result.now, c.deref-3.result.now, c.deref-4.result.now, refused,
-          λ honest. (let b = c.in_ok-bytes.ensures.bytes honest in record {
-            image_a_is = c.deref.ensures.value ∙ b.image_a;
-            image_b_is = c.deref-2.ensures.value ∙ b.image_b;
-            log_a_is = c.deref-3.ensures.value ∙ b.log_a;
-            log_b_is = c.deref-4.ensures.value ∙ b.log_b;
-          })))
+      | inr refused ↦ inr (inr (
+        c.deref.result.now,
+        c.deref-2.result.now,
+        c.deref-3.result.now,
+        c.deref-4.result.now,
+        refused,
+        λ honest. (let b = c.in_ok-bytes.ensures.bytes honest in record {
+          image_a_is = c.deref.ensures.value ∙ b.image_a;
+          image_b_is = c.deref-2.ensures.value ∙ b.image_b;
+          log_a_is = c.deref-3.ensures.value ∙ b.log_a;
+          log_b_is = c.deref-4.ensures.value ∙ b.log_b;
+        }),
+      ))
     ])
 
 pub returns-clause-images : goal.returns-clause-images
@@ -26,10 +32,12 @@ returns-clause-images g c =
     let all : length c.deref-5.result.now ≡ c.len-cells.result = c.deref-5.ensures.len ∙ sym c.len-cells.ensures in
     images_order g.C.Capture.content g.D.Disk.content g.D.Disk.may_leave g.D.Disk.honest c.len-cells.result (Some (found.slot, found.from)) found.tick c.deref-5.result.now bytes.image_a.items bytes.image_b.items bytes.log_a.items bytes.log_b.items
     c.in_ok-engine.engine c.read_all.new.self c.in_ok-engine.ensures.begins all
-    (λ honest. let b = c.in_ok-bytes.ensures.bytes honest in let k = c.read_all.ensures.kept honest in
-      (k.image_a.same_content ∙ sym b.image_a, k.image_b.same_content ∙ sym b.image_b,
+    (λ honest. let b = c.in_ok-bytes.ensures.bytes honest in let k = c.read_all.ensures.kept honest in (
+      k.image_a.same_content ∙ sym b.image_a,
+      k.image_b.same_content ∙ sym b.image_b,
       holds_newest c.crash_restarts.ensures.built c.len-cells.result (recovery_of_answer found) bytes.image_a.items bytes.image_b.items bytes.log_a.items bytes.log_b.items (ap length (sym c.deref-5.ensures.value) ∙ all)
-      (recovers_on (Ok (recovery_of_answer found)) c.deref.ensures.value c.deref-2.ensures.value c.deref-3.ensures.value c.deref-4.ensures.value c.in_ok-found.ensures.recovered)))
+          (recovers_on (Ok (recovery_of_answer found)) c.deref.ensures.value c.deref-2.ensures.value c.deref-3.ensures.value c.deref-4.ensures.value c.in_ok-found.ensures.recovered),
+    ))
 
 pub returns-clause-read : goal.returns-clause-read
 returns-clause-read g c = λ honest.

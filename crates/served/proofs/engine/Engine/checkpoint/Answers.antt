@@ -13,7 +13,7 @@ returns-clause-follows g c = λ honest ticks acknowledged f.
     let rest = c.requires.rest in
     let rests = no_work old.log old.queue.items rest.rests c.requires.up in
     let marked = mark_follows g.C.Capture.content g.D.Disk.content g.D.Disk.may_leave c.worlds_go_on.ensures.mark c.log_outcomes.ensures.ready c.images_stay.ensures.idle c.images_stay.ensures.begun
-        old c.begin_round.new.self c.args.files.now ticks acknowledged rest.started rests c.requires.idle rest.images.cells rest.log.end rest.log.within c.requires.some rest.log.most c.begin_round.ensures f in
+    old c.begin_round.new.self c.args.files.now ticks acknowledged rest.started rests c.requires.idle rest.images.cells rest.log.end rest.log.within c.requires.some rest.log.most c.begin_round.ensures f in
     c.write_log.ensures.follows honest ticks acknowledged (c.write_image.ensures.follows honest ticks acknowledged marked)
 
 pub returns-clause-image : goal.returns-clause-image
@@ -25,7 +25,7 @@ returns-clause-image g c = λ honest ticks acknowledged f.
     let rest = c.requires.rest in
     let rests = no_work old.log old.queue.items rest.rests c.requires.up in
     let marked = mark_follows g.C.Capture.content g.D.Disk.content g.D.Disk.may_leave c.worlds_go_on.ensures.mark c.log_outcomes.ensures.ready c.images_stay.ensures.idle c.images_stay.ensures.begun
-        old begun c.args.files.now ticks acknowledged rest.started rests c.requires.idle rest.images.cells rest.log.end rest.log.within c.requires.some rest.log.most c.begin_round.ensures f in
+    old begun c.args.files.now ticks acknowledged rest.started rests c.requires.idle rest.images.cells rest.log.end rest.log.within c.requires.some rest.log.most c.begin_round.ensures f in
     let follows = c.write_log.ensures.follows honest ticks acknowledged (c.write_image.ensures.follows honest ticks acknowledged marked) in
     let images : last.images ≡ written.images = ap (λ (e : Engine g.row.C.Denot). e.images) c.write_log.ensures.same in
     let is_begun : begun.images ≡ begun_keeper old.ended old.images = ap (λ (e : Engine g.row.C.Denot). e.images) c.begin_round.ensures.is in
