@@ -1,10 +1,18 @@
+ghost use Rattle.std.specs.Prelude.{◌≡◌};
+ghost use Rattle.std.specs.Process.{exit_status};
+
+use crate::fault::Fault;
+use crate::folder::Unreadable;
+use crate::system_error::refusal_of;
+use std::fmt::Display;
+use std::io;
 use std::process::{ExitCode, Termination};
 use world_actions::Refusal;
 
 /// How the program ends.
-#[derive(Clone, Copy, Debug, PartialEq, Eq)]
+#[derive(Debug, Drop)]
 pub enum Ending {
-    /// A script was run to its end.
+    /// What was asked for was done.
     Ran,
     /// The help or the version was told.
     Told,
@@ -12,10 +20,14 @@ pub enum Ending {
     Mistaken,
     /// This refusal ended the program.
     Fault(Refusal),
+    /// This file can't be read.
+    Unreadable(Unreadable),
+    /// No world stands in the files.
+    NoWorld(Fault),
 }
 
 impl Ending {
-    ghost use Rattle.std.specs.Prelude.{◌≡◌, Ok, Err};
+    ghost use Rattle.std.specs.Prelude.{◌≡◌, Ok, Err, IfErr};
 
     /// The end of a run.
     pub fn of_run(run: Result<(), Refusal>) -> Self
@@ -27,26 +39,58 @@ impl Ending {
             Err(refusal) => Ending::Fault(refusal),
         }
     }
+
+    /// The end of a command that tells how it ends where it doesn't end well.
+    pub fn of_command(run: Result<(), Self>) -> Self
+        ensures well { run ≡ Ok tt → result ≡ Ending.Ran }
+        ensures fails { IfErr run (λ ending. result ≡ ending) }
+    {
+        match run {
+            Ok(()) => Ending::Ran,
+            Err(ending) => ending,
+        }
+    }
+}
+
+/// What can't be printed is a fault of the device, or of memory.
+impl From<io::Error> for Ending {
+    ghost use Rattle.worldd.specs.Ending.{IsFault};
+
+    ghost from_gives = { λ _ ending. IsFault ending };
+
+    fn from(error: io::Error) -> Self {
+        Ending::Fault(refusal_of(&error))
+    }
 }
 
 impl Termination for Ending {
     ghost use Rattle.std.specs.Prelude.{◌≡◌, ◌⊎◌};
     ghost use Rattle.std.specs.Process.{exit_status};
+    ghost use Rattle.worldd.specs.declared.folder.Unreadable.{Unreadable as File};
 
     /// Tells a fault by its code and in words, and gives the exit status.
     fn report<R: Eprint>(self, rt: &R) -> ExitCode
         ensures well { (self ≡ Ending.Ran) ⊎ (self ≡ Ending.Told) → exit_status result ≡ 0 }
         ensures fault { (refusal : Refusal) → self ≡ Ending.Fault refusal → exit_status result ≡ 1 }
+        ensures unreadable { (file : File) → self ≡ Ending.Unreadable file → exit_status result ≡ 1 }
+        ensures no_world { (fault : Fault) → self ≡ Ending.NoWorld fault → exit_status result ≡ 1 }
         ensures mistaken { self ≡ Ending.Mistaken → exit_status result ≡ 2 }
     {
         match self {
             Ending::Ran | Ending::Told => ExitCode::SUCCESS,
             Ending::Mistaken => ExitCode::from(2),
-            Ending::Fault(refusal) => {
-                let _ = eprintln!(rt; "fault {}", refusal.code());
-                let _ = eprintln!(rt; "worldd: {refusal}");
-                ExitCode::from(1)
-            }
+            Ending::Fault(refusal) => report_fault(rt, refusal, refusal),
+            Ending::Unreadable(file) => report_fault(rt, refusal_of(&file.error), file),
+            Ending::NoWorld(fault) => report_fault(rt, fault.refusal(), fault),
         }
     }
+}
+
+// Tells a fault by the code of what it answers, and in these words.
+fn report_fault<R: Eprint, D: Display + Drop>(rt: &R, refusal: Refusal, words: D) -> ExitCode
+    ensures { exit_status result ≡ 1 }
+{
+    let _ = eprintln!(rt; "fault {}", refusal.code());
+    let _ = eprintln!(rt; "worldd: {words}");
+    ExitCode::from(1)
 }

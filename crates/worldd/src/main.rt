@@ -1,5 +1,8 @@
 //! The program `worldd`: its command line, its exit statuses, and what it says of a fault.
 //!
+//! `steps` runs a script over a world in memory. `recover` and `inspect` tell what the files of a folder
+//! hold, and write nothing into it.
+//!
 //! Status 0 is a run that ended well, 1 one that a fault ended, told as `fault CODE` on the standard
 //! error and then in words, and 2 a wrong command line.
 #![tactic(auto)]
@@ -7,50 +10,35 @@
 ghost use Rattle.std.specs.Prelude.{◌≡◌, ◌≢◌, ◌⊎◌};
 ghost use Rattle.clap.specs.Values.{kind_of};
 
+mod counted;
 mod ending;
+mod fault;
+mod folder;
+mod help;
+mod inspect;
+mod recover;
+mod system_error;
+mod told;
 mod words;
 
 use clap::error::{Error, ErrorKind};
-use clap::{ArgMatches, Command};
+use clap::{Arg, ArgAction, ArgMatches, Command};
 use ending::Ending;
+use help::{INSPECT_HELP, RECOVER_HELP, STEPS_HELP};
+use inspect::inspect;
+use recover::recover;
 use std::alloc::Global;
+use std::fs::{File, Files};
 use std::io;
 use steps::run_script;
 use words::{command_words, unreadable};
 use world_actions::Refusal;
 
-/// What `worldd steps --help` says of the lines.
-const STEPS_HELP: &str = "\
-Each line of the script gets one line of answer:
-  open METHOD N        opens a world of N cells, 1 to 65536, all 0: `ready 0`
-                       METHOD is plain, zigzag, pingpong, or one of the last two
-                       over two seats: zigzag-shared, pingpong-shared
-  set CELL VALUE       puts a value into a cell: `+`
-  add CELL DIFFERENCE  adds a difference to a cell, less than 0 or not: `+`
-  move FROM TO AMOUNT  takes an amount from a cell and adds it to another: `+`
-  get CELL             `= VALUE`
-  end                  ends the running tick: `tick NUMBER`
-  mark                 opens a round of the words as they are: `mark NUMBER`
-  image                one step of the image keeper: `working`,
-                       `image open NUMBER` at its last one, `idle` with no round,
-                       `image down` once a call has failed
-  log                  one step of the log keeper: `working`, `acked NUMBER` where a
-                       group of ticks is durable, `idle`, `log down`
-  image*, log*         steps until the keeper is idle or down: `image down` or
-                       `log down`, else the last `image open NUMBER` or
-                       `acked NUMBER`, else `idle`
-  fail image, fail log the same, and each call of a device fails
-  crash lose           a crash that leaves the durable bytes of each file, and the
-                       restart: `recovered NUMBER from NUMBER`, or `blank`
-  crash keep           the same, and the bytes that reads show are left
-  crash fill HH        the same, and each uncertain byte is HH, from 00 to ff
-  world                all values, one space between
-A line that is refused gets `- CODE`, and changes nothing:
-  1 no such cell, 2 a number out of range, 3 a result out of range,
-  4 one cell named twice, 5 the tick is full, 6 too many ticks since a mark,
-  7 too many ticks wait for the log, 8 the tick has an action, 9 a round is open,
-  10 nothing is new, 11 the image keeper is down, 12 the log keeper is down,
-  16 the line isn't understood, 19 the start lasts, 21 no tick numbers are left";
+/// The name of the argument for a folder.
+const FOLDER: &str = "dir";
+
+/// The name of the flag for words.
+const WORDS: &str = "words";
 
 fn main(rt: HostRuntime) -> Ending {
     match command_words(&rt) {
@@ -60,7 +48,10 @@ fn main(rt: HostRuntime) -> Ending {
 }
 
 // Does what the words ask for.
-fn answer<R: Input + Print + Eprint + AllocGlobal>(rt: &R, words: &[String]) -> Ending {
+fn answer<R: Input + Print + Eprint + Files<File = File> + AllocGlobal>(
+    rt: &R,
+    words: &[String],
+) -> Ending {
     match matches_of(rt.alloc(), words) {
         Ok(matches) => run(rt, &matches),
         Err(error) => refused(rt, &error),
@@ -72,18 +63,53 @@ fn matches_of<'a>(alloc: Global, words: &'a [String]) -> Result<ArgMatches<'a>, 
     let steps = Command::new(alloc, "steps")
         .about("Runs the script on standard input, over a world in memory")
         .after_help(STEPS_HELP);
+    let recover = Command::new(alloc, "recover")
+        .about("Tells which world stands in the files of a folder")
+        .arg(folder_argument(alloc))?
+        .after_help(RECOVER_HELP);
+    let words_too = Arg::new(alloc, WORDS)
+        .long(WORDS)
+        .action(ArgAction::SetTrue)
+        .help("Prints the words of the world too, on a line of their own");
+    let inspect = Command::new(alloc, "inspect")
+        .about("Tells what each file of a folder holds, and which world stands in them")
+        .arg(folder_argument(alloc))?
+        .arg(words_too)?
+        .after_help(INSPECT_HELP);
     Command::new(alloc, "worldd")
         .version("0.1.0")
         .about("A main-memory world server with asynchronous checkpoints")
         .subcommand_required(true)
         .subcommand(steps)?
+        .subcommand(recover)?
+        .subcommand(inspect)?
         .try_get_matches_from(words)
 }
 
-fn run<R: Input + Print + AllocGlobal>(rt: &R, matches: &ArgMatches<'_>) -> Ending {
-    match matches.subcommand_name() {
-        Some("steps") => {
+// The argument that names a folder.
+fn folder_argument<'a>(alloc: Global) -> Arg<'a> {
+    Arg::new(alloc, FOLDER)
+        .long(FOLDER)
+        .value_name("FOLDER")
+        .required(true)
+        .action(ArgAction::Set)
+        .help("The folder of image.a, image.b, log.a and log.b")
+}
+
+fn run<R: Input + Print + Files<File = File> + AllocGlobal>(
+    rt: &R,
+    matches: &ArgMatches<'_>,
+) -> Ending {
+    let Some((name, given)) = matches.subcommand() else {
+        return Ending::Mistaken;
+    };
+    match (name, given.get_str(FOLDER)) {
+        ("steps", _) => {
             Ending::of_run(run_script(rt.alloc(), &mut rt.reader(), &mut io::writer(rt)))
+        }
+        ("recover", Some(folder)) => Ending::of_command(recover(rt, folder)),
+        ("inspect", Some(folder)) => {
+            Ending::of_command(inspect(rt, folder, given.get_flag(WORDS)))
         }
         _ => Ending::Mistaken,
     }

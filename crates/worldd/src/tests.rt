@@ -5,14 +5,19 @@ use clap::error::Error;
 use std::alloc::{AllocError, Allocator, Global};
 use std::cell::RefCell;
 use std::fmt::Display;
+use std::fs::{File, Files, Metadata, OpenOptions};
 use std::io::{self, BufRead, ErrorKind, Lines};
 use std::process::{ExitCode, Termination};
 use std::test::Fail;
 use world_actions::Refusal;
 
-// A runtime with this input, whose outputs are kept. Its standard output may be closed.
+mod folders;
+
+// A runtime with the files of another one and this input, whose outputs are kept. Its standard output
+// may be closed.
 #[derive(Drop)]
-struct Desk {
+struct Desk<'a> {
+    files: &'a HostRuntime,
     alloc: Global,
     input: &'static [u8],
     is_closed: bool,
@@ -20,9 +25,10 @@ struct Desk {
     errors: RefCell<String>,
 }
 
-impl Desk {
-    fn new(rt: &HostRuntime, input: &'static [u8], is_closed: bool) -> Self {
+impl<'a> Desk<'a> {
+    fn new(rt: &'a HostRuntime, input: &'static [u8], is_closed: bool) -> Self {
         Desk {
+            files: rt,
             alloc: rt.alloc(),
             input,
             is_closed,
@@ -55,7 +61,7 @@ impl Desk {
     }
 }
 
-impl Alloc for Desk {
+impl Alloc for Desk<'_> {
     type A = Global;
 
     fn alloc(&self) -> Global {
@@ -63,7 +69,7 @@ impl Alloc for Desk {
     }
 }
 
-impl Input for Desk {
+impl Input for Desk<'_> {
     type Reader = &'static [u8];
 
     fn read_line<A: Allocator + Clone>(&self, buf: &mut String<A>) -> io::Result<usize> {
@@ -79,7 +85,7 @@ impl Input for Desk {
     }
 }
 
-impl Print for Desk {
+impl Print for Desk<'_> {
     fn print<D: Display + Drop>(&self, text: D) -> io::Result<()> {
         self.print_with(text, "")
     }
@@ -96,13 +102,59 @@ impl Print for Desk {
     }
 }
 
-impl Eprint for Desk {
+impl Eprint for Desk<'_> {
     fn eprint<D: Display + Drop>(&self, text: D) -> io::Result<()> {
         self.keep(&self.errors, text, "")
     }
 
     fn eprintln<D: Display + Drop>(&self, text: D) -> io::Result<()> {
         self.keep(&self.errors, text, "\n")
+    }
+}
+
+impl Files for Desk<'_> {
+    type File = File;
+
+    type Dir = <HostRuntime as Files>::Dir;
+
+    fn open_file(&self, how: &OpenOptions, path: &str) -> io::Result<File> {
+        self.files.open_file(how, path)
+    }
+
+    fn open_dir(&self, path: &str) -> io::Result<<HostRuntime as Files>::Dir> {
+        self.files.open_dir(path)
+    }
+
+    fn metadata(&self, path: &str) -> io::Result<Metadata> {
+        self.files.metadata(path)
+    }
+
+    fn symlink_metadata(&self, path: &str) -> io::Result<Metadata> {
+        self.files.symlink_metadata(path)
+    }
+
+    fn copy(&self, from: &str, to: &str) -> io::Result<u64> {
+        self.files.copy(from, to)
+    }
+
+    fn rename(&self, from: &str, to: &str) -> io::Result<()> {
+        self.files.rename(from, to)
+    }
+
+    fn remove_file(&self, path: &str) -> io::Result<()> {
+        self.files.remove_file(path)
+    }
+
+    fn create_dir(&self, path: &str) -> io::Result<()> {
+        self.files.create_dir(path)
+    }
+
+    fn remove_dir(&self, path: &str) -> io::Result<()> {
+        self.files.remove_dir(path)
+    }
+
+    fn remove_dir_all<B: Allocator>(&self, alloc: B, path: &str) -> io::Result<()> {
+        self.files.remove_dir_all(alloc, path)
     }
 }
 
@@ -128,7 +180,7 @@ fn a_script_is_answered(rt: HostRuntime) -> Result<(), Fail> {
     let desk = Desk::new(&rt, b"open plain 1\nget 0\n", false);
     let line = words(&rt, &["worldd", "steps"])?;
     let ending = answer(&desk, &line);
-    assert!(rt; ending == Ending::Ran && ending.report(&desk) == ExitCode::SUCCESS);
+    assert!(rt; matches!(ending, Ending::Ran) && ending.report(&desk) == ExitCode::SUCCESS);
     assert_eq!(rt; desk.output.into_inner().as_str(), "ready 0\n= 0\n");
     assert_eq!(rt; desk.errors.into_inner().as_str(), "");
     Ok(())
@@ -139,9 +191,8 @@ fn a_closed_output_is_a_fault(rt: HostRuntime) -> Result<(), Fail> {
     let desk = Desk::new(&rt, b"open plain 1\n", true);
     let line = words(&rt, &["worldd", "steps"])?;
     let ending = answer(&desk, &line);
-    assert!(rt;
-        ending == Ending::Fault(Refusal::Device) && ending.report(&desk) == ExitCode::from(1)
-    );
+    assert!(rt; matches!(ending, Ending::Fault(Refusal::Device)));
+    assert!(rt; ending.report(&desk) == ExitCode::from(1));
     assert_eq!(rt;
         desk.errors.into_inner().as_str(),
         "fault 18\nworldd: the device failed\n"
@@ -171,10 +222,10 @@ fn faults_are_told_by_code_and_in_words(rt: HostRuntime) {
 
 #[test]
 fn wrong_command_lines_end_with_two(rt: HostRuntime) -> Result<(), Fail> {
-    let cases: [(&[&str], &str); 3] = [
+    let cases: [(&[&str], &str); 5] = [
         (
             &["worldd"],
-            "error: 'worldd' requires a subcommand but one was not provided\n  [subcommands: steps, help]\n\nUsage: worldd <COMMAND>\n\nFor more information, try '--help'.\n",
+            "error: 'worldd' requires a subcommand but one was not provided\n  [subcommands: steps, recover, inspect, help]\n\nUsage: worldd <COMMAND>\n\nFor more information, try '--help'.\n",
         ),
         (
             &["worldd", "stepz"],
@@ -184,12 +235,22 @@ fn wrong_command_lines_end_with_two(rt: HostRuntime) -> Result<(), Fail> {
             &["worldd", "steps", "extra"],
             "error: unexpected argument 'extra' found\n\nUsage: worldd steps\n\nFor more information, try '--help'.\n",
         ),
+        (
+            &["worldd", "recover"],
+            "error: the following required arguments were not provided:\n  --dir <FOLDER>\n\nUsage: worldd recover --dir <FOLDER>\n\nFor more information, try '--help'.\n",
+        ),
+        (
+            &["worldd", "inspect", "--words"],
+            "error: the following required arguments were not provided:\n  --dir <FOLDER>\n\nUsage: worldd inspect --dir <FOLDER> --words\n\nFor more information, try '--help'.\n",
+        ),
     ];
     for (line, text) in cases {
         let desk = Desk::new(&rt, b"", false);
         let line = words(&rt, line)?;
         let ending = answer(&desk, &line);
-        assert!(rt; ending == Ending::Mistaken && ending.report(&desk) == ExitCode::from(2));
+        assert!(rt;
+            matches!(ending, Ending::Mistaken) && ending.report(&desk) == ExitCode::from(2)
+        );
         assert_eq!(rt; desk.output.into_inner().as_str(), "");
         assert_eq!(rt; desk.errors.into_inner().as_str(), text);
     }
@@ -200,7 +261,7 @@ fn wrong_command_lines_end_with_two(rt: HostRuntime) -> Result<(), Fail> {
 fn unreadable_words_end_with_two(rt: HostRuntime) {
     let desk = Desk::new(&rt, b"", false);
     let ending = unreadable(&desk, &io::Error::from(ErrorKind::InvalidData));
-    assert!(rt; ending == Ending::Mistaken && ending.report(&desk) == ExitCode::from(2));
+    assert!(rt; matches!(ending, Ending::Mistaken) && ending.report(&desk) == ExitCode::from(2));
     assert_eq!(rt;
         desk.errors.into_inner().as_str(),
         "error: the command line can't be read: invalid data\n"
@@ -213,7 +274,7 @@ fn the_version_is_told(rt: HostRuntime) -> Result<(), Fail> {
         let desk = Desk::new(&rt, b"", false);
         let line = words(&rt, &["worldd", flag])?;
         let ending = answer(&desk, &line);
-        assert!(rt; ending == Ending::Told && ending.report(&desk) == ExitCode::SUCCESS);
+        assert!(rt; matches!(ending, Ending::Told) && ending.report(&desk) == ExitCode::SUCCESS);
         assert_eq!(rt; desk.output.into_inner().as_str(), "worldd 0.1.0\n");
         assert_eq!(rt; desk.errors.into_inner().as_str(), "");
     }
@@ -225,7 +286,7 @@ fn help_ends_well(rt: HostRuntime) -> Result<(), Fail> {
     let desk = Desk::new(&rt, b"", false);
     let line = words(&rt, &["worldd", "--help"])?;
     let ending = answer(&desk, &line);
-    assert!(rt; ending == Ending::Told && ending.report(&desk) == ExitCode::SUCCESS);
+    assert!(rt; matches!(ending, Ending::Told) && ending.report(&desk) == ExitCode::SUCCESS);
     assert!(rt;
         desk.output
             .into_inner()
@@ -240,7 +301,7 @@ fn want_of_memory_is_a_fault(rt: HostRuntime) {
     let desk = Desk::new(&rt, b"", false);
     let in_line = refused(&desk, &Error::from(AllocError));
     let in_words = unreadable(&desk, &io::Error::from(AllocError));
-    assert_eq!(rt; in_line, Ending::Fault(Refusal::NoMemory));
-    assert_eq!(rt; in_words, Ending::Fault(Refusal::NoMemory));
+    assert!(rt; matches!(in_line, Ending::Fault(Refusal::NoMemory)));
+    assert!(rt; matches!(in_words, Ending::Fault(Refusal::NoMemory)));
     assert_eq!(rt; desk.errors.into_inner().as_str(), "");
 }

@@ -1,12 +1,12 @@
-ghost use Rattle.std.specs.Prelude.{◌≡◌, ◌⊎◌, ◌↔◌, IsTrue, Ok, Err, IfOk, IfErr};
+ghost use Rattle.std.specs.Prelude.{◌≡◌, ◌⊎◌, ◌↔◌, IsTrue, Err, IfOk, IfErr};
 ghost use Rattle.image_files.specs.Image.{image_of};
 ghost use Rattle.action_log.specs.Segment.{MalformedSegment, IsSegment};
 ghost use Rattle.recovery.specs.Recovery.{Recovers, is_bad_image};
-ghost use Rattle.recovery.specs.Recovered.{recovery_of_answer};
-ghost use Rattle.what_stands.specs.Fault.{Explains};
+ghost use Rattle.worldd.specs.Fault.{Stands, Explains};
 
-use crate::files::{Files, IMAGE_A, IMAGE_B, LOG_A, LOG_B};
+use crate::folder::{IMAGE_A, IMAGE_B, LOG_A, LOG_B};
 use action_log::read_log;
+use disk_model::FourFiles;
 use image_files::read_image;
 use recovery::{Recovered, recover};
 use std::alloc::Global;
@@ -37,7 +37,7 @@ pub enum Fault {
 
 impl Fault {
     ghost use Rattle.std.specs.Prelude.{◌≡◌};
-    ghost use Rattle.what_stands.specs.Fault.{refusal_of};
+    ghost use Rattle.worldd.specs.Fault.{refusal_of};
 
     /// What recovery answers.
     pub fn refusal(&self) -> Refusal
@@ -84,9 +84,8 @@ fn names_of(
 }
 
 /// What stands in four files, or why nothing does.
-pub fn stands_in(alloc: Global, files: &Files) -> Result<Recovered, Fault>
-    ensures recovered { IfOk result (λ found. Recovers files.now.image_a.items files.now.image_b.items
-        files.now.log_a.items files.now.log_b.items (Ok (recovery_of_answer found))) }
+pub fn stands_in(alloc: Global, files: &FourFiles<Vec<u8>>) -> Result<Recovered, Fault>
+    ensures recovered { IfOk result (Stands files.now) }
     ensures fault { IfErr result (Explains files.now) }
 {
     match recover(
@@ -102,7 +101,7 @@ pub fn stands_in(alloc: Global, files: &Files) -> Result<Recovered, Fault>
 }
 
 // Which file a refusal is of.
-fn fault_of(alloc: Global, files: &Files, refusal: Refusal) -> Fault
+fn fault_of(alloc: Global, files: &FourFiles<Vec<u8>>, refusal: Refusal) -> Fault
     requires { (refusal ≡ Refusal.NoMemory) ⊎ Recovers files.now.image_a.items files.now.image_b.items
         files.now.log_a.items files.now.log_b.items (Err refusal) }
     ensures { Explains files.now result }
@@ -119,7 +118,7 @@ fn fault_of(alloc: Global, files: &Files, refusal: Refusal) -> Fault
 }
 
 // Which segments are damaged, or that none is.
-fn fault_of_log(alloc: Global, files: &Files) -> Fault
+fn fault_of_log(alloc: Global, files: &FourFiles<Vec<u8>>) -> Fault
     requires { Recovers files.now.image_a.items files.now.image_b.items
         files.now.log_a.items files.now.log_b.items (Err Refusal.BadLog) }
     ensures { Explains files.now result }
@@ -155,3 +154,6 @@ fn is_bad_segment(alloc: Global, bytes: &[u8]) -> Result<bool, Refusal>
         Err(refusal) => Err(refusal),
     }
 }
+
+#[cfg(test)]
+mod tests;

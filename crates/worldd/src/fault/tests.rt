@@ -1,5 +1,5 @@
-use crate::fault::{Fault, stands_in};
-use crate::files::Files;
+use super::{Fault, stands_in};
+use disk_model::FourFiles;
 use std::alloc::{AllocError, Global};
 use std::test::Fail;
 
@@ -26,8 +26,8 @@ fn files(
     image_b: &[u8],
     log_a: &[u8],
     log_b: &[u8],
-) -> Result<Files, AllocError> {
-    Ok(Files {
+) -> Result<FourFiles<Vec<u8>>, AllocError> {
+    Ok(FourFiles {
         image_a: Vec::from_slice(alloc, image_a)?,
         image_b: Vec::from_slice(alloc, image_b)?,
         log_a: Vec::from_slice(alloc, log_a)?,

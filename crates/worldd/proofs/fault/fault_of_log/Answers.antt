@@ -1,6 +1,6 @@
 use Rattle.std.proofs.Common.{◌≡◌, ◌⊎◌, inl, inr, ◌↔◌, IsTrue, Bool, true, false, ◌||◌, List, ℕ, sym, ap, subst, ◌∙◌}
 use Rattle.action_log.specs.Segment.{MalformedSegment, IsSegment}
-use Rattle.what_stands.proofs.fault.fault_of_log.Goals as goal
+use Rattle.worldd.proofs.fault.fault_of_log.Goals as goal
 
 -- what is told of bytes is told of those that they are
 told_of : (is_bad : Bool) (bytes file : List ℕ) → bytes ≡ file → (IsTrue is_bad ↔ IsSegment bytes MalformedSegment) → (IsTrue is_bad ↔ IsSegment file MalformedSegment)

@@ -1,13 +1,29 @@
 -- Why no world stands in four files.
-use Rattle.std.specs.Prelude.{◌≡◌, ◌↔◌, true, ◌||◌, IsTrue, Err}
+use Rattle.std.specs.Prelude.{◌≡◌, ◌↔◌, ℕ, true, ◌||◌, IsTrue, Result, Ok, Err, Vec}
+use Rattle.std.specs.declared.alloc.Global.{Global}
 use Rattle.world_actions.specs.declared.refusal.Refusal.{Refusal}
 use Rattle.world_actions.specs.declared.refusal.Refusal.TheVariants as refusal
 use Rattle.image_files.specs.Image.{image_of}
 use Rattle.action_log.specs.Segment.{MalformedSegment, IsSegment}
 use Rattle.recovery.specs.Recovery.{Recovers, is_bad_image}
-use Rattle.what_stands.specs.declared.files.Files.{Files}
-use Rattle.what_stands.specs.declared.fault.Fault.{Fault}
-use Rattle.what_stands.specs.declared.fault.Fault.TheVariants.{NoMemory, NoImage, Images, Segments, Replay}
+use Rattle.recovery.specs.declared.recovered.Recovered.{Recovered}
+use Rattle.recovery.specs.Recovered.{recovery_of_answer}
+use Rattle.disk_model.specs.declared.four_files.FourFiles.{FourFiles}
+use Rattle.disk_model.specs.FourFiles.{EachFile}
+use Rattle.worldd.specs.declared.fault.Fault.{Fault}
+use Rattle.worldd.specs.declared.fault.Fault.TheVariants.{NoMemory, NoImage, Images, Segments, Replay}
+
+-- the bytes of four files
+abbrev pub Files : Type 0
+Files = FourFiles (Vec ℕ Global)
+
+-- four files were read, and these are their bytes
+abbrev pub AreRead : {E : Type 0} → FourFiles (Result (Vec ℕ Global) E) → Files → Type 0
+AreRead given files = EachFile given files (λ file bytes. file ≡ Ok bytes)
+
+-- recovery finds this in the four files
+abbrev pub Stands : Files → Recovered → Type 0
+Stands files found = Recovers files.image_a.items files.image_b.items files.log_a.items files.log_b.items (Ok (recovery_of_answer found))
 
 -- what recovery answers
 abbrev pub refusal_of : Fault → Refusal

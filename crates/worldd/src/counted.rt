@@ -1,0 +1,15 @@
+use std::fmt;
+
+/// A count of things, told with their noun.
+#[derive(Clone, Copy)]
+pub struct Counted {
+    pub count: usize,
+    pub noun: &'static str,
+}
+
+impl fmt::Display for Counted {
+    fn fmt<W: fmt::Write>(&self, f: &mut fmt::Formatter<W>) -> fmt::Result {
+        let plural = if self.count == 1 { "" } else { "s" };
+        write!(f, "{} {}{plural}", self.count, self.noun)
+    }
+}

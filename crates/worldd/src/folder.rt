@@ -1,0 +1,113 @@
+ghost use Rattle.std.specs.Prelude.{◌≡◌, Ok, IfOk, IfErr};
+ghost use Rattle.worldd.specs.Fault.{AreRead};
+ghost use Rattle.worldd.specs.Ending.{IsOfFile};
+
+use crate::ending::Ending;
+use crate::system_error::error_of;
+use disk_model::{FileDisk, FourFiles, read_all};
+use std::alloc::Global;
+use std::fs::{self, File, Files};
+use std::path::{Path, PathBuf};
+use std::{fmt, io};
+use world_actions::Refusal;
+
+/// The names of the files.
+pub const IMAGE_A: &str = "image.a";
+
+pub const IMAGE_B: &str = "image.b";
+
+pub const LOG_A: &str = "log.a";
+
+pub const LOG_B: &str = "log.b";
+
+/// A file that can't be read, and why.
+#[derive(Debug, Drop)]
+pub struct Unreadable {
+    pub path: PathBuf,
+    pub error: io::Error,
+}
+
+impl fmt::Display for Unreadable {
+    fn fmt<W: fmt::Write>(&self, f: &mut fmt::Formatter<W>) -> fmt::Result {
+        write!(f, "{}: {}", self.path.as_str(), self.error)
+    }
+}
+
+/// The bytes of each file of a folder, or why it can't be read. Each is opened for reading alone, and
+/// synced, and nothing is locked.
+pub fn read_folder<R: Files<File = File> + AllocGlobal>(
+    rt: &R,
+    folder: &str,
+) -> FourFiles<io::Result<Vec<u8>>> {
+    FourFiles {
+        image_a: read_file(rt, folder, IMAGE_A),
+        image_b: read_file(rt, folder, IMAGE_B),
+        log_a: read_file(rt, folder, LOG_A),
+        log_b: read_file(rt, folder, LOG_B),
+    }
+}
+
+fn read_file<R: Files<File = File> + AllocGlobal>(
+    rt: &R,
+    folder: &str,
+    name: &str,
+) -> io::Result<Vec<u8>> {
+    let mut disk = open_to_read(rt, folder, name)?;
+    read_all(rt.alloc(), &mut disk).map_err(error_of)
+}
+
+// A file of another kind isn't opened: to open a pipe waits for its writer.
+fn open_to_read<R: Files<File = File> + AllocGlobal>(
+    rt: &R,
+    folder: &str,
+    name: &str,
+) -> io::Result<FileDisk> {
+    let path = Path::new(folder).join(rt.alloc(), name)?;
+    if !fs::metadata(rt, path.as_path())?.is_file() {
+        return Err(io::Error::other("not a regular file"));
+    }
+    let file = File::open(rt, path.as_path())?;
+    FileDisk::open(file).map_err(error_of)
+}
+
+/// The bytes of all files, where each was read, else how the program ends for the first that wasn't.
+pub fn all_read(
+    alloc: Global,
+    folder: &str,
+    files: FourFiles<io::Result<Vec<u8>>>,
+) -> Result<FourFiles<Vec<u8>>, Ending>
+    ensures read { IfOk result (AreRead files) }
+    ensures unread { IfErr result IsOfFile }
+{
+    let FourFiles {
+        image_a,
+        image_b,
+        log_a,
+        log_b,
+    } = files;
+    Ok(FourFiles {
+        image_a: bytes_of(alloc, folder, IMAGE_A, image_a)?,
+        image_b: bytes_of(alloc, folder, IMAGE_B, image_b)?,
+        log_a: bytes_of(alloc, folder, LOG_A, log_a)?,
+        log_b: bytes_of(alloc, folder, LOG_B, log_b)?,
+    })
+}
+
+// A file's bytes, or how the program ends where it wasn't read.
+fn bytes_of(
+    alloc: Global,
+    folder: &str,
+    name: &str,
+    file: io::Result<Vec<u8>>,
+) -> Result<Vec<u8>, Ending>
+    ensures read { IfOk result (λ bytes. file ≡ Ok bytes) }
+    ensures unread { IfErr result IsOfFile }
+{
+    match file {
+        Ok(bytes) => Ok(bytes),
+        Err(error) => match Path::new(folder).join(alloc, name) {
+            Ok(path) => Err(Ending::Unreadable(Unreadable { path, error })),
+            Err(_) => Err(Ending::Fault(Refusal::NoMemory)),
+        },
+    }
+}

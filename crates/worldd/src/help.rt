@@ -1,0 +1,53 @@
+/// What `worldd steps --help` says of the lines.
+pub const STEPS_HELP: &str = "\
+Each line of the script gets one line of answer:
+  open METHOD N        opens a world of N cells, 1 to 65536, all 0: `ready 0`
+                       METHOD is plain, zigzag, pingpong, or one of the last two
+                       over two seats: zigzag-shared, pingpong-shared
+  set CELL VALUE       puts a value into a cell: `+`
+  add CELL DIFFERENCE  adds a difference to a cell, less than 0 or not: `+`
+  move FROM TO AMOUNT  takes an amount from a cell and adds it to another: `+`
+  get CELL             `= VALUE`
+  end                  ends the running tick: `tick NUMBER`
+  mark                 opens a round of the words as they are: `mark NUMBER`
+  image                one step of the image keeper: `working`,
+                       `image open NUMBER` at its last one, `idle` with no round,
+                       `image down` once a call has failed
+  log                  one step of the log keeper: `working`, `acked NUMBER` where a
+                       group of ticks is durable, `idle`, `log down`
+  image*, log*         steps until the keeper is idle or down: `image down` or
+                       `log down`, else the last `image open NUMBER` or
+                       `acked NUMBER`, else `idle`
+  fail image, fail log the same, and each call of a device fails
+  crash lose           a crash that leaves the durable bytes of each file, and the
+                       restart: `recovered NUMBER from NUMBER`, or `blank`
+  crash keep           the same, and the bytes that reads show are left
+  crash fill HH        the same, and each uncertain byte is HH, from 00 to ff
+  world                all values, one space between
+A line that is refused gets `- CODE`, and changes nothing:
+  1 no such cell, 2 a number out of range, 3 a result out of range,
+  4 one cell named twice, 5 the tick is full, 6 too many ticks since a mark,
+  7 too many ticks wait for the log, 8 the tick has an action, 9 a round is open,
+  10 nothing is new, 11 the image keeper is down, 12 the log keeper is down,
+  16 the line isn't understood, 19 the start lasts, 21 no tick numbers are left";
+
+/// What `worldd recover --help` says of its answer.
+pub const RECOVER_HELP: &str = "\
+It reads image.a, image.b, log.a and log.b, writes nothing and locks nothing, and prints
+`recovered N from T`: the world after tick N stands in them, built from the image of
+tick T. Where none stands it ends with status 1, and the first line on standard error
+is `fault CODE`:
+  13 no image is open, 14 an image is damaged, 15 the log is damaged,
+  17 there is no memory, 18 a file is missing or can't be read";
+
+/// What `worldd inspect --help` says of its lines.
+pub const INSPECT_HELP: &str = "\
+It reads image.a, image.b, log.a and log.b, writes nothing and locks nothing, and prints
+a line for each, in this order:
+  NAME: closed, 9 bytes
+  NAME: open, format 1, 2 cells, tick 7, 33 bytes    an image of the world after tick 7
+  NAME: open, format 1, base 7, 2 ticks, 52 bytes    a log file with ticks 8 and 9
+  NAME: damaged, 9 bytes                             it is open, and not of the format
+  NAME: unreadable: REASON
+The last line is `recovered N from T in NAME`: the world after tick N stands in them,
+built from the image of tick T. Where none stands it ends as `recover` does.";
