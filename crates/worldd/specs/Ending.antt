@@ -1,8 +1,14 @@
 -- How the program ends.
-use Rattle.std.specs.Prelude.{◌≡◌}
+use Rattle.std.specs.Prelude.{◌≡◌, ℕ, List, Result, MatchResult, Vec}
+use Rattle.std.specs.Path.{path_buf_bytes, path_join}
+use Rattle.std.specs.declared.alloc.Global.{Global}
+use Rattle.std.specs.declared.io.Error.{Error}
 use Rattle.world_actions.specs.declared.refusal.Refusal.TheVariants.{NoMemory}
+use Rattle.disk_model.specs.declared.four_files.FourFiles.{FourFiles}
 use Rattle.worldd.specs.declared.ending.Ending.{Ending}
 use Rattle.worldd.specs.declared.ending.Ending.TheVariants.{Ran, Told, Mistaken, Fault, Unreadable, NoWorld}
+use Rattle.worldd.specs.Fault.{Files, AreRead, Explains}
+use Rattle.worldd.specs.declared.folder.TheConstants.{IMAGE_A, IMAGE_B, LOG_A, LOG_B}
 
 -- it is told as a fault
 abbrev pub IsFault : Ending → Type 0
@@ -13,8 +19,22 @@ IsFault (Fault refusal) = Unit {0}
 IsFault (Unreadable file) = Unit {0}
 IsFault (NoWorld fault) = Unit {0}
 
--- it is told of a file that can't be read, or there was no memory to name it
-abbrev pub IsOfFile : Ending → Type 0
-IsOfFile (Fault refusal) = refusal ≡ NoMemory
-IsOfFile (Unreadable file) = Unit {0}
-IsOfFile other = ⊥
+-- it tells this error of the file of this name in a folder, or that there was no memory for its path
+abbrev pub TellsOf : (folder name : List ℕ) → Error → Ending → Type 0
+TellsOf folder name error (Fault refusal) = refusal ≡ NoMemory
+TellsOf folder name error (Unreadable file) = (path_buf_bytes file.path ≡ path_join folder name) × (file.error ≡ error)
+TellsOf folder name error other = ⊥
+
+-- it tells of the first of four files in a folder that couldn't be read
+abbrev pub TellsOfFirst : (folder : List ℕ) → FourFiles (Result (Vec ℕ Global) Error) → Ending → Type 0
+TellsOfFirst folder files ending =
+    MatchResult files.image_a (λ _. MatchResult files.image_b (λ _. MatchResult files.log_a (λ _. MatchResult files.log_b (λ _. ⊥)
+    (λ error. TellsOf folder LOG_B.now error ending))
+    (λ error. TellsOf folder LOG_A.now error ending))
+    (λ error. TellsOf folder IMAGE_B.now error ending))
+    (λ error. TellsOf folder IMAGE_A.now error ending)
+
+-- it tells why no world was found in the four files of a folder, which were read so
+abbrev pub TellsWhy : (folder : List ℕ) → FourFiles (Result (Vec ℕ Global) Error) → Ending → Type 0
+TellsWhy folder files (NoWorld fault) = (bytes : Files) × AreRead files bytes × Explains bytes fault
+TellsWhy folder files ending = TellsOfFirst folder files ending

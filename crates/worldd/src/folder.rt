@@ -1,6 +1,6 @@
-ghost use Rattle.std.specs.Prelude.{◌≡◌, Ok, IfOk, IfErr};
+ghost use Rattle.std.specs.Prelude.{◌≡◌, Ok, IfOk, IfErr, IsErrAnd};
 ghost use Rattle.worldd.specs.Fault.{AreRead};
-ghost use Rattle.worldd.specs.Ending.{IsOfFile};
+ghost use Rattle.worldd.specs.Ending.{IsFault, TellsOf, TellsOfFirst};
 
 use crate::ending::Ending;
 use crate::system_error::error_of;
@@ -77,7 +77,8 @@ pub fn all_read(
     files: FourFiles<io::Result<Vec<u8>>>,
 ) -> Result<FourFiles<Vec<u8>>, Ending>
     ensures read { IfOk result (AreRead files) }
-    ensures unread { IfErr result IsOfFile }
+    ensures unread { IfErr result (TellsOfFirst folder.now files) }
+    ensures fault { IfErr result IsFault }
 {
     let FourFiles {
         image_a,
@@ -100,8 +101,9 @@ fn bytes_of(
     name: &str,
     file: io::Result<Vec<u8>>,
 ) -> Result<Vec<u8>, Ending>
-    ensures read { IfOk result (λ bytes. file ≡ Ok bytes) }
-    ensures unread { IfErr result IsOfFile }
+    ensures read { IfOk file (λ bytes. result ≡ Ok bytes) }
+    ensures unread { IfErr file (λ error. IsErrAnd result (TellsOf folder.now name.now error)) }
+    ensures fault { IfErr result IsFault }
 {
     match file {
         Ok(bytes) => Ok(bytes),

@@ -1,9 +1,9 @@
-ghost use Rattle.std.specs.Prelude.{◌≡◌, Err, IfOk, IfErr};
-ghost use Rattle.worldd.specs.Ending.{IsFault};
-ghost use Rattle.worldd.specs.Fault.{Files, AreRead, Stands, Explains};
+ghost use Rattle.std.specs.Prelude.{IfOk, IfErr};
+ghost use Rattle.worldd.specs.Ending.{IsFault, TellsWhy};
+ghost use Rattle.worldd.specs.Fault.{Files, AreRead, Stands};
 
 use crate::ending::Ending;
-use crate::fault::{Fault, stands_in};
+use crate::fault::stands_in;
 use crate::folder::{all_read, read_folder};
 use disk_model::FourFiles;
 use recovery::Recovered;
@@ -31,8 +31,7 @@ pub fn found_in(
     files: FourFiles<io::Result<Vec<u8>>>,
 ) -> Result<Recovered, Ending>
     ensures found { IfOk result (λ found. (bytes : Files) × AreRead files bytes × Stands bytes found) }
-    ensures explained { (fault : Fault) → result ≡ Err (Ending.NoWorld fault)
-        → (bytes : Files) × AreRead files bytes × Explains bytes fault }
+    ensures why { IfErr result (TellsWhy folder.now files) }
     ensures fault { IfErr result IsFault }
 {
     let files = all_read(alloc, folder, files)?;

@@ -283,16 +283,37 @@ fn the_version_is_told(rt: HostRuntime) -> Result<(), Fail> {
 
 #[test]
 fn help_ends_well(rt: HostRuntime) -> Result<(), Fail> {
-    let desk = Desk::new(&rt, b"", false);
-    let line = words(&rt, &["worldd", "--help"])?;
-    let ending = answer(&desk, &line);
-    assert!(rt; matches!(ending, Ending::Told) && ending.report(&desk) == ExitCode::SUCCESS);
-    assert!(rt;
-        desk.output
-            .into_inner()
-            .as_str()
-            .starts_with("A main-memory world server")
-    );
+    let cases: [(&[&str], &str, &str); 4] = [
+        (
+            &["worldd", "--help"],
+            "A main-memory world server with asynchronous checkpoints\n\nUsage: worldd <COMMAND>\n",
+            "  -V, --version  Print version\n",
+        ),
+        (
+            &["worldd", "steps", "--help"],
+            "Runs the script on standard input, over a world in memory\n\nUsage: worldd steps\n",
+            "21 no tick numbers are left\n",
+        ),
+        (
+            &["worldd", "recover", "--help"],
+            "Tells which world stands in the files of a folder\n\nUsage: worldd recover --dir <FOLDER>\n",
+            "  17 there is no memory, 18 a file is missing or can't be read\n",
+        ),
+        (
+            &["worldd", "inspect", "--help"],
+            "Tells what each file of a folder holds, and which world stands in them\n\nUsage: worldd inspect [OPTIONS] --dir <FOLDER>\n",
+            "built from the image of tick T. Where none stands it ends as `recover` does.\n",
+        ),
+    ];
+    for (line, start, end) in cases {
+        let desk = Desk::new(&rt, b"", false);
+        let line = words(&rt, line)?;
+        let ending = answer(&desk, &line);
+        assert!(rt; matches!(ending, Ending::Told) && ending.report(&desk) == ExitCode::SUCCESS);
+        let output = desk.output.into_inner();
+        assert!(rt; output.as_str().starts_with(start), "{output}");
+        assert!(rt; output.as_str().ends_with(end), "{output}");
+    }
     Ok(())
 }
 
