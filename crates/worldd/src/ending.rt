@@ -4,8 +4,9 @@ ghost use Rattle.std.specs.Process.{exit_status};
 use crate::fault::Fault;
 use crate::folder::Unreadable;
 use crate::system_error::refusal_of;
-use std::fmt::Display;
+use std::fmt::{self, Display};
 use std::io;
+use std::path::PathBuf;
 use std::process::{ExitCode, Termination};
 use world_actions::Refusal;
 
@@ -24,6 +25,20 @@ pub enum Ending {
     Unreadable(Unreadable),
     /// No world stands in the files.
     NoWorld(Fault),
+    /// A world can't be made over this file.
+    Occupied(Occupied),
+}
+
+/// A file that isn't closed.
+#[derive(Debug, Drop)]
+pub struct Occupied {
+    pub path: PathBuf,
+}
+
+impl fmt::Display for Occupied {
+    fn fmt<W: fmt::Write>(&self, f: &mut fmt::Formatter<W>) -> fmt::Result {
+        write!(f, "{}: {}", self.path.as_str(), Refusal::NotEmpty)
+    }
 }
 
 impl Ending {
@@ -67,6 +82,7 @@ impl Termination for Ending {
     ghost use Rattle.std.specs.Prelude.{◌≡◌, ◌⊎◌};
     ghost use Rattle.std.specs.Process.{exit_status};
     ghost use Rattle.worldd.specs.declared.folder.Unreadable.{Unreadable as File};
+    ghost use Rattle.worldd.specs.declared.ending.Occupied.{Occupied as Open};
 
     /// Tells a fault by its code and in words, and gives the exit status.
     fn report<R: Eprint>(self, rt: &R) -> ExitCode
@@ -74,6 +90,7 @@ impl Termination for Ending {
         ensures fault { (refusal : Refusal) → self ≡ Ending.Fault refusal → exit_status result ≡ 1 }
         ensures unreadable { (file : File) → self ≡ Ending.Unreadable file → exit_status result ≡ 1 }
         ensures no_world { (fault : Fault) → self ≡ Ending.NoWorld fault → exit_status result ≡ 1 }
+        ensures occupied { (file : Open) → self ≡ Ending.Occupied file → exit_status result ≡ 1 }
         ensures mistaken { self ≡ Ending.Mistaken → exit_status result ≡ 2 }
     {
         match self {
@@ -82,6 +99,7 @@ impl Termination for Ending {
             Ending::Fault(refusal) => report_fault(rt, refusal, refusal),
             Ending::Unreadable(file) => report_fault(rt, refusal_of(&file.error), file),
             Ending::NoWorld(fault) => report_fault(rt, fault.refusal(), fault),
+            Ending::Occupied(file) => report_fault(rt, Refusal::NotEmpty, file),
         }
     }
 }

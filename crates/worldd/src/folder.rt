@@ -6,7 +6,7 @@ use crate::ending::Ending;
 use crate::system_error::error_of;
 use disk_model::{FileDisk, FourFiles, read_all};
 use std::alloc::Global;
-use std::fs::{self, File, Files};
+use std::fs::{self, File, Files, OpenOptions, TryLockError};
 use std::path::{Path, PathBuf};
 use std::{fmt, io};
 use world_actions::Refusal;
@@ -70,6 +70,92 @@ fn open_to_read<R: Files<File = File> + AllocGlobal>(
     FileDisk::open(file).map_err(error_of)
 }
 
+/// The four files of a folder, for who writes them: absent ones are made, and the folder is synced. Who
+/// writes a world holds a lock on its image.a as long as the file is open, so no two do.
+pub fn open_to_write<R: Files<File = File> + AllocGlobal>(
+    rt: &R,
+    folder: &str,
+) -> Result<FourFiles<FileDisk>, Ending>
+    ensures { IfErr result IsFault }
+{
+    let files = FourFiles {
+        image_a: opened(
+            rt.alloc(),
+            folder,
+            IMAGE_A,
+            open_locked(rt, folder, IMAGE_A),
+        )?,
+        image_b: opened(
+            rt.alloc(),
+            folder,
+            IMAGE_B,
+            open_or_make(rt, folder, IMAGE_B),
+        )?,
+        log_a: opened(rt.alloc(), folder, LOG_A, open_or_make(rt, folder, LOG_A))?,
+        log_b: opened(rt.alloc(), folder, LOG_B, open_or_make(rt, folder, LOG_B))?,
+    };
+    opened(rt.alloc(), folder, "", sync_folder(rt, folder))?;
+    Ok(files)
+}
+
+// What the system gave for a file, or how the program ends where it gave an error.
+fn opened<T>(alloc: Global, folder: &str, name: &str, answer: io::Result<T>) -> Result<T, Ending>
+    ensures ok { IfOk answer (λ value. result ≡ Ok value) }
+    ensures fails { IfErr answer (λ error. IsErrAnd result (TellsOf folder.now name.now error)) }
+    ensures fault { IfErr result IsFault }
+{
+    match answer {
+        Ok(value) => Ok(value),
+        Err(error) => match Path::new(folder).join(alloc, name) {
+            Ok(path) => Err(Ending::Unreadable(Unreadable { path, error })),
+            Err(_) => Err(Ending::Fault(Refusal::NoMemory)),
+        },
+    }
+}
+
+fn open_locked<R: Files<File = File> + AllocGlobal>(
+    rt: &R,
+    folder: &str,
+    name: &str,
+) -> io::Result<FileDisk> {
+    let file = make_file(rt, folder, name)?;
+    match file.try_lock() {
+        Ok(()) => FileDisk::open(file).map_err(error_of),
+        Err(TryLockError::WouldBlock) => Err(io::Error::other("another program writes this world")),
+        Err(TryLockError::Error(error)) => Err(error),
+    }
+}
+
+fn open_or_make<R: Files<File = File> + AllocGlobal>(
+    rt: &R,
+    folder: &str,
+    name: &str,
+) -> io::Result<FileDisk> {
+    FileDisk::open(make_file(rt, folder, name)?).map_err(error_of)
+}
+
+// A file of the folder for reading and writing, made where it is absent.
+fn make_file<R: Files<File = File> + AllocGlobal>(
+    rt: &R,
+    folder: &str,
+    name: &str,
+) -> io::Result<File> {
+    let path = Path::new(folder).join(rt.alloc(), name)?;
+    match fs::metadata(rt, path.as_path()) {
+        Ok(metadata) if !metadata.is_file() => Err(io::Error::other("not a regular file")),
+        _ => OpenOptions::new()
+            .read(true)
+            .write(true)
+            .create(true)
+            .open(rt, path.as_path()),
+    }
+}
+
+// Makes the names of new files durable.
+fn sync_folder<R: Files<File = File>>(rt: &R, folder: &str) -> io::Result<()> {
+    File::open(rt, Path::new(folder))?.sync_all()
+}
+
 /// The bytes of all files, where each was read, else how the program ends for the first that wasn't.
 pub fn all_read(
     alloc: Global,
@@ -87,29 +173,9 @@ pub fn all_read(
         log_b,
     } = files;
     Ok(FourFiles {
-        image_a: bytes_of(alloc, folder, IMAGE_A, image_a)?,
-        image_b: bytes_of(alloc, folder, IMAGE_B, image_b)?,
-        log_a: bytes_of(alloc, folder, LOG_A, log_a)?,
-        log_b: bytes_of(alloc, folder, LOG_B, log_b)?,
+        image_a: opened(alloc, folder, IMAGE_A, image_a)?,
+        image_b: opened(alloc, folder, IMAGE_B, image_b)?,
+        log_a: opened(alloc, folder, LOG_A, log_a)?,
+        log_b: opened(alloc, folder, LOG_B, log_b)?,
     })
-}
-
-// A file's bytes, or how the program ends where it wasn't read.
-fn bytes_of(
-    alloc: Global,
-    folder: &str,
-    name: &str,
-    file: io::Result<Vec<u8>>,
-) -> Result<Vec<u8>, Ending>
-    ensures read { IfOk file (λ bytes. result ≡ Ok bytes) }
-    ensures unread { IfErr file (λ error. IsErrAnd result (TellsOf folder.now name.now error)) }
-    ensures fault { IfErr result IsFault }
-{
-    match file {
-        Ok(bytes) => Ok(bytes),
-        Err(error) => match Path::new(folder).join(alloc, name) {
-            Ok(path) => Err(Ending::Unreadable(Unreadable { path, error })),
-            Err(_) => Err(Ending::Fault(Refusal::NoMemory)),
-        },
-    }
 }

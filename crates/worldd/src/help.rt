@@ -31,6 +31,14 @@ A line that is refused gets `- CODE`, and changes nothing:
   10 nothing is new, 11 the image keeper is down, 12 the log keeper is down,
   16 the line isn't understood, 19 the start lasts, 21 no tick numbers are left";
 
+/// What `worldd create --help` says of its answer.
+pub const CREATE_HELP: &str = "\
+It makes those of image.a, image.b, log.a and log.b that are absent, writes a world of
+N cells, all 0, into them, and prints `created N`. Where that can't be done it ends with
+status 1, and the first line on standard error is `fault CODE`:
+  17 there is no memory, 18 a file can't be opened or written, or another program
+  writes this world, 22 a file isn't closed: no file is written then";
+
 /// What `worldd recover --help` says of its answer.
 pub const RECOVER_HELP: &str = "\
 It reads image.a, image.b, log.a and log.b, writes nothing and locks nothing, and prints

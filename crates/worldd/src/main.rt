@@ -1,16 +1,18 @@
 //! The program `worldd`: its command line, its exit statuses, and what it says of a fault.
 //!
-//! `steps` runs a script over a world in memory. `recover` and `inspect` tell what the files of a folder
+//! `steps` runs a script over a world in memory. `create` makes the files of a new world in a folder. `recover` and `inspect` tell what the files of a folder
 //! hold, and write nothing into it.
 //!
 //! Status 0 is a run that ended well, 1 one that a fault ended, told as `fault CODE` on the standard
 //! error and then in words, and 2 a wrong command line.
 #![tactic(auto)]
 
-ghost use Rattle.std.specs.Prelude.{◌≡◌, ◌≢◌, ◌⊎◌};
+ghost use Rattle.std.specs.Prelude.{◌≡◌, ◌≢◌, ◌⊎◌, ◌≤◌, IfSome};
+ghost use Rattle.world_actions.specs.declared.world.TheConstants.{CELLS as world_cells};
 ghost use Rattle.clap.specs.Values.{kind_of};
 
 mod counted;
+mod create;
 mod ending;
 mod fault;
 mod folder;
@@ -22,9 +24,10 @@ mod told;
 mod words;
 
 use clap::error::{Error, ErrorKind};
-use clap::{Arg, ArgAction, ArgMatches, Command};
+use clap::{Arg, ArgAction, ArgMatches, Command, value_parser};
+use create::create;
 use ending::Ending;
-use help::{INSPECT_HELP, RECOVER_HELP, STEPS_HELP};
+use help::{CREATE_HELP, INSPECT_HELP, RECOVER_HELP, STEPS_HELP};
 use inspect::inspect;
 use recover::recover;
 use std::alloc::Global;
@@ -36,6 +39,9 @@ use world_actions::Refusal;
 
 /// The name of the argument for a folder.
 const FOLDER: &str = "dir";
+
+/// The name of the argument for a number of cells.
+const CELLS: &str = "cells";
 
 /// The name of the flag for words.
 const WORDS: &str = "words";
@@ -63,6 +69,17 @@ fn matches_of<'a>(alloc: Global, words: &'a [String]) -> Result<ArgMatches<'a>, 
     let steps = Command::new(alloc, "steps")
         .about("Runs the script on standard input, over a world in memory")
         .after_help(STEPS_HELP);
+    let cells = Arg::new(alloc, CELLS)
+        .long(CELLS)
+        .value_name("N")
+        .required(true)
+        .value_parser(value_parser!(u32).range(1..=65_536))
+        .help("The number of cells");
+    let create = Command::new(alloc, "create")
+        .about("Makes the files of a new world in a folder")
+        .arg(folder_argument(alloc))?
+        .arg(cells)?
+        .after_help(CREATE_HELP);
     let recover = Command::new(alloc, "recover")
         .about("Tells which world stands in the files of a folder")
         .arg(folder_argument(alloc))?
@@ -81,6 +98,7 @@ fn matches_of<'a>(alloc: Global, words: &'a [String]) -> Result<ArgMatches<'a>, 
         .about("A main-memory world server with asynchronous checkpoints")
         .subcommand_required(true)
         .subcommand(steps)?
+        .subcommand(create)?
         .subcommand(recover)?
         .subcommand(inspect)?
         .try_get_matches_from(words)
@@ -107,12 +125,26 @@ fn run<R: Input + Print + Files<File = File> + AllocGlobal>(
         ("steps", _) => {
             Ending::of_run(run_script(rt.alloc(), &mut rt.reader(), &mut io::writer(rt)))
         }
+        ("create", Some(folder)) => match cells_of(given) {
+            Some(cells) => Ending::of_command(create(rt, folder, cells)),
+            None => Ending::Mistaken,
+        },
         ("recover", Some(folder)) => Ending::of_command(recover(rt, folder)),
         ("inspect", Some(folder)) => {
             Ending::of_command(inspect(rt, folder, given.get_flag(WORDS)))
         }
         _ => Ending::Mistaken,
     }
+}
+
+// How many cells are asked for.
+fn cells_of(given: &ArgMatches<'_>) -> Option<u32>
+    ensures { IfSome result (λ cells. (1 ≤ cells) × (cells ≤ world_cells)) }
+{
+    let cells = given.get_one::<u32>(CELLS)?;
+    (1..=world_actions::CELLS as u32)
+        .contains(&cells)
+        .then_some(cells)
 }
 
 // A command line that isn't right, or that asks for help or the version: clap's text tells which.
