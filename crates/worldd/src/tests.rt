@@ -302,7 +302,7 @@ fn help_ends_well(rt: HostRuntime) -> Result<(), Fail> {
         (
             &["worldd", "inspect", "--help"],
             "Tells what each file of a folder holds, and which world stands in them\n\nUsage: worldd inspect [OPTIONS] --dir <FOLDER>\n",
-            "built from the image of tick T. Where none stands it ends as `recover` does.\n",
+            "\nfrom the image of tick T. Where none stands it ends as `recover` does.\n",
         ),
     ];
     for (line, start, end) in cases {
