@@ -21,7 +21,8 @@ use Rattle.restart.specs.Start.{has_round, started_keeper, images_begun, IsBuilt
 use Rattle.restart.specs.InStep.{InStep}
 use Rattle.served.specs.declared.engine.Engine.{Engine}
 use Rattle.served.specs.Running.{CellsLeft}
-use Rattle.served.specs.Engine.{Begins, ImagesInOrder, LogInOrder, Follows}
+use Rattle.served.specs.Engine.{Follows}
+use Rattle.served.specs.Steps.{Begins, ImagesInOrder, LogInOrder}
 
 -- ---- the store
 

@@ -31,7 +31,8 @@ use Rattle.sessions.specs.declared.batch.Request.{Request}
 use Rattle.sessions.specs.Answer.{accepted_of, words_after}
 use Rattle.served.specs.declared.engine.Engine.{Engine}
 use Rattle.served.specs.Running.{RoundGoes, LogGoes}
-use Rattle.served.specs.Engine.{Follows, Plays, BeginsRound, HasImageOf}
+use Rattle.served.specs.Engine.{Follows, HasImageOf}
+use Rattle.served.specs.Steps.{Plays, BeginsRound}
 
 -- ---- a log that is idle
 

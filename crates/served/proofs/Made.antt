@@ -12,9 +12,9 @@ use Rattle.action_log.specs.Segment.{ClosedSegment}
 use Rattle.recovery.specs.Sound.{IsSound, IsFresh}
 use Rattle.restart.specs.InStep.{FreshBegins, IsSafe}
 use Rattle.served.specs.declared.engine.Engine.{Engine}
-use Rattle.served.specs.Engine.{Begins}
+use Rattle.served.specs.Steps.{Begins, IsBegunFresh}
 use Rattle.served.specs.Opening.{AreRead}
-use Rattle.served.specs.Fresh.{AreClosed, IsBegunFresh}
+use Rattle.served.specs.Fresh.{AreClosed}
 use Rattle.served.proofs.Beginning.{StartLaws, start_follows}
 use Rattle.served.proofs.Recovered.{synced_on}
 use Rattle.served.proofs.Sound.{fewer_sound}

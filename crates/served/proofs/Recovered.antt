@@ -23,8 +23,9 @@ use Rattle.recovery.specs.Sound.{IsSoundReading}
 use Rattle.recovery.specs.Restart.{AnswersAreBuilt, SoundRestarts, Restarts, recovered_images}
 use Rattle.restart.specs.InStep.{RecoveryBegins}
 use Rattle.served.specs.declared.engine.Engine.{Engine}
-use Rattle.served.specs.Engine.{Begins, Follows}
-use Rattle.served.specs.Opening.{AreSynced, AreSound, AreRead, IsRead}
+use Rattle.served.specs.Engine.{Follows}
+use Rattle.served.specs.Steps.{Begins, IsRead}
+use Rattle.served.specs.Opening.{AreSynced, AreSound, AreRead}
 use Rattle.served.proofs.Beginning.{StartLaws, start_follows, built_live, started_cells, started_newest}
 
 pub if_err : {T : Type 0} (r : Result T Refusal) (refusal : Refusal) (P : Refusal → Type 0) → IsErrAnd r (λ e. e ≡ refusal) → P refusal → IfErr r P

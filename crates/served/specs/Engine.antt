@@ -1,34 +1,23 @@
 -- A world's store, keepers and queue beside its four files: what is true of them whatever the disks are, and how they follow
 -- the ticks that ended.
-use Rattle.std.specs.Prelude.{◌≡◌, ◌≤◌, ◌⊎◌, ℕ, ◌+◌, ◌-◌, Bool, true, false, IsTrue, List, [], ◌∷◌, ◌++◌, length, Option, Some, None, Ok, nat_le, if◌then◌else◌}
+use Rattle.std.specs.Prelude.{◌≡◌, ◌≤◌, ℕ, Bool, List, length, Option, Some, None, Ok, nat_le, if◌then◌else◌}
 use Rattle.world_actions.specs.declared.action.Action.{Action}
 use Rattle.world_actions.specs.declared.refusal.Refusal.{Refusal}
 use Rattle.world_actions.specs.declared.refusal.Refusal.TheVariants.{LogDown, TicksEnded, SegmentFull}
 use Rattle.world_ticks.specs.declared.tick.TheConstants.{TICK_MAX}
 use Rattle.world_ticks.specs.After.{after_ticks}
-use Rattle.world_ticks.specs.Tick.{Actions}
-use Rattle.capture_core.specs.Content.{Content, Covers, Marks}
+use Rattle.capture_core.specs.Content.{Content}
 use Rattle.disk_model.specs.declared.four_files.FourFiles.{FourFiles}
 use Rattle.file_format.specs.declared.slot.Slot.{Slot}
 use Rattle.file_format.specs.Slot.{in_slot}
-use Rattle.image_files.specs.declared.phase.Phase.TheVariants.{Idle, Down}
 use Rattle.image_files.specs.Image.{image_of, Open}
 use Rattle.image_files.specs.Images.{ImageFiles}
-use Rattle.image_files.specs.Progress.{made_keeper, begun_keeper}
-use Rattle.image_files.specs.Files.{FitsFiles as ImagesFit, Stands as ImagesStand, HoldsNewest}
+use Rattle.image_files.specs.Files.{Stands as ImagesStand}
 use Rattle.action_log.specs.declared.format.TheConstants.{SEGMENT_TICKS}
-use Rattle.action_log.specs.declared.record.Record.TheVariants as records
-use Rattle.action_log.specs.Progress.{begun, QueueFollows, end_of, work_of}
-use Rattle.action_log.specs.Files.{FitsFiles as LogFits}
 use Rattle.action_log.specs.Logs.{LogPlace}
 use Rattle.action_log.specs.Stands.{Stands as LogStands}
-use Rattle.restart.specs.Start.{has_round, started_keeper, IsBuilt, is_shut}
 use Rattle.restart.specs.InStep.{InStep}
-use Rattle.sessions.specs.declared.batch.Request.{Request}
-use Rattle.sessions.specs.Answer.{accepted_of, words_after}
-use Rattle.served.specs.declared.engine.TheConstants.{QUEUE_RECORDS}
 use Rattle.served.specs.declared.engine.Engine.{Engine}
-use Rattle.served.specs.Running.{CellsLeft}
 
 -- why no batch is run, if so: the first line that holds
 abbrev pub batch_refusal : (down : Bool) → (ended since : ℕ) → Option Refusal
@@ -37,32 +26,6 @@ batch_refusal down ended since =
     if nat_le TICK_MAX ended then Some TicksEnded else
     if nat_le SEGMENT_TICKS since then Some SegmentFull else
     None
-
--- ---- whatever the disks are
-
-module _ {C D : Type 0} (content : C → Content) (file : D → List ℕ) (honest : Bool) where
-  -- the image keeper goes with the store, and with its files where they keep to the disk model
-  pub record ImagesInOrder (engine : Engine C) (files : FourFiles D) : Type 0 where
-    pub cells : engine.images.cells ≡ length (content engine.store).live
-    pub left : CellsLeft engine.images (content engine.store)
-    pub fits : IsTrue honest → ImagesFit engine.images (file files.image_a) (file files.image_b)
-
-  -- the log keeper may take the queue, whose ticks go on to the ended ones
-  pub record LogInOrder (engine : Engine C) (files : FourFiles D) : Type 0 where
-    pub fits : IsTrue honest → LogFits engine.log (file files.log_a) (file files.log_b)
-    pub queue : QueueFollows engine.log engine.queue.items
-    pub end : end_of engine.log engine.queue.items ≡ record { base = engine.ended - engine.since; count = engine.since }
-    pub within : engine.since ≤ engine.ended
-    pub most : engine.ended ≤ TICK_MAX
-    pub ring : engine.queue.capacity ≡ QUEUE_RECORDS
-
-  -- the start is over, and neither keeper has work left, but one that is down
-  pub record IsAtRest (engine : Engine C) (files : FourFiles D) : Type 0 where
-    pub images : ImagesInOrder engine files
-    pub log : LogInOrder engine files
-    pub started : engine.log.starting ≡ false
-    pub over : (engine.images.phase ≡ Idle) ⊎ (engine.images.phase ≡ Down)
-    pub rests : (engine.log.down ≡ true) ⊎ (work_of engine.log engine.queue.items ≡ 0)
 
 -- ---- on files that keep to the disk model
 
@@ -83,37 +46,3 @@ module _ {C D : Type 0} (content : C → Content) (file : D → List ℕ) (leave
 abbrev pub HasImageOf : {D : Type 0} → (leaves : D → List ℕ → Type 0) → FourFiles D → (tick : ℕ) → Type 0
 HasImageOf leaves files tick =
     (slot : Slot) × (words : List ℕ) × ((left : List ℕ) → in_slot slot (leaves files.image_a) (leaves files.image_b) left → image_of left ≡ Open tick words)
-
--- ---- a batch on the store
-
-module _ {C : Type 0} (content : C → Content) where
-  -- a batch was done on the store, and its tick is queued
-  pub record Plays (old new : Engine C) (requests : List Request) : Type 0 where
-    pub is : new ≡ record old { store = new.store; queue = new.queue; ended = old.ended + 1; since = old.since + 1 }
-    pub tick : Actions
-    pub list : tick.list ≡ accepted_of requests (content old.store).live
-    pub queue : new.queue.items ≡ old.queue.items ++ records.Tick tick ∷ []
-    pub ring : new.queue.capacity ≡ old.queue.capacity
-    pub live : (content new.store).live ≡ words_after requests (content old.store).live
-    pub cells : length (content new.store).live ≡ length (content old.store).live
-    pub left : (content new.store).left ≡ (content old.store).left
-    pub covers : (image : List ℕ) → Covers image (content old.store) → Covers image (content new.store)
-
-  -- the store was marked, the round of the ended ticks began, and their switch is queued
-  pub record BeginsRound (old new : Engine C) : Type 0 where
-    pub is : new ≡ record old { store = new.store; images = begun_keeper old.ended old.images; queue = new.queue; since = 0 }
-    pub marks : Marks (content old.store) (content new.store)
-    pub queue : new.queue.items ≡ old.queue.items ++ records.Switch old.ended ∷ []
-    pub ring : new.queue.capacity ≡ old.queue.capacity
-
-  -- at the beginning of a start at this tick and of these words, from this newest image, on files with these bytes
-  pub record Begins (cells : ℕ) (newest : Option (Slot × ℕ)) (tick : ℕ) (words image_a image_b log_a log_b : List ℕ) (engine : Engine C) : Type 0 where
-    pub store : IsBuilt words (has_round newest tick) (content engine.store)
-    pub images : engine.images ≡ started_keeper (has_round newest tick) tick (made_keeper cells newest (is_shut image_a) (is_shut image_b))
-    pub images_fit : HoldsNewest cells newest image_a image_b → ImagesFit engine.images image_a image_b
-    pub log : engine.log ≡ begun tick (is_shut log_a) (is_shut log_b)
-    pub log_fits : LogFits engine.log log_a log_b
-    pub queue : engine.queue.items ≡ []
-    pub ring : engine.queue.capacity ≡ QUEUE_RECORDS
-    pub ended : engine.ended ≡ tick
-    pub since : engine.since ≡ 0

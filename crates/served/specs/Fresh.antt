@@ -2,14 +2,11 @@
 use Rattle.std.specs.Prelude.{◌≡◌, ◌≢◌, ◌⊎◌, ℕ, List, []}
 use Rattle.world_actions.specs.declared.refusal.Refusal.{Refusal}
 use Rattle.world_actions.specs.declared.refusal.Refusal.TheVariants.{Device, NotEmpty}
-use Rattle.capture_core.specs.Content.{Content}
 use Rattle.disk_model.specs.FourFiles.{EachFile, KeepsFile}
 use Rattle.disk_model.specs.declared.four_files.FourFiles.{FourFiles}
 use Rattle.image_files.specs.Image.{Closed, image_of}
 use Rattle.action_log.specs.Segment.{ClosedSegment, IsSegment}
 use Rattle.recovery.specs.Sound.{IsFresh}
-use Rattle.served.specs.declared.engine.Engine.{Engine}
-use Rattle.served.specs.Engine.{Follows}
 use Rattle.served.specs.Opening.{AreSynced, AreSound}
 
 -- four files that hold no world
@@ -35,8 +32,3 @@ module _ {D : Type 0} (file : D → List ℕ) (leaves : D → List ℕ → Type 
     pub kept : refusal ≢ Device → EachFile files left (KeepsFile file leaves)
     pub safe : AreSynced file leaves files → FilesAreClosed file files
         → IsFresh (leaves left.image_a) (leaves left.image_b) (leaves left.log_a) (leaves left.log_b) cells ⊎ AreSound file leaves left cells [] 0
-
--- the engine begins the start of a fresh world
-pub record IsBegunFresh {C D : Type 0} (content : C → Content) (file : D → List ℕ) (leaves : D → List ℕ → Type 0) (files : FourFiles D) (cells : ℕ) (engine : Engine C) (left : FourFiles D) : Type 0 where
-  pub closed : FilesAreClosed file files
-  pub follows : AreSynced file leaves files → (engine.images.cells ≡ cells) × Follows content file leaves engine left [] 0

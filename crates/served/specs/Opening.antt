@@ -9,10 +9,7 @@ use Rattle.disk_model.specs.FourFiles.{EachFile, KeepsFile}
 use Rattle.disk_model.specs.declared.four_files.FourFiles.{FourFiles}
 use Rattle.recovery.specs.Recovery.{Recovery, Recovers}
 use Rattle.recovery.specs.Sound.{IsSound}
-use Rattle.served.specs.declared.engine.Engine.{Engine}
 use Rattle.served.specs.declared.serving.Serving.{Serving}
-use Rattle.served.specs.Running.{HasNewest}
-use Rattle.served.specs.Engine.{Follows}
 use Rattle.served.specs.Serving.{words_of, Serves}
 
 -- ---- the files
@@ -48,29 +45,6 @@ abbrev pub IsRefused : {D : Type 0} → (file : D → List ℕ) → (honest : Bo
 IsRefused file honest files refusal =
     (refusal ≡ NoMemory) ⊎ ((refusal ≡ Device)
     ⊎ ((image_a image_b log_a log_b : List ℕ) × Recovers image_a image_b log_a log_b (Err refusal) × (IsTrue honest → AreRead file files image_a image_b log_a log_b)))
-
-module _ {C D : Type 0} (content : C → Content) (file : D → List ℕ) (leaves : D → List ℕ → Type 0) where
-  -- The engine begins the start of the recovered world. Where the files were sound for some ticks, it follows the recovered
-  -- ones among them.
-  pub record IsRead (files : FourFiles D) (engine : Engine C) (from : ℕ) (left : FourFiles D) : Type 0 where
-    pub recovery : Recovery
-    pub recovers : RecoversFiles file files recovery
-    pub is_from : from ≡ recovery.from
-    pub words : (content engine.store).live ≡ recovery.words
-    pub ended : engine.ended ≡ recovery.tick
-    pub newest : HasNewest engine.images
-    pub follows : (cells : ℕ) (ticks : List (List Action)) (acknowledged : ℕ) → AreSynced file leaves files → AreSound file leaves files cells ticks acknowledged
-        → (engine.images.cells ≡ cells) × Follows content file leaves engine left (take recovery.tick ticks) acknowledged
-
-  -- its start has ended: so many ticks are acknowledged again
-  pub record IsStarted (files : FourFiles D) (engine : Engine C) (from : ℕ) (left : FourFiles D) : Type 0 where
-    pub recovery : Recovery
-    pub recovers : RecoversFiles file files recovery
-    pub is_from : from ≡ recovery.from
-    pub words : (content engine.store).live ≡ recovery.words
-    pub ended : engine.ended ≡ recovery.tick
-    pub follows : (cells : ℕ) (ticks : List (List Action)) (acknowledged : ℕ) → AreSynced file leaves files → AreSound file leaves files cells ticks acknowledged
-        → (engine.images.cells ≡ cells) × Follows content file leaves engine left (take recovery.tick ticks) recovery.tick
 
 -- A world is served: what recovery answers, acknowledged again. Where the files were sound for some ticks, the recovered ones
 -- among them are served, and no fewer than were acknowledged.

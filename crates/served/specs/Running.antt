@@ -1,3 +1,4 @@
+-- Inside: for private functions alone.
 -- What is kept while images and log are stepped to an end.
 use Rattle.std.specs.Prelude.{◌≡◌, ◌⊎◌, ℕ, ◌+◌, ◌≤◌, false, List, [], length, Some, None}
 use Rattle.world_actions.specs.declared.action.Action.{Action}

@@ -3,8 +3,8 @@ ghost use Rattle.world_actions.specs.declared.world.TheConstants.{CELLS};
 ghost use Rattle.disk_model.specs.FourFiles.{EachFile, KeepsFile};
 ghost use Rattle.image_files.specs.Image.{Closed, image_of};
 ghost use Rattle.action_log.specs.Segment.{ClosedSegment, IsSegment};
-ghost use Rattle.served.specs.Engine.{ImagesInOrder, LogInOrder};
-ghost use Rattle.served.specs.Fresh.{AreClosed, AreMade, AreNotMade, FilesAreClosed, IsBegunFresh};
+ghost use Rattle.served.specs.Steps.{ImagesInOrder, LogInOrder, IsBegunFresh};
+ghost use Rattle.served.specs.Fresh.{AreClosed, AreMade, AreNotMade, FilesAreClosed};
 
 use crate::engine::Engine;
 use action_log::{LogState, log_outcomes, log_queues, read_log, segments_read_once};

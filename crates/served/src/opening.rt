@@ -1,7 +1,7 @@
 ghost use Rattle.std.specs.Prelude.{◌≡◌, false, IsTrue, IfOk, IfErr};
 ghost use Rattle.disk_model.specs.FourFiles.{EachFile, KeepsFile};
-ghost use Rattle.served.specs.Engine.{ImagesInOrder, LogInOrder, IsAtRest};
-ghost use Rattle.served.specs.Opening.{IsRefused, IsRead, IsStarted, IsNotOpened};
+ghost use Rattle.served.specs.Steps.{ImagesInOrder, LogInOrder, IsAtRest, IsRead, IsStarted};
+ghost use Rattle.served.specs.Opening.{IsRefused, IsNotOpened};
 
 use crate::engine::Engine;
 use action_log::{log_outcomes, log_queues, segments_read_once};

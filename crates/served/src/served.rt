@@ -19,7 +19,7 @@ pub struct Served<C: Capture, D: Disk> {
 
 impl<C: Capture, D: Disk> Model for Served<C, D> {
     ghost use Rattle.served.specs.declared.serving.Serving.{Serving as State};
-    ghost use Rattle.served.specs.Engine.{IsAtRest};
+    ghost use Rattle.served.specs.Steps.{IsAtRest};
 
     ghost Value = { State C D };
 

@@ -1,7 +1,8 @@
 ghost use Rattle.std.specs.Prelude.{◌≡◌, ◌⊎◌, ◌≤◌, ◌<◌, ℕ, List, Ok, Err, false, IsTrue, IfOk, IfErr};
 ghost use Rattle.world_actions.specs.declared.action.Action.{Action};
 ghost use Rattle.image_files.specs.declared.phase.Phase.TheVariants.{Down};
-ghost use Rattle.served.specs.Engine.{IsAtRest, HasImageOf};
+ghost use Rattle.served.specs.Engine.{HasImageOf};
+ghost use Rattle.served.specs.Steps.{IsAtRest};
 ghost use Rattle.served.specs.Serving.{Serves, Runs};
 ghost use Rattle.served.specs.Opening.{IsOpened, IsRefused, IsNotOpened};
 

@@ -4,7 +4,8 @@ ghost use Rattle.image_files.specs.declared.phase.Phase.TheVariants.{Idle, Down}
 ghost use Rattle.image_files.specs.Images.{round_in};
 ghost use Rattle.action_log.specs.Progress.{work_of};
 ghost use Rattle.served.specs.Running.{RoundTick};
-ghost use Rattle.served.specs.Engine.{ImagesInOrder, LogInOrder, Follows};
+ghost use Rattle.served.specs.Engine.{Follows};
+ghost use Rattle.served.specs.Steps.{ImagesInOrder, LogInOrder};
 
 use crate::engine::Engine;
 use crate::log_run::run_log;

@@ -4,7 +4,8 @@ ghost use Rattle.world_ticks.specs.declared.tick.TheConstants.{TICK_MAX};
 ghost use Rattle.image_files.specs.declared.phase.Phase.TheVariants.{Idle, Down};
 ghost use Rattle.action_log.specs.declared.format.TheConstants.{SEGMENT_TICKS};
 ghost use Rattle.sessions.specs.Answer.{answer, accepted_of};
-ghost use Rattle.served.specs.Engine.{batch_refusal, ImagesInOrder, LogInOrder, IsAtRest, Follows, HasImageOf, Plays, BeginsRound};
+ghost use Rattle.served.specs.Engine.{batch_refusal, Follows, HasImageOf};
+ghost use Rattle.served.specs.Steps.{ImagesInOrder, LogInOrder, IsAtRest, Plays, BeginsRound};
 
 use crate::engine::Engine;
 use action_log::{Record, SEGMENT_TICKS, log_outcomes, log_queues};

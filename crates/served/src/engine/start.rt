@@ -4,7 +4,8 @@ ghost use Rattle.world_actions.specs.declared.world.TheConstants.{CELLS};
 ghost use Rattle.world_actions.specs.World.{IsWord};
 ghost use Rattle.world_ticks.specs.declared.tick.TheConstants.{TICK_MAX};
 ghost use Rattle.served.specs.Running.{HasNewest};
-ghost use Rattle.served.specs.Engine.{Begins, ImagesInOrder, LogInOrder, IsAtRest, Follows};
+ghost use Rattle.served.specs.Engine.{Follows};
+ghost use Rattle.served.specs.Steps.{Begins, ImagesInOrder, LogInOrder, IsAtRest};
 
 use crate::engine::{Engine, QUEUE_RECORDS};
 use action_log::log_outcomes;

@@ -1,5 +1,5 @@
 use Rattle.std.proofs.Common.{refl, ◌∙◌}
-use Rattle.served.specs.Fresh.{IsBegunFresh}
+use Rattle.served.specs.Steps.{IsBegunFresh}
 use Rattle.served.proofs.Made.{if_ok, fresh_begun}
 use Rattle.served.proofs.fresh.begin_fresh.Goals as goal
 

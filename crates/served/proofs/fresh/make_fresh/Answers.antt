@@ -1,7 +1,7 @@
 use Rattle.std.proofs.Common.{◌≡◌, sym, subst, ◌∙◌, [], ◌⊎◌}
 use Rattle.world_actions.specs.declared.refusal.Refusal.TheVariants.{Device, NotEmpty}
 use Rattle.recovery.specs.Sound.{IsFresh}
-use Rattle.served.specs.Engine.{IsAtRest}
+use Rattle.served.specs.Steps.{IsAtRest}
 use Rattle.served.specs.Opening.{AreSound}
 use Rattle.served.specs.Fresh.{AreMade, AreNotMade}
 use Rattle.served.proofs.Made.{on_ok, if_refused, safe_fresh}
