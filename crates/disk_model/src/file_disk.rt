@@ -6,7 +6,7 @@ ghost use Rattle.disk_model.specs.KnownFile.{after_failure, CallsFile};
 
 use crate::Disk;
 use std::fs::{File, Metadata};
-use std::io;
+use std::io::{self, ErrorKind};
 use std::marker::Model;
 use std::os::unix::fs::FileExt;
 use world_actions::Refusal;
@@ -18,6 +18,7 @@ pub struct FileDisk {
     file: File,
     known_length: u64,
     faults: u64,
+    failure: Option<io::Error>,
 }
 
 impl Model for FileDisk {
@@ -58,6 +59,7 @@ impl FileDisk {
                 file,
                 known_length: metadata.len(),
                 faults: 0,
+                failure: None,
             }),
             _ => Err(Refusal::Device),
         }
@@ -70,7 +72,7 @@ impl FileDisk {
     {
         match answer {
             Ok(value) => Ok(value),
-            Err(_) => self.failed(),
+            Err(error) => self.failed(error),
         }
     }
 
@@ -82,7 +84,7 @@ impl FileDisk {
         ensures device { IsDeviceFault result }
     {
         if self.answered(answer)? != asked {
-            return self.failed();
+            return self.failed(io::Error::from(ErrorKind::UnexpectedEof));
         }
         Ok(())
     }
@@ -100,13 +102,22 @@ impl FileDisk {
         Ok(())
     }
 
-    // Counts a failure.
-    fn failed<T>(&mut self) -> Result<T, Refusal>
+    // Counts a failure, and keeps the reason of the last one.
+    fn failed<T>(&mut self, error: io::Error) -> Result<T, Refusal>
         ensures counts { self.new ≡ after_failure self.old }
         ensures err { result ≡ Err Refusal.Device }
     {
         self.faults = self.faults.saturating_add(1);
+        self.failure = Some(error);
         Err(Refusal::Device)
+    }
+
+    /// Why the last call failed that did, for who tells it. A read or write that came back short is told as
+    /// an unexpected end of the file.
+    pub fn take_failure(&mut self) -> Option<io::Error>
+        ensures { self.new ≡ self.old }
+    {
+        self.failure.take()
     }
 }
 
@@ -146,7 +157,7 @@ impl Disk for FileDisk {
                 let answer = self.file.write_at(bytes, at);
                 self.wrote(answer, bytes.len(), end)
             }
-            _ => self.failed(),
+            _ => self.failed(io::Error::from(ErrorKind::InvalidInput)),
         }
     }
 

@@ -5,7 +5,6 @@ use Rattle.action_log.specs.Files.{FitsFiles as LogFits}
 use Rattle.action_log.specs.Progress.{begun, QueueFollows, end_of, work_of}
 use Rattle.action_log.specs.declared.record.Record.TheVariants as records
 use Rattle.capture_core.specs.Content.{Content, Covers, Marks}
-use Rattle.capture_core.specs.Content.{Content}
 use Rattle.disk_model.specs.declared.four_files.FourFiles.{FourFiles}
 use Rattle.file_format.specs.declared.slot.Slot.{Slot}
 use Rattle.image_files.specs.Files.{FitsFiles as ImagesFit, HoldsNewest}

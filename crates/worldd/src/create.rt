@@ -3,13 +3,14 @@ ghost use Rattle.world_actions.specs.declared.world.TheConstants.{CELLS};
 ghost use Rattle.worldd.specs.Ending.{IsFault};
 
 use crate::ending::{Ending, Occupied};
-use crate::folder::{IMAGE_A, IMAGE_B, LOG_A, LOG_B, open_to_write};
+use crate::folder::{IMAGE_A, IMAGE_B, LOG_A, LOG_B, Unreadable, open_to_write};
 use action_log::{LogState, read_log};
 use disk_model::{FileDisk, FourFiles};
 use image_files::{ImageState, read_image};
 use served::fresh_files;
 use std::alloc::Global;
 use std::fs::{File, Files};
+use std::io;
 use std::path::Path;
 use world_actions::Refusal;
 
@@ -31,21 +32,55 @@ pub fn create<R: Files<File = File> + Print + AllocGlobal>(
     Ok(())
 }
 
-// How the program ends where no world was made: a file that isn't closed is named.
+// How the program ends where no world was made: the file that isn't closed, or that failed, is named.
 fn not_made(alloc: Global, folder: &str, files: FourFiles<FileDisk>, refusal: Refusal) -> Ending
     ensures { IsFault result }
 {
     let mut files = files;
-    if refusal != Refusal::NotEmpty {
-        return Ending::Fault(refusal);
+    match refusal {
+        Refusal::NotEmpty => match files.read_all(alloc) {
+            Ok(bytes) => occupied(alloc, folder, first_open(alloc, &bytes)),
+            Err(_) => Ending::Fault(refusal),
+        },
+        Refusal::Device => match first_failure(&mut files) {
+            Some((name, error)) => unwritable(alloc, folder, name, error),
+            None => Ending::Fault(refusal),
+        },
+        _ => Ending::Fault(refusal),
     }
-    let Ok(bytes) = files.read_all(alloc) else {
-        return Ending::Fault(refusal);
-    };
-    match Path::new(folder).join(alloc, first_open(alloc, &bytes)) {
+}
+
+fn occupied(alloc: Global, folder: &str, name: &str) -> Ending
+    ensures { IsFault result }
+{
+    match Path::new(folder).join(alloc, name) {
         Ok(path) => Ending::Occupied(Occupied { path }),
         Err(_) => Ending::Fault(Refusal::NoMemory),
     }
+}
+
+fn unwritable(alloc: Global, folder: &str, name: &str, error: io::Error) -> Ending
+    ensures { IsFault result }
+{
+    match Path::new(folder).join(alloc, name) {
+        Ok(path) => Ending::Unreadable(Unreadable { path, error }),
+        Err(_) => Ending::Fault(Refusal::NoMemory),
+    }
+}
+
+// The first file that failed, and why.
+fn first_failure(files: &mut FourFiles<FileDisk>) -> Option<(&'static str, io::Error)> {
+    if let Some(error) = files.image_a.take_failure() {
+        return Some((IMAGE_A, error));
+    }
+    if let Some(error) = files.image_b.take_failure() {
+        return Some((IMAGE_B, error));
+    }
+    if let Some(error) = files.log_a.take_failure() {
+        return Some((LOG_A, error));
+    }
+    let error = files.log_b.take_failure()?;
+    Some((LOG_B, error))
 }
 
 // The name of the first file that isn't closed, of four of which one isn't.
