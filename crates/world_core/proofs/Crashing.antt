@@ -1,12 +1,9 @@
 -- A start begins with what is true of a core: of a fresh world's, and of that after a crash.
-use Rattle.std.proofs.Common.{◌≡◌, ℕ, ◌-◌, ◌≤◌, ◌⊎◌, inl, inr, Bool, true, false, ◌&&◌, if◌then◌else◌, not, nat_eq, nat_lt, eq-eqb, eqb-true, lt-ltb, ltb-true, List, [], length, map, get_or, Option, None, option_map, Ok, refl, sym, ap, subst, ◌∙◌, arith}
-use Rattle.std.proofs.lemmas.Bool.{cases_lt}
-use Rattle.std.proofs.lemmas.List.{take_all}
+use Rattle.std.proofs.Common.{◌≡◌, ℕ, ◌-◌, ◌≤◌, Bool, true, false, if◌then◌else◌, List, [], length, map, Option, None, option_map, Ok, refl, sym, ap, subst, ◌∙◌, arith}
 use Rattle.world_actions.specs.declared.world.TheConstants.{CELLS}
 use Rattle.world_ticks.specs.declared.tick.TheConstants.{TICK_MAX}
 use Rattle.world_ticks.specs.After.{after_actions, after_ticks}
 use Rattle.file_format.specs.declared.slot.Slot.{Slot}
-use Rattle.file_format.specs.Gate.{HasShutGate, HasNoShutGate}
 use Rattle.disk_model.specs.CrashOutcome.{IsCrashOutcome}
 use Rattle.disk_model.specs.Disk.{Only}
 use Rattle.capture_core.specs.Content.{Content}
@@ -18,46 +15,19 @@ use Rattle.action_log.specs.Segment.{Segment, IsSegment}
 use Rattle.action_log.specs.declared.progress.Progress.{Progress as LogProgress}
 use Rattle.action_log.specs.Progress.{begun, QueueFollows, end_of}
 use Rattle.action_log.specs.Logs.{Start, InStart, start_of, start_moves}
-use Rattle.recovery.specs.Sound.{IsWorldAt}
 use Rattle.world_core.specs.Standing.{Standing, standing_at, start_round, queued_of}
 use Rattle.world_core.specs.Past.{Past}
 use Rattle.restart.specs.Start.{IsBuilt, started_keeper, images_begun, is_shut}
-use Rattle.restart.specs.Rounds.{StoreFollowsImages}
+use Rattle.restart.specs.InStep.{InStep}
 use Rattle.world_core.specs.State.{File, State, ImagesIn, LogIn, HasImages, HasLog, newest_tick, is_down}
-use Rattle.world_core.specs.Laws.{QueueLaws, KeeperLaws, StoreLaws}
+use Rattle.world_core.specs.Laws.{QueueLaws, KeeperLaws}
 use Rattle.world_core.specs.Starting.{HasOnly, Begins}
-use Rattle.world_core.specs.Facts.{IsCoreAt, HasPhase, is_known}
+use Rattle.world_core.specs.Facts.{IsCoreAt, is_known}
 
 -- ---- files
 
-not_false : (b : Bool) → not b ≡ false → b ≡ true
-not_false true e = refl
-not_false false e = absurd (let h = e in cc)
-
-both_true : (a b : Bool) → (a && b) ≡ true → (a ≡ true) × (b ≡ true)
-both_true true b e = (refl, e)
-both_true false b e = absurd (let h = e in cc)
-
-one_false : (a b : Bool) → (a && b) ≡ false → (a ≡ false) ⊎ (b ≡ false)
-one_false true b e = inr e
-one_false false b e = inl refl
-
-none_below : (n : ℕ) → nat_lt 0 n ≡ false → n ≡ 0
-none_below n e = elim (cases_lt 0 n) [ inl lt ↦ (let h : nat_lt 0 n ≡ true = lt-ltb 0 n lt in absurd (let g : true ≡ false = sym h ∙ e in cc)) | inr le ↦ omega (arith, le) ]
-
-shut_yes : (file : List ℕ) → is_shut file ≡ true → HasShutGate file
-shut_yes file e =
-    let p = both_true (nat_lt 0 (length file)) (not (nat_eq (get_or file 0 0) 1)) e in
-    (ltb-true 0 (length file) p.0, λ h. (let g : true ≡ false = sym p.1 ∙ ap not (eq-eqb (get_or file 0 0) 1 h) in cc))
-
-shut_no : (file : List ℕ) → is_shut file ≡ false → HasNoShutGate file
-shut_no file e = elim (one_false (nat_lt 0 (length file)) (not (nat_eq (get_or file 0 0) 1)) e) [
-  | inl none ↦ inl (none_below (length file) none)
-  | inr opened ↦ inr (eqb-true (get_or file 0 0) 1 (not_false (nat_eq (get_or file 0 0) 1) opened))
-]
-
-tells : (bytes : List ℕ) (file : File) → HasOnly bytes file → TellsShut (is_shut bytes) file.inner.content
-tells bytes file h = subst (λ f. TellsShut (is_shut bytes) f) (sym h.content) (record { yes = shut_yes bytes; no = shut_no bytes })
+tells : KeeperLaws → (bytes : List ℕ) (file : File) → HasOnly bytes file → TellsShut (is_shut bytes) file.inner.content
+tells keepers bytes file h = subst (λ f. TellsShut (is_shut bytes) f) (sym h.content) (keepers.told bytes)
 
 only : (bytes : List ℕ) (file : File) → HasOnly bytes file → Only file.inner.content (IsCrashOutcome file.inner)
 only bytes file h = subst (λ f. Only f (IsCrashOutcome file.inner)) (sym h.content) h.only
@@ -101,7 +71,7 @@ module _ (keepers : KeeperLaws) (cells : ℕ) (newest : Option (Slot × ℕ)) (t
     (some : 1 ≤ cells) (few : cells ≤ CELLS) (numbered : tick ≤ TICK_MAX) (images : ImageFiles) (told : IsTold cells newest images image_a image_b) where
   made : ImagesIn (made_keeper cells newest (is_shut image_a) (is_shut image_b)) images new.image_a new.image_b
   made = keepers.made cells newest (is_shut image_a) (is_shut image_b) images new.image_a new.image_b some few (only image_a new.image_a b.file_a) (only image_b new.image_b b.file_b)
-      (tells image_a new.image_a b.file_a) (tells image_b new.image_b b.file_b)
+      (tells keepers image_a new.image_a b.file_a) (tells keepers image_b new.image_b b.file_b)
       (subst (λ f. IsTold cells newest images f new.image_b.inner.content) (sym b.file_a.content) (subst (λ f. IsTold cells newest images image_a f) (sym b.file_b.content) told))
 
   begun_images : (r : Bool) → ImagesIn (started_keeper r tick (made_keeper cells newest (is_shut image_a) (is_shut image_b))) (images_begun r tick images) new.image_a new.image_b
@@ -115,7 +85,7 @@ module _ (keepers : KeeperLaws) (cells : ℕ) (newest : Option (Slot × ℕ)) (t
   has_log before_a before_b reads_a reads_b =
       subst (λ k. LogIn k (start_of tick before_a before_b (start_moves (is_shut log_a) (is_shut log_b))) new.log_a new.log_b) (sym b.log)
       (keepers.begins tick (is_shut log_a) (is_shut log_b) new.log_a new.log_b before_a before_b numbered (only log_a new.log_a b.file_la) (only log_b new.log_b b.file_lb)
-      (tells log_a new.log_a b.file_la) (tells log_b new.log_b b.file_lb)
+      (tells keepers log_a new.log_a b.file_la) (tells keepers log_b new.log_b b.file_lb)
       (subst (λ f. IsSegment f before_a) (sym b.file_la.content) reads_a) (subst (λ f. IsSegment f before_b) (sym b.file_lb.content) reads_b))
 
 -- ---- the whole
@@ -123,15 +93,15 @@ module _ (keepers : KeeperLaws) (cells : ℕ) (newest : Option (Slot × ℕ)) (t
 abbrev pub start_at : ℕ → Segment → Segment → Start
 start_at tick before_a before_b = record { tick = tick; before_a = before_a; before_b = before_b; begun = false }
 
-pub begins_core : QueueLaws → KeeperLaws → StoreLaws → (cells : ℕ) (newest : Option (Slot × ℕ)) (tick : ℕ) (words : List ℕ) (round : Bool) (image_a image_b log_a log_b : List ℕ) (past : Past) (new : State)
+pub begins_core : QueueLaws → KeeperLaws → (cells : ℕ) (newest : Option (Slot × ℕ)) (tick : ℕ) (words : List ℕ) (round : Bool) (image_a image_b log_a log_b : List ℕ) (past : Past) (new : State)
     → Begins cells newest tick words round image_a image_b log_a log_b new → 1 ≤ cells → cells ≤ CELLS → tick ≤ TICK_MAX
     → (images : ImageFiles) → IsTold cells newest images image_a image_b → round_in images ≡ None
     → (before_a before_b : Segment) → IsSegment log_a before_a → IsSegment log_b before_b
-    → length past.history.ticks ≡ tick → past.history.running ≡ [] → length words ≡ cells → IsWorldAt cells past.history.ticks tick words
+    → length past.history.ticks ≡ tick → past.history.running ≡ [] → length words ≡ cells → after_ticks cells past.history.ticks ≡ Ok words
     → past.standing ≡ standing_at (newest_tick newest) tick round (is_shut log_a) (is_shut log_b) → past.has_image ≡ is_known images → newest_in images ≡ newest
-    → HasPhase cells past new (images_begun round tick images) (InStart (start_at tick before_a before_b))
+    → InStep cells past.history.ticks past.acknowledged new.content (images_begun round tick images) (InStart (start_at tick before_a before_b)) []
     → IsCoreAt past new
-begins_core queues keepers stores cells newest tick words round image_a image_b log_a log_b past new b some few numbered images told no_round before_a before_b reads_a reads_b count idle whole at standing known newest_is phase =
+begins_core queues keepers cells newest tick words round image_a image_b log_a log_b past new b some few numbered images told no_round before_a before_b reads_a reads_b count idle whole after standing known newest_is in_step =
     let live = built_live words round new.content b.store in
     let q = queues.begins tick (is_shut log_a) (is_shut log_b) in
     let log_is = sym b.log in
@@ -141,7 +111,7 @@ begins_core queues keepers stores cells newest tick words round image_a image_b 
       keeper_cells = ap (λ (k : Progress). k.cells) b.images ∙ keeper_cells_are round tick (made_keeper cells newest (is_shut image_a) (is_shut image_b)) ∙ sym b.cells_are;
       live = record {
         last = words;
-        after_ended = ap (λ n. after_ticks n past.history.ticks) b.cells_are ∙ ap (after_ticks cells) (sym (take_all tick past.history.ticks (omega (arith, count)))) ∙ at.words_are;
+        after_ended = ap (λ n. after_ticks n past.history.ticks) b.cells_are ∙ after;
         live = ap (λ r. after_actions words r) idle ∙ ap (λ w. Ok w) (sym live);
         all = ap length live ∙ whole ∙ sym b.cells_are;
         running = b.running ∙ sym idle;
@@ -162,10 +132,9 @@ begins_core queues keepers stores cells newest tick words round image_a image_b 
       place = start_of tick before_a before_b (start_moves (is_shut log_a) (is_shut log_b));
       has_images = has_images keepers cells newest tick words round image_a image_b log_a log_b new b some few numbered images told;
       has_log = has_log keepers cells newest tick words round image_a image_b log_a log_b new b some few numbered images told before_a before_b reads_a reads_b;
-      store = subst (λ n. StoreFollowsImages n past.history.ticks new.content (images_begun round tick images)) (sym b.cells_are)
-          (stores.built cells past.history.ticks tick words round new.content images whole at no_round b.store);
-      phase = subst (λ n. HasPhase n past new (images_begun round tick images) (InStart (start_at tick before_a before_b))) (sym b.cells_are) phase;
-      at_rest = (b.running, b.queue);
+      in_step = subst (λ n. InStep n past.history.ticks past.acknowledged new.content (images_begun round tick images) (InStart (start_at tick before_a before_b)) new.queue) (sym b.cells_are)
+          (subst (InStep cells past.history.ticks past.acknowledged new.content (images_begun round tick images) (InStart (start_at tick before_a before_b))) (sym b.queue) in_step);
+      at_rest = b.running;
       is_image_known = known ∙ sym (with_round_known round tick images);
       start_left = ap (λ (s : Standing). s.start_left) standing;
       image_down = ap (λ (s : Standing). s.is_image_down) standing ∙ keeper_up round tick (made_keeper cells newest (is_shut image_a) (is_shut image_b)) refl ∙ ap (λ (k : Progress). is_down k.phase) (sym b.images);

@@ -13,6 +13,7 @@ use Rattle.action_log.specs.Progress.{rest_in, work_of}
 use Rattle.action_log.specs.Logs.{Journal, InStart, Writing, LogPlace}
 use Rattle.action_log.specs.LogSteps.{StepIn}
 use Rattle.recovery.specs.Events.{ticks_in}
+use Rattle.restart.specs.InStep.{HasPhase}
 use Rattle.world_core.specs.declared.moves.Fate.{Fate}
 use Rattle.world_core.specs.declared.moves.Move.TheVariants as move
 use Rattle.world_core.specs.declared.moves.Answer.TheVariants as answer
@@ -22,7 +23,7 @@ use Rattle.world_core.specs.State.{State, HasLog}
 use Rattle.world_core.specs.Laws.{EventLaws}
 use Rattle.world_core.specs.Exact.{IsLogAnswer, Progresses}
 use Rattle.world_core.specs.Moving.{StepsLogKeeper}
-use Rattle.world_core.specs.Facts.{IsCoreAt, HasPhase}
+use Rattle.world_core.specs.Facts.{IsCoreAt}
 use Rattle.world_core.proofs.Logging.{up_of, stays_down}
 
 -- ---- work
@@ -72,7 +73,7 @@ log_progress old new fate given_.Down d = tt
 
 -- a receipt comes after the start
 receipt_in : EventLaws → (past : Past) (old new : State) (tick : ℕ) (images : ImageFiles) (journal : Journal) (left : ℕ) (next : LogPlace) → HasLog old (record { journal = journal; left = left })
-    → HasPhase old.cells past old images journal → StepIn journal left old.queue (given_.Acked tick) next new.queue → (left ≡ 0) × (tick + length (ticks_in old.queue) ≡ length past.history.ticks)
+    → HasPhase old.cells past.history.ticks past.acknowledged images journal old.queue → StepIn journal left old.queue (given_.Acked tick) next new.queue → (left ≡ 0) × (tick + length (ticks_in old.queue) ≡ length past.history.ticks)
 receipt_in laws past old new tick images (InStart start) left next stands phase s = absurd s.0
 receipt_in laws past old new tick (NoneYet images) (Writing logs) left next stands phase s = absurd phase
 receipt_in laws past old new tick (Newest images) (Writing logs) left next stands phase s = (
@@ -86,6 +87,6 @@ log_exact laws past old new fate given_.Working c going d =
     (going, c.log_down ∙ was_up old new fate given_.Working d (λ e. let g = e in cc), has_work old new fate given_.Working d (λ e. let g = e in cc) (λ e. let g = e in cc))
 log_exact laws past old new fate (given_.Acked tick) c going d =
     let s = d.stands c.place c.has_log in
-    let r = receipt_in laws past old new tick c.images c.place.journal c.place.left s.0 c.has_log c.phase s.2 in
+    let r = receipt_in laws past old new tick c.images c.place.journal c.place.left s.0 c.has_log c.in_step.phase s.2 in
     (ap (nat_lt 0) (c.start_left ∙ r.0), c.log_down ∙ was_up old new fate (given_.Acked tick) d (λ e. let g = e in cc), has_work old new fate (given_.Acked tick) d (λ e. let g = e in cc) (λ e. let g = e in cc), r.1)
 log_exact laws past old new fate given_.Down c going d = going

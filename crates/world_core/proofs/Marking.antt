@@ -10,7 +10,7 @@ use Rattle.world_core.specs.Standing.{mark_refusal}
 use Rattle.world_core.specs.Past.{Past, past_after}
 use Rattle.world_core.specs.State.{State, newest_tick, is_down, is_in_round}
 use Rattle.restart.specs.Rounds.{StoreFollows, words_of}
-use Rattle.world_core.specs.Laws.{EventLaws, QueueLaws, KeeperLaws, StoreLaws}
+use Rattle.world_core.specs.Laws.{EventLaws, QueueLaws, KeeperLaws}
 use Rattle.world_core.specs.Moving.{BeginsRound}
 use Rattle.world_core.specs.Facts.{IsCoreAt}
 use Rattle.world_core.proofs.Exact.{mark_allowed, MayMark, idle_is}
@@ -27,11 +27,11 @@ nothing_left cells ticks content newest round e s = (let g = subst (StoreFollows
 
 -- where a mark may be made no cell of a round is left
 pub none_left : KeeperLaws → (past : Past) (state : State) → IsCoreAt past state → is_in_round state.images.phase ≡ false → state.content.left ≡ []
-none_left laws past state c e = nothing_left state.cells past.history.ticks state.content (words_of c.images) (round_in c.images) (laws.idle state.images c.images state.image_a state.image_b c.has_images (idle_is state.images.phase e)) c.store
+none_left laws past state c e = nothing_left state.cells past.history.ticks state.content (words_of c.images) (round_in c.images) (laws.idle state.images c.images state.image_a state.image_b c.has_images (idle_is state.images.phase e)) c.in_step.store
 
-pub mark_from : EventLaws → QueueLaws → KeeperLaws → StoreLaws → (past : Past) (old new : State) (number : ℕ) → IsCoreAt past old → None ≡ refusal_in old → number ≡ old.ended → BeginsRound old new
+pub mark_from : EventLaws → QueueLaws → KeeperLaws → (past : Past) (old new : State) (number : ℕ) → IsCoreAt past old → None ≡ refusal_in old → number ≡ old.ended → BeginsRound old new
     → IsCoreAt (past_after past move.Mark (answer.Started number)) new
-mark_from laws queues keepers stores past old new number c e is d =
+mark_from laws queues keepers past old new number c e is d =
     let m = may_mark old e in
-    mark_keeps laws queues keepers stores past old new number c m.has_started m.idle (idle_is old.images.phase m.at_rest)
+    mark_keeps laws queues keepers past old new number c m.has_started m.idle (idle_is old.images.phase m.at_rest)
     (λ h. m.news (h ∙ ap newest_tick (sym (keepers.newest old.images c.images old.image_a old.image_b c.has_images)))) is d

@@ -1,8 +1,8 @@
 -- The moves of the mutator keep what is true of a core.
-use Rattle.std.proofs.Common.{◌≡◌, ℕ, ◌+◌, ◌-◌, ◌<◌, ◌≤◌, Bool, true, false, nat_le, if◌then◌else◌, List, [], ◌∷◌, ◌++◌, length, map, replicate, Some, None, Result, Ok, Err, refl, sym, ap, subst, ◌∙◌, append_assoc, arith}
+use Rattle.std.proofs.Common.{◌≡◌, ℕ, ◌+◌, ◌-◌, ◌<◌, ◌≤◌, Bool, true, false, nat_le, if◌then◌else◌, List, [], ◌∷◌, ◌++◌, length, map, replicate, None, Result, Ok, Err, refl, sym, ap, subst, ◌∙◌, append_assoc, arith}
 use Rattle.std.specs.List.{flat_map}
 use Rattle.std.proofs.lemmas.Grind.{flat_map-append}
-use Rattle.std.proofs.lemmas.List.{take_all, length-append, map-append, append-nil}
+use Rattle.std.proofs.lemmas.List.{length-append, map-append, append-nil}
 use Rattle.world_actions.specs.declared.action.Action.{Action}
 use Rattle.world_actions.specs.declared.refusal.Refusal.{Refusal}
 use Rattle.world_actions.specs.declared.refusal.Refusal.TheVariants.{TickFull}
@@ -12,50 +12,44 @@ use Rattle.world_ticks.specs.After.{and_then, after_actions, after_ticks}
 use Rattle.capture_core.specs.Content.{Content}
 use Rattle.image_files.specs.declared.phase.Phase.TheVariants.{Idle, Closing, Header}
 use Rattle.image_files.specs.Progress.{begun_keeper}
-use Rattle.image_files.specs.Images.{Images, ImageFiles, NoneYet, Newest, newest_in}
+use Rattle.image_files.specs.Images.{Images, ImageFiles, NoneYet, Newest, newest_in, with_round}
 use Rattle.action_log.specs.declared.format.TheConstants.{SEGMENT_TICKS}
 use Rattle.action_log.specs.declared.record.Record.TheVariants as records
 use Rattle.action_log.specs.Queue.{QueueEnd}
 use Rattle.action_log.specs.Progress.{end_of}
-use Rattle.action_log.specs.Logs.{Logs, Journal, InStart, Writing, LogPlace}
-use Rattle.recovery.specs.Sound.{IsWorldAt}
+use Rattle.action_log.specs.Logs.{Logs, Journal, InStart, Writing}
 use Rattle.recovery.specs.Events.{IsKept}
 use Rattle.world_core.specs.declared.moves.Move.TheVariants as move
 use Rattle.world_core.specs.declared.moves.Answer.TheVariants as answer
 use Rattle.world_core.specs.Standing.{QueuedTick, QueuedSwitch, queued_of}
 use Rattle.world_core.specs.Past.{Past, past_after}
 use Rattle.world_core.specs.State.{State, HasImages, HasLog, newest_tick, is_down}
-use Rattle.restart.specs.Rounds.{StoreFollows, StoreFollowsImages}
-use Rattle.world_core.specs.Laws.{EventLaws, QueueLaws, KeeperLaws, StoreLaws}
+use Rattle.restart.specs.InStep.{InStep}
+use Rattle.world_core.specs.Laws.{EventLaws, QueueLaws, KeeperLaws}
 use Rattle.world_core.specs.Moving.{DoesAction, EndsTick, BeginsRound}
-use Rattle.world_core.specs.Facts.{IsCoreAt, HasPhase, IsAtRest, is_known}
+use Rattle.world_core.specs.Facts.{IsCoreAt, IsAtRest, is_known}
+use Rattle.world_core.proofs.Logging.{empty_rests}
 
 pub ok_injective : (v w : List ℕ) → ◌≡◌ {A = Result (List ℕ) Refusal} (Ok v) (Ok w) → v ≡ w
 ok_injective v w e = cc
 
 -- ---- a core that isn't starting
 
-pub record HasStarted (past : Past) (state : State) (images : ImageFiles) (place : LogPlace) : Type 0 where
-  pub newest : Images
-  pub logs : Logs
-  pub is_newest : images ≡ Newest newest
-  pub is_writing : place ≡ record { journal = Writing logs; left = 0 }
-  pub kept : IsKept state.cells past.history.ticks past.acknowledged newest logs state.queue
+record HasStarted (past : Past) (state : State) (images : ImageFiles) (journal : Journal) : Type 0 where
+  newest : Images
+  logs : Logs
+  is_newest : images ≡ Newest newest
+  is_writing : journal ≡ Writing logs
+  in_step : InStep state.cells past.history.ticks past.acknowledged state.content (Newest newest) (Writing logs) state.queue
 
-has_started_by : (past : Past) (state : State) (images : ImageFiles) (journal : Journal) (left : ℕ) → state.log.starting ≡ false
-    → HasLog state (record { journal = journal; left = left }) → HasPhase state.cells past state images journal → HasStarted past state images (record { journal = journal; left = left })
-has_started_by past state images (InStart start) left none stands phase = absurd (let h = sym none ∙ stands.in_work in cc)
-has_started_by past state (NoneYet images) (Writing logs) left none stands phase = absurd phase
-has_started_by past state (Newest images) (Writing logs) left none stands phase = record {
-  newest = images;
-  logs = logs;
-  is_newest = refl;
-  is_writing = ap (λ n. record { journal = Writing logs; left = n }) stands.1;
-  kept = phase;
-}
+has_started_by : (past : Past) (state : State) (images : ImageFiles) (journal : Journal) (left : ℕ) → state.log.starting ≡ false → HasLog state (record { journal = journal; left = left })
+    → InStep state.cells past.history.ticks past.acknowledged state.content images journal state.queue → HasStarted past state images journal
+has_started_by past state images (InStart start) left none stands w = absurd (let h = sym none ∙ stands.in_work in cc)
+has_started_by past state (NoneYet images) (Writing logs) left none stands w = absurd w.phase
+has_started_by past state (Newest images) (Writing logs) left none stands w = record { newest = images; logs = logs; is_newest = refl; is_writing = refl; in_step = w }
 
-pub has_started : (past : Past) (state : State) (c : IsCoreAt past state) → state.log.starting ≡ false → HasStarted past state c.images c.place
-has_started past state c none = has_started_by past state c.images c.place.journal c.place.left none c.has_log c.phase
+has_started : (past : Past) (state : State) (c : IsCoreAt past state) → state.log.starting ≡ false → HasStarted past state c.images c.place.journal
+has_started past state c none = has_started_by past state c.images c.place.journal c.place.left none c.has_log c.in_step
 
 -- ---- an action
 
@@ -67,16 +61,8 @@ one_more : EventLaws → (last live after : List ℕ) (running : List Action) (a
 one_more laws last live after running action e h =
     laws.append last running (action ∷ []) ∙ ap (λ r. and_then r (λ next. after_actions next (action ∷ []))) e ∙ ap (λ r. and_then r (λ next. Ok next)) h
 
-phase_kept : (cells : ℕ) (past after : Past) (old new : State) (images : ImageFiles) (place : LogPlace) → (s : HasStarted past old images place)
-    → IsKept cells after.history.ticks after.acknowledged s.newest s.logs new.queue → HasPhase cells after new images place.journal
-phase_kept cells past after old new images place s kept =
-    subst (λ i. HasPhase cells after new i place.journal) (sym s.is_newest) (subst (λ (p : LogPlace). HasPhase cells after new (Newest s.newest) p.journal) (sym s.is_writing) kept)
-
-rest_kept : (past : Past) (old new : State) (images : ImageFiles) (place : LogPlace) → HasStarted past old images place → IsAtRest place.journal new
-rest_kept past old new images place s = subst (λ (p : LogPlace). IsAtRest p.journal new) (sym s.is_writing) tt
-
-pub action_keeps : EventLaws → StoreLaws → (past : Past) (old new : State) (action : Action) → IsCoreAt past old → old.log.starting ≡ false → DoesAction old action new → IsCoreAt (past_after past (move.Act action) answer.Did) new
-action_keeps laws stores past old new action c none d =
+pub action_keeps : EventLaws → (past : Past) (old new : State) (action : Action) → IsCoreAt past old → old.log.starting ≡ false → DoesAction old action new → IsCoreAt (past_after past (move.Act action) answer.Did) new
+action_keeps laws past old new action c none d =
     let after = past_after past (move.Act action) answer.Did in
     let next : State = record old { content = new.content; running = old.running ++ action ∷ [] } in
     let s = has_started past old c none in
@@ -97,9 +83,8 @@ action_keeps laws stores past old new action c none d =
       place = c.place;
       has_images = c.has_images;
       has_log = c.has_log;
-      store = stores.writes old.cells past.history.ticks old.content new.content c.images (ap (λ (n : Content). n.left) d.content) d.covers c.store;
-      phase = phase_kept old.cells past after old next c.images c.place s s.kept;
-      at_rest = rest_kept past old next c.images c.place s;
+      in_step = record { store = laws.writes old.cells past.history.ticks old.content new.content c.images (ap (λ (n : Content). n.left) d.content) d.covers c.in_step.store; phase = c.in_step.phase };
+      at_rest = subst (λ j. IsAtRest j (old.running ++ action ∷ [])) (sym s.is_writing) tt;
       is_image_known = c.is_image_known;
       start_left = c.start_left;
       image_down = c.image_down;
@@ -117,9 +102,9 @@ world_ended laws cells ticks running last live e h =
     ∙ laws.append (replicate cells 0) (flat_map (λ tick. tick) ticks) running
     ∙ ap (λ r. and_then r (λ next. after_actions next running)) e ∙ h
 
-pub end_keeps : EventLaws → QueueLaws → StoreLaws → (past : Past) (old new : State) (number : ℕ) → IsCoreAt past old → old.log.starting ≡ false → old.ended < TICK_MAX → old.since < SEGMENT_TICKS → EndsTick old new
+pub end_keeps : EventLaws → QueueLaws → (past : Past) (old new : State) (number : ℕ) → IsCoreAt past old → old.log.starting ≡ false → old.ended < TICK_MAX → old.since < SEGMENT_TICKS → EndsTick old new
     → IsCoreAt (past_after past move.End (answer.Ended number)) new
-end_keeps laws queues stores past old new number c none numbered few d =
+end_keeps laws queues past old new number c none numbered few d =
     let after = past_after past move.End (answer.Ended number) in
     let tick = d.0 in
     let next : State = record old { running = []; ended = old.ended + 1; since = old.since + 1; queue = old.queue ++ records.Tick tick ∷ [] } in
@@ -127,9 +112,14 @@ end_keeps laws queues stores past old new number c none numbered few d =
     let k = c.counted in
     let ticks = past.history.ticks in
     let same : tick.list ≡ past.history.running = d.1 ∙ c.live.running in
-    let lasts : s.kept.last ≡ c.live.last = ok_injective s.kept.last c.live.last (sym s.kept.accepted ∙ c.live.after_ended) in
-    let goes : after_actions s.kept.last tick.list ≡ Ok old.content.live = ap (λ w. after_actions w tick.list) lasts ∙ ap (after_actions c.live.last) same ∙ c.live.live in
-    let kept = laws.tick_ends old.cells ticks past.acknowledged s.newest s.logs old.queue s.kept tick old.content.live goes in
+    let kept = s.in_step.phase in
+    let lasts : kept.last ≡ c.live.last = ok_injective kept.last c.live.last (sym kept.accepted ∙ c.live.after_ended) in
+    let goes : after_actions kept.last tick.list ≡ Ok old.content.live = ap (λ w. after_actions w tick.list) lasts ∙ ap (after_actions c.live.last) same ∙ c.live.live in
+    let in_step : InStep old.cells (ticks ++ past.history.running ∷ []) past.acknowledged old.content (Newest s.newest) (Writing s.logs) (old.queue ++ records.Tick tick ∷ []) = record {
+      store = laws.ticks old.cells ticks (past.history.running ∷ []) old.content (Newest s.newest) s.in_step.store;
+      phase = subst (λ t. IsKept old.cells (ticks ++ t ∷ []) past.acknowledged s.newest s.logs (old.queue ++ records.Tick tick ∷ [])) same
+          (laws.tick_ends old.cells ticks past.acknowledged s.newest s.logs old.queue kept tick old.content.live goes);
+    } in
     let count : (end_of old.log old.queue).count ≡ old.since = ap (λ (e : QueueEnd). e.count) k.queue_end in
     let base : (end_of old.log old.queue).base ≡ old.ended - old.since = ap (λ (e : QueueEnd). e.base) k.queue_end in
     let q = queues.tick old.log old.queue tick k.queue_follows (omega (arith, count)) (omega (arith, count, base, k.within)) in
@@ -160,10 +150,9 @@ end_keeps laws queues stores past old new number c none numbered few d =
       place = c.place;
       has_images = c.has_images;
       has_log = c.has_log;
-      store = stores.ticks old.cells ticks (past.history.running ∷ []) old.content c.images c.store;
-      phase = phase_kept old.cells past after old next c.images c.place s
-          (subst (λ t. IsKept old.cells (ticks ++ t ∷ []) past.acknowledged s.newest s.logs (old.queue ++ records.Tick tick ∷ [])) same kept);
-      at_rest = rest_kept past old next c.images c.place s;
+      in_step = subst (λ i. InStep old.cells (ticks ++ past.history.running ∷ []) past.acknowledged old.content i c.place.journal (old.queue ++ records.Tick tick ∷ [])) (sym s.is_newest)
+          (subst (λ j. InStep old.cells (ticks ++ past.history.running ∷ []) past.acknowledged old.content (Newest s.newest) j (old.queue ++ records.Tick tick ∷ [])) (sym s.is_writing) in_step);
+      at_rest = empty_rests c.place.journal [] refl;
       is_image_known = c.is_image_known;
       start_left = c.start_left;
       image_down = c.image_down;
@@ -182,34 +171,27 @@ begun_up false = refl
 no_action : (last live : List ℕ) (running : List Action) → running ≡ [] → after_actions last running ≡ Ok live → last ≡ live
 no_action last live running none e = ok_injective last live (subst (λ r. after_actions last r ≡ Ok live) none e)
 
-pub mark_keeps : EventLaws → QueueLaws → KeeperLaws → StoreLaws → (past : Past) (old new : State) (number : ℕ) → (c : IsCoreAt past old) → old.log.starting ≡ false → old.running ≡ [] → old.images.phase ≡ Idle → (old.ended ≡ newest_tick (newest_in c.images) → ⊥) → number ≡ old.ended → BeginsRound old new
+pub mark_keeps : EventLaws → QueueLaws → KeeperLaws → (past : Past) (old new : State) (number : ℕ) → (c : IsCoreAt past old) → old.log.starting ≡ false → old.running ≡ [] → old.images.phase ≡ Idle → (old.ended ≡ newest_tick (newest_in c.images) → ⊥) → number ≡ old.ended → BeginsRound old new
     → IsCoreAt (past_after past move.Mark (answer.Started number)) new
-mark_keeps laws queues keepers stores past old new number c none idle at_rest news is_number d =
+mark_keeps laws queues keepers past old new number c none idle at_rest news is_number d =
     let after = past_after past move.Mark (answer.Started old.ended) in
     let s = has_started past old c none in
     let k = c.counted in
     let ticks = past.history.ticks in
-    let images : Images = record s.newest { round = Some (record { tick = old.ended; taken = [] }) } in
     let next : State = record old { content = new.content; since = 0; images = begun_keeper old.ended old.images; queue = old.queue ++ records.Switch old.ended ∷ [] } in
     let has : HasImages old (Newest s.newest) = subst (HasImages old) s.is_newest c.has_images in
     let no_round : s.newest.round ≡ None = keepers.idle old.images (Newest s.newest) old.image_a old.image_b has at_rest in
-    let store : StoreFollows old.cells ticks old.content s.newest.words None =
-    subst (StoreFollows old.cells ticks old.content s.newest.words) no_round (subst (StoreFollowsImages old.cells ticks old.content) s.is_newest c.store) in
     let newest : newest_tick (newest_in c.images) ≡ s.newest.tick = ap (λ i. newest_tick (newest_in i)) s.is_newest in
-    let within : s.newest.tick ≤ length ticks = s.kept.images_follow.newest.ended in
+    let within : s.newest.tick ≤ length ticks = s.in_step.phase.images_follow.newest.ended in
     let differs : (old.ended ≡ s.newest.tick) → ⊥ = λ e. news (e ∙ sym newest) in
     let above : s.newest.tick < length ticks = omega (arith, within, k.ended, differs) in
     let same : c.live.last ≡ old.content.live = no_action c.live.last old.content.live past.history.running (sym c.live.running ∙ idle) c.live.live in
-    let at : IsWorldAt old.cells ticks old.ended old.content.live = record {
-      ended = omega (arith, k.ended);
-      words_are = ap (after_ticks old.cells) (take_all old.ended ticks (omega (arith, k.ended))) ∙ c.live.after_ended ∙ ap (λ w. Ok w) same;
-    } in
     let count : (end_of old.log old.queue).count ≡ old.since = ap (λ (e : QueueEnd). e.count) k.queue_end in
     let base : (end_of old.log old.queue).base ≡ old.ended - old.since = ap (λ (e : QueueEnd). e.base) k.queue_end in
     let q = queues.switch old.log old.queue old.ended k.queue_follows (omega (arith, count, base, k.within)) k.numbered in
-    let kept = laws.mark old.cells ticks past.acknowledged s.newest (record s.newest { round = Some (record { tick = length ticks; taken = [] }) }) s.logs old.queue s.kept no_round above refl in
-    let mark_kept : IsKept old.cells ticks past.acknowledged images s.logs (old.queue ++ records.Switch old.ended ∷ []) =
-    subst (λ n. IsKept old.cells ticks past.acknowledged (record s.newest { round = Some (record { tick = n; taken = [] }) }) s.logs (old.queue ++ records.Switch n ∷ [])) (sym k.ended) kept in
+    let in_step : InStep old.cells ticks past.acknowledged new.content (with_round old.ended (Newest s.newest)) (Writing s.logs) (old.queue ++ records.Switch old.ended ∷ []) =
+    subst (λ n. InStep old.cells ticks past.acknowledged new.content (with_round n (Newest s.newest)) (Writing s.logs) (old.queue ++ records.Switch n ∷ [])) (sym k.ended)
+    (laws.mark old.cells ticks past.acknowledged s.newest s.logs old.queue old.content new.content no_round above (c.live.after_ended ∙ ap (λ w. Ok w) same) c.live.all d.0 s.in_step) in
     let is : IsCoreAt after next = record {
       some_cells = c.some_cells;
       few_cells = c.few_cells;
@@ -227,13 +209,12 @@ mark_keeps laws queues keepers stores past old new number c none idle at_rest ne
         records = ap (λ l. l ++ QueuedSwitch old.ended ∷ []) k.records ∙ append_assoc k.taken (map queued_of old.queue) (QueuedSwitch old.ended ∷ [])
             ∙ ap (λ l. k.taken ++ l) (sym (map-append queued_of old.queue (records.Switch old.ended ∷ [])));
       };
-      images = Newest images;
+      images = with_round old.ended (Newest s.newest);
       place = c.place;
       has_images = keepers.begun old.images old.ended (Newest s.newest) old.image_a old.image_b at_rest k.numbered has;
       has_log = c.has_log;
-      store = stores.mark old.cells ticks old.ended s.newest.words old.content new.content c.live.all at store.1 d.0;
-      phase = subst (λ (p : LogPlace). HasPhase old.cells after next (Newest images) p.journal) (sym s.is_writing) mark_kept;
-      at_rest = rest_kept past old next c.images c.place s;
+      in_step = subst (λ j. InStep old.cells ticks past.acknowledged new.content (with_round old.ended (Newest s.newest)) j (old.queue ++ records.Switch old.ended ∷ [])) (sym s.is_writing) in_step;
+      at_rest = c.at_rest;
       is_image_known = c.is_image_known ∙ ap is_known s.is_newest;
       start_left = c.start_left;
       image_down = c.image_down ∙ ap is_down at_rest ∙ begun_up old.images.target_shut;

@@ -1,13 +1,11 @@
 -- What a crash left of a core's files begins its next start.
-use Rattle.std.proofs.Common.{◌≡◌, ◌≢◌, ℕ, ◌≤◌, ◌⊎◌, inl, inr, Bool, true, false, nat_lt, lt-ltb, ltb-true, List, [], length, take, replicate, Some, None, Result, Ok, Err, refl, sym, ap, subst, ◌∙◌, arith}
-use Rattle.std.proofs.lemmas.Bool.{cases_lt}
-use Rattle.std.proofs.lemmas.List.{take_all, length-take-le, length-replicate}
+use Rattle.std.proofs.Common.{◌≡◌, ◌≢◌, ℕ, ◌≤◌, ◌⊎◌, inl, inr, Bool, true, false, nat_lt, List, [], take, replicate, Some, None, Result, Ok, Err, refl, sym, subst, ◌∙◌, arith}
+use Rattle.std.proofs.lemmas.List.{length-take-le, length-replicate}
 use Rattle.world_actions.specs.declared.action.Action.{Action}
 use Rattle.world_actions.specs.declared.refusal.Refusal.{Refusal}
 use Rattle.world_actions.specs.declared.refusal.Refusal.TheVariants.{NoImage, NoMemory}
 use Rattle.world_actions.specs.declared.world.TheConstants.{CELLS}
 use Rattle.world_ticks.specs.declared.tick.TheConstants.{TICK_MAX}
-use Rattle.world_ticks.specs.After.{after_ticks}
 use Rattle.file_format.specs.declared.slot.Slot.{Slot}
 use Rattle.file_format.specs.declared.slot.Slot.TheVariants.{A, B}
 use Rattle.file_format.specs.Slot.{of_slot, other_slot}
@@ -17,21 +15,22 @@ use Rattle.image_files.specs.Images.{NoneYet, Newest}
 use Rattle.action_log.specs.Segment.{Segment, ClosedSegment, IsSegment}
 use Rattle.action_log.specs.Logs.{InStart}
 use Rattle.recovery.specs.Recovery.{Recovery, recovery_of, BothRead, Recovers}
-use Rattle.recovery.specs.Sound.{IsWorldAt, IsSound, IsSoundReading, IsFresh, IsFreshReading}
-use Rattle.recovery.specs.Restart.{Restarts, recovered_images, recovered_start}
+use Rattle.recovery.specs.Sound.{IsSound, IsSoundReading, IsFresh, IsFreshReading}
+use Rattle.recovery.specs.Restart.{Restarts, recovered_images}
 use Rattle.world_core.specs.History.{no_history}
 use Rattle.restart.specs.Start.{images_begun, is_shut}
+use Rattle.restart.specs.InStep.{InStep}
 use Rattle.world_core.specs.Standing.{standing_at}
 use Rattle.world_core.specs.Past.{Past, past_after, fresh_past}
 use Rattle.world_core.specs.State.{State}
-use Rattle.world_core.specs.Laws.{EventLaws, QueueLaws, KeeperLaws, StoreLaws, SafetyLaws}
+use Rattle.world_core.specs.Laws.{EventLaws, QueueLaws, KeeperLaws, SafetyLaws}
 use Rattle.world_core.specs.Starting.{Begins, BeginsFresh, StandsOn}
 use Rattle.world_core.specs.Exact.{MayLeave, IsCrashAnswer}
 use Rattle.world_core.specs.declared.moves.Remains.{Remains}
 use Rattle.world_core.specs.declared.moves.Move.TheVariants as move
 use Rattle.world_core.specs.declared.moves.Answer.{Answer}
 use Rattle.world_core.specs.declared.moves.Answer.TheVariants as answer
-use Rattle.world_core.specs.Facts.{IsCoreAt, HasPhase}
+use Rattle.world_core.specs.Facts.{IsCoreAt}
 use Rattle.world_core.specs.Headline.{AreSafeFor}
 use Rattle.world_core.proofs.Safe.{core_is_safe}
 use Rattle.world_core.proofs.Crashing.{start_at, begins_core}
@@ -41,9 +40,6 @@ ok_not_err r refusal e = absurd (let g = e in cc)
 
 err_same : (a b : Refusal) → ◌≡◌ {A = Result Recovery Refusal} (Err a) (Err b) → a ≡ b
 err_same a b e = cc
-
-no_less : (from tick : ℕ) → nat_lt from tick ≡ false → tick ≤ from
-no_less from tick e = elim (cases_lt from tick) [ inl lt ↦ (let h : nat_lt from tick ≡ true = lt-ltb from tick lt in absurd (let g : true ≡ false = sym h ∙ e in cc)) | inr ge ↦ ge ]
 
 -- ---- what stands
 
@@ -117,64 +113,42 @@ recovered_past past r la lb = record {
   standing = standing_at r.from r.tick (nat_lt r.from r.tick) (is_shut la) (is_shut lb);
 }
 
-recovered_phase : EventLaws → (cells : ℕ) (past : Past) (r : Recovery) (ia ib la lb : List ℕ) (a b : Segment) (new : State) → 1 ≤ cells
-    → Restarts cells past.history.ticks past.acknowledged r (image_of ia) (image_of ib) a b → (round : Bool) → nat_lt r.from r.tick ≡ round
-    → HasPhase cells (recovered_past past r la lb) new (images_begun round r.tick (Newest (recovered_images r (image_of ia) (image_of ib)))) (InStart (start_at r.tick a b))
-recovered_phase events cells past r ia ib la lb a b new some s true e = record {
-  from = r.from;
-  starting = events.round_begins cells (take r.tick past.history.ticks) past.acknowledged (recovered_images r (image_of ia) (image_of ib))
-      (record (recovered_images r (image_of ia) (image_of ib)) { round = Some (record { tick = r.tick; taken = [] }) })
-      r.from (recovered_start r a b) some s.starting (ltb-true r.from r.tick e) refl;
-  caught_up = λ none. absurd (let g = none in cc);
-}
-recovered_phase events cells past r ia ib la lb a b new some s false e = record {
-  from = r.from;
-  starting = s.starting;
-  caught_up = λ none. (let le : r.tick ≤ r.from = no_less r.from r.tick e in omega (arith, le, s.starting.start_follows.ahead));
-}
-
-pub recovered_keeps : EventLaws → QueueLaws → KeeperLaws → StoreLaws → SafetyLaws → (past : Past) (old new : State) (c : IsCoreAt past old) (r : Recovery) (ia ib la lb : List ℕ)
+pub recovered_keeps : EventLaws → QueueLaws → KeeperLaws → SafetyLaws → (past : Past) (old new : State) (c : IsCoreAt past old) (r : Recovery) (ia ib la lb : List ℕ)
     → IsCrashOutcome old.image_a.inner ia → IsCrashOutcome old.image_b.inner ib → IsCrashOutcome old.log_a.inner la → IsCrashOutcome old.log_b.inner lb → Recovers ia ib la lb (Ok r)
     → r.tick ≤ TICK_MAX
     → Begins old.cells (Some (r.slot, r.from)) r.tick r.words (nat_lt r.from r.tick) ia ib la lb new
     → IsCoreAt (recovered_past past r la lb) new
-recovered_keeps events queues keepers stores safety past old new c r ia ib la lb oa ob ola olb e numbered b =
+recovered_keeps events queues keepers safety past old new c r ia ib la lb oa ob ola olb e numbered b =
     let ticks = past.history.ticks in
     let s = restarts safety old.cells ticks past.acknowledged ia ib la lb e.a e.b e.reads_a e.reads_b (IsCrashOutcome old.image_a.inner) (IsCrashOutcome old.image_b.inner) (IsCrashOutcome old.log_a.inner) (IsCrashOutcome old.log_b.inner) past.has_image (core_is_safe safety past old c) oa ob ola olb r e.holds in
-    let images = recovered_images r (image_of ia) (image_of ib) in
-    let count : length (take r.tick ticks) ≡ r.tick = length-take-le r.tick ticks s.world.ended in
-    let at : IsWorldAt old.cells (take r.tick ticks) r.tick r.words = record { ended = omega (arith, count); words_are = ap (after_ticks old.cells) (take_all r.tick (take r.tick ticks) (omega (arith, count))) ∙ s.world.words_are } in
-    begins_core queues keepers stores old.cells (Some (r.slot, r.from)) r.tick r.words (nat_lt r.from r.tick) ia ib la lb (recovered_past past r la lb) new b c.some_cells c.few_cells numbered
-    (Newest images) (refl, refl, s.newest_whole, by_slot r.slot ia ib ∙ s.chosen, by_other r.slot ia ib) refl e.a e.b e.reads_a e.reads_b
-    count refl s.whole at refl refl refl
-    (recovered_phase events old.cells past r ia ib la lb e.a e.b new c.some_cells s (nat_lt r.from r.tick) refl)
+    begins_core queues keepers old.cells (Some (r.slot, r.from)) r.tick r.words (nat_lt r.from r.tick) ia ib la lb (recovered_past past r la lb) new b c.some_cells c.few_cells numbered
+    (Newest (recovered_images r (image_of ia) (image_of ib))) (refl, refl, s.newest_whole, by_slot r.slot ia ib ∙ s.chosen, by_other r.slot ia ib) refl e.a e.b e.reads_a e.reads_b
+    (length-take-le r.tick ticks s.world.ended) refl s.whole s.world.words_are refl refl refl
+    (events.recovery old.cells ticks past.acknowledged r (image_of ia) (image_of ib) e.a e.b new.content c.some_cells s b.store)
 
 -- ---- no image
 
 abbrev pub blank_past : Past → (la lb : List ℕ) → Past
 blank_past past la lb = record { history = no_history; acknowledged = past.acknowledged; has_image = past.has_image; standing = standing_at 0 0 true (is_shut la) (is_shut lb) }
 
-begins_blank : QueueLaws → KeeperLaws → StoreLaws → (cells : ℕ) (past : Past) (new : State) (ia ib la lb : List ℕ) (a b : Segment) → 1 ≤ cells → cells ≤ CELLS → past.has_image ≡ false → past.acknowledged ≡ 0
-    → image_of ia ≡ Closed → image_of ib ≡ Closed → a ≡ ClosedSegment → b ≡ ClosedSegment → IsSegment la a → IsSegment lb b
+begins_blank : EventLaws → QueueLaws → KeeperLaws → (cells : ℕ) (past : Past) (new : State) (ia ib la lb : List ℕ) → 1 ≤ cells → cells ≤ CELLS → past.has_image ≡ false → past.acknowledged ≡ 0
+    → image_of ia ≡ Closed → image_of ib ≡ Closed → IsSegment la ClosedSegment → IsSegment lb ClosedSegment
     → Begins cells None 0 (replicate cells 0) true ia ib la lb new → IsCoreAt (blank_past past la lb) new
-begins_blank queues keepers stores cells past new ia ib la lb a b some few unknown unacknowledged closed_a closed_b closed_la closed_lb reads_a reads_b begins =
-    begins_core queues keepers stores cells None 0 (replicate cells 0) true ia ib la lb (blank_past past la lb) new begins some few (omega arith)
-    (NoneYet (record { round = None })) (refl, refl, closed_a, closed_b) refl a b reads_a reads_b
-    refl refl (length-replicate cells 0) (record { ended = omega arith; words_are = refl }) refl unknown refl
-    (record {
-      no_ticks = refl;
-      none_acknowledged = unacknowledged;
-      follows = record { round = (refl, λ full. absurd (let g : 0 ≡ cells = full in omega (arith, g, some))); untouched = refl; at_zero = refl; a_closed = closed_la; b_closed = closed_lb };
-      in_work = (record { tick = 0; taken = [] }, refl);
-    })
+begins_blank events queues keepers cells past new ia ib la lb some few unknown unacknowledged closed_a closed_b reads_a reads_b begins =
+    begins_core queues keepers cells None 0 (replicate cells 0) true ia ib la lb (blank_past past la lb) new begins some few (omega arith)
+    (NoneYet (record { round = None })) (refl, refl, closed_a, closed_b) refl ClosedSegment ClosedSegment reads_a reads_b
+    refl refl (length-replicate cells 0) refl refl unknown refl
+    (subst (λ n. InStep cells [] n new.content (images_begun true 0 (NoneYet (record { round = None }))) (InStart (start_at 0 ClosedSegment ClosedSegment)) []) (sym unacknowledged)
+    (events.fresh cells new.content some begins.store))
 
-pub blank_keeps : QueueLaws → KeeperLaws → StoreLaws → SafetyLaws → (past : Past) (old new : State) (c : IsCoreAt past old) (ia ib la lb : List ℕ)
+pub blank_keeps : EventLaws → QueueLaws → KeeperLaws → SafetyLaws → (past : Past) (old new : State) (c : IsCoreAt past old) (ia ib la lb : List ℕ)
     → IsCrashOutcome old.image_a.inner ia → IsCrashOutcome old.image_b.inner ib → IsCrashOutcome old.log_a.inner la → IsCrashOutcome old.log_b.inner lb → Recovers ia ib la lb (Err NoImage)
     → Begins old.cells None 0 (replicate old.cells 0) true ia ib la lb new
     → IsCoreAt (blank_past past la lb) new
-blank_keeps queues keepers stores safety past old new c ia ib la lb oa ob ola olb e b =
+blank_keeps events queues keepers safety past old new c ia ib la lb oa ob ola olb e b =
     let s = blank safety old.cells past.history.ticks past.acknowledged ia ib la lb e.a e.b e.reads_a e.reads_b (IsCrashOutcome old.image_a.inner) (IsCrashOutcome old.image_b.inner) (IsCrashOutcome old.log_a.inner) (IsCrashOutcome old.log_b.inner) past.has_image (core_is_safe safety past old c) oa ob ola olb e.holds in
-    begins_blank queues keepers stores old.cells past new ia ib la lb e.a e.b c.some_cells c.few_cells s.unknown s.none_acknowledged s.image_a_closed s.image_b_closed s.log_a_closed s.log_b_closed e.reads_a e.reads_b b
+    begins_blank events queues keepers old.cells past new ia ib la lb c.some_cells c.few_cells s.unknown s.none_acknowledged s.image_a_closed s.image_b_closed
+    (subst (IsSegment la) s.log_a_closed e.reads_a) (subst (IsSegment lb) s.log_b_closed e.reads_b) b
 
 -- what recovery refuses on what a crash left
 pub crash_refuses : SafetyLaws → (past : Past) (old : State) (c : IsCoreAt past old) (ia ib la lb : List ℕ) → IsCrashOutcome old.image_a.inner ia → IsCrashOutcome old.image_b.inner ib → IsCrashOutcome old.log_a.inner la → IsCrashOutcome old.log_b.inner lb
@@ -196,24 +170,24 @@ begins_empty cells words a b la lb new s ew ea eb ela elb =
     subst (λ w. Begins cells None 0 w true [] [] [] [] new) ew
     (subst (λ f. Begins cells None 0 words true f [] [] [] new) ea (subst (λ f. Begins cells None 0 words true a f [] [] new) eb (subst (λ f. Begins cells None 0 words true a b f [] new) ela (subst (λ f. Begins cells None 0 words true a b la f new) elb s))))
 
-pub fresh_core : QueueLaws → KeeperLaws → StoreLaws → (cells : ℕ) (new : State) → 1 ≤ cells → cells ≤ CELLS → BeginsFresh cells new → IsCoreAt fresh_past new
-fresh_core queues keepers stores cells new some few b = begins_blank queues keepers stores cells fresh_past new [] [] [] [] ClosedSegment ClosedSegment some few refl refl closed_image closed_image refl refl closed_segment closed_segment b
+pub fresh_core : EventLaws → QueueLaws → KeeperLaws → (cells : ℕ) (new : State) → 1 ≤ cells → cells ≤ CELLS → BeginsFresh cells new → IsCoreAt fresh_past new
+fresh_core events queues keepers cells new some few b = begins_blank events queues keepers cells fresh_past new [] [] [] [] some few refl refl closed_image closed_image closed_segment closed_segment b
 
 -- ---- a core that stands on what a crash left
 
-pub stands_keeps : EventLaws → QueueLaws → KeeperLaws → StoreLaws → SafetyLaws → (past : Past) (old new : State) (c : IsCoreAt past old) (left : Remains) → MayLeave old left.image_a.items left.image_b.items left.log_a.items left.log_b.items
+pub stands_keeps : EventLaws → QueueLaws → KeeperLaws → SafetyLaws → (past : Past) (old new : State) (c : IsCoreAt past old) (left : Remains) → MayLeave old left.image_a.items left.image_b.items left.log_a.items left.log_b.items
     → (given : Answer) → StandsOn old.cells left.image_a.items left.image_b.items left.log_a.items left.log_b.items given new → IsCoreAt (past_after past (move.Crash left) given) new
-stands_keeps events queues keepers stores safety past old new c left may (answer.Recovered tick from) s =
-    let k = recovered_keeps events queues keepers stores safety past old new c s.0 left.image_a.items left.image_b.items left.log_a.items left.log_b.items may.0 may.1 may.2 may.3 s.1 s.4 s.5 in
+stands_keeps events queues keepers safety past old new c left may (answer.Recovered tick from) s =
+    let k = recovered_keeps events queues keepers safety past old new c s.0 left.image_a.items left.image_b.items left.log_a.items left.log_b.items may.0 may.1 may.2 may.3 s.1 s.4 s.5 in
     subst (λ t. IsCoreAt (past_after past (move.Crash left) (answer.Recovered t from)) new) (sym s.2) (subst (λ f. IsCoreAt (past_after past (move.Crash left) (answer.Recovered s.0.tick f)) new) (sym s.3) k)
-stands_keeps events queues keepers stores safety past old new c left may answer.Blank s = blank_keeps queues keepers stores safety past old new c left.image_a.items left.image_b.items left.log_a.items left.log_b.items may.0 may.1 may.2 may.3 s.0 s.1
-stands_keeps events queues keepers stores safety past old new c left may answer.Did s = absurd s
-stands_keeps events queues keepers stores safety past old new c left may (answer.Word word) s = absurd s
-stands_keeps events queues keepers stores safety past old new c left may (answer.Ended tick) s = absurd s
-stands_keeps events queues keepers stores safety past old new c left may (answer.Started tick) s = absurd s
-stands_keeps events queues keepers stores safety past old new c left may (answer.Image given) s = absurd s
-stands_keeps events queues keepers stores safety past old new c left may (answer.Log given) s = absurd s
-stands_keeps events queues keepers stores safety past old new c left may (answer.Refused refusal) s = absurd s
+stands_keeps events queues keepers safety past old new c left may answer.Blank s = blank_keeps events queues keepers safety past old new c left.image_a.items left.image_b.items left.log_a.items left.log_b.items may.0 may.1 may.2 may.3 s.0 s.1
+stands_keeps events queues keepers safety past old new c left may answer.Did s = absurd s
+stands_keeps events queues keepers safety past old new c left may (answer.Word word) s = absurd s
+stands_keeps events queues keepers safety past old new c left may (answer.Ended tick) s = absurd s
+stands_keeps events queues keepers safety past old new c left may (answer.Started tick) s = absurd s
+stands_keeps events queues keepers safety past old new c left may (answer.Image given) s = absurd s
+stands_keeps events queues keepers safety past old new c left may (answer.Log given) s = absurd s
+stands_keeps events queues keepers safety past old new c left may (answer.Refused refusal) s = absurd s
 
 pub stands_exact : (state new : State) (cells : ℕ) (ia ib la lb : List ℕ) → MayLeave state ia ib la lb → (given : Answer) → StandsOn cells ia ib la lb given new → IsCrashAnswer state ia ib la lb given
 stands_exact state new cells ia ib la lb may (answer.Recovered tick from) s = (may, (s.0, s.1, s.2, s.3))

@@ -1,42 +1,22 @@
 -- What is always true of a core, by what moves and their answers tell of it.
-use Rattle.std.specs.Prelude.{◌≡◌, ℕ, ◌-◌, ◌≤◌, List, [], ◌++◌, length, map, Bool, true, false, Some, None, option_map, Ok}
+use Rattle.std.specs.Prelude.{◌≡◌, ℕ, ◌-◌, ◌≤◌, List, [], ◌++◌, length, map, Bool, true, false, option_map, Ok}
+use Rattle.world_actions.specs.declared.action.Action.{Action}
 use Rattle.world_actions.specs.declared.world.TheConstants.{CELLS}
 use Rattle.world_ticks.specs.declared.tick.TheConstants.{TICK_MAX}
 use Rattle.world_ticks.specs.After.{after_actions, after_ticks}
-use Rattle.image_files.specs.Images.{Round, Images, FirstImages, ImageFiles, NoneYet, Newest, round_in, newest_in}
+use Rattle.image_files.specs.Images.{Round, ImageFiles, NoneYet, Newest, round_in, newest_in}
 use Rattle.action_log.specs.declared.format.TheConstants.{SEGMENT_TICKS}
 use Rattle.action_log.specs.Progress.{QueueFollows, end_of}
-use Rattle.action_log.specs.Logs.{Start, Journal, InStart, Writing, LogPlace}
-use Rattle.recovery.specs.Start.{IsStarting, FirstFollows}
-use Rattle.recovery.specs.Events.{IsKept}
-use Rattle.restart.specs.Rounds.{StoreFollowsImages}
+use Rattle.action_log.specs.Logs.{Journal, InStart, Writing, LogPlace}
+use Rattle.restart.specs.InStep.{InStep}
 use Rattle.world_core.specs.Standing.{Queued, queued_of}
 use Rattle.world_core.specs.Past.{Past}
 use Rattle.world_core.specs.State.{State, HasImages, HasLog, is_down, newest_tick}
 
--- in the start of a fresh world, before its first image is open
-pub record IsBeforeFirst (cells : ℕ) (past : Past) (state : State) (images : FirstImages) (start : Start) : Type 0 where
-  pub no_ticks : past.history.ticks ≡ []
-  pub none_acknowledged : past.acknowledged ≡ 0
-  pub follows : FirstFollows cells images start
-  pub in_work : (round : Round) × (images.round ≡ Some round)
-
--- in a start, once there is an image: the log's part waits for the image of the recovered tick
-pub record IsInStart (cells : ℕ) (past : Past) (state : State) (images : Images) (start : Start) : Type 0 where
-  pub from : ℕ
-  pub starting : IsStarting cells past.history.ticks past.acknowledged images from start
-  pub caught_up : images.round ≡ None → images.tick ≡ start.tick
-
-abbrev pub HasPhase : (cells : ℕ) → Past → State → ImageFiles → Journal → Type 0
-HasPhase cells past state (NoneYet images) (InStart start) = IsBeforeFirst cells past state images start
-HasPhase cells past state (Newest images) (InStart start) = IsInStart cells past state images start
-HasPhase cells past state (NoneYet images) (Writing logs) = ⊥
-HasPhase cells past state (Newest images) (Writing logs) = IsKept cells past.history.ticks past.acknowledged images logs state.queue
-
--- in the start the running tick and the queue are empty
-abbrev pub IsAtRest : Journal → State → Type 0
-IsAtRest (InStart start) state = (state.running ≡ []) × (state.queue ≡ [])
-IsAtRest (Writing logs) state = Unit {0}
+-- in the start the running tick is empty
+abbrev pub IsAtRest : Journal → (running : List Action) → Type 0
+IsAtRest (InStart start) running = running ≡ []
+IsAtRest (Writing logs) running = Unit {0}
 
 abbrev pub is_known : ImageFiles → Bool
 is_known (NoneYet images) = false
@@ -73,9 +53,8 @@ pub record IsCoreAt (past : Past) (state : State) : Type 0 where
   pub place : LogPlace
   pub has_images : HasImages state images
   pub has_log : HasLog state place
-  pub store : StoreFollowsImages state.cells past.history.ticks state.content images
-  pub phase : HasPhase state.cells past state images place.journal
-  pub at_rest : IsAtRest place.journal state
+  pub in_step : InStep state.cells past.history.ticks past.acknowledged state.content images place.journal state.queue
+  pub at_rest : IsAtRest place.journal state.running
   -- what moves and answers tell of them
   pub is_image_known : past.has_image ≡ is_known images
   pub start_left : past.standing.start_left ≡ place.left

@@ -7,11 +7,10 @@ use Rattle.world_ticks.specs.declared.tick.TheConstants.{TICK_MAX}
 use Rattle.world_ticks.specs.Tick.{Actions}
 use Rattle.world_ticks.specs.After.{and_then, after_actions}
 use Rattle.file_format.specs.declared.slot.Slot.{Slot}
-use Rattle.capture_core.specs.Content.{Takes}
 use Rattle.disk_model.specs.Disk.{Only}
 use Rattle.disk_model.specs.CrashOutcome.{IsCrashOutcome}
 use Rattle.image_files.specs.declared.phase.Phase.TheVariants.{Idle}
-use Rattle.image_files.specs.Images.{Round, ImageFiles, Images, FirstImages, NoneYet, Newest, newest_in, round_in, with_round}
+use Rattle.image_files.specs.Images.{Round, ImageFiles, newest_in, round_in, with_round}
 use Rattle.image_files.specs.Progress.{Progress as ImageProgress, made_keeper, begun_keeper, cells_taken}
 use Rattle.image_files.specs.Files.{TellsShut, IsTold}
 use Rattle.action_log.specs.declared.record.Record.{Record}
@@ -21,25 +20,26 @@ use Rattle.action_log.specs.declared.format.TheConstants.{SEGMENT_TICKS}
 use Rattle.action_log.specs.Segment.{Segment, IsSegment}
 use Rattle.action_log.specs.Spellings.{ReadsOnce}
 use Rattle.action_log.specs.Progress.{begun as begun_log, QueueFollows, end_of}
-use Rattle.action_log.specs.Logs.{Logs, Start, LogPlace, InStart, Writing, start_of, start_moves}
-use Rattle.recovery.specs.Events.{TickEnds, MarkIsMade, ImageStepKeeps, LogStepKeeps, ReceiptIsExact, StartRoundBegins, StartImageStepKeeps, StartLogStepKeeps, FirstImageStepKeeps, IsKept}
-use Rattle.recovery.specs.Sound.{IsSound, IsFresh}
-use Rattle.recovery.specs.Start.{IsStarting, FirstFollows}
+use Rattle.action_log.specs.Logs.{LogPlace, start_of, start_moves}
+use Rattle.recovery.specs.Events.{TickEnds, ReceiptIsExact}
 use Rattle.recovery.specs.Restart.{SoundRestarts, FreshRestarts}
-use Rattle.restart.specs.Rounds.{MarkFollows, BuiltFollows, WritesFollow, TicksFollow, StepFollows, RoundFollows, FirstRoundFollows, AllAreTaken}
-use Rattle.world_core.specs.State.{File, ImagesIn, LogIn}
+use Rattle.restart.specs.Start.{is_shut}
+use Rattle.restart.specs.Rounds.{WritesFollow, TicksFollow, AllAreTaken}
+use Rattle.restart.specs.InStep.{InStep, RecoveryBegins, FreshBegins, ImageStepGoesOn, LogStepGoesOn, MarkGoesOn, IsSafe}
+use Rattle.world_core.specs.State.{File, State, ImagesIn, LogIn, HasImages, HasLog}
 
 pub record EventLaws : Type 0 where
   pub append : (world : List ℕ) (before after : List Action) → after_actions world (before ++ after) ≡ and_then (after_actions world before) (λ next. after_actions next after)
+  pub recovery : RecoveryBegins
+  pub fresh : FreshBegins
+  pub writes : WritesFollow
+  pub ticks : TicksFollow
   pub tick_ends : TickEnds
-  pub mark : MarkIsMade
-  pub image_step : ImageStepKeeps Takes
-  pub log_step : LogStepKeeps
+  pub mark : MarkGoesOn
+  pub image_step : ImageStepGoesOn
+  pub log_step : LogStepGoesOn
   pub receipt : ReceiptIsExact
-  pub round_begins : StartRoundBegins
-  pub start_image_step : StartImageStepKeeps Takes
-  pub start_log_step : StartLogStepKeeps
-  pub first_image_step : FirstImageStepKeeps Takes
+  pub all_taken : AllAreTaken
 
 pub record QueueLaws : Type 0 where
   pub begins : (tick : ℕ) (shut_a shut_b : Bool) → QueueFollows (begun_log tick shut_a shut_b) [] × (end_of (begun_log tick shut_a shut_b) [] ≡ record { base = tick; count = 0 })
@@ -50,6 +50,7 @@ pub record QueueLaws : Type 0 where
       → QueueFollows keeper (queue ++ records.Switch tick ∷ []) × (end_of keeper (queue ++ records.Switch tick ∷ []) ≡ record { base = tick; count = 0 })
 
 pub record KeeperLaws : Type 0 where
+  pub told : (file : List ℕ) → TellsShut (is_shut file) file
   pub made : (cells : ℕ) (newest : Option (Slot × ℕ)) (shut_a shut_b : Bool) (images : ImageFiles) (image_a image_b : File) → 1 ≤ cells → cells ≤ CELLS
       → Only image_a.inner.content (IsCrashOutcome image_a.inner) → Only image_b.inner.content (IsCrashOutcome image_b.inner)
       → TellsShut shut_a image_a.inner.content → TellsShut shut_b image_b.inner.content → IsTold cells newest images image_a.inner.content image_b.inner.content
@@ -67,25 +68,9 @@ pub record KeeperLaws : Type 0 where
       → LogIn (begun_log tick shut_a shut_b) (start_of tick before_a before_b (start_moves shut_a shut_b)) log_a log_b
 
 pub record SafetyLaws : Type 0 where
-  pub after_start : (images : ImageProgress) (logs : LogProgress) (image_a image_b log_a log_b : File) (ticks : List (List Action)) (acknowledged : ℕ) (newest : Images) (current : Logs) (left : ℕ) (queue : List Record)
-      → ImagesIn images (Newest newest) image_a image_b → LogIn logs (record { journal = Writing current; left = left }) log_a log_b → IsKept images.cells ticks acknowledged newest current queue
-      → IsSound (IsCrashOutcome image_a.inner) (IsCrashOutcome image_b.inner) (IsCrashOutcome log_a.inner) (IsCrashOutcome log_b.inner) images.cells ticks acknowledged
-  pub in_start : (images : ImageProgress) (logs : LogProgress) (image_a image_b log_a log_b : File) (ticks : List (List Action)) (acknowledged : ℕ) (newest : Images) (from : ℕ) (start : Start) (left : ℕ)
-      → ImagesIn images (Newest newest) image_a image_b → LogIn logs (record { journal = InStart start; left = left }) log_a log_b → IsStarting images.cells ticks acknowledged newest from start
-      → IsSound (IsCrashOutcome image_a.inner) (IsCrashOutcome image_b.inner) (IsCrashOutcome log_a.inner) (IsCrashOutcome log_b.inner) images.cells ticks acknowledged
-  pub before_image : (images : ImageProgress) (logs : LogProgress) (image_a image_b log_a log_b : File) (first : FirstImages) (start : Start) (left : ℕ)
-      → ImagesIn images (NoneYet first) image_a image_b → LogIn logs (record { journal = InStart start; left = left }) log_a log_b → FirstFollows images.cells first start
-      → IsFresh (IsCrashOutcome image_a.inner) (IsCrashOutcome image_b.inner) (IsCrashOutcome log_a.inner) (IsCrashOutcome log_b.inner) images.cells
+  pub safe : (state : State) (ticks : List (List Action)) (acknowledged : ℕ) (images : ImageFiles) (place : LogPlace) → state.images.cells ≡ state.cells → HasImages state images → HasLog state place
+      → InStep state.cells ticks acknowledged state.content images place.journal state.queue
+      → IsSafe images (IsCrashOutcome state.image_a.inner) (IsCrashOutcome state.image_b.inner) (IsCrashOutcome state.log_a.inner) (IsCrashOutcome state.log_b.inner) state.cells ticks acknowledged
   pub sound : SoundRestarts
   pub fresh : FreshRestarts
   pub once : ReadsOnce
-
-pub record StoreLaws : Type 0 where
-  pub mark : MarkFollows
-  pub built : BuiltFollows
-  pub writes : WritesFollow
-  pub ticks : TicksFollow
-  pub step : StepFollows
-  pub round : RoundFollows
-  pub first_round : FirstRoundFollows
-  pub all_taken : AllAreTaken

@@ -1,27 +1,25 @@
-ghost use Rattle.world_core.specs.Laws.{EventLaws, QueueLaws, KeeperLaws, SafetyLaws, StoreLaws};
+ghost use Rattle.world_core.specs.Laws.{EventLaws, QueueLaws, KeeperLaws, SafetyLaws};
 
 use action_log::{log_outcomes, log_queues, segments_read_once};
 use capture_core::PlainCopy;
 use disk_model::{Fused, ModelFile};
 use image_files::images_stay;
-use recovery::{
-    crash_restarts, events_keep, law_of_first_start, law_of_recovery, law_of_start,
-    start_events_keep,
-};
-use restart::stores_follow;
+use recovery::{crash_restarts, events_keep};
+use restart::{gates_are_told, stores_follow, worlds_are_safe, worlds_go_on};
 use world_ticks::actions_go_on;
 
 /// What happens to the files of a core.
 type File = Fused<ModelFile>;
 
-/// Laws: each event keeps what makes the files sound. Of a store only its content is asked, as the
-/// plain copy's.
+/// Laws: store, images, log and queue begin in step with the ticks, and each event keeps them so. They
+/// speak of no kind of store, and the plain copy stands for any.
 pub fn event_laws()
     ensures { EventLaws }
 {
     actions_go_on();
     events_keep::<PlainCopy>();
-    start_events_keep::<PlainCopy>();
+    stores_follow();
+    worlds_go_on();
 }
 
 /// Laws: which records may be queued.
@@ -31,31 +29,23 @@ pub fn queue_laws()
     log_queues();
 }
 
-/// Laws: what the keepers and their files stand for.
+/// Laws: what the keepers and their files stand for, and that it is told rightly which gates are shut.
 pub fn keeper_laws()
     ensures { KeeperLaws }
 {
     images_stay::<File>();
     log_outcomes::<File>();
+    gates_are_told();
 }
 
-/// Laws: what the keepers stand for makes the files sound, and a crash begins the next start. A file
-/// reads in one way.
+/// Laws: the files of a core in step are safe, and a crash begins the next start. A file reads in one
+/// way.
 pub fn safety_laws()
     ensures { SafetyLaws }
 {
     images_stay::<File>();
     log_outcomes::<File>();
-    law_of_recovery::<File>();
-    law_of_start::<File>();
-    law_of_first_start::<File>();
+    worlds_are_safe::<File>();
     crash_restarts();
     segments_read_once();
-}
-
-/// Laws: how the store follows the images.
-pub fn store_laws()
-    ensures { StoreLaws }
-{
-    stores_follow();
 }

@@ -7,7 +7,7 @@ ghost use Rattle.world_core.specs.Moving.{Does};
 ghost use Rattle.world_core.specs.Exact.{IsExact, Progresses};
 ghost use Rattle.world_core.specs.Facts.{IsCoreAt};
 
-use crate::laws::{event_laws, keeper_laws, queue_laws, safety_laws, store_laws};
+use crate::laws::{event_laws, keeper_laws, queue_laws, safety_laws};
 use crate::moves::{Answer, Fate, Move, Remains};
 use crate::parts::Parts;
 use action_log::LogAnswer;
@@ -48,9 +48,9 @@ impl<C: Capture> Core<C> {
         ensures begins { IfOk result (BeginsFresh cells) }
         ensures memory { IfErr result (λ refusal. refusal ≡ Refusal.NoMemory) }
     {
+        event_laws();
         queue_laws();
         keeper_laws();
-        store_laws();
         let words = zeros(alloc, cells)?;
         let parts = Parts::begin(alloc, cells, None, 0, &words, Remains::none(alloc))?;
         Ok(Core { parts })
@@ -97,7 +97,6 @@ impl<C: Capture> Core<C> {
     {
         event_laws();
         keeper_laws();
-        store_laws();
         if let Some(refusal) = self.parts.tick_refusal() {
             return Answer::Refused(refusal);
         }
@@ -128,7 +127,6 @@ impl<C: Capture> Core<C> {
         event_laws();
         queue_laws();
         keeper_laws();
-        store_laws();
         if let Some(refusal) = self.parts.tick_refusal() {
             return Answer::Refused(refusal);
         }
@@ -149,7 +147,6 @@ impl<C: Capture> Core<C> {
         event_laws();
         queue_laws();
         keeper_laws();
-        store_laws();
         if let Some(refusal) = self.parts.mark_refusal() {
             return Answer::Refused(refusal);
         }
@@ -167,7 +164,6 @@ impl<C: Capture> Core<C> {
     {
         event_laws();
         keeper_laws();
-        store_laws();
         self.parts.move_images(fate)
     }
 
@@ -203,7 +199,6 @@ impl<C: Capture> Core<C> {
         queue_laws();
         keeper_laws();
         safety_laws();
-        store_laws();
         if !self.parts.allows(&left) {
             return Answer::Refused(Refusal::Impossible);
         }

@@ -2,6 +2,7 @@ use Rattle.world_core.proofs.laws.keeper_laws.Goals as goal
 
 pub returns : goal.returns
 returns c = record {
+  told = c.gates_are_told.ensures;
   made = c.images_stay.ensures.made;
   begun = c.images_stay.ensures.begun;
   newest = c.images_stay.ensures.newest;

@@ -13,10 +13,10 @@ returns-in-Some-clause-exact g c = λ past h.
 pub invariant_of-self : goal.invariant_of-self
 invariant_of-self g c = (
   _,
-  mark_from c.event_laws.ensures c.queue_laws.ensures c.keeper_laws.ensures c.store_laws.ensures c.self.invariant.0 c.self.inside.parts c.begin_round.new.self c.begin_round.result c.self.invariant.1
+  mark_from c.event_laws.ensures c.queue_laws.ensures c.keeper_laws.ensures c.self.invariant.0 c.self.inside.parts c.begin_round.new.self c.begin_round.result c.self.invariant.1
       (sym c.in_default.is ∙ c.mark_refusal.ensures.refusal) c.begin_round.ensures.number c.begin_round.ensures.begun,
 )
 
 pub returns-clause-keeps : goal.returns-clause-keeps
-returns-clause-keeps g c = λ past h. mark_from c.event_laws.ensures c.queue_laws.ensures c.keeper_laws.ensures c.store_laws.ensures past c.self.inside.parts c.begin_round.new.self c.begin_round.result (subst (IsCoreAt past) (sym c.self.view_is) h)
+returns-clause-keeps g c = λ past h. mark_from c.event_laws.ensures c.queue_laws.ensures c.keeper_laws.ensures past c.self.inside.parts c.begin_round.new.self c.begin_round.result (subst (IsCoreAt past) (sym c.self.view_is) h)
     (sym c.in_default.is ∙ c.mark_refusal.ensures.refusal) c.begin_round.ensures.number c.begin_round.ensures.begun
