@@ -15,6 +15,7 @@ use world_actions::Refusal;
 use zigzag::Zigzag;
 
 mod crashes;
+mod real_files;
 
 const BATCH: &[u8] = b"set 0 5\nget 0\nmove 0 1 9\nfoo\nend\n";
 
