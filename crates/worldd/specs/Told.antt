@@ -1,7 +1,7 @@
 -- What is told of a file: how it reads.
 use Rattle.std.specs.Prelude.{◌≡◌, List, ℕ, length}
 use Rattle.image_files.specs.Image.{Image, Closed, Bad, Open}
-use Rattle.action_log.specs.Segment.{Segment, ClosedSegment, MalformedSegment, OpenSegment, IsSegment}
+use Rattle.action_log.specs.Segment.{Tick, ClosedSegment, MalformedSegment, IsSegment, IsOpenSegment}
 use Rattle.worldd.specs.declared.told.ImageTold.{ImageTold}
 use Rattle.worldd.specs.declared.told.ImageTold.TheVariants as image
 use Rattle.worldd.specs.declared.told.LogTold.{LogTold}
@@ -13,12 +13,10 @@ image_told Closed = image.Closed
 image_told Bad = image.Damaged
 image_told (Open tick words) = image.Open (length words) tick
 
--- what is told of a segment
-abbrev pub segment_told : Segment → LogTold
-segment_told ClosedSegment = log.Closed
-segment_told MalformedSegment = log.Damaged
-segment_told (OpenSegment base ticks) = log.Open base (length ticks)
-
--- this is told of a log file's bytes
+-- this is told of a log file's bytes: of an open segment the base, and how many groups and ticks it has
 abbrev pub IsToldOf : List ℕ → LogTold → Type 0
-IsToldOf bytes told = (segment : Segment) × IsSegment bytes segment × (told ≡ segment_told segment)
+IsToldOf bytes log.Closed = IsSegment bytes ClosedSegment
+IsToldOf bytes log.Damaged = IsSegment bytes MalformedSegment
+IsToldOf bytes (log.Open base groups ticks) =
+    (listed : List Tick) × (segment : IsOpenSegment bytes base listed)
+    × (groups ≡ length segment.groups) × (ticks ≡ length listed)

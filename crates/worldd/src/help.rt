@@ -53,9 +53,9 @@ pub const INSPECT_HELP: &str = "\
 It reads image.a, image.b, log.a and log.b, writes nothing and locks nothing, and prints
 a line for each, in this order:
   NAME: closed, 9 bytes
-  NAME: open, format 1, 2 cells, tick 7, 33 bytes    an image of the world after tick 7
-  NAME: open, format 1, base 7, 2 ticks, 43 bytes    a log file with ticks 8 and 9
-  NAME: damaged, 9 bytes                             it is open, and not of the format
+  NAME: open, format 1, 2 cells, tick 7, 33 bytes           the world after tick 7
+  NAME: open, format 1, base 7, 1 group, 2 ticks, 43 bytes  ticks 8 and 9
+  NAME: damaged, 9 bytes                                    open, and not of the format
   NAME: unreadable: REASON
 Then it prints `recovered N from T in NAME`: the world after tick N stands in them, built
 from the image of tick T. Where none stands it ends as `recover` does.";

@@ -11,6 +11,7 @@ use std::process::{ExitCode, Termination};
 use std::test::Fail;
 use world_actions::Refusal;
 
+mod creating;
 mod folders;
 
 // A runtime with the files of another one and this input, whose outputs are kept. Its standard output
@@ -222,10 +223,10 @@ fn faults_are_told_by_code_and_in_words(rt: HostRuntime) {
 
 #[test]
 fn wrong_command_lines_end_with_two(rt: HostRuntime) -> Result<(), Fail> {
-    let cases: [(&[&str], &str); 5] = [
+    let cases: [(&[&str], &str); 10] = [
         (
             &["worldd"],
-            "error: 'worldd' requires a subcommand but one was not provided\n  [subcommands: steps, recover, inspect, help]\n\nUsage: worldd <COMMAND>\n\nFor more information, try '--help'.\n",
+            "error: 'worldd' requires a subcommand but one was not provided\n  [subcommands: steps, create, recover, inspect, help]\n\nUsage: worldd <COMMAND>\n\nFor more information, try '--help'.\n",
         ),
         (
             &["worldd", "stepz"],
@@ -234,6 +235,26 @@ fn wrong_command_lines_end_with_two(rt: HostRuntime) -> Result<(), Fail> {
         (
             &["worldd", "steps", "extra"],
             "error: unexpected argument 'extra' found\n\nUsage: worldd steps\n\nFor more information, try '--help'.\n",
+        ),
+        (
+            &["worldd", "create", "--cells", "1"],
+            "error: the following required arguments were not provided:\n  --dir <FOLDER>\n\nUsage: worldd create --dir <FOLDER> --cells <N>\n\nFor more information, try '--help'.\n",
+        ),
+        (
+            &["worldd", "create", "--dir", "world"],
+            "error: the following required arguments were not provided:\n  --cells <N>\n\nUsage: worldd create --dir <FOLDER> --cells <N>\n\nFor more information, try '--help'.\n",
+        ),
+        (
+            &["worldd", "create", "--dir", "world", "--cells", "0"],
+            "error: invalid value '0' for '--cells <N>': 0 is not in 1..=65536\n\nFor more information, try '--help'.\n",
+        ),
+        (
+            &["worldd", "create", "--dir", "world", "--cells", "65537"],
+            "error: invalid value '65537' for '--cells <N>': 65537 is not in 1..=65536\n\nFor more information, try '--help'.\n",
+        ),
+        (
+            &["worldd", "create", "--dir", "world", "--cells", "two"],
+            "error: invalid value 'two' for '--cells <N>': invalid digit found in string\n\nFor more information, try '--help'.\n",
         ),
         (
             &["worldd", "recover"],
@@ -283,7 +304,7 @@ fn the_version_is_told(rt: HostRuntime) -> Result<(), Fail> {
 
 #[test]
 fn help_ends_well(rt: HostRuntime) -> Result<(), Fail> {
-    let cases: [(&[&str], &str, &str); 4] = [
+    let cases: [(&[&str], &str, &str); 5] = [
         (
             &["worldd", "--help"],
             "A main-memory world server with asynchronous checkpoints\n\nUsage: worldd <COMMAND>\n",
@@ -293,6 +314,11 @@ fn help_ends_well(rt: HostRuntime) -> Result<(), Fail> {
             &["worldd", "steps", "--help"],
             "Runs the script on standard input, over a world in memory\n\nUsage: worldd steps\n",
             "21 no tick numbers are left\n",
+        ),
+        (
+            &["worldd", "create", "--help"],
+            "Makes the files of a new world in a folder\n\nUsage: worldd create --dir <FOLDER> --cells <N>\n",
+            "\n  writes this world, 22 a file isn't closed: no file is written then\n",
         ),
         (
             &["worldd", "recover", "--help"],

@@ -5,7 +5,7 @@ ghost use Rattle.action_log.specs.Segment.{HasTicks};
 ghost use Rattle.worldd.specs.Told.{image_told, IsToldOf};
 
 use crate::counted::Counted;
-use action_log::{LogState, read_log};
+use action_log::{LogState, count_groups, read_log};
 use image_files::{ImageState, read_image};
 use std::alloc::Global;
 use std::fmt;
@@ -29,7 +29,11 @@ pub enum LogTold {
     Closed,
     /// It is open, and not of the format.
     Damaged,
-    Open { base: u64, ticks: usize },
+    Open {
+        base: u64,
+        groups: usize,
+        ticks: usize,
+    },
 }
 
 /// Tells of an image file; it takes memory as `read_image` does.
@@ -59,6 +63,7 @@ pub fn tell_log(alloc: Global, bytes: &[u8]) -> Result<LogTold, Refusal>
         Ok(LogState::Closed) => Ok(LogTold::Closed),
         Ok(LogState::Open { base, ticks }) => Ok(LogTold::Open {
             base,
+            groups: count_groups(bytes).unwrap(),
             ticks: ticks.len(),
         }),
         Err(Refusal::BadLog) => Ok(LogTold::Damaged),
@@ -87,12 +92,20 @@ impl fmt::Display for LogTold {
         match self {
             LogTold::Closed => f.write_str("closed"),
             LogTold::Damaged => f.write_str("damaged"),
-            LogTold::Open { base, ticks } => {
+            LogTold::Open {
+                base,
+                groups,
+                ticks,
+            } => {
+                let groups = Counted {
+                    count: *groups,
+                    noun: "group",
+                };
                 let ticks = Counted {
                     count: *ticks,
                     noun: "tick",
                 };
-                write!(f, "open, format {FORMAT}, base {base}, {ticks}")
+                write!(f, "open, format {FORMAT}, base {base}, {groups}, {ticks}")
             }
         }
     }

@@ -6,7 +6,7 @@ use std::test::Fail;
 use std::{env, fs, process};
 
 // An image of the words 0 and 0 at tick 0.
-const NEW_IMAGE: [u8; 33] = [
+pub const NEW_IMAGE: [u8; 33] = [
     1, 2, 0, 0, 0, 0, 0, 0, 0, 0, 0, 0, 0, 0, 0, 0, 0, 0, 0, 0, 0, 0, 0, 0, 0, 0, 0, 0, 0, 0, 0, 0,
     0,
 ];
@@ -32,26 +32,34 @@ const LOG_OF_4: [u8; 32] = [
     1, 3, 0, 0, 0, 0, 0, 0, 0, 1, 1, 0, 1, 0, 3, 0, 0, 0, 0, 1, 0, 0, 0, 2, 0, 0, 0, 0, 0, 0, 0, 0,
 ];
 
-// An open gate and no header that it could have.
-const GARBAGE: [u8; 20] = [1; 20];
+// A segment with a group of tick 1 and one of ticks 2 and 3, with no actions, and a closed one behind them.
+const LOG_OF_GROUPS: [u8; 22] = [
+    1, 0, 0, 0, 0, 0, 0, 0, 0, 1, 1, 0, 0, 0, 1, 2, 0, 0, 0, 0, 0, 0,
+];
 
-const NO_FILE: &str = "No such file or directory (os error 2)";
+// A segment with no group.
+const NEW_LOG: [u8; 10] = [1, 3, 0, 0, 0, 0, 0, 0, 0, 0];
+
+// An open gate and no header that it could have.
+pub const GARBAGE: [u8; 20] = [1; 20];
+
+pub const NO_FILE: &str = "No such file or directory (os error 2)";
 
 // A new folder for a test of this name.
-fn new_folder(rt: &HostRuntime, test: &str) -> Result<PathBuf, Fail> {
+pub fn new_folder(rt: &HostRuntime, test: &str) -> Result<PathBuf, Fail> {
     let name = format!(in rt.alloc(); "worldd-{test}-{}", process::id(rt.process()))?;
     let folder = env::temp_dir(rt)?.join(rt.alloc(), name.as_str())?;
     fs::create_dir(rt, folder.as_path())?;
     Ok(folder)
 }
 
-fn put(rt: &HostRuntime, folder: &PathBuf, name: &str, bytes: &[u8]) -> Result<(), Fail> {
+pub fn put(rt: &HostRuntime, folder: &PathBuf, name: &str, bytes: &[u8]) -> Result<(), Fail> {
     let path = folder.join(rt.alloc(), name)?;
     fs::write(rt, path.as_path(), bytes)?;
     Ok(())
 }
 
-fn put_all(rt: &HostRuntime, folder: &PathBuf, files: [&[u8]; 4]) -> Result<(), Fail> {
+pub fn put_all(rt: &HostRuntime, folder: &PathBuf, files: [&[u8]; 4]) -> Result<(), Fail> {
     let [image_a, image_b, log_a, log_b] = files;
     put(rt, folder, "image.a", image_a)?;
     put(rt, folder, "image.b", image_b)?;
@@ -59,27 +67,27 @@ fn put_all(rt: &HostRuntime, folder: &PathBuf, files: [&[u8]; 4]) -> Result<(), 
     put(rt, folder, "log.b", log_b)
 }
 
-// What a run prints, what it tells as an error, and whether it ends with status 0.
+// What a run prints, what it tells as an error, and the status that it ends with.
 #[derive(Drop)]
-struct Outcome {
-    output: String,
-    errors: String,
-    ends_well: bool,
+pub struct Outcome {
+    pub output: String,
+    pub errors: String,
+    pub status: ExitCode,
 }
 
-fn run(rt: &HostRuntime, line: &[&str]) -> Result<Outcome, Fail> {
+pub fn run(rt: &HostRuntime, line: &[&str]) -> Result<Outcome, Fail> {
     run_at(rt, false, line)
 }
 
 // The same with a standard output that may be closed.
-fn run_at(rt: &HostRuntime, is_closed: bool, line: &[&str]) -> Result<Outcome, Fail> {
+pub fn run_at(rt: &HostRuntime, is_closed: bool, line: &[&str]) -> Result<Outcome, Fail> {
     let desk = Desk::new(rt, b"", is_closed);
     let line = words(rt, line)?;
     let status = answer(&desk, &line).report(&desk);
     Ok(Outcome {
         output: desk.output.into_inner(),
         errors: desk.errors.into_inner(),
-        ends_well: status == ExitCode::SUCCESS,
+        status,
     })
 }
 
@@ -97,7 +105,7 @@ fn check_found(rt: &impl Abort, runs: &(Outcome, Outcome), recovered: &str, insp
     assert_eq!(rt; runs.1.output.as_str(), inspected);
     for run in [&runs.0, &runs.1] {
         assert_eq!(rt; run.errors.as_str(), "");
-        assert!(rt; run.ends_well);
+        assert!(rt; run.status == ExitCode::SUCCESS);
     }
 }
 
@@ -107,7 +115,7 @@ fn check_fault(rt: &impl Abort, runs: &(Outcome, Outcome), fault: &str, inspecte
     assert_eq!(rt; runs.1.output.as_str(), inspected);
     for run in [&runs.0, &runs.1] {
         assert_eq!(rt; run.errors.as_str(), fault);
-        assert!(rt; !run.ends_well);
+        assert!(rt; run.status == ExitCode::from(1));
     }
 }
 
@@ -125,8 +133,8 @@ fn a_world_is_told(rt: HostRuntime) -> Result<(), Fail> {
         "recovered 4 from 3\n",
         "image.a: open, format 1, 2 cells, tick 3, 33 bytes\n\
          image.b: open, format 1, 2 cells, tick 2, 33 bytes\n\
-         log.a: open, format 1, base 2, 1 tick, 28 bytes\n\
-         log.b: open, format 1, base 3, 1 tick, 32 bytes\n\
+         log.a: open, format 1, base 2, 1 group, 1 tick, 28 bytes\n\
+         log.b: open, format 1, base 3, 1 group, 1 tick, 32 bytes\n\
          recovered 4 from 3 in image.a\n",
     );
     let name = folder.as_str();
@@ -151,6 +159,24 @@ fn a_world_of_other_files_is_told(rt: HostRuntime) -> Result<(), Fail> {
          log.a: closed, 0 bytes\n\
          log.b: closed, 1 byte\n\
          recovered 0 from 0 in image.b\n",
+    );
+    fs::remove_dir_all(&rt, folder.as_path())?;
+    Ok(())
+}
+
+#[test]
+fn groups_and_ticks_are_told(rt: HostRuntime) -> Result<(), Fail> {
+    let folder = new_folder(&rt, "groups")?;
+    put_all(&rt, &folder, [&NEW_IMAGE, &[], &LOG_OF_GROUPS, &NEW_LOG])?;
+    check_found(
+        &rt,
+        &run_both(&rt, &folder)?,
+        "recovered 3 from 0\n",
+        "image.a: open, format 1, 2 cells, tick 0, 33 bytes\n\
+         image.b: closed, 0 bytes\n\
+         log.a: open, format 1, base 0, 2 groups, 3 ticks, 22 bytes\n\
+         log.b: open, format 1, base 3, 0 groups, 0 ticks, 10 bytes\n\
+         recovered 3 from 0 in image.a\n",
     );
     fs::remove_dir_all(&rt, folder.as_path())?;
     Ok(())
@@ -240,7 +266,7 @@ fn a_folder_that_is_not_there_is_a_fault(rt: HostRuntime) -> Result<(), Fail> {
     fs::remove_dir_all(&rt, folder.as_path())?;
     let recovered = run(&rt, &["worldd", "recover", "--dir", folder.as_str()])?;
     assert!(rt; recovered.errors.as_str().starts_with("fault 18\nworldd: "));
-    assert!(rt; !recovered.ends_well);
+    assert!(rt; recovered.status == ExitCode::from(1));
     Ok(())
 }
 
