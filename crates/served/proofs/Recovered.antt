@@ -109,6 +109,7 @@ module _ {C D : Type 0} (content : C → Content) (file : D → List ℕ) (leave
         is_from = is_from;
         words = built_live r.words (nat_lt r.from r.tick) (content engine.store) begun.store;
         ended = begun.ended;
+        since = begun.since;
         newest = λ none. (let e : Some (r.slot, r.from) ≡ None = sym (ap (λ (k : ImageProgress). k.newest) begun.images ∙ started_newest (nat_lt r.from r.tick) r.tick _) ∙ none in absurd (let h = e in cc));
         follows = λ cells ticks acknowledged synced sound.
             recovered_follows laws once restarts begins stays r engine left world most here begun cells ticks acknowledged (synced_on files left kept synced) (sound_on files left kept cells ticks acknowledged sound);

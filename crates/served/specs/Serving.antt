@@ -25,15 +25,16 @@ module _ {C D : Type 0} (content : C → Content) (file : D → List ℕ) (leave
     pub allowed : batch_refusal old.engine.log.down old.engine.ended old.engine.since ≡ None
     pub ended : new.engine.ended ≡ old.engine.ended + 1
     pub words : words_of new ≡ words_after requests (words_of old)
-    pub same : (new.every ≡ old.every) × (new.recovered ≡ old.recovered)
+    pub same : (new.every ≡ old.every) × (new.recovered ≡ old.recovered) × (new.engine.images.cells ≡ old.engine.images.cells)
     pub serves : IsTrue honest → (ticks : List (List Action)) → Serves old ticks → Serves new (ticks ++ accepted_of requests (words_of old) ∷ [])
 
-  -- A batch was answered with this text: its tick is acknowledged, and where so many ticks ended since the last mark or
-  -- start there is an image of it, or the image keeper is down.
+  -- A batch was answered with this text, and its tick is acknowledged. Where so many ticks ended since the last mark or start
+  -- there is an image of it, or the image keeper is down; no mark is made before.
   pub record Answered (old : Serving C D) (requests : List Request) (text : List ℕ) (new : Serving C D) : Type 0 where
     pub plays : PlaysTick old requests new
     pub text_is : text ≡ answer requests (words_of old) (old.engine.ended + 1)
     pub acked : new.acked ≡ new.engine.ended
+    pub since : (new.engine.since ≡ old.engine.since + 1) ⊎ ((new.engine.since ≡ 0) × (old.every ≤ old.engine.since + 1))
     pub image : IsTrue honest → (ticks : List (List Action)) → Serves old ticks → old.every ≤ old.engine.since + 1
         → (new.engine.images.phase ≡ Down) ⊎ HasImageOf leaves new.files new.engine.ended
 
@@ -43,6 +44,7 @@ module _ {C D : Type 0} (content : C → Content) (file : D → List ℕ) (leave
     pub is : refusal ≡ LogDown
     pub down : new.engine.log.down ≡ true
     pub acked : new.acked ≡ old.acked
+    pub since : new.engine.since ≡ old.engine.since + 1
 
   -- a batch was refused, and nothing changed: by the first refusal that holds, or for want of memory where none holds
   abbrev pub IsRefusedWith : (old : Serving C D) → Refusal → Type 0

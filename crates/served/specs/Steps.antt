@@ -95,6 +95,7 @@ module _ {C D : Type 0} (content : C → Content) (file : D → List ℕ) (leave
     pub is_from : from ≡ recovery.from
     pub words : (content engine.store).live ≡ recovery.words
     pub ended : engine.ended ≡ recovery.tick
+    pub since : engine.since ≡ 0
     pub newest : HasNewest engine.images
     pub follows : (cells : ℕ) (ticks : List (List Action)) (acknowledged : ℕ) → AreSynced file leaves files → AreSound file leaves files cells ticks acknowledged
         → (engine.images.cells ≡ cells) × Follows content file leaves engine left (take recovery.tick ticks) acknowledged
@@ -106,6 +107,7 @@ module _ {C D : Type 0} (content : C → Content) (file : D → List ℕ) (leave
     pub is_from : from ≡ recovery.from
     pub words : (content engine.store).live ≡ recovery.words
     pub ended : engine.ended ≡ recovery.tick
+    pub since : engine.since ≡ 0
     pub follows : (cells : ℕ) (ticks : List (List Action)) (acknowledged : ℕ) → AreSynced file leaves files → AreSound file leaves files cells ticks acknowledged
         → (engine.images.cells ≡ cells) × Follows content file leaves engine left (take recovery.tick ticks) recovery.tick
 

@@ -96,6 +96,9 @@ impl<C: Capture, D: Disk> Serving<C, D> {
         requires some { 0 < self.old.engine.since }
         ensures rest { IsAtRest C.content D.content D.honest self.new.engine self.new.files }
         ensures ended { self.new.engine.ended ≡ self.old.engine.ended }
+        ensures since { (self.new.engine.since ≡ self.old.engine.since)
+            ⊎ ((self.new.engine.since ≡ 0) × (self.old.every ≤ self.old.engine.since)) }
+        ensures cells { self.new.engine.images.cells ≡ self.old.engine.images.cells }
         ensures live { (C.content self.new.engine.store).live ≡ (C.content self.old.engine.store).live }
         ensures same { self.new ≡ record self.old { engine = self.new.engine; files = self.new.files } }
         ensures serves { IsTrue D.honest → (ticks : List (List Action))

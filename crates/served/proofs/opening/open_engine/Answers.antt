@@ -39,6 +39,7 @@ returns-clause-started g c = λ honest.
       is_from = read.is_from;
       words = c.start.ensures.live ∙ read.words;
       ended = ended;
+      since = c.start.ensures.ended.1 ∙ read.since;
       follows = λ cells ticks acknowledged synced sound.
           (let f = read.follows cells ticks acknowledged synced sound in (
             c.start.ensures.cells ∙ f.0,

@@ -1,4 +1,4 @@
-use Rattle.std.proofs.Common.{◌≡◌, IsTrue, ◌+◌, refl, sym, ap, ◌∙◌, arith, inr, List, ◌++◌, ◌∷◌, []}
+use Rattle.std.proofs.Common.{◌≡◌, IsTrue, ◌+◌, refl, sym, ap, ◌∙◌, ◌≤◌, arith, inl, inr, List, ◌++◌, ◌∷◌, []}
 use Rattle.world_actions.specs.declared.action.Action.{Action}
 use Rattle.sessions.specs.Answer.{accepted_of}
 use Rattle.served.specs.declared.engine.Engine.{Engine}
@@ -21,12 +21,13 @@ returns-then-is_down-clause-refused g c =
     let logged : Engine g.row.C.Denot = c.write_log.new.self in
     let store : logged.store ≡ played.store = ap (λ (e : Engine g.row.C.Denot). e.store) c.write_log.ensures.same in
     let started = c.write_log.ensures.started (ap (λ (e : Engine g.row.C.Denot). e.log.starting) p.is ∙ c.requires.started) in
+    let cells : logged.images.cells ≡ old.engine.images.cells = ap (λ (e : Engine g.row.C.Denot). e.images.cells) c.write_log.ensures.same ∙ ap (λ (e : Engine g.row.C.Denot). e.images.cells) p.is in
     inr (record {
       plays = record {
         allowed = sym c.refusal.ensures.refusal ∙ c.in_default.is;
         ended = ap (λ (e : Engine g.row.C.Denot). e.ended) c.write_log.ensures.same ∙ ap (λ (e : Engine g.row.C.Denot). e.ended) p.is;
         words = ap (λ s. (g.C.Capture.content s).live) store ∙ p.live;
-        same = (refl, refl);
+        same = (refl, refl, cells);
         serves = λ honest ticks f. record {
           started = started;
           follows = c.write_log.ensures.follows honest (ticks ++ accepted_of requests (g.C.Capture.content old.engine.store).live ∷ []) old.acked
@@ -36,6 +37,7 @@ returns-then-is_down-clause-refused g c =
       is = refl;
       down = sym c.if-is_down.ensures;
       acked = refl;
+      since = ap (λ (e : Engine g.row.C.Denot). e.since) c.write_log.ensures.same ∙ ap (λ (e : Engine g.row.C.Denot). e.since) p.is;
     })
 
 pub returns-clause-answered : goal.returns-clause-answered
@@ -60,10 +62,14 @@ returns-clause-answered g c =
         allowed = sym c.refusal.ensures.refusal ∙ c.in_default.is;
         ended = c.checkpoint_if_due.ensures.ended ∙ ended;
         words = c.checkpoint_if_due.ensures.live ∙ (ap (λ (e : Engine g.row.C.Denot). (g.C.Capture.content e.store).live) c.write_log.ensures.same ∙ p.live);
-        same = (ap (λ (s : Serving g.row.C.Denot g.row.D.Denot). s.every) c.checkpoint_if_due.ensures.same, ap (λ (s : Serving g.row.C.Denot g.row.D.Denot). s.recovered) c.checkpoint_if_due.ensures.same);
+        same = (ap (λ (s : Serving g.row.C.Denot g.row.D.Denot). s.every) c.checkpoint_if_due.ensures.same, ap (λ (s : Serving g.row.C.Denot g.row.D.Denot). s.recovered) c.checkpoint_if_due.ensures.same, c.checkpoint_if_due.ensures.cells ∙ (ap (λ (e : Engine g.row.C.Denot). e.images.cells) c.write_log.ensures.same ∙ ap (λ (e : Engine g.row.C.Denot). e.images.cells) p.is));
         serves = λ honest ticks f. c.checkpoint_if_due.ensures.serves honest (ticks ++ accepted_of requests live ∷ []) (record { started = started; follows = follows honest ticks f });
       };
       text_is = c.in_ok-text.ensures.text;
       acked = ap (λ (s : Serving g.row.C.Denot g.row.D.Denot). s.acked) c.checkpoint_if_due.ensures.same ∙ sym c.checkpoint_if_due.ensures.ended;
+      since = elim c.checkpoint_if_due.ensures.since [
+        | inl same ↦ inl (same ∙ since)
+        | inr marked ↦ inr (marked.0, omega (arith, marked.1, since))
+      ];
       image = λ honest ticks f due. c.checkpoint_if_due.ensures.image honest (ticks ++ accepted_of requests live ∷ []) (record { started = started; follows = follows honest ticks f }) (omega (arith, due, since));
     }
