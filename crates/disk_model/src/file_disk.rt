@@ -76,15 +76,20 @@ impl FileDisk {
         }
     }
 
-    // What the system answered where it was asked to move so many bytes: fewer are a failure.
-    fn moved(&mut self, answer: io::Result<usize>, asked: usize) -> Result<(), Refusal>
+    // What the system answered where it was asked to move so many bytes: fewer are a failure of this kind.
+    fn moved(
+        &mut self,
+        answer: io::Result<usize>,
+        asked: usize,
+        short: ErrorKind,
+    ) -> Result<(), Refusal>
         ensures whole { IsOk result ↔ (answer ≡ Ok asked) }
         ensures ok { OnOk result (self.new ≡ self.old) }
         ensures err { OnErr result (self.new ≡ after_failure self.old) }
         ensures device { IsDeviceFault result }
     {
         if self.answered(answer)? != asked {
-            return self.failed(io::Error::from(ErrorKind::UnexpectedEof));
+            return self.failed(io::Error::from(short));
         }
         Ok(())
     }
@@ -97,7 +102,7 @@ impl FileDisk {
         ensures err { OnErr result (self.new ≡ after_failure self.old) }
         ensures device { IsDeviceFault result }
     {
-        self.moved(answer, asked)?;
+        self.moved(answer, asked, ErrorKind::WriteZero)?;
         self.known_length = self.known_length.max(end);
         Ok(())
     }
@@ -112,8 +117,7 @@ impl FileDisk {
         Err(Refusal::Device)
     }
 
-    /// Why the last call failed that did, for who tells it. A read or write that came back short is told as
-    /// an unexpected end of the file.
+    /// Why the last call failed that did, for who tells it.
     pub fn take_failure(&mut self) -> Option<io::Error>
         ensures { self.new ≡ self.old }
     {
@@ -146,7 +150,7 @@ impl Disk for FileDisk {
     /// A read that ends past the end of the file fails.
     fn read_at(&mut self, at: u64, into: &mut [u8]) -> Result<(), Refusal> {
         let answer = self.file.read_at(into, at);
-        self.moved(answer, into.len())
+        self.moved(answer, into.len(), ErrorKind::UnexpectedEof)
     }
 
     /// A write that begins past the known length fails, and isn't made: a failed write may have made
