@@ -1,0 +1,5 @@
+pub mod Numbers
+mod Orders
+mod Sides
+pub mod Histories
+mod Turning

@@ -1,0 +1,8 @@
+-- What a gate may answer.
+use Rattle.workers.specs.declared.gate.Place.{Place}
+use Rattle.workers.specs.declared.gate.Pass.{Pass}
+use Rattle.workers.specs.declared.gate.Pass.TheVariants.{Stuck}
+
+-- in some state it answers that the step is never made
+abbrev pub MayStick : {G : Type 0} → (told : G → Place → Pass → G → Type 0) → Place → Type 0
+MayStick {G = G} told place = (old new : G) × told old place Stuck new

@@ -1,0 +1,51 @@
+-- The items that go from the mutator to the log writer.
+use Rattle.std.specs.Prelude.{◌≡◌, ◌+◌, ◌<◌, List, [], ◌∷◌, ◌++◌, ⊤}
+use Rattle.world_ticks.specs.declared.tick.TheConstants.{TICK_MAX}
+use Rattle.action_log.specs.declared.format.TheConstants.{SEGMENT_TICKS}
+use Rattle.action_log.specs.declared.record.Record.{Record}
+use Rattle.action_log.specs.declared.record.Record.TheVariants as records
+use Rattle.action_log.specs.Queue.{QueueEnd}
+use Rattle.workers.specs.declared.item.Item.{Item}
+use Rattle.workers.specs.declared.item.Item.TheVariants.{Start, Tick, Switch, End}
+
+-- the record of an item, if it has one
+abbrev pub record_of : Item → List Record
+record_of (Tick ended) = records.Tick ended.tick ∷ []
+record_of (Switch number) = records.Switch number ∷ []
+record_of item = []
+
+abbrev pub records_of : List Item → List Record
+records_of [] = []
+records_of (item ∷ items) = record_of item ++ records_of items
+
+-- An item may stand behind so many ticks since this base: no segment gets too many ticks, a tick has the next number,
+-- and a switch has the number of the last tick.
+abbrev pub Goes : QueueEnd → Item → Type 0
+Goes end (Start number) = ⊥
+Goes end (Tick ended) = (end.count < SEGMENT_TICKS) × (end.base + end.count < TICK_MAX) × (ended.answer.number ≡ end.base + end.count + 1)
+Goes end (Switch number) = number ≡ end.base + end.count
+Goes end End = ⊤
+
+abbrev pub end_after : QueueEnd → Item → QueueEnd
+end_after end (Start number) = record { base = number; count = 0 }
+end_after end (Tick ended) = record { base = end.base; count = end.count + 1 }
+end_after end (Switch number) = record { base = number; count = 0 }
+end_after end End = end
+
+abbrev pub GoAll : QueueEnd → List Item → Type 0
+GoAll end [] = ⊤
+GoAll end (item ∷ items) = Goes end item × GoAll (end_after end item) items
+
+abbrev pub end_all : QueueEnd → List Item → QueueEnd
+end_all end [] = end
+end_all end (item ∷ items) = end_all (end_after end item) items
+
+-- the base and the ticks since, of all items
+abbrev pub items_end : List Item → QueueEnd
+items_end items = end_all (record { base = 0; count = 0 }) items
+
+-- a start, and then items each of which may stand where it stands
+abbrev pub AreNumbered : List Item → Type 0
+AreNumbered [] = ⊤
+AreNumbered (Start number ∷ items) = GoAll (record { base = number; count = 0 }) items
+AreNumbered (item ∷ items) = ⊥

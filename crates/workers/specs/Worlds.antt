@@ -1,0 +1,70 @@
+-- What the mutator did, by what it pushed.
+use Rattle.std.specs.Prelude.{◌≡◌, ℕ, ◌+◌, Bool, false, List, [], ◌∷◌, ◌++◌, All, Option, Some, None, nat_le, if◌then◌else◌}
+use Rattle.world_actions.specs.declared.refusal.Refusal.{Refusal}
+use Rattle.world_actions.specs.declared.refusal.Refusal.TheVariants.{LogDown, TicksEnded, SegmentFull}
+use Rattle.world_ticks.specs.declared.tick.TheConstants.{TICK_MAX}
+use Rattle.action_log.specs.declared.format.TheConstants.{SEGMENT_TICKS}
+use Rattle.action_log.specs.Queue.{QueueEnd}
+use Rattle.sessions.specs.declared.batch.Request.{Request}
+use Rattle.sessions.specs.Answer.{answer, accepted_of, words_after}
+use Rattle.shared_capture.specs.declared.view.Round.{Round}
+use Rattle.shared_capture.specs.States.{FrontState}
+use Rattle.shared_capture.specs.Rounds.{round}
+use Rattle.workers.specs.declared.item.Item.{Item}
+use Rattle.workers.specs.declared.item.Ended.{Ended}
+use Rattle.workers.specs.declared.item.Item.TheVariants.{Start, Tick, Switch, End}
+
+-- why no batch is run, if so: the first line that holds decides
+abbrev pub refusal_before : (down : Bool) → (ended since : ℕ) → Option Refusal
+refusal_before down ended since =
+    if down then Some LogDown else
+    if nat_le TICK_MAX ended then Some TicksEnded else
+    if nat_le SEGMENT_TICKS since then Some SegmentFull else
+    None
+
+-- the words of the world, and the rounds opened so far
+pub record World : Type 0 where
+  pub words : List ℕ
+  pub rounds : List Round
+
+-- these requests were run as a batch: the tick is what was accepted of them, and the text is their answer
+pub record RanBatch (requests : List Request) (w : World) (ended : Ended) (v : World) : Type 0 where
+  pub tick : ended.tick.list ≡ accepted_of requests w.words
+  pub text : ended.answer.text.items ≡ answer requests w.words ended.answer.number
+  pub words : v.words ≡ words_after requests w.words
+  pub rounds : v.rounds ≡ w.rounds
+
+-- some batch was run
+abbrev pub Ran : World → Ended → World → Type 0
+Ran w ended v = (requests : List Request) × RanBatch requests w ended v
+
+-- a tick's item is its batch's; a switch's is a round of the words as they were
+abbrev pub after_item : World → Item → World → Type 0
+after_item w (Start number) v = v ≡ w
+after_item w (Tick ended) v = Ran w ended v
+after_item w (Switch number) v = (v.words ≡ w.words) × ((touched : List Bool) × (v.rounds ≡ w.rounds ++ round number w.words touched ∷ []))
+after_item w End v = v ≡ w
+
+abbrev pub Leads : World → List Item → World → Type 0
+Leads w [] v = v ≡ w
+Leads w (item ∷ items) v = (mid : World) × after_item w item mid × Leads mid items v
+
+abbrev pub begun : List ℕ → World
+begun words = record { words = words; rounds = [] }
+
+abbrev pub world_of : FrontState → World
+world_of front = record { words = front.live; rounds = front.rounds }
+
+-- The items pushed tell what the front did. Only where a push was refused a round may be told by none, or a tick.
+pub record History (opening : List ℕ) (items : List Item) (down : Bool) (front : FrontState) : Type 0 where
+  pub told : World
+  pub late : List Round
+  pub leads : Leads (begun opening) items told
+  pub rounds : front.rounds ≡ told.rounds ++ late
+  pub late_words : All (λ (r : Round). r.words ≡ told.words) late
+  pub all_told : down ≡ false → told ≡ world_of front
+
+-- so many ticks ended, and so many of them since the last switch or start
+pub record Counts (end : QueueEnd) (ended since : ℕ) : Type 0 where
+  pub count : end.count ≡ since
+  pub all : end.base + since ≡ ended

@@ -1,0 +1,68 @@
+//! What holds a worker at a step.
+ghost use Rattle.std.specs.Prelude.{◌≡◌, false};
+ghost use Rattle.workers.specs.Gates.{MayStick};
+
+use std::sync::Wait;
+use std::thread;
+
+/// A step of a worker.
+#[derive(Clone, Copy, Debug, PartialEq, Eq)]
+pub enum Place {
+    /// The mutator runs a batch.
+    Tick,
+    /// The checkpointer takes a cell.
+    Take,
+    /// The checkpointer or the log writer calls a device.
+    Device,
+}
+
+/// Whether a worker may go on.
+#[derive(Clone, Copy, Debug, PartialEq, Eq)]
+pub enum Pass {
+    Go,
+    /// Not yet.
+    Again,
+    /// Never.
+    Stuck,
+}
+
+/// Asked before each step of a worker, in the worker's thread. Tests hold workers by it.
+pub trait Gate {
+    ghost use Rattle.workers.specs.declared.gate.Place.{Place};
+    ghost use Rattle.workers.specs.declared.gate.Pass.{Pass};
+
+    /// What the gate may answer in each state, and the state after it.
+    ghost told: { Self → Place → Pass → Self → Type 0 };
+
+    fn at(&mut self, place: Place) -> Pass
+        ensures { told self.old place result self.new };
+}
+
+/// Lets every step go on.
+#[derive(Clone, Copy, Debug, Drop)]
+pub struct Open;
+
+impl Gate for Open {
+    ghost use Rattle.std.specs.Prelude.{◌≡◌};
+    ghost use Rattle.workers.specs.declared.gate.Pass.TheVariants.{Go};
+
+    ghost told = { λ old place pass new. pass ≡ Go };
+
+    fn at(&mut self, _place: Place) -> Pass {
+        Pass::Go
+    }
+}
+
+/// Asks until the gate lets the step go on, or never will.
+pub(crate) fn passes<R: Wait, G: Gate>(rt: &R, gate: &mut G, place: Place) -> bool
+    ensures { result ≡ false → MayStick G.told place }
+{
+    for _ in rt.forever() {
+        match gate.at(place) {
+            Pass::Go => return true,
+            Pass::Stuck => return false,
+            Pass::Again => thread::yield_now(),
+        }
+    }
+    true
+}

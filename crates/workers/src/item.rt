@@ -1,0 +1,30 @@
+//! What goes from the mutator to the log writer.
+use crate::post::Waiting;
+use world_ticks::Tick;
+
+/// A tick that ended, and the answer of its batch.
+#[derive(Drop)]
+pub struct Ended {
+    pub tick: Tick,
+    pub answer: Waiting,
+}
+
+#[derive(Drop)]
+pub enum Item {
+    /// The first item: the log begins after the tick of this number.
+    Start(u64),
+    /// A tick ended.
+    Tick(Ended),
+    /// A round was opened at the end of the tick of this number.
+    Switch(u64),
+    /// There are no more.
+    End,
+}
+
+/// What an end of the channel knows. No value of it is made: a clause reads an array as a list of any length.
+pub enum View {
+    Spent,
+    Pushes([Item; 0]),
+    Pops([Item; 0]),
+    Both([Item; 0], [Item; 0]),
+}

@@ -1,0 +1,189 @@
+//! The worker that runs the batches.
+ghost use Rattle.std.specs.Prelude.{◌≡◌, ◌++◌, ◌∷◌, [], ◌≤◌, true, false, Err};
+ghost use Rattle.world_ticks.specs.declared.tick.TheConstants.{TICK_MAX};
+ghost use Rattle.workers.specs.declared.gate.Place.TheVariants.{Tick};
+ghost use Rattle.workers.specs.declared.item.Item.TheVariants.{Start};
+ghost use Rattle.workers.specs.Gates.{MayStick};
+ghost use Rattle.workers.specs.Mutating.{MarksIfDue, AnswersBatch, Turns, EndsPlay};
+
+use crate::batch_run::play;
+use crate::ends::ItemSender;
+use crate::gate::{Gate, Place, passes};
+use crate::item::{Ended, Item};
+use crate::post::{Reply, Waiting};
+use crossbeam_channel::Sender;
+use sessions::Batch;
+use shared_capture::{Front, Method};
+use std::alloc::Global;
+use std::marker::Model;
+use std::snapshot::Snapshot;
+use std::sync::atomic::{AtomicBool, Ordering};
+use std::sync::{Arc, Wait};
+use world_actions::Refusal;
+
+/// A batch of a session, and where its answer goes.
+#[derive(Drop)]
+pub struct Ask {
+    pub batch: Batch,
+    pub to: Sender<Reply>,
+}
+
+/// Runs batches on the front, and pushes their ticks and the switches of the rounds that it opens. Contracts
+/// see that what it pushed tells what the front did: each answer is that of its batch at its place, and each
+/// round has the words after the ticks pushed before its switch.
+#[derive(Drop)]
+pub struct Mutator<M: Method, G: Gate + Drop> {
+    gate: G,
+    alloc: Global,
+    front: Front<M>,
+    to: ItemSender,
+    opening: Snapshot<Front<M>>,
+    /// Rung after each switch.
+    bell: Option<Sender<()>>,
+    log_is_down: Arc<AtomicBool, Global>,
+    ended: u64,
+    since: u64,
+    every: u64,
+    down: bool,
+}
+
+impl<M: Method, G: Gate + Drop> Model for Mutator<M, G> {
+    ghost use Rattle.workers.specs.Mutating.{Playing, IsMutator};
+
+    ghost Value = { Playing };
+
+    ghost view = { λ m. record { front = m.front; to = m.to; opening = m.opening.value.live; ended = m.ended; since = m.since; every = m.every; down = m.down } };
+
+    ghost invariant = { λ m. IsMutator (record { front = m.front; to = m.to; opening = m.opening.value.live; ended = m.ended; since = m.since; every = m.every; down = m.down }) };
+}
+
+impl<M: Method, G: Gate + Drop> Mutator<M, G> {
+    /// A mutator of a world whose start has ended, at this tick. A round is due after every `every` ticks,
+    /// and the bell is rung once it is open.
+    pub fn new(
+        gate: G,
+        alloc: Global,
+        front: Front<M>,
+        to: ItemSender,
+        tick: u64,
+        every: u32,
+        bell: Sender<()>,
+        log_is_down: Arc<AtomicBool, Global>,
+    ) -> Self
+        requires none { front.rounds ≡ [] }
+        requires start { to.items ≡ Start tick ∷ [] }
+        requires numbered { tick ≤ TICK_MAX }
+        ensures { result ≡ record { front = front; to = to; opening = front.live; ended = tick; since = 0; every = every; down = false } }
+    {
+        let opening = Snapshot::of(&front);
+        Mutator {
+            gate,
+            alloc,
+            front,
+            to,
+            opening,
+            bell: Some(bell),
+            log_is_down,
+            ended: tick,
+            since: 0,
+            every: u64::from(every),
+            down: false,
+        }
+    }
+
+    /// How many ticks have ended.
+    pub fn ended(&self) -> u64
+        ensures { result ≡ self.now.ended }
+    {
+        self.ended
+    }
+
+    /// Runs a batch and pushes its tick, and opens a round before it and after it where one is due and none
+    /// is open. A batch that isn't run is answered here, by the refusal that is given back.
+    pub fn turn<R: Wait>(&mut self, rt: &R, ask: Ask) -> Result<(), Refusal>
+        ensures { Turns (MayStick G.told Tick) self.old ask result self.new }
+    {
+        self.mark_if_due(rt);
+        let played = self.run(rt, ask);
+        self.mark_if_due(rt);
+        played
+    }
+
+    // Opens a round where one is due, and pushes its switch directly after.
+    fn mark_if_due<R: Wait>(&mut self, rt: &R)
+        ensures { MarksIfDue self.old self.new }
+    {
+        if self.down || self.since == 0 || self.since < self.every {
+            return;
+        }
+        if self.front.mark(self.ended).is_err() {
+            return;
+        }
+        if !self.to.push(rt, Item::Switch(self.ended)) {
+            self.down = true;
+            return;
+        }
+        self.since = 0;
+        if let Some(bell) = &self.bell {
+            let _ = bell.try_send(rt, ());
+        }
+    }
+
+    // Runs a batch, and pushes its tick with the answer, or answers the refusal.
+    fn run<R: Wait>(&mut self, rt: &R, ask: Ask) -> Result<(), Refusal>
+        ensures { AnswersBatch (MayStick G.told Tick) self.old ask result self.new }
+    {
+        if self.down {
+            return refuse(rt, ask, Refusal::LogDown);
+        }
+        if !passes(rt, &mut self.gate, Place::Tick) {
+            self.down = true;
+            return refuse(rt, ask, Refusal::LogDown);
+        }
+        let log_is_down = self.log_is_down.load(Ordering::SeqCst);
+        let number = self.ended;
+        let played = play(
+            self.alloc,
+            &mut self.front,
+            &ask.batch,
+            log_is_down,
+            number,
+            self.since,
+        );
+        let (tick, text) = match played {
+            Ok(played) => played,
+            Err(reason) => return refuse(rt, ask, reason),
+        };
+        let number = number + 1;
+        let answer = Waiting {
+            number,
+            text,
+            to: ask.to,
+        };
+        if !self.to.push(rt, Item::Tick(Ended { tick, answer })) {
+            self.down = true;
+            return Ok(());
+        }
+        self.ended = number;
+        self.since += 1;
+        Ok(())
+    }
+
+    /// Tells the log writer and the checkpointer that no more comes.
+    pub fn end<R: Wait>(&mut self, rt: &R)
+        ensures { EndsPlay self.old self.new }
+    {
+        self.bell = None;
+        if !self.to.push(rt, Item::End) {
+            self.down = true;
+        }
+    }
+}
+
+// Answers a batch that isn't run.
+fn refuse<R: Wait>(rt: &R, ask: Ask, reason: Refusal) -> Result<(), Refusal>
+    ensures { result ≡ Err reason }
+{
+    let _ = ask.to.send(rt, Reply::Fault(reason));
+    Err(reason)
+}
