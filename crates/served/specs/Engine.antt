@@ -1,10 +1,7 @@
 -- A world's store, keepers and queue beside its four files: what is true of them whatever the disks are, and how they follow
 -- the ticks that ended.
-use Rattle.std.specs.Prelude.{◌≡◌, ◌≤◌, ℕ, Bool, List, length, Option, Some, None, Ok, nat_le, if◌then◌else◌}
+use Rattle.std.specs.Prelude.{◌≡◌, ◌≤◌, ℕ, List, length, Ok}
 use Rattle.world_actions.specs.declared.action.Action.{Action}
-use Rattle.world_actions.specs.declared.refusal.Refusal.{Refusal}
-use Rattle.world_actions.specs.declared.refusal.Refusal.TheVariants.{LogDown, TicksEnded, SegmentFull}
-use Rattle.world_ticks.specs.declared.tick.TheConstants.{TICK_MAX}
 use Rattle.world_ticks.specs.After.{after_ticks}
 use Rattle.capture_core.specs.Content.{Content}
 use Rattle.disk_model.specs.declared.four_files.FourFiles.{FourFiles}
@@ -13,19 +10,10 @@ use Rattle.file_format.specs.Slot.{in_slot}
 use Rattle.image_files.specs.Image.{image_of, Open}
 use Rattle.image_files.specs.Images.{ImageFiles}
 use Rattle.image_files.specs.Files.{Stands as ImagesStand}
-use Rattle.action_log.specs.declared.format.TheConstants.{SEGMENT_TICKS}
 use Rattle.action_log.specs.Logs.{LogPlace}
 use Rattle.action_log.specs.Stands.{Stands as LogStands}
 use Rattle.restart.specs.InStep.{InStep}
 use Rattle.served.specs.declared.engine.Engine.{Engine}
-
--- why no batch is run, if so: the first line that holds
-abbrev pub batch_refusal : (down : Bool) → (ended since : ℕ) → Option Refusal
-batch_refusal down ended since =
-    if down then Some LogDown else
-    if nat_le TICK_MAX ended then Some TicksEnded else
-    if nat_le SEGMENT_TICKS since then Some SegmentFull else
-    None
 
 -- ---- on files that keep to the disk model
 

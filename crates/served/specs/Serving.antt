@@ -5,10 +5,11 @@ use Rattle.world_actions.specs.declared.refusal.Refusal.{Refusal}
 use Rattle.world_actions.specs.declared.refusal.Refusal.TheVariants.{LogDown, NoMemory}
 use Rattle.capture_core.specs.Content.{Content}
 use Rattle.image_files.specs.declared.phase.Phase.TheVariants.{Down}
+use Rattle.action_log.specs.Refusals.{tick_refusal}
 use Rattle.sessions.specs.declared.batch.Request.{Request}
 use Rattle.sessions.specs.Answer.{answer, accepted_of, words_after}
 use Rattle.served.specs.declared.serving.Serving.{Serving}
-use Rattle.served.specs.Engine.{batch_refusal, Follows, HasImageOf}
+use Rattle.served.specs.Engine.{Follows, HasImageOf}
 
 module _ {C D : Type 0} (content : C → Content) (file : D → List ℕ) (leaves : D → List ℕ → Type 0) (honest : Bool) where
   -- the words of the world
@@ -22,7 +23,7 @@ module _ {C D : Type 0} (content : C → Content) (file : D → List ℕ) (leave
 
   -- the tick of a batch ended: it is one tick, also where nothing was accepted
   pub record PlaysTick (old : Serving C D) (requests : List Request) (new : Serving C D) : Type 0 where
-    pub allowed : batch_refusal old.engine.log.down old.engine.ended old.engine.since ≡ None
+    pub allowed : tick_refusal old.engine.log.down old.engine.ended old.engine.since ≡ None
     pub ended : new.engine.ended ≡ old.engine.ended + 1
     pub words : words_of new ≡ words_after requests (words_of old)
     pub same : (new.every ≡ old.every) × (new.recovered ≡ old.recovered) × (new.engine.images.cells ≡ old.engine.images.cells)
@@ -49,8 +50,8 @@ module _ {C D : Type 0} (content : C → Content) (file : D → List ℕ) (leave
   -- a batch was refused, and nothing changed: by the first refusal that holds, or for want of memory where none holds
   abbrev pub IsRefusedWith : (old : Serving C D) → Refusal → Type 0
   IsRefusedWith old refusal =
-      (batch_refusal old.engine.log.down old.engine.ended old.engine.since ≡ Some refusal)
-      ⊎ ((batch_refusal old.engine.log.down old.engine.ended old.engine.since ≡ None) × (refusal ≡ NoMemory))
+      (tick_refusal old.engine.log.down old.engine.ended old.engine.since ≡ Some refusal)
+      ⊎ ((tick_refusal old.engine.log.down old.engine.ended old.engine.since ≡ None) × (refusal ≡ NoMemory))
 
   -- a batch leads from the first state to the second with this answer
   abbrev pub Runs : (old : Serving C D) → List Request → Result (List ℕ) Refusal → (new : Serving C D) → Type 0

@@ -1,9 +1,5 @@
 -- What the mutator did, by what it pushed.
-use Rattle.std.specs.Prelude.{◌≡◌, ℕ, ◌+◌, Bool, false, List, [], ◌∷◌, ◌++◌, All, Option, Some, None, nat_le, if◌then◌else◌}
-use Rattle.world_actions.specs.declared.refusal.Refusal.{Refusal}
-use Rattle.world_actions.specs.declared.refusal.Refusal.TheVariants.{LogDown, TicksEnded, SegmentFull}
-use Rattle.world_ticks.specs.declared.tick.TheConstants.{TICK_MAX}
-use Rattle.action_log.specs.declared.format.TheConstants.{SEGMENT_TICKS}
+use Rattle.std.specs.Prelude.{◌≡◌, ℕ, ◌+◌, Bool, false, List, [], ◌∷◌, ◌++◌, All}
 use Rattle.action_log.specs.Queue.{QueueEnd}
 use Rattle.sessions.specs.declared.batch.Request.{Request}
 use Rattle.sessions.specs.Answer.{answer, accepted_of, words_after}
@@ -13,14 +9,6 @@ use Rattle.shared_capture.specs.Rounds.{round}
 use Rattle.workers.specs.declared.item.Item.{Item}
 use Rattle.workers.specs.declared.item.Ended.{Ended}
 use Rattle.workers.specs.declared.item.Item.TheVariants.{Start, Tick, Switch, End}
-
--- why no batch is run, if so: the first line that holds decides
-abbrev pub refusal_before : (down : Bool) → (ended since : ℕ) → Option Refusal
-refusal_before down ended since =
-    if down then Some LogDown else
-    if nat_le TICK_MAX ended then Some TicksEnded else
-    if nat_le SEGMENT_TICKS since then Some SegmentFull else
-    None
 
 -- the words of the world, and the rounds opened so far
 pub record World : Type 0 where

@@ -1,33 +1,17 @@
 //! A batch on the front.
-ghost use Rattle.std.specs.Prelude.{◌≡◌, ◌⊎◌, ◌+◌, ◌<◌, Some, false, IfOk, IfErr, OnOk, OnErr, IfNone};
+ghost use Rattle.std.specs.Prelude.{◌≡◌, ◌⊎◌, ◌+◌, ◌<◌, Some, false, IfOk, IfErr, OnOk, OnErr};
 ghost use Rattle.world_ticks.specs.declared.tick.TheConstants.{TICK_MAX};
 ghost use Rattle.action_log.specs.declared.format.TheConstants.{SEGMENT_TICKS};
+ghost use Rattle.action_log.specs.Refusals.{tick_refusal};
 ghost use Rattle.sessions.specs.Answer.{answer, accepted_of, words_after};
 ghost use Rattle.shared_capture.specs.States.{SameRounds};
-ghost use Rattle.workers.specs.Worlds.{refusal_before};
 
-use action_log::SEGMENT_TICKS;
+use action_log::tick_refusal;
 use sessions::{Batch, answer_text};
 use shared_capture::{Front, Method, accesses_keep};
 use std::alloc::Global;
 use world_actions::Refusal;
-use world_ticks::{TICK_MAX, Tick};
-
-// Why no batch is run, if so.
-fn refusal(down: bool, ended: u64, since: u64) -> Option<Refusal>
-    ensures reason { result ≡ refusal_before down ended since }
-    ensures room { IfNone result ((down ≡ false) × (ended < TICK_MAX) × (since < SEGMENT_TICKS)) }
-{
-    if down {
-        Some(Refusal::LogDown)
-    } else if ended >= TICK_MAX {
-        Some(Refusal::TicksEnded)
-    } else if since >= SEGMENT_TICKS as u64 {
-        Some(Refusal::SegmentFull)
-    } else {
-        None
-    }
-}
+use world_ticks::Tick;
 
 /// Runs a batch on the front as the next tick: its accepted actions, and the line that answers it. `down` tells
 /// whether the log is, `ended` how many ticks ended, and `since` how many of them since the last mark or start.
@@ -44,11 +28,11 @@ pub fn play<M: Method>(
     ensures words { OnOk result (front.new.live ≡ words_after b.now.list front.old.live) }
     ensures rounds { SameRounds front.old front.new }
     ensures room { OnOk result ((down ≡ false) × (ended < TICK_MAX) × (since < SEGMENT_TICKS)) }
-    ensures refused { IfErr result (λ reason. (reason ≡ Refusal.NoMemory) ⊎ (refusal_before down ended since ≡ Some reason)) }
+    ensures refused { IfErr result (λ reason. (reason ≡ Refusal.NoMemory) ⊎ (tick_refusal down ended since ≡ Some reason)) }
     ensures unchanged { OnErr result (front.new ≡ front.old) }
 {
     accesses_keep();
-    if let Some(reason) = refusal(down, ended, since) {
+    if let Some(reason) = tick_refusal(down, ended, since) {
         return Err(reason);
     }
     let mut tick = Tick::new(alloc);

@@ -2,14 +2,13 @@
 use Rattle.std.specs.Prelude.{ℕ, ◌+◌, ◌-◌, List, [], ◌∷◌, ◌++◌, length, Bool, true, false, not, nat_eq, nat_lt, nat_le, ◌&&◌, Option, Some, None, is_some, Result, Ok, Err, slice_index, if◌then◌else◌}
 use Rattle.world_actions.specs.declared.action.Action.{Action}
 use Rattle.world_actions.specs.declared.refusal.Refusal.{Refusal}
-use Rattle.world_actions.specs.declared.refusal.Refusal.TheVariants.{BadCell, SegmentFull, QueueFull, OpenTick, Busy, NothingNew, ImageDown, LogDown, Starting, TicksEnded}
+use Rattle.world_actions.specs.declared.refusal.Refusal.TheVariants.{BadCell, QueueFull, OpenTick, Busy, NothingNew, ImageDown, LogDown, Starting}
 use Rattle.world_actions.specs.Effect.{is_outside}
-use Rattle.world_ticks.specs.declared.tick.TheConstants.{TICK_MAX}
-use Rattle.action_log.specs.declared.format.TheConstants.{SEGMENT_TICKS}
 use Rattle.action_log.specs.declared.record.Record.{Record}
 use Rattle.action_log.specs.declared.record.Record.TheVariants as record_
 use Rattle.action_log.specs.declared.answer.LogAnswer.TheVariants as log_answer
 use Rattle.action_log.specs.Logs.{start_moves}
+use Rattle.action_log.specs.Refusals.{tick_refusal as log_tick_refusal}
 use Rattle.image_files.specs.declared.answer.ImageAnswer.TheVariants as image_answer
 use Rattle.restart.specs.Start.{is_shut}
 use Rattle.world_core.specs.declared.moves.Move.{Move}
@@ -90,11 +89,7 @@ is_log_waiting standing = is_starting standing && is_round_open standing
 -- why no tick can be added to, if so
 abbrev pub tick_refusal : (is_starting is_log_down : Bool) → (ended since : ℕ) → Option Refusal
 tick_refusal is_starting is_log_down ended since =
-    if is_starting then Some Starting else
-    if is_log_down then Some LogDown else
-    if nat_le TICK_MAX ended then Some TicksEnded else
-    if nat_le SEGMENT_TICKS since then Some SegmentFull else
-    None
+    if is_starting then Some Starting else log_tick_refusal is_log_down ended since
 
 -- why no round can begin, if so
 abbrev pub mark_refusal : (is_starting is_log_down is_image_down is_round_open : Bool) → (ended newest queued : ℕ) → (running : List Action) → Option Refusal

@@ -4,7 +4,7 @@ ghost use Rattle.action_log.specs.declared.format.TheConstants.{SEGMENT_TICKS};
 ghost use Rattle.world_core.specs.Standing.{tick_refusal, mark_refusal, queue_most};
 ghost use Rattle.world_core.specs.State.{is_down, is_in_round, newest_tick};
 
-use action_log::{LogKeeper, Record, SEGMENT_TICKS};
+use action_log::{LogKeeper, Record, tick_refusal};
 use capture_core::Capture;
 use circular_buffer::HeapCircularBuffer;
 use disk_model::{Fused, ModelFile};
@@ -12,7 +12,7 @@ use image_files::ImageKeeper;
 use std::alloc::Global;
 use std::marker::Model;
 use world_actions::Refusal;
-use world_ticks::{TICK_MAX, Tick};
+use world_ticks::Tick;
 
 mod begin;
 mod files;
@@ -83,14 +83,8 @@ impl<C: Capture> Parts<C> {
     {
         if self.log.starting() {
             Some(Refusal::Starting)
-        } else if self.log.is_down() {
-            Some(Refusal::LogDown)
-        } else if self.ended >= TICK_MAX {
-            Some(Refusal::TicksEnded)
-        } else if self.since >= SEGMENT_TICKS as u64 {
-            Some(Refusal::SegmentFull)
         } else {
-            None
+            tick_refusal(self.log.is_down(), self.ended, self.since)
         }
     }
 

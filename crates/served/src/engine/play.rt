@@ -3,36 +3,29 @@ ghost use Rattle.world_actions.specs.declared.action.Action.{Action};
 ghost use Rattle.world_ticks.specs.declared.tick.TheConstants.{TICK_MAX};
 ghost use Rattle.image_files.specs.declared.phase.Phase.TheVariants.{Idle, Down};
 ghost use Rattle.action_log.specs.declared.format.TheConstants.{SEGMENT_TICKS};
+ghost use Rattle.action_log.specs.Refusals.{tick_refusal};
 ghost use Rattle.sessions.specs.Answer.{answer, accepted_of};
-ghost use Rattle.served.specs.Engine.{batch_refusal, Follows, HasImageOf};
+ghost use Rattle.served.specs.Engine.{Follows, HasImageOf};
 ghost use Rattle.served.specs.Steps.{ImagesInOrder, LogInOrder, IsAtRest, Plays, BeginsRound};
 
 use crate::engine::Engine;
-use action_log::{Record, SEGMENT_TICKS, log_outcomes, log_queues};
+use action_log::{Record, log_outcomes, log_queues, tick_refusal};
 use capture_core::{Capture, accesses_write};
 use disk_model::{Disk, FourFiles};
 use image_files::images_stay;
 use restart::worlds_go_on;
 use sessions::{Batch, answer_text, answers_are_ticks};
 use world_actions::Refusal;
-use world_ticks::{TICK_MAX, Tick};
+use world_ticks::Tick;
 
 impl<C: Capture> Engine<C> {
     /// Why no batch can be played, if so.
     pub fn refusal(&self) -> Option<Refusal>
-        ensures refusal { result ≡ batch_refusal self.now.log.down self.now.ended self.now.since }
+        ensures refusal { result ≡ tick_refusal self.now.log.down self.now.ended self.now.since }
         ensures room { IfNone result ((self.now.log.down ≡ false)
             × (self.now.ended < TICK_MAX) × (self.now.since < SEGMENT_TICKS)) }
     {
-        if self.log.is_down() {
-            Some(Refusal::LogDown)
-        } else if self.ended >= TICK_MAX {
-            Some(Refusal::TicksEnded)
-        } else if self.since >= SEGMENT_TICKS as u64 {
-            Some(Refusal::SegmentFull)
-        } else {
-            None
-        }
+        tick_refusal(self.log.is_down(), self.ended, self.since)
     }
 
     /// Plays a batch on the store, and queues its tick. All growths are made first.
