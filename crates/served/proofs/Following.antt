@@ -21,7 +21,7 @@ use Rattle.action_log.specs.declared.phase.Phase.TheVariants as phase
 use Rattle.action_log.specs.declared.phase.Phase.TheVariants.{Ready}
 use Rattle.action_log.specs.declared.progress.Progress.{Progress as LogProgress}
 use Rattle.action_log.specs.Queue.{QueueEnd, queue_work}
-use Rattle.action_log.specs.Progress.{rest_in, work_of, end_of}
+use Rattle.action_log.specs.Progress.{rest_in, work_of, end_of, QueueFollows}
 use Rattle.action_log.specs.Logs.{Logs, Journal, InStart, Writing, LogPlace}
 use Rattle.action_log.specs.Stands.{Stands as LogStands}
 use Rattle.recovery.specs.Follow.{round_tick, base_in, coming}
@@ -32,6 +32,7 @@ use Rattle.sessions.specs.Answer.{accepted_of, words_after}
 use Rattle.served.specs.declared.engine.Engine.{Engine}
 use Rattle.served.specs.Running.{RoundGoes, LogGoes}
 use Rattle.served.specs.Engine.{Follows, HasImageOf}
+use Rattle.served.specs.Parts.{LogIsReady}
 use Rattle.served.specs.Steps.{Plays, BeginsRound}
 
 -- ---- a log that is idle
@@ -69,8 +70,22 @@ no_work keeper queue (inr none) up = none
 end_ready : (keeper : LogProgress) → keeper.phase ≡ phase.Ready → end_of keeper [] ≡ record { base = keeper.base; count = keeper.count }
 end_ready keeper ready = ap (λ p. end_of (record keeper { phase = p }) []) ready
 
-base_at_end : (keeper : LogProgress) (queue : List Record) (base count : ℕ) → keeper.phase ≡ phase.Ready → queue ≡ [] → end_of keeper queue ≡ record { base = base; count = count } → keeper.base ≡ base
-base_at_end keeper queue base count ready empty end = ap (λ (e : QueueEnd). e.base) (sym (end_ready keeper ready) ∙ (ap (end_of keeper) (sym empty) ∙ end))
+stands_at : (keeper : LogProgress) (queue : List Record) (base count : ℕ) → (keeper.phase ≡ phase.Ready) × (queue ≡ []) → end_of keeper queue ≡ record { base = base; count = count }
+    → (keeper.base ≡ base) × (keeper.count ≡ count)
+stands_at keeper queue base count none end =
+    let e = sym (end_ready keeper none.0) ∙ (ap (end_of keeper) (sym none.1) ∙ end) in
+    (ap (λ (e : QueueEnd). e.base) e, ap (λ (e : QueueEnd). e.count) e)
+
+follows_ready : (keeper : LogProgress) → keeper.phase ≡ phase.Ready → QueueFollows keeper []
+follows_ready keeper ready = subst (λ p. QueueFollows (record keeper { phase = p }) []) (sym ready) tt
+
+-- a keeper that isn't down is ready to go on from the ended ticks
+pub log_is_ready : (keeper : LogProgress) (queue : List Record) (ended since : ℕ) → (keeper.down ≡ true) ⊎ (work_of keeper queue ≡ 0)
+    → end_of keeper queue ≡ record { base = ended - since; count = since } → since ≤ ended → keeper.down ≡ false → LogIsReady keeper ended since
+log_is_ready keeper queue ended since rests end within up =
+    let none = none_waits keeper queue (no_work keeper queue rests up) in
+    let at = stands_at keeper queue (ended - since) since none end in
+    record { ready = none.0; follows = follows_ready keeper none.0; count = at.1; all = omega (arith, at.0, within) }
 
 -- ---- a log after its start
 
@@ -241,7 +256,7 @@ module _ {C D : Type 0} (content : C → Content) (file : D → List ℕ) (leave
       let newest = newest_of old.images.cells ticks f.count (content old.store) f.images logs.0 [] here in
       let none : newest.0.round ≡ None = ap round_in (sym newest.1) ∙ idle_none old.images f.images files.image_a files.image_b f.has_images idle in
       let same : newest.0.tick ≡ old.log.base = newest_is_base old.images.cells ticks f.count newest.0 logs.0 (subst (λ i. HasPhase old.images.cells ticks f.count i (Writing logs.0) []) newest.1 here.phase) none is_ready.1 ∙ is_ready.2 in
-      let at_end : old.log.base ≡ old.ended - old.since = base_at_end old.log old.queue.items (old.ended - old.since) old.since waits.0 waits.1 end in
+      let at_end : old.log.base ≡ old.ended - old.since = (stands_at old.log old.queue.items (old.ended - old.since) old.since waits end).0 in
       let above : newest.0.tick < length ticks = omega (arith, same, at_end, within, some, f.ended) in
       let on = goes old.images.cells ticks f.count newest.0 logs.0 [] (content old.store) (content new.store) none above f.world (sym cells) d.marks
       (subst (λ i. InStep old.images.cells ticks f.count (content old.store) i (Writing logs.0) []) newest.1 here) in

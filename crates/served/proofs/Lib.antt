@@ -6,3 +6,4 @@ pub mod Made
 pub mod Queues
 pub mod Rounds
 pub mod Sound
+pub mod Words

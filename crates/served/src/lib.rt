@@ -3,7 +3,7 @@
 //! `Served::open` recovers what stands in the files, runs the start to its end, and then `batch` plays a
 //! batch on the store, has the log write its tick, and answers once the log keeper acknowledged it. Where
 //! `every` ticks have ended since the last mark or start, the store is marked and an image is written.
-//! `fresh_files` makes the files of a new world. Whatever a crash leaves of the files, recovery gives the
+//! `fresh_files` makes the files of a new world, and `into_parts` takes a world apart between two batches. Whatever a crash leaves of the files, recovery gives the
 //! world after the first n ended ticks, for some n not below `acked` (`served_worlds_are_safe`).
 #![tactic(auto)]
 
@@ -12,6 +12,7 @@ mod fresh;
 mod laws;
 mod log_run;
 mod opening;
+mod parts;
 mod round;
 mod served;
 mod serving;
@@ -20,4 +21,5 @@ mod tests;
 
 pub use fresh::fresh_files;
 pub use laws::served_worlds_are_safe;
+pub use parts::Parts;
 pub use served::Served;

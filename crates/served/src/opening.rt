@@ -1,5 +1,6 @@
 ghost use Rattle.std.specs.Prelude.{◌≡◌, false, IsTrue, IfOk, IfErr};
 ghost use Rattle.disk_model.specs.FourFiles.{EachFile, KeepsFile};
+ghost use Rattle.image_files.specs.declared.phase.Phase.TheVariants.{Idle};
 ghost use Rattle.served.specs.Steps.{ImagesInOrder, LogInOrder, IsAtRest, IsRead, IsStarted};
 ghost use Rattle.served.specs.Opening.{IsRefused, IsNotOpened};
 
@@ -21,6 +22,7 @@ pub fn open_engine<C: Capture, D: Disk>(
 ) -> Result<(Engine<C>, u64), Refusal>
     ensures rest { IfOk result (λ opened. IsAtRest C.content D.content D.honest opened.0 files.new) }
     ensures up { IfOk result (λ opened. opened.0.log.down ≡ false) }
+    ensures begun { IfOk result (λ opened. (opened.0.since ≡ 0) × (opened.0.images.phase ≡ Idle)) }
     ensures started { IsTrue D.honest → IfOk result (λ opened.
         IsStarted C.content D.content D.may_leave files.old opened.0 opened.1 files.new) }
     ensures refused { IfErr result (IsRefused D.content D.honest files.old) }
@@ -44,6 +46,7 @@ fn read_engine<C: Capture, D: Disk>(
     ensures kept { IsTrue D.honest → EachFile files.old files.new (KeepsFile D.content D.may_leave) }
     ensures images { IfOk result (λ read. ImagesInOrder C.content D.content D.honest read.0 files.new) }
     ensures log { IfOk result (λ read. LogInOrder C.content D.content D.honest read.0 files.new) }
+    ensures since { IfOk result (λ read. read.0.since ≡ 0) }
     ensures read { IsTrue D.honest → IfOk result (λ read.
         IsRead C.content D.content D.may_leave files.old read.0 read.1 files.new) }
     ensures refused { IfErr result (IsRefused D.content D.honest files.old) }

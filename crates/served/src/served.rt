@@ -1,7 +1,11 @@
-ghost use Rattle.std.specs.Prelude.{◌≡◌, false, IsTrue, IfOk, IfErr};
+ghost use Rattle.std.specs.Prelude.{◌≡◌, [], false, IsTrue, IfOk, IfErr};
 ghost use Rattle.served.specs.Serving.{Runs};
+ghost use Rattle.image_files.specs.declared.phase.Phase.TheVariants.{Idle};
+ghost use Rattle.served.specs.Parts.{AreAtRest};
 ghost use Rattle.served.specs.Opening.{IsOpened, IsRefused, IsNotOpened};
 
+use crate::engine::Engine;
+use crate::parts::{Parts, words_of};
 use crate::serving::Serving;
 use capture_core::Capture;
 use disk_model::{Disk, FourFiles};
@@ -39,6 +43,7 @@ impl<C: Capture, D: Disk> Served<C, D> {
         ensures opened { IsTrue D.honest
             → IfOk result (IsOpened C.content D.content D.may_leave D.honest files) }
         ensures up { IfOk result (λ served. served.engine.log.down ≡ false) }
+        ensures begun { IfOk result (λ served. (served.engine.since ≡ 0) × (served.engine.images.phase ≡ Idle)) }
         ensures every { IfOk result (λ served. served.every ≡ every) }
         ensures acked { IfOk result (λ served. served.acked ≡ served.engine.ended) }
         ensures refused { IfErr result (λ refused. IsRefused D.content D.honest files refused.1) }
@@ -62,6 +67,49 @@ impl<C: Capture, D: Disk> Served<C, D> {
         ensures { result ≡ self.now.recovered }
     {
         self.serving.recovered
+    }
+
+    /// Takes the world apart. Refused with `NoMemory`, it gives the files back.
+    pub fn into_parts(self) -> Result<Parts<D>, (FourFiles<D>, Refusal)>
+        ensures words { IfOk result (λ parts. parts.words.items ≡ (C.content self.engine.store).live) }
+        ensures images { IfOk result (λ parts. parts.images ≡ self.engine.images) }
+        ensures log { IfOk result (λ parts. parts.log ≡ self.engine.log) }
+        ensures files { IfOk result (λ parts. parts.files ≡ self.files) }
+        ensures ticks { IfOk result (λ parts. (parts.ended ≡ self.engine.ended) × (parts.since ≡ self.engine.since)) }
+        ensures none_queued { IfOk result (λ parts. parts.log.down ≡ false → self.engine.queue.items ≡ []) }
+        ensures rest { IfOk result (AreAtRest D.content D.honest) }
+        ensures refused { IfErr result (λ refused. (refused.0 ≡ self.files) × (refused.1 ≡ Refusal.NoMemory)) }
+    {
+        let Served { serving } = self;
+        let Serving {
+            mut engine,
+            files,
+            every: _,
+            acked: _,
+            recovered: _,
+        } = serving;
+        match words_of(engine.alloc, &mut engine.store) {
+            Ok(words) => {
+                let Engine {
+                    alloc: _,
+                    store: _,
+                    images,
+                    log,
+                    queue: _,
+                    ended,
+                    since,
+                } = engine;
+                Ok(Parts {
+                    words,
+                    images,
+                    log,
+                    files,
+                    ended,
+                    since,
+                })
+            }
+            Err(refusal) => Err((files, refusal)),
+        }
     }
 
     /// Gives the files back.

@@ -1,6 +1,6 @@
 ghost use Rattle.std.specs.Prelude.{◌≡◌, ◌⊎◌, ◌≤◌, ◌<◌, ℕ, List, Ok, Err, false, IsTrue, IfOk, IfErr};
 ghost use Rattle.world_actions.specs.declared.action.Action.{Action};
-ghost use Rattle.image_files.specs.declared.phase.Phase.TheVariants.{Down};
+ghost use Rattle.image_files.specs.declared.phase.Phase.TheVariants.{Idle, Down};
 ghost use Rattle.served.specs.Engine.{HasImageOf};
 ghost use Rattle.served.specs.Steps.{IsAtRest};
 ghost use Rattle.served.specs.Serving.{Serves, Runs};
@@ -41,6 +41,7 @@ impl<C: Capture, D: Disk> Serving<C, D> {
         ensures opened { IsTrue D.honest
             → IfOk result (IsOpened C.content D.content D.may_leave D.honest files) }
         ensures up { IfOk result (λ serving. serving.engine.log.down ≡ false) }
+        ensures begun { IfOk result (λ serving. (serving.engine.since ≡ 0) × (serving.engine.images.phase ≡ Idle)) }
         ensures every { IfOk result (λ serving. serving.every ≡ every) }
         ensures acked { IfOk result (λ serving. serving.acked ≡ serving.engine.ended) }
         ensures refused { IfErr result (λ refused. IsRefused D.content D.honest files refused.1) }

@@ -248,6 +248,30 @@ fn opens_again(rt: HostRuntime) -> Result<(), Fail> {
     Ok(())
 }
 
+fn try_parts<C: Capture>(rt: &impl Abort, alloc: Global) -> Result<(), Fail> {
+    let mut served = open::<C>(alloc, fresh(alloc, 2)?, 2)?;
+    answers(
+        rt,
+        alloc,
+        &mut served,
+        b"set 0 5\nend\nset 1 6\nend\nset 0 7\nend\n",
+        b"tick 1: +\ntick 2: +\ntick 3: +\n",
+    );
+    let parts = told(served.into_parts())?;
+    assert_eq!(rt; parts.words.as_slice(), [7, 6].as_slice());
+    assert_eq!(rt; (parts.ended, parts.since), (3, 1));
+    let found = durable(alloc, &parts.files)?;
+    assert_eq!(rt; (found.tick, found.from), (3, 2));
+    Ok(())
+}
+
+#[test]
+fn takes_worlds_apart(rt: HostRuntime) -> Result<(), Fail> {
+    try_parts::<PlainCopy>(&rt, rt.alloc())?;
+    try_parts::<Zigzag>(&rt, rt.alloc())?;
+    try_parts::<PingPong>(&rt, rt.alloc())
+}
+
 // No new world is made of these files, which are given back as they were.
 fn try_not_empty(rt: &impl Abort, alloc: Global, bytes: [&[u8]; 4]) -> Result<(), Fail> {
     let Err((files, refusal)) = fresh_files(alloc, 1, files_of(alloc, bytes)?) else {

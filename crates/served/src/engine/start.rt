@@ -3,6 +3,7 @@ ghost use Rattle.world_actions.specs.declared.action.Action.{Action};
 ghost use Rattle.world_actions.specs.declared.world.TheConstants.{CELLS};
 ghost use Rattle.world_actions.specs.World.{IsWord};
 ghost use Rattle.world_ticks.specs.declared.tick.TheConstants.{TICK_MAX};
+ghost use Rattle.image_files.specs.declared.phase.Phase.TheVariants.{Idle};
 ghost use Rattle.served.specs.Running.{HasNewest};
 ghost use Rattle.served.specs.Engine.{Follows};
 ghost use Rattle.served.specs.Steps.{Begins, ImagesInOrder, LogInOrder, IsAtRest};
@@ -63,6 +64,7 @@ impl<C: Capture> Engine<C> {
         requires log { LogInOrder C.content D.content D.honest self.old files.old }
         ensures rest { OnOk result (IsAtRest C.content D.content D.honest self.new files.new) }
         ensures up { OnOk result (self.new.log.down ≡ false) }
+        ensures idle { OnOk result (self.new.images.phase ≡ Idle) }
         ensures ended { (self.new.ended ≡ self.old.ended) × (self.new.since ≡ self.old.since) }
         ensures cells { self.new.images.cells ≡ self.old.images.cells }
         ensures live { (C.content self.new.store).live ≡ (C.content self.old.store).live }
