@@ -1,0 +1,6 @@
+use Rattle.std.proofs.Common.{◌+◌, ◌≤◌}
+use Rattle.std.specs.Prelude.{vec_len, vec_capacity}
+use Rattle.tcp_service.proofs.accept.start_sessions.Given as goal
+
+abbrev pub invariant-loop : goal.invariant-loop
+invariant-loop g l = (vec_len l.sessions + l.clients ≤ vec_capacity l.sessions + l.counter) × (l.counter ≤ l.clients)
