@@ -3,3 +3,7 @@ mod Orders
 mod Sides
 pub mod Histories
 mod Turning
+pub mod Waits
+pub mod Tellings
+pub mod Loggings
+mod Imagings

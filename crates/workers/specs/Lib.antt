@@ -5,3 +5,6 @@ pub mod Order
 pub mod Channel
 pub mod Worlds
 pub mod Mutating
+pub mod Answering
+pub mod Logging
+pub mod Imaging

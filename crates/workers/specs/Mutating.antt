@@ -3,6 +3,7 @@ use Rattle.std.specs.Prelude.{◌≡◌, ◌⊎◌, ℕ, ◌+◌, ◌<◌, ◌�
 use Rattle.world_actions.specs.declared.refusal.Refusal.{Refusal}
 use Rattle.world_actions.specs.declared.refusal.Refusal.TheVariants.{NoMemory, LogDown, Busy}
 use Rattle.world_ticks.specs.declared.tick.TheConstants.{TICK_MAX}
+use Rattle.action_log.specs.Refusals.{tick_refusal}
 use Rattle.shared_capture.specs.declared.view.Round.{Round}
 use Rattle.shared_capture.specs.States.{FrontState, SameWords, marked_rounds, IsRefused}
 use Rattle.workers.specs.declared.item.Ended.{Ended}
@@ -10,7 +11,7 @@ use Rattle.workers.specs.declared.item.Item.TheVariants.{Tick, Switch, End}
 use Rattle.workers.specs.declared.mutator.Ask.{Ask}
 use Rattle.workers.specs.Items.{items_end}
 use Rattle.workers.specs.Channel.{Pushing}
-use Rattle.workers.specs.Worlds.{History, Counts, RanBatch, world_of, refusal_before}
+use Rattle.workers.specs.Worlds.{History, Counts, RanBatch, world_of}
 
 -- its front, its end of the channel, the words that it began with, how many ticks ended, how many of them since the last
 -- switch or start, after how many a round is due, and whether it has stopped
@@ -64,6 +65,7 @@ MarksIfDue old new = ((new ≡ old) × ((old.down ≡ true) ⊎ IsEarly old)) �
 pub record Runs (old : Playing) (ask : Ask) (ended : Ended) (front : FrontState) : Type 0 where
   pub number : ended.answer.number ≡ old.ended + 1
   pub session : ended.answer.to ≡ ask.to
+  pub pair : front.pair ≡ old.front.pair
   pub ran : RanBatch ask.batch.list (world_of old.front) ended (world_of front)
 
 -- the tick was pushed
@@ -78,7 +80,7 @@ LosesTick old ask new = (new ≡ record old { front = new.front; down = true }) 
 -- Nothing was run: memory was refused, no tick may end, or the gate never lets another one.
 abbrev pub RefusesBatch : (stuck : Type 0) → Playing → Refusal → Playing → Type 0
 RefusesBatch stuck old reason new =
-    ((new ≡ old) × ((reason ≡ NoMemory) ⊎ ((down : Bool) × (refusal_before down old.ended old.since ≡ Some reason))))
+    ((new ≡ old) × ((reason ≡ NoMemory) ⊎ ((down : Bool) × (tick_refusal down old.ended old.since ≡ Some reason))))
     ⊎ ((new ≡ record old { down = true }) × (reason ≡ LogDown) × ((old.down ≡ true) ⊎ stuck))
 
 abbrev pub AnswersBatch : (stuck : Type 0) → Playing → Ask → Result (Unit {0}) Refusal → Playing → Type 0

@@ -1,18 +1,27 @@
 //! The workers of a server: the mutator, the log writer and the checkpointer.
+//!
+//! The mutator runs batches on the front of a pair of seats, and pushes their ticks with their answers, and the
+//! switches of the rounds that it opens, on a channel under a rule. The log writer pops them, writes the log, and
+//! answers each batch once its tick is durable. The checkpointer writes the image of each round from the back,
+//! while play goes on. Nothing is locked.
 #![tactic(auto)]
 
 mod batch_run;
+mod checkpointer;
 mod ends;
 mod gate;
 mod item;
+mod log_writer;
 mod mutator;
 mod plays;
 mod post;
 
 pub use batch_run::play;
+pub use checkpointer::{Checkpointer, ImageWriter};
 pub use ends::{ItemReceiver, ItemSender, ReceiveEnd, SendEnd, compare, open};
 pub use gate::{Gate, Open, Pass, Place};
 pub use item::{Ended, Item, View};
+pub use log_writer::{Log, LogWriter};
 pub use mutator::{Ask, Mutator};
 pub use plays::InOrder;
 pub use post::{Post, Reply, Waiting};

@@ -14,6 +14,7 @@ returns g c = inl (pushes_tick _ c.args.self.now c.self.view_is c.play-played.ne
     (record {
       number = refl;
       session = refl;
+      pair = c.play-played.ensures.rounds.0;
       ran = record { tick = c.in-Ok.ensures.tick; text = c.in-Ok.ensures.text; words = c.in-Ok.ensures.words; rounds = c.play-played.ensures.rounds.1 };
     })
     c.push.ensures.end (search rules))
@@ -24,6 +25,7 @@ returns-then-not-push g c = inr (loses_tick _ c.args.self.now c.self.view_is c.p
     (record {
       number = refl;
       session = refl;
+      pair = c.play-played.ensures.rounds.0;
       ran = record { tick = c.in-Ok.ensures.tick; text = c.in-Ok.ensures.text; words = c.in-Ok.ensures.words; rounds = c.play-played.ensures.rounds.1 };
     })
     (search rules))

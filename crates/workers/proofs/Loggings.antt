@@ -1,0 +1,237 @@
+-- The log writer's invariant goes on with what it does.
+use Rattle.std.proofs.Common.{arith, ◌≡◌, ◌⊎◌, ℕ, ◌+◌, ◌≤◌, Bool, true, false, IsTrue, List, [], ◌∷◌, ◌++◌, length, length-append, append-nil, refl, sym, ap, ◌∙◌, subst, None}
+use Rattle.std.proofs.lemmas.List.{append_assoc}
+use Rattle.world_ticks.specs.declared.tick.TheConstants.{TICK_MAX}
+use Rattle.circular_buffer.specs.Buffer.{Buffer}
+use Rattle.action_log.specs.declared.record.Record.{Record}
+use Rattle.action_log.specs.declared.record.Record.TheVariants as records
+use Rattle.action_log.specs.declared.answer.LogAnswer.{LogAnswer}
+use Rattle.action_log.specs.declared.answer.LogAnswer.TheVariants as answer
+use Rattle.action_log.specs.declared.progress.Progress.{Progress}
+use Rattle.action_log.specs.Queue.{QueueEnd}
+use Rattle.action_log.specs.Progress.{QueueFollows, QueueFollowsIn, end_of, end_in, work_of, rest_in, switch_in}
+use Rattle.action_log.specs.Logs.{Logs, LogPlace}
+use Rattle.action_log.specs.LogSteps.{JournalStep}
+use Rattle.action_log.specs.Files.{FitsFiles}
+use Rattle.action_log.specs.Stands.{Stands}
+use Rattle.workers.specs.declared.item.Item.{Item}
+use Rattle.workers.specs.declared.item.Item.TheVariants.{Start, Tick, Switch, End}
+use Rattle.workers.specs.declared.post.Waiting.{Waiting}
+use Rattle.workers.specs.declared.log_writer.Log.{Log}
+use Rattle.workers.specs.Items.{Goes, end_after, items_end, record_of, records_of}
+use Rattle.workers.specs.Channel.{Popping}
+use Rattle.workers.specs.Answering.{Answering, AreNext, answers_of, all_answers_of}
+use Rattle.workers.specs.Logging.{Logging, IsLogging, Writes, told_of, is_end, has_end, is_over, Took, HasAcked, LogStands, IsReady, writer_at}
+use Rattle.workers.proofs.Numbers.{end_more}
+use Rattle.workers.proofs.Tellings.{writes_step, writes_more, writes_lost}
+
+pub records_more : (items : List Item) (x : Item) → records_of (items ++ x ∷ []) ≡ records_of items ++ record_of x
+records_more [] x = append-nil (record_of x)
+records_more (y ∷ items) x = ap (λ (l : List Record). record_of y ++ l) (records_more items x) ∙ sym (append_assoc (record_of y) (records_of items) (record_of x))
+
+numbers_after : (end : QueueEnd) (item : Item) (number : ℕ) (waiting : List Waiting) → Goes end item → number + length waiting ≡ end.base + end.count → number + length (waiting ++ answers_of item) ≡ (end_after end item).base + (end_after end item).count
+numbers_after end (Start n) number waiting goes is = absurd goes
+numbers_after end (Tick ended) number waiting goes is = omega (arith, length-append waiting (ended.answer ∷ []), is)
+numbers_after end (Switch n) number waiting goes is = omega (arith, ap length (append-nil waiting), is, goes)
+numbers_after end End number waiting goes is = omega (arith, ap length (append-nil waiting), is)
+
+most_after : (end : QueueEnd) (item : Item) → Goes end item → end.base + end.count ≤ TICK_MAX → (end_after end item).base + (end_after end item).count ≤ TICK_MAX
+most_after end (Start n) goes most = absurd goes
+most_after end (Tick ended) goes most = omega (arith, goes.1)
+most_after end (Switch n) goes most = omega (arith, goes, most)
+most_after end End goes most = most
+
+module _ {D : Type 0} (file : D → List ℕ) (leaves : D → List ℕ → Type 0) (honest : Bool) (w : Logging D) (is : IsLogging file leaves honest w) where
+  pub kept : (item : Item) (from : Popping) (ring : Buffer Record) (answers : Answering) (over : Bool) → w.down ≡ false → from.items ≡ w.from.items ++ item ∷ [] → Goes (items_end w.from.items) item
+      → QueueFollows w.log.keeper ring.items → end_of w.log.keeper ring.items ≡ end_after (end_of w.log.keeper w.ring.items) item → ring ≡ record w.ring { items = w.ring.items ++ record_of item }
+      → answers ≡ record w.answers { waiting = w.answers.waiting ++ answers_of item } → IsLogging file leaves honest (record w { from = from; ring = ring; answers = answers; over = over })
+  kept item from ring answers over up popped goes follows end ring_is answers_is =
+      let last : items_end from.items ≡ end_after (items_end w.from.items) item = ap items_end popped ∙ end_more w.from.items item in
+      let count : w.answers.answered + length (w.answers.waiting ++ answers_of item) ≡ (items_end from.items).base + (items_end from.items).count
+      = numbers_after (items_end w.from.items) item w.answers.answered w.answers.waiting goes is.numbers ∙ ap (λ (e : QueueEnd). e.base + e.count) (sym last) in
+      record {
+        started = is.started;
+        fits = is.fits;
+        follows = follows;
+        end = λ u. end ∙ (ap (λ (e : QueueEnd). end_after e item) (is.end up) ∙ sym last);
+        ring = ap (λ (b : Buffer Record). b.capacity) ring_is ∙ is.ring;
+        room = ap (λ (a : Answering). a.room) answers_is ∙ is.room;
+        numbers = ap (λ (a : Answering). a.answered + length a.waiting) answers_is ∙ count;
+        most = subst (λ (e : QueueEnd). e.base + e.count ≤ TICK_MAX) (sym last) (most_after (items_end w.from.items) item goes is.most);
+        posted = λ u. ap (λ (a : Answering). a.posted) answers_is ∙ (is.posted u ∙ sym (ap (λ (a : Answering). a.answered) answers_is));
+        durable = subst (λ (a : Answering). a.posted ≤ w.acked) (sym answers_is) is.durable;
+        writes = λ h logs stands.
+            (subst (λ (r : List Record). Writes file leaves w.log ring.items w.acked w.down (told_of logs) r) (sym (ap records_of popped ∙ records_more w.from.items item))
+            (subst (λ (b : Buffer Record). Writes file leaves w.log b.items w.acked w.down (told_of logs) (records_of w.from.items ++ record_of item)) (sym ring_is)
+            (writes_more file leaves w.log w.ring.items (record_of item) w.acked w.down (told_of logs) (records_of w.from.items) up (is.writes h logs stands))));
+      }
+
+  pub stepped : (log : Log D) (ring : Buffer Record) (answers : Answering) (given : LogAnswer) (acked : ℕ) → log.keeper.starting ≡ false → (IsTrue honest → FitsFiles log.keeper (file log.a) (file log.b))
+      → QueueFollows log.keeper ring.items → end_of log.keeper ring.items ≡ end_of w.log.keeper w.ring.items → ring.capacity ≡ w.ring.capacity
+      → answers.room ≡ w.answers.room → answers.answered + length answers.waiting ≡ w.answers.answered + length w.answers.waiting → (w.answers.posted ≡ w.answers.answered → answers.posted ≡ answers.answered) → answers.posted ≤ acked
+      → (acked ≡ w.acked) ⊎ (given ≡ answer.Acked acked)
+      → (IsTrue honest → (place : LogPlace) → Stands w.log.keeper (file w.log.a) (file w.log.b) (leaves w.log.a) (leaves w.log.b) place
+      → (next : LogPlace) × Stands log.keeper (file log.a) (file log.b) (leaves log.a) (leaves log.b) next × JournalStep place w.ring.items given next ring.items)
+      → IsLogging file leaves honest (record w { log = log; ring = ring; answers = answers; acked = acked })
+  stepped log ring answers given acked started fits follows end capacity room count posted durable which journal = record {
+    started = started;
+    fits = fits;
+    follows = follows;
+    end = λ up. end ∙ is.end up;
+    ring = capacity ∙ is.ring;
+    room = room ∙ is.room;
+    numbers = count ∙ is.numbers;
+    most = is.most;
+    posted = λ up. posted (is.posted up);
+    durable = durable;
+    writes = λ h logs stands. writes_step file leaves w.log log w.ring.items ring.items given w.acked acked w.down (told_of logs) (records_of w.from.items) is.follows which (journal h) (is.writes h logs stands);
+  }
+
+  -- an item is popped and lost
+  pub lost : (item : Item) (from : Popping) (answers : Answering) (over : Bool) → w.down ≡ true → w.answers.waiting ≡ [] → from.items ≡ w.from.items ++ item ∷ [] → Goes (items_end w.from.items) item
+      → answers.room ≡ w.answers.room → answers.posted ≡ w.answers.posted → answers.waiting ≡ [] → answers.answered ≡ w.answers.answered + length (answers_of item)
+      → IsLogging file leaves honest (record w { from = from; answers = answers; over = over })
+  lost item from answers over down none popped goes room posted none_after answered =
+      let last : items_end from.items ≡ end_after (items_end w.from.items) item = ap items_end popped ∙ end_more w.from.items item in
+      let count : w.answers.answered + length (w.answers.waiting ++ answers_of item) ≡ (items_end from.items).base + (items_end from.items).count
+      = numbers_after (items_end w.from.items) item w.answers.answered w.answers.waiting goes is.numbers ∙ ap (λ (e : QueueEnd). e.base + e.count) (sym last) in
+      record {
+        started = is.started;
+        fits = is.fits;
+        follows = is.follows;
+        end = λ up. absurd (let e : true ≡ false = sym down ∙ up in cc);
+        ring = is.ring;
+        room = room ∙ is.room;
+        numbers = omega (arith, ap length none_after, answered, count, length-append w.answers.waiting (answers_of item), ap length none);
+        most = subst (λ (e : QueueEnd). e.base + e.count ≤ TICK_MAX) (sym last) (most_after (items_end w.from.items) item goes is.most);
+        posted = λ up. absurd (let e : true ≡ false = sym down ∙ up in cc);
+        durable = subst (λ k. k ≤ w.acked) (sym posted) is.durable;
+        writes = λ h logs stands.
+            (subst (λ (r : List Record). Writes file leaves w.log w.ring.items w.acked w.down (told_of logs) r) (sym (ap records_of popped ∙ records_more w.from.items item))
+            (writes_lost file leaves w.log w.ring.items (record_of item) w.acked w.down (told_of logs) (records_of w.from.items) down (is.writes h logs stands)));
+      }
+
+-- the answer of an item is the next one
+pub next_of : (end : QueueEnd) (item : Item) (number : ℕ) (waiting : List Waiting) → Goes end item → waiting ≡ [] → number + length waiting ≡ end.base + end.count → AreNext number (answers_of item)
+next_of end (Start n) number waiting goes none is = tt
+next_of end (Tick ended) number waiting goes none is = (omega (arith, goes.2, is, ap length none), tt)
+next_of end (Switch n) number waiting goes none is = tt
+next_of end End number waiting goes none is = tt
+
+-- ---- what a turn pops
+
+-- an item that isn't the last one is queued
+pub queued_one : (end : QueueEnd) (item : Item) (ring : List Record) → Goes end item → is_end item ≡ false → length (ring ++ record_of item) ≡ length ring + 1
+queued_one end (Start n) ring goes last = absurd goes
+queued_one end (Tick ended) ring goes last = length-append ring (records.Tick ended.tick ∷ [])
+queued_one end (Switch n) ring goes last = length-append ring (records.Switch n ∷ [])
+queued_one end End ring goes last = absurd (cc)
+
+pub no_more_answers : (items : List Item) → length (all_answers_of items) ≤ length (records_of items)
+no_more_answers [] = omega arith
+no_more_answers (Start n ∷ items) = no_more_answers items
+no_more_answers (Tick ended ∷ items) = (let rest = no_more_answers items in omega (arith, rest))
+no_more_answers (Switch n ∷ items) = (let rest = no_more_answers items in omega (arith, rest))
+no_more_answers (End ∷ items) = no_more_answers items
+
+pub records_append : (xs ys : List Item) → records_of (xs ++ ys) ≡ records_of xs ++ records_of ys
+records_append [] ys = refl
+records_append (x ∷ xs) ys = ap (λ (l : List Record). record_of x ++ l) (records_append xs ys) ∙ sym (append_assoc (record_of x) (records_of xs) (records_of ys))
+
+pub answers_append : (xs ys : List Item) → all_answers_of (xs ++ ys) ≡ all_answers_of xs ++ all_answers_of ys
+answers_append [] ys = refl
+answers_append (x ∷ xs) ys = ap (λ (l : List Waiting). answers_of x ++ l) (answers_append xs ys) ∙ sym (append_assoc (answers_of x) (all_answers_of xs) (all_answers_of ys))
+
+pub end_append : (xs ys : List Item) → has_end xs ≡ false → has_end (xs ++ ys) ≡ has_end ys
+end_append [] ys none = refl
+end_append (Start n ∷ xs) ys none = end_append xs ys none
+end_append (Tick ended ∷ xs) ys none = end_append xs ys none
+end_append (Switch n ∷ xs) ys none = end_append xs ys none
+end_append (End ∷ xs) ys none = absurd (cc)
+
+pub over_append : (xs ys : List Item) → is_over xs ≡ false → is_over (xs ++ ys) ≡ has_end ys
+over_append [] ys none = absurd (cc)
+over_append (x ∷ xs) ys none = end_append (x ∷ xs) ys none
+
+pub one_end : (x : Item) → has_end (x ∷ []) ≡ is_end x
+one_end (Start n) = refl
+one_end (Tick ended) = refl
+one_end (Switch n) = refl
+one_end End = refl
+
+module _ {D : Type 0} where
+  pub took_none : (w : Logging D) → Took w w []
+  took_none w = record {
+    popped = sym (append-nil w.from.items);
+    end = refl;
+    ring = ap (λ (l : List Record). let b : Buffer Record = record w.ring { items = l } in b) (sym (append-nil w.ring.items));
+    answers = ap (λ (l : List Waiting). let a : Answering = record w.answers { waiting = l } in a) (sym (append-nil w.answers.waiting));
+    same = refl;
+  }
+
+  pub took_then : (u v w : Logging D) (xs ys : List Item) → Took u v xs → Took v w ys → Took u w (xs ++ ys)
+  took_then u v w xs ys s t = record {
+    popped = t.popped ∙ (ap (λ (l : List Item). l ++ ys) s.popped ∙ append_assoc u.from.items xs ys);
+    end = t.end ∙ s.end;
+    ring = t.ring ∙ (ap (λ (b : Buffer Record). let c : Buffer Record = record b { items = b.items ++ records_of ys } in c) s.ring
+        ∙ ap (λ (l : List Record). let b : Buffer Record = record u.ring { items = l } in b) (append_assoc u.ring.items (records_of xs) (records_of ys) ∙ ap (λ (l : List Record). u.ring.items ++ l) (sym (records_append xs ys))));
+    answers = t.answers ∙ (ap (λ (a : Answering). let b : Answering = record a { waiting = a.waiting ++ all_answers_of ys } in b) s.answers
+        ∙ ap (λ (l : List Waiting). let a : Answering = record u.answers { waiting = l } in a) (append_assoc u.answers.waiting (all_answers_of xs) (all_answers_of ys) ∙ ap (λ (l : List Waiting). u.answers.waiting ++ l) (sym (answers_append xs ys))));
+    same = t.same ∙ ap (λ (x : Logging D). let y : Logging D = record x { from = w.from; ring = w.ring; answers = w.answers; over = w.over } in y) s.same;
+  }
+
+  pub took_few : (u w : Logging D) (more : List Item) → Took u w more → length u.answers.waiting ≤ length u.ring.items → length w.answers.waiting ≤ length w.ring.items
+  took_few u w more t few =
+      let one = no_more_answers more in
+      omega (arith, ap (λ (a : Answering). length a.waiting) t.answers, ap (λ (b : Buffer Record). length b.items) t.ring, length-append u.answers.waiting (all_answers_of more), length-append u.ring.items (records_of more), one, few)
+
+-- nothing to do is nothing queued
+pub no_work : (keeper : Progress) (queue : List Record) → work_of keeper queue ≡ 0 → queue ≡ []
+no_work keeper [] none = refl
+no_work keeper (records.Tick t ∷ queue) none = absurd (omega (arith, none))
+no_work keeper (records.Switch n ∷ queue) none = absurd (omega (arith, none))
+
+-- ---- the beginning
+
+module _ {D : Type 0} (file : D → List ℕ) (leaves : D → List ℕ → Type 0) (honest : Bool) where
+  has_first : (log : Log D) (tick : ℕ) (logs : Logs) → IsReady log.keeper tick → LogStands file leaves log logs → HasAcked tick logs
+  has_first log tick logs ready stands = record {
+    kept = omega (arith, ap (λ (l : Logs). l.base) stands.0.is, ready.base);
+    switched = λ number is. absurd (let none : logs.switch ≡ None = ap (λ (l : Logs). l.switch) stands.0.is ∙ ap (λ p. switch_in p log.keeper.next_base) ready.phase in cc);
+  }
+
+  begins : (from : Popping) (log : Log D) (tick : ℕ) → from.items ≡ Start tick ∷ [] → tick ≤ TICK_MAX → IsReady log.keeper tick → (IsTrue honest → FitsFiles log.keeper (file log.a) (file log.b))
+      → IsLogging file leaves honest (writer_at from log tick)
+  begins from log tick opened most ready fits =
+      let k = log.keeper in
+      let last : items_end from.items ≡ record { base = tick; count = 0 } = ap items_end opened in record {
+        started = ready.started;
+        fits = fits;
+        follows = subst (λ p. QueueFollowsIn p k.base k.count k.next_base []) (sym ready.phase) tt;
+        end = λ up. ap (λ p. end_in p k.base k.count k.next_base []) ready.phase ∙ (ap (λ b. let e : QueueEnd = record { base = b; count = k.count } in e) ready.base ∙ (ap (λ n. let e : QueueEnd = record { base = tick; count = n } in e) ready.count ∙ sym last));
+        ring = refl;
+        room = refl;
+        numbers = sym (ap (λ (e : QueueEnd). e.base + e.count) last);
+        most = subst (λ (e : QueueEnd). e.base + e.count ≤ TICK_MAX) (sym last) (omega (arith, most));
+        posted = λ up. refl;
+        durable = omega arith;
+        writes = λ h logs stands. record {
+          logs = logs;
+          stands = stands;
+          given = [];
+          lost = [];
+          told = refl;
+          order = sym (ap records_of opened);
+          none_lost = λ up. refl;
+          has_acked = has_first log tick logs ready stands;
+        };
+      }
+
+  pub begins_of : (from : Popping) (log opening : Log D) (ring : Buffer Record) (answers : Answering) (tick : ℕ) → from.items ≡ Start tick ∷ [] → tick ≤ TICK_MAX → IsReady log.keeper tick → (IsTrue honest → FitsFiles log.keeper (file log.a) (file log.b))
+      → ring ≡ (writer_at from log tick).ring → answers ≡ (writer_at from log tick).answers → opening ≡ log → IsLogging file leaves honest (record (writer_at from log tick) { ring = ring; answers = answers; opening = opening })
+  begins_of from log opening ring answers tick opened most ready fits ring_is answers_is opening_is =
+      subst (λ (x : Buffer Record × Answering × Log D). IsLogging file leaves honest (record (writer_at from log tick) { ring = x.0; answers = x.1; opening = x.2 }))
+      (λ i. (sym ring_is i, sym answers_is i, sym opening_is i)) (begins from log tick opened most ready fits)
+
+pub ready_rests : (keeper : Progress) (tick : ℕ) → IsReady keeper tick → work_of keeper [] ≡ 0
+ready_rests keeper tick ready = ap (λ p. rest_in p keeper.other_shut + 0) ready.phase

@@ -1,0 +1,182 @@
+-- What the files of the log tell goes on with each step of its keeper.
+use Rattle.std.proofs.Common.{arith, ◌≡◌, ◌⊎◌, inl, inr, ℕ, ◌+◌, ◌≤◌, Bool, true, false, IsTrue, List, [], ◌∷◌, ◌++◌, length, length-append, append-nil, refl, sym, ap, ◌∙◌, subst, None}
+use Rattle.std.proofs.lemmas.List.{append_assoc}
+use Rattle.action_log.specs.declared.record.Record.{Record}
+use Rattle.action_log.specs.declared.record.Record.TheVariants as records
+use Rattle.action_log.specs.declared.answer.LogAnswer.{LogAnswer}
+use Rattle.action_log.specs.declared.answer.LogAnswer.TheVariants as answer
+use Rattle.action_log.specs.declared.phase.Phase.{Phase}
+use Rattle.action_log.specs.declared.phase.Phase.TheVariants as phases
+use Rattle.action_log.specs.declared.progress.Progress.{Progress}
+use Rattle.action_log.specs.Segment.{Tick, joined}
+use Rattle.action_log.specs.Queue.{StandBefore}
+use Rattle.action_log.specs.Progress.{is_of_start, switch_in, QueueFollowsIn, QueueFollows}
+use Rattle.action_log.specs.Logs.{Logs, Writing, LogPlace}
+use Rattle.action_log.specs.LogSteps.{is_idle, TakesGroup, TakesSwitch, GoesOn, EndsSwitch, Acknowledges, LogsStep, JournalStep}
+use Rattle.action_log.specs.Stands.{Stands, StandsAfterStart}
+use Rattle.workers.specs.declared.log_writer.Log.{Log}
+use Rattle.workers.specs.Logging.{Told, after_record, after_records, told_in, told_of, HasAcked, Writes}
+
+pub after_append : (told : Told) (xs ys : List Record) → after_records told (xs ++ ys) ≡ after_records (after_records told xs) ys
+after_append told [] ys = refl
+after_append told (x ∷ xs) ys = after_append (after_record told x) xs ys
+
+group_told : (group : List Tick) (queue left : List Record) (told : Told) → StandBefore group queue left
+    → (taken : List Record) × (queue ≡ taken ++ left) × (after_records told taken ≡ record told { ticks = told.ticks ++ group })
+group_told [] queue left told s = ([], s, ap (λ (t : List Tick). record told { ticks = t }) (sym (append-nil told.ticks)))
+group_told (actions ∷ ticks) [] left told s = absurd s
+group_told (actions ∷ ticks) (records.Tick first ∷ queue) left told s =
+    let rest = group_told ticks queue left (after_record told (records.Tick first)) s.1 in (
+      records.Tick first ∷ rest.0,
+      ap (λ (l : List Record). records.Tick first ∷ l) rest.1,
+      rest.2 ∙ ap (λ (t : List Tick). record told { ticks = t }) (append_assoc told.ticks (first.list ∷ []) ticks ∙ ap (λ (a : Tick). told.ticks ++ a ∷ ticks) s.0),
+    )
+group_told (actions ∷ ticks) (records.Switch tick ∷ queue) left told s = absurd s
+
+-- the records that a step takes are told by it
+abbrev StepTells : Logs → List Record → Logs → List Record → Type 0
+StepTells logs queue next left = (taken : List Record) × (queue ≡ taken ++ left) × (told_of next ≡ after_records (told_of logs) taken)
+
+idle_told : (logs : Logs) → is_idle logs → told_of logs ≡ record { before = logs.before; base = logs.base; ticks = logs.kept }
+idle_told logs idle = ap (told_in logs) idle.1 ∙ ap (λ (t : List Tick). let told : Told = record { before = logs.before; base = logs.base; ticks = t } in told) (ap (λ (p : List Tick). logs.kept ++ p) idle.0 ∙ append-nil logs.kept)
+
+same_told : (logs : Logs) (queue : List Record) (next : Logs) (left : List Record) → next ≡ logs → left ≡ queue → StepTells logs queue next left
+same_told logs queue next left is queue_is = ([], sym queue_is, ap told_of is)
+
+takes_group_told : (logs : Logs) (queue : List Record) (next : Logs) (left : List Record) → TakesGroup logs queue next left → StepTells logs queue next left
+takes_group_told logs queue next left t =
+    let group = group_told t.group queue left (told_of logs) t.in_front in
+    let after : told_of next ≡ record { before = logs.before; base = logs.base; ticks = logs.kept ++ t.group } = ap told_of t.is ∙ ap (told_in (record logs { pending = t.group })) t.idle.1 in
+    (group.0, group.1, after ∙ sym (group.2 ∙ ap (λ (told : Told). record told { ticks = told.ticks ++ t.group }) (idle_told logs t.idle)))
+
+takes_switch_told : (logs : Logs) (queue : List Record) (next : Logs) (left : List Record) → TakesSwitch logs queue next left → StepTells logs queue next left
+takes_switch_told logs queue next left t =
+    (records.Switch t.tick ∷ [], t.in_front, ap told_of t.is ∙ sym (ap (λ (told : Told). after_record told (records.Switch t.tick)) (idle_told logs t.idle)))
+
+goes_on_told : (logs : Logs) (queue : List Record) (next : Logs) (left : List Record) → GoesOn logs queue next left → StepTells logs queue next left
+goes_on_told logs queue next left (inl same) = same_told logs queue next left same.0 same.1
+goes_on_told logs queue next left (inr (inl t)) = takes_group_told logs queue next left t
+goes_on_told logs queue next left (inr (inr t)) = takes_switch_told logs queue next left t
+
+ends_switch_told : (logs : Logs) (queue : List Record) (next : Logs) (left : List Record) → EndsSwitch logs queue next left → StepTells logs queue next left
+ends_switch_told logs queue next left e = ([], sym e.queue_is, ap told_of e.is ∙ sym (ap (told_in logs) e.in_work))
+
+acknowledges_told : (logs : Logs) (queue : List Record) (next : Logs) (left : List Record) (tick : ℕ) → Acknowledges logs queue next left tick → StepTells logs queue next left
+acknowledges_told logs queue next left tick a =
+    let kept : Logs = record logs { kept = logs.kept ++ logs.pending; pending = [] } in (
+      [],
+      sym a.queue_is,
+      ap told_of a.is ∙ (ap (told_in kept) a.no_switch
+          ∙ (ap (λ (t : List Tick). let told : Told = record { before = logs.before; base = logs.base; ticks = t } in told) (append-nil (logs.kept ++ logs.pending)) ∙ sym (ap (told_in logs) a.no_switch))),
+    )
+
+pub step_told : (logs : Logs) (queue : List Record) (given : LogAnswer) (next : Logs) (left : List Record) → LogsStep logs queue given next left → StepTells logs queue next left
+step_told logs queue answer.Idle next left step = same_told logs queue next left step.2 step.3
+step_told logs queue answer.Working next left (inl goes) = goes_on_told logs queue next left goes
+step_told logs queue answer.Working next left (inr ends) = ends_switch_told logs queue next left ends
+step_told logs queue (answer.Acked tick) next left step = acknowledges_told logs queue next left tick step
+step_told logs queue answer.Down next left step = goes_on_told logs queue next left step
+
+-- ---- acknowledged ticks
+
+-- a switch in front is at no smaller tick than the last one kept
+abbrev SwitchFits : Logs → List Record → Type 0
+SwitchFits logs queue = (number : ℕ) (left : List Record) → queue ≡ records.Switch number ∷ left → is_idle logs → logs.base + length logs.kept ≤ number
+
+goes_on_acked : (acked : ℕ) (logs : Logs) (queue : List Record) (next : Logs) (left : List Record) → SwitchFits logs queue → GoesOn logs queue next left → HasAcked acked logs → HasAcked acked next
+goes_on_acked acked logs queue next left fits (inl same) h = subst (HasAcked acked) (sym same.0) h
+goes_on_acked acked logs queue next left fits (inr (inl t)) h = subst (HasAcked acked) (sym t.is) (record { kept = h.kept; switched = h.switched })
+goes_on_acked acked logs queue next left fits (inr (inr t)) h = subst (HasAcked acked) (sym t.is) (record {
+  kept = h.kept;
+  switched = λ number is. (let same : t.tick ≡ number = cc in let most = fits t.tick left t.in_front t.idle in omega (arith, h.kept, most, same));
+})
+
+pub step_acked : (acked : ℕ) (logs : Logs) (queue : List Record) (given : LogAnswer) (next : Logs) (left : List Record) → SwitchFits logs queue → LogsStep logs queue given next left → HasAcked acked logs → HasAcked acked next
+step_acked acked logs queue answer.Idle next left fits step h = subst (HasAcked acked) (sym step.2) h
+step_acked acked logs queue answer.Working next left fits (inl goes) h = goes_on_acked acked logs queue next left fits goes h
+step_acked acked logs queue answer.Working next left fits (inr e) h = subst (HasAcked acked) (sym e.is) (record { kept = (let most = h.switched e.tick e.in_work in omega (arith, most)); switched = λ number is. absurd (cc) })
+step_acked acked logs queue (answer.Acked tick) next left fits a h = subst (HasAcked acked) (sym a.is) (record {
+  kept = omega (arith, h.kept, length-append logs.kept logs.pending);
+  switched = λ number is. absurd (let none = a.no_switch in cc);
+})
+step_acked acked logs queue answer.Down next left fits step h = goes_on_acked acked logs queue next left fits step h
+
+pub now_acked : (tick : ℕ) (logs : Logs) (queue : List Record) (next : Logs) (left : List Record) → LogsStep logs queue (answer.Acked tick) next left → HasAcked tick next
+now_acked tick logs queue next left a = subst (HasAcked tick) (sym a.is) (record {
+  kept = omega (arith, a.tick_is);
+  switched = λ number is. absurd (let none = a.no_switch in cc);
+})
+
+follows_fits : (phase : Phase) (base count next_base number : ℕ) (left : List Record) → IsTrue (is_of_start phase false) → switch_in phase next_base ≡ None → QueueFollowsIn phase base count next_base (records.Switch number ∷ left) → base + count ≤ number
+follows_fits phases.Retiring base count next_base number left start none f = absurd (cc)
+follows_fits phases.RetiringSync base count next_base number left start none f = absurd (cc)
+follows_fits phases.Ready base count next_base number left start none f = f.0
+follows_fits phases.BodySync base count next_base number left start none f = f.0
+follows_fits phases.Gate base count next_base number left start none f = f.0
+follows_fits phases.GateSync base count next_base number left start none f = f.0
+follows_fits phases.Closing base count next_base number left start none f = absurd (cc)
+follows_fits phases.ClosingSync base count next_base number left start none f = absurd (cc)
+follows_fits phases.Header base count next_base number left start none f = absurd (cc)
+follows_fits phases.HeaderSync base count next_base number left start none f = absurd (cc)
+follows_fits phases.Opening base count next_base number left start none f = absurd (cc)
+follows_fits phases.OpeningSync base count next_base number left start none f = absurd (cc)
+
+pub switch_fits : (keeper : Progress) (a b : List ℕ) (leaves_a leaves_b : List ℕ → Type 0) (logs : Logs) (queue : List Record) → StandsAfterStart keeper a b leaves_a leaves_b logs → QueueFollows keeper queue → SwitchFits logs queue
+switch_fits keeper a b leaves_a leaves_b logs queue s follows number left front idle =
+    let most = follows_fits keeper.phase keeper.base keeper.count keeper.next_base number left (subst (λ (start : Bool). IsTrue (is_of_start keeper.phase start)) s.over s.holds.in_order.of_start)
+    (sym (ap (λ (l : Logs). l.switch) s.is) ∙ idle.1) (subst (QueueFollows keeper) front follows) in
+    omega (arith, most, ap (λ (l : Logs). l.base) s.is, ap (λ (l : Logs). length l.kept) s.is, s.holds.fits.count, length-append (joined s.written.groups) s.written.pending)
+
+-- ---- what is written
+
+module _ {D : Type 0} (file : D → List ℕ) (leaves : D → List ℕ → Type 0) where
+  pub writes_step : (log after : Log D) (ring left : List Record) (given : LogAnswer) (acked acked' : ℕ) (down : Bool) (first : Told) (all : List Record) → QueueFollows log.keeper ring
+      → (acked' ≡ acked) ⊎ (given ≡ answer.Acked acked')
+      → ((place : LogPlace) → Stands log.keeper (file log.a) (file log.b) (leaves log.a) (leaves log.b) place
+      → (next : LogPlace) × Stands after.keeper (file after.a) (file after.b) (leaves after.a) (leaves after.b) next × JournalStep place ring given next left)
+      → Writes file leaves log ring acked down first all → Writes file leaves after left acked' down first all
+  writes_step log after ring left given acked acked' down first all follows which journal w =
+      let step = journal (record { journal = Writing w.logs; left = 0 }) w.stands in
+      let logs : Logs = step.2.0 in
+      let taken = step_told w.logs ring given logs left step.2.2 in
+      let fits = switch_fits log.keeper (file log.a) (file log.b) (leaves log.a) (leaves log.b) w.logs ring w.stands.0 follows in
+      record {
+        logs = logs;
+        stands = subst (Stands after.keeper (file after.a) (file after.b) (leaves after.a) (leaves after.b)) step.2.1 step.1;
+        given = w.given ++ taken.0;
+        lost = w.lost;
+        told = taken.2 ∙ (ap (λ (t : Told). after_records t taken.0) w.told ∙ sym (after_append first w.given taken.0));
+        order = append_assoc w.given taken.0 (left ++ w.lost) ∙ (ap (λ (l : List Record). w.given ++ l) (sym (append_assoc taken.0 left w.lost) ∙ ap (λ (l : List Record). l ++ w.lost) (sym taken.1)) ∙ w.order);
+        none_lost = w.none_lost;
+        has_acked = elim which [
+          | inl same ↦ subst (λ k. HasAcked k logs) (sym same) (step_acked acked w.logs ring given logs left fits step.2.2 w.has_acked)
+          | inr now ↦ now_acked acked' w.logs ring logs left (subst (λ (g : LogAnswer). LogsStep w.logs ring g logs left) now step.2.2)
+        ];
+      }
+
+  -- one more record is queued
+  pub writes_more : (log : Log D) (ring more : List Record) (acked : ℕ) (down : Bool) (first : Told) (all : List Record) → down ≡ false → Writes file leaves log ring acked down first all → Writes file leaves log (ring ++ more) acked down first (all ++ more)
+  writes_more log ring more acked down first all up w = record {
+    logs = w.logs;
+    stands = w.stands;
+    given = w.given;
+    lost = [];
+    told = w.told;
+    order = (let old : w.given ++ ring ≡ all = ap (λ (l : List Record). w.given ++ l) (sym (append-nil ring) ∙ ap (λ (l : List Record). ring ++ l) (sym (w.none_lost up))) ∙ w.order in
+        ap (λ (l : List Record). w.given ++ l) (append-nil (ring ++ more)) ∙ (sym (append_assoc w.given ring more) ∙ ap (λ (l : List Record). l ++ more) old));
+    none_lost = λ _. refl;
+    has_acked = w.has_acked;
+  }
+
+  -- one more record is lost
+  pub writes_lost : (log : Log D) (ring more : List Record) (acked : ℕ) (down : Bool) (first : Told) (all : List Record) → down ≡ true → Writes file leaves log ring acked down first all → Writes file leaves log ring acked down first (all ++ more)
+  writes_lost log ring more acked down first all is_down w = record {
+    logs = w.logs;
+    stands = w.stands;
+    given = w.given;
+    lost = w.lost ++ more;
+    told = w.told;
+    order = ap (λ (l : List Record). w.given ++ l) (sym (append_assoc ring w.lost more)) ∙ (sym (append_assoc w.given (ring ++ w.lost) more) ∙ ap (λ (l : List Record). l ++ more) w.order);
+    none_lost = λ up. absurd (let e : true ≡ false = sym is_down ∙ up in cc);
+    has_acked = w.has_acked;
+  }

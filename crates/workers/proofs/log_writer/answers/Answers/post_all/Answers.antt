@@ -1,0 +1,22 @@
+use Rattle.std.proofs.Common.{rules, ◌≡◌, ◌≤◌, ◌+◌, sym, ap, ◌∙◌, subst, Some, slice_get, List, drop}
+use Rattle.circular_buffer.specs.Buffer.{Buffer, buffer}
+use Rattle.workers.specs.declared.post.Waiting.{Waiting}
+use Rattle.workers.specs.declared.log_writer.answers.Given.{Given}
+use Rattle.workers.specs.Answering.{Posts}
+use Rattle.workers.proofs.Waits.{first_is, posts_more}
+use Rattle.workers.proofs.log_writer.answers.Answers.post_all.Goals as goal
+
+pub loop-receipt-preserved-in-Some : goal.loop-receipt-preserved-in-Some
+loop-receipt-preserved-in-Some g c =
+    let inside = c.self.inside in
+    let receipt = c.args.receipt in
+    let first = c.in-Some.next in
+    let is : Some first ≡ slice_get inside.waiting.items 0 = sym c.in-Some.is ∙ c.pop_front.ensures.value in
+    let front = first_is inside.waiting.items first is in
+    let durable : first.number ≤ receipt = search rules in
+    let next : first.number ≡ inside.given.answered + 1 = search rules in
+    let popped : c.pop_front.new.self ≡ buffer front.0 inside.waiting.capacity = c.pop_front.ensures.items ∙ ap (λ (l : List Waiting). buffer (drop 1 l) inside.waiting.capacity) front.1 in
+    subst (λ (b : Buffer Waiting). Posts receipt c.args.self.now (record { waiting = b.items; room = b.capacity; answered = c.post.new.self.answered; posted = c.post.new.self.posted })) (sym popped)
+    (subst (λ (a : Given). Posts receipt c.args.self.now (record { waiting = front.0; room = inside.waiting.capacity; answered = a.answered; posted = a.posted })) (sym c.post.ensures)
+    (posts_more receipt c.args.self.now (record { waiting = inside.waiting.items; room = inside.waiting.capacity; answered = inside.given.answered; posted = inside.given.posted }) first front.0
+    (subst (Posts receipt c.args.self.now) (sym c.self.view_is) c.loop-receipt.invariant) front.1 durable next))

@@ -1,0 +1,14 @@
+use Rattle.std.proofs.Common.{◌≡◌, ◌+◌, length}
+use Rattle.workers.specs.Answering.{AreNext}
+use Rattle.workers.proofs.log_writer.answers.Answers.refuse_all.Given as goal
+
+abbrev pub invariant-loop-next : goal.invariant-loop-next
+invariant-loop-next g l = record {
+  next : AreNext l.self-inside.given.answered l.self-inside.waiting.items;
+  room : l.self-inside.waiting.capacity ≡ l.fn.self.room;
+  posted : l.self-inside.given.posted ≡ l.fn.self.posted;
+  count : l.self-inside.given.answered + length l.self-inside.waiting.items ≡ l.fn.self.answered + length l.fn.self.waiting;
+}
+
+abbrev pub decreases-loop-next : goal.decreases-loop-next
+decreases-loop-next g l = length l.self-inside.waiting.items

@@ -1,0 +1,137 @@
+-- The checkpointer as contracts see it: its images are those of the rounds that its back has done.
+use Rattle.std.specs.Prelude.{◌≡◌, ◌≢◌, ◌⊎◌, ℕ, ◌<◌, Bool, true, false, IsTrue, All, List, [], ◌∷◌, ◌++◌, length, Option, Some}
+use Rattle.world_ticks.specs.declared.tick.TheConstants.{TICK_MAX}
+use Rattle.disk_model.specs.Disk.{FaultsBy}
+use Rattle.file_format.specs.declared.slot.Slot.{Slot}
+use Rattle.image_files.specs.declared.phase.Phase.TheVariants.{Idle, Down}
+use Rattle.image_files.specs.Images.{Round, ImageFiles, NoneYet, Newest, with_opened}
+use Rattle.image_files.specs.Files.{FitsFiles, Stands}
+use Rattle.image_files.specs.Progress.{Progress, target_of, cells_taken}
+use Rattle.image_files.specs.Taken.{filled_words}
+use Rattle.restart.specs.Rounds.{words_of}
+use Rattle.shared_capture.specs.declared.view.Snapshot.{Snapshot}
+use Rattle.shared_capture.specs.States.{BackState, SameDone}
+use Rattle.workers.specs.declared.checkpointer.round.ImageWriter.{ImageWriter}
+
+-- ---- the images of rounds
+
+-- a round of the back as a round of the image files: a cell that is unchanged has the newest image's word
+abbrev pub round_of : Snapshot → ImageFiles → Round
+round_of snapshot images = record { tick = snapshot.tick; taken = filled_words snapshot.taken (words_of images) }
+
+-- the images while this round is in work
+abbrev pub with_work : Snapshot → ImageFiles → ImageFiles
+with_work snapshot (NoneYet images) = NoneYet (record { round = Some (round_of snapshot (NoneYet images)) })
+with_work snapshot (Newest images) = Newest (record images { round = Some (round_of snapshot (Newest images)) })
+
+-- the images once these rounds are done, one after the other
+abbrev pub images_after : ImageFiles → List Snapshot → ImageFiles
+images_after images [] = images
+images_after images (snapshot ∷ rest) = images_after (with_opened (round_of snapshot images) images) rest
+
+-- the newest image's file and its tick once these rounds are done
+abbrev pub newest_after : Option (Slot × ℕ) → List Snapshot → Option (Slot × ℕ)
+newest_after newest [] = newest
+newest_after newest (snapshot ∷ rest) = newest_after (Some (target_of newest, snapshot.tick)) rest
+
+-- ---- keeper and back
+
+-- a round is in work, also one in which the keeper went down
+abbrev pub HasRound : Progress → Type 0
+HasRound keeper = keeper.phase ≡ Idle → ⊥
+
+-- keeper and back work at one round, and as many of its cells are taken
+pub record IsAtRound (keeper : Progress) (back : BackState) : Type 0 where
+  pub working : back.working ≡ true
+  pub tick : keeper.tick ≡ back.now.tick
+  pub taken : cells_taken keeper ≡ length back.now.taken
+
+-- they are of as many cells, and the keeper's round is the back's
+pub record AreInStep (keeper : Progress) (back : BackState) : Type 0 where
+  pub cells : keeper.cells ≡ back.cells
+  pub round : HasRound keeper → IsAtRound keeper back
+
+-- the pair, the number of cells and what is known of the phase stay
+abbrev pub SamePair : BackState → BackState → Type 0
+SamePair old new = (new.pair ≡ old.pair) × (new.cells ≡ old.cells) × (new.loads ≡ old.loads)
+
+-- one more round is done, of this tick and with each cell taken
+abbrev pub IsDone : BackState → (tick : ℕ) → BackState → Type 0
+IsDone old tick new =
+    (snapshot : Snapshot) × (snapshot.tick ≡ tick) × (length snapshot.taken ≡ old.cells) × (new.done ≡ old.done ++ snapshot ∷ []) × (new.working ≡ false)
+
+-- the round is still in work
+abbrev pub IsInWork : BackState → (tick : ℕ) → BackState → Type 0
+IsInWork old tick new = (new.working ≡ true) × (new.now.tick ≡ tick) × (new.done ≡ old.done)
+
+-- a round goes on as long as the keeper has one, and is done once the keeper has none
+pub record RoundRuns (old : BackState) (keeper : Progress) (new : BackState) : Type 0 where
+  pub same : SamePair old new
+  pub in_work : HasRound keeper → IsInWork old old.now.tick new
+  pub done : keeper.phase ≡ Idle → IsDone old old.now.tick new
+
+-- ---- keeper, files and back
+
+module _ {D : Type 0} (file : D → List ℕ) (leaves : D → List ℕ → Type 0) where
+  -- the keeper and its files stand for these images
+  abbrev pub ImagesStand : ImageWriter D → ImageFiles → Type 0
+  ImagesStand writer images = Stands writer.keeper images (file writer.image_a) (file writer.image_b) (leaves writer.image_a) (leaves writer.image_b)
+
+  -- they stand for the images of the rounds that the back has done since the first ones, and of its round in work
+  pub record StandAfter (first : ImageFiles) (writer : ImageWriter D) (back : BackState) : Type 0 where
+    pub rest : writer.keeper.phase ≡ Idle → ImagesStand writer (images_after first back.done)
+    pub round : HasRound writer.keeper → ImagesStand writer (with_work back.now (images_after first back.done))
+
+  -- since the opening each round done had all its cells taken and its image opened, and on an honest disk the files have
+  -- just these images
+  pub record FollowsRounds (honest : Bool) (opening : ImageWriter D) (writer : ImageWriter D) (back : BackState) : Type 0 where
+    pub newest : writer.keeper.newest ≡ newest_after opening.keeper.newest back.done
+    pub whole : All (λ (s : Snapshot). length s.taken ≡ back.cells) back.done
+    pub stands : IsTrue honest → (first : ImageFiles) → ImagesStand opening first → StandAfter first writer back
+
+-- the keeper takes the files for what they hold
+abbrev pub WriterFits : {D : Type 0} → (D → List ℕ) → ImageWriter D → Type 0
+WriterFits file writer = FitsFiles writer.keeper (file writer.image_a) (file writer.image_b)
+
+-- the keeper is down only by a failed call of a device, and no failure is passed over
+pub record TellsFaults {D : Type 0} (faults : D → ℕ) (old new : ImageWriter D) : Type 0 where
+  pub down : new.keeper.phase ≡ Down → FaultsBy true (faults old.image_a) (faults new.image_a) (faults old.image_b) (faults new.image_b)
+  pub up : (new.keeper.phase ≡ Down → ⊥) → FaultsBy false (faults old.image_a) (faults new.image_a) (faults old.image_b) (faults new.image_b)
+
+-- ---- the checkpointer
+
+-- the back that it takes from, its keeper and files as they are and as they were at its opening, and whether it does no
+-- more
+pub record Imaging (D : Type 0) : Type 0 where
+  pub back : BackState
+  pub images : ImageWriter D
+  pub opening : ImageWriter D
+  pub over : Bool
+
+-- no round is in work
+abbrev pub IsAtRest : Progress → BackState → Type 0
+IsAtRest keeper back = (keeper.phase ≡ Idle) × (back.working ≡ false)
+
+-- keeper, files and back are in step, and between two turns no round is in work
+pub record IsCheckpointer {D : Type 0} (honest : Bool) (file : D → List ℕ) (leaves : D → List ℕ → Type 0) (c : Imaging D) : Type 0 where
+  pub step : AreInStep c.images.keeper c.back
+  pub fits : IsTrue honest → WriterFits file c.images
+  pub follows : FollowsRounds file leaves honest c.opening c.images c.back
+  pub rest : c.over ≡ false → IsAtRest c.images.keeper c.back
+
+-- the phase was loaded and no round was open: nothing else changed
+abbrev pub Waited : {D : Type 0} → Imaging D → Imaging D → Type 0
+Waited old new =
+    (new.images ≡ old.images) × SameDone old.back new.back × (new.back.working ≡ false) × (new.back.loads ≡ old.back.loads ++ 0 ∷ [])
+
+-- the open round of this tick was found: it is done, or it stays open and nothing more is done; its
+-- image was begun, unless there is no such tick
+abbrev pub Found : {D : Type 0} → Imaging D → (tick : ℕ) → Imaging D → Type 0
+Found old tick new =
+    (tick ≢ 0) × (new.back.loads ≡ old.back.loads ++ tick ∷ [])
+    × (((new.over ≡ false) × IsDone old.back tick new.back)
+    ⊎ ((new.over ≡ true) × IsInWork old.back tick new.back × ((TICK_MAX < tick) ⊎ HasRound new.images.keeper)))
+
+-- what a turn did
+abbrev pub Turned : {D : Type 0} → Imaging D → Imaging D → Type 0
+Turned old new = Waited old new ⊎ ((tick : ℕ) × Found old tick new)

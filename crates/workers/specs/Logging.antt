@@ -1,0 +1,149 @@
+-- The log writer as contracts see it.
+use Rattle.std.specs.Prelude.{◌≡◌, ℕ, ◌+◌, ◌≤◌, Bool, true, false, IsTrue, List, [], ◌∷◌, ◌++◌, length, Option, Some, None}
+use Rattle.world_ticks.specs.declared.tick.TheConstants.{TICK_MAX}
+use Rattle.circular_buffer.specs.Buffer.{Buffer}
+use Rattle.action_log.specs.declared.record.Record.{Record}
+use Rattle.action_log.specs.declared.record.Record.TheVariants as records
+use Rattle.action_log.specs.declared.phase.Phase.TheVariants.{Ready}
+use Rattle.action_log.specs.declared.progress.Progress.{Progress}
+use Rattle.action_log.specs.Segment.{Tick, Segment, OpenSegment}
+use Rattle.action_log.specs.Progress.{QueueFollows, end_of, work_of}
+use Rattle.action_log.specs.Logs.{Logs, Writing}
+use Rattle.action_log.specs.Files.{FitsFiles}
+use Rattle.action_log.specs.Stands.{Stands}
+use Rattle.workers.specs.declared.item.Item.{Item}
+use Rattle.workers.specs.declared.item.Item.TheVariants as items
+use Rattle.workers.specs.declared.log_writer.Log.{Log}
+use Rattle.workers.specs.declared.log_writer.TheConstants.{RING_ITEMS}
+use Rattle.workers.specs.Items.{items_end, records_of}
+use Rattle.workers.specs.Channel.{Popping}
+use Rattle.workers.specs.Answering.{Answering, all_answers_of}
+
+-- whether an item is the last one
+abbrev pub is_end : Item → Bool
+is_end items.End = true
+is_end item = false
+
+-- whether the last one is among these
+abbrev pub has_end : List Item → Bool
+has_end [] = false
+has_end (items.End ∷ more) = true
+has_end (item ∷ more) = has_end more
+
+-- whether a turn that popped these was the last one: the last item is among them, or a pop was refused
+abbrev pub is_over : List Item → Bool
+is_over [] = true
+is_over more = has_end more
+
+-- ---- what the files tell
+
+-- how the other segment reads, and the base and the ticks of the current one
+pub record Told : Type 0 where
+  pub before : Segment
+  pub base : ℕ
+  pub ticks : List Tick
+
+abbrev pub after_record : Told → Record → Told
+after_record told (records.Tick tick) = record told { ticks = told.ticks ++ tick.list ∷ [] }
+after_record told (records.Switch number) = record { before = OpenSegment told.base told.ticks; base = number; ticks = [] }
+
+abbrev pub after_records : Told → List Record → Told
+after_records told [] = told
+after_records told (first ∷ queue) = after_records (after_record told first) queue
+
+abbrev pub told_in : Logs → Option ℕ → Told
+told_in logs None = record { before = logs.before; base = logs.base; ticks = logs.kept ++ logs.pending }
+told_in logs (Some number) = record { before = OpenSegment logs.base logs.kept; base = number; ticks = [] }
+
+-- what the two segments tell once the job in work is done
+abbrev pub told_of : Logs → Told
+told_of logs = told_in logs logs.switch
+
+-- the ticks up to this one are in the current segment, or below its base, now and after the switch in work
+pub record HasAcked (acked : ℕ) (logs : Logs) : Type 0 where
+  pub kept : acked ≤ logs.base + length logs.kept
+  pub switched : (number : ℕ) → logs.switch ≡ Some number → acked ≤ number
+
+-- ---- the log writer
+
+pub record Logging (D : Type 0) : Type 0 where
+  pub from : Popping
+  pub log : Log D
+  pub ring : Buffer Record
+  pub answers : Answering
+  pub opening : Log D
+  pub acked : ℕ
+  pub down : Bool
+  pub over : Bool
+
+-- the start of the keeper is over, nothing is in work, and its log begins after this tick
+pub record IsReady (keeper : Progress) (tick : ℕ) : Type 0 where
+  pub phase : keeper.phase ≡ Ready
+  pub started : keeper.starting ≡ false
+  pub base : keeper.base ≡ tick
+  pub count : keeper.count ≡ 0
+
+-- how it begins
+abbrev pub writer_at : {D : Type 0} → Popping → Log D → (tick : ℕ) → Logging D
+writer_at from log tick = record {
+  from = from;
+  log = log;
+  ring = record { items = []; capacity = RING_ITEMS };
+  answers = record { waiting = []; room = RING_ITEMS; answered = tick; posted = tick };
+  opening = log;
+  acked = tick;
+  down = false;
+  over = false;
+}
+
+-- nothing is left to do, unless the log is down, and no answer waits
+pub record IsAtRest {D : Type 0} (w : Logging D) : Type 0 where
+  pub written : w.down ≡ false → work_of w.log.keeper w.ring.items ≡ 0
+  pub answered : w.answers.waiting ≡ []
+
+-- the ticks popped are posted, up to the last one, and all of them are acknowledged
+pub record IsPosted {D : Type 0} (w : Logging D) : Type 0 where
+  pub all : w.answers.posted ≡ (items_end w.from.items).base + (items_end w.from.items).count
+  pub acknowledged : w.answers.posted ≤ w.acked
+
+module _ {D : Type 0} (file : D → List ℕ) (leaves : D → List ℕ → Type 0) where
+  -- the keeper and its files stand for this log
+  abbrev pub LogStands : Log D → Logs → Type 0
+  LogStands log logs = Stands log.keeper (file log.a) (file log.b) (leaves log.a) (leaves log.b) (record { journal = Writing logs; left = 0 })
+
+  -- The files tell what was told at first, and behind it the first of these records; those that follow are queued, and
+  -- once the log is down there may be others that are lost.
+  pub record Writes (log : Log D) (ring : List Record) (acked : ℕ) (down : Bool) (first : Told) (all : List Record) : Type 0 where
+    pub logs : Logs
+    pub stands : LogStands log logs
+    pub given : List Record
+    pub lost : List Record
+    pub told : told_of logs ≡ after_records first given
+    pub order : given ++ (ring ++ lost) ≡ all
+    pub none_lost : down ≡ false → lost ≡ []
+    pub has_acked : HasAcked acked logs
+
+  pub record IsLogging (honest : Bool) (w : Logging D) : Type 0 where
+    pub started : w.log.keeper.starting ≡ false
+    pub fits : IsTrue honest → FitsFiles w.log.keeper (file w.log.a) (file w.log.b)
+    pub follows : QueueFollows w.log.keeper w.ring.items
+    pub end : w.down ≡ false → end_of w.log.keeper w.ring.items ≡ items_end w.from.items
+    pub ring : w.ring.capacity ≡ RING_ITEMS
+    pub room : w.answers.room ≡ RING_ITEMS
+    pub numbers : w.answers.answered + length w.answers.waiting ≡ (items_end w.from.items).base + (items_end w.from.items).count
+    pub most : (items_end w.from.items).base + (items_end w.from.items).count ≤ TICK_MAX
+    pub posted : w.down ≡ false → w.answers.posted ≡ w.answers.answered
+    pub durable : w.answers.posted ≤ w.acked
+    pub writes : IsTrue honest → (logs : Logs) → LogStands w.opening logs → Writes w.log w.ring.items w.acked w.down (told_of logs) (records_of w.from.items)
+
+-- these items were popped, their records are queued, and their answers wait
+pub record Took {D : Type 0} (old new : Logging D) (more : List Item) : Type 0 where
+  pub popped : new.from.items ≡ old.from.items ++ more
+  pub end : new.from.end ≡ old.from.end
+  pub ring : new.ring ≡ record old.ring { items = old.ring.items ++ records_of more }
+  pub answers : new.answers ≡ record old.answers { waiting = old.answers.waiting ++ all_answers_of more }
+  pub same : new ≡ record old { from = new.from; ring = new.ring; answers = new.answers; over = new.over }
+
+-- each answer that waited is refused
+abbrev pub refused : Answering → Answering
+refused answers = record answers { waiting = []; answered = answers.answered + length answers.waiting }

@@ -1,0 +1,69 @@
+//! A round from its first step to its last.
+ghost use Rattle.std.specs.Prelude.{◌≡◌, ◌⊎◌, ◌<◌, IsTrue, false, true};
+ghost use Rattle.image_files.specs.declared.phase.Phase.TheVariants.{Idle};
+ghost use Rattle.image_files.specs.Progress.{left_of};
+ghost use Rattle.workers.specs.declared.checkpointer.round.ImageWriter.{ImageWriter as Writer};
+ghost use Rattle.workers.specs.Imaging.{HasRound, AreInStep, FollowsRounds, RoundRuns, TellsFaults, WriterFits};
+
+use crate::gate::{Gate, Place, passes};
+use disk_model::Disk;
+use image_files::{ImageAnswer, ImageKeeper};
+use shared_capture::{Back, Method};
+use std::sync::Wait;
+
+/// The keeper of the images, and its two files.
+#[derive(Drop)]
+pub struct ImageWriter<D: Disk> {
+    pub keeper: ImageKeeper,
+    pub image_a: D,
+    pub image_b: D,
+}
+
+// A step of the round in work. Where it opens the image the back ends the round.
+fn step<M: Method, D: Disk>(back: &mut Back<M>, images: &mut ImageWriter<D>)
+    requires step { AreInStep images.old.keeper back.old }
+    requires fits { IsTrue D.honest → WriterFits D.content images.old }
+    requires left { 0 < left_of images.old.keeper }
+    ensures step { AreInStep images.new.keeper back.new }
+    ensures fits { IsTrue D.honest → WriterFits D.content images.new }
+    ensures faults { TellsFaults D.faults images.old images.new }
+    ensures less { left_of images.new.keeper < left_of images.old.keeper }
+    ensures runs { RoundRuns back.old images.new.keeper back.new }
+    ensures follows { (opening : Writer D) → FollowsRounds D.content D.may_leave D.honest opening images.old back.old
+        → FollowsRounds D.content D.may_leave D.honest opening images.new back.new }
+{
+    let ImageAnswer::Opened(_) = images
+        .keeper
+        .step_files(back, &mut images.image_a, &mut images.image_b)
+    else {
+        return;
+    };
+    back.finish();
+}
+
+// Steps the round in work to its end, and answers whether it stays open: a call of a device failed, or the gate is stuck.
+pub(crate) fn run_round<M: Method, D: Disk, G: Gate, R: Wait>(
+    rt: &R,
+    gate: &mut G,
+    back: &mut Back<M>,
+    images: &mut ImageWriter<D>,
+) -> bool
+    requires step { AreInStep images.old.keeper back.old }
+    requires fits { IsTrue D.honest → WriterFits D.content images.old }
+    requires left { 0 < left_of images.old.keeper }
+    ensures step { AreInStep images.new.keeper back.new }
+    ensures fits { IsTrue D.honest → WriterFits D.content images.new }
+    ensures runs { RoundRuns back.old images.new.keeper back.new }
+    ensures faults { TellsFaults D.faults images.old images.new }
+    ensures ends { (result ≡ false → images.new.keeper.phase ≡ Idle) × (result ≡ true → HasRound images.new.keeper) }
+    ensures follows { (opening : Writer D) → FollowsRounds D.content D.may_leave D.honest opening images.old back.old
+        → FollowsRounds D.content D.may_leave D.honest opening images.new back.new }
+{
+    while images.keeper.left() > 0 {
+        if !passes(rt, gate, Place::Device) {
+            return true;
+        }
+        step(back, images);
+    }
+    images.keeper.is_down()
+}

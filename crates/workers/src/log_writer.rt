@@ -1,0 +1,278 @@
+//! The worker that writes the log.
+mod answers;
+mod keep;
+
+ghost use Rattle.std.specs.Prelude.{◌≡◌, ◌⊎◌, ◌+◌, ◌<◌, ◌≤◌, ◌++◌, ◌∷◌, [], true, false, List, length, IfOk, IsTrue};
+ghost use Rattle.world_ticks.specs.declared.tick.TheConstants.{TICK_MAX};
+ghost use Rattle.action_log.specs.Files.{FitsFiles};
+ghost use Rattle.action_log.specs.Progress.{work_of};
+ghost use Rattle.workers.specs.declared.item.Item.{Item as Popped};
+ghost use Rattle.workers.specs.declared.item.Item.TheVariants.{Start};
+ghost use Rattle.workers.specs.Answering.{AreLater};
+ghost use Rattle.workers.specs.Logging.{is_end, has_end, is_over, refused, writer_at, Took, IsReady, IsAtRest, IsPosted, IsLogging};
+
+use crate::ends::ItemReceiver;
+use crate::gate::{Gate, Place, passes};
+use action_log::{GROUP_TICKS, LogAnswer, LogKeeper, Record};
+use answers::Answers;
+use circular_buffer::HeapCircularBuffer;
+use disk_model::Disk;
+use keep::{keep, lose};
+use std::alloc::{AllocError, Global};
+use std::marker::Model;
+use std::snapshot::Snapshot;
+use std::sync::atomic::{AtomicBool, Ordering};
+use std::sync::{Arc, Wait};
+
+/// How many records may wait for the log, and how many answers for their ticks.
+pub const RING_ITEMS: usize = 64;
+
+/// The keeper of the log, and its two files.
+#[derive(Drop)]
+pub struct Log<D: Disk + Drop> {
+    pub keeper: LogKeeper,
+    pub a: D,
+    pub b: D,
+}
+
+/// Writes what it pops to the log, and answers what is durable. It begins after the start of the log.
+#[derive(Drop)]
+pub struct LogWriter<D: Disk + Drop, G: Gate + Drop> {
+    gate: G,
+    from: ItemReceiver,
+    log: Log<D>,
+    ring: HeapCircularBuffer<Record>,
+    answers: Answers,
+    opening: Snapshot<Log<D>>,
+    log_is_down: Arc<AtomicBool, Global>,
+    acked: u64,
+    down: bool,
+    over: bool,
+}
+
+impl<D: Disk + Drop, G: Gate + Drop> Model for LogWriter<D, G> {
+    ghost use Rattle.workers.specs.Logging.{Logging, IsLogging};
+
+    ghost Value = { Logging D };
+
+    ghost view = { λ w. record { from = w.from; log = w.log; ring = w.ring; answers = w.answers; opening = w.opening.value; acked = w.acked; down = w.down; over = w.over } };
+
+    ghost invariant = { λ w. IsLogging D.content D.may_leave D.honest (record { from = w.from; log = w.log; ring = w.ring; answers = w.answers; opening = w.opening.value; acked = w.acked; down = w.down; over = w.over }) };
+}
+
+impl<D: Disk + Drop, G: Gate + Drop> LogWriter<D, G> {
+    /// A log writer for a log that begins after this tick. Its keeper has just made the start, and the channel was just
+    /// opened.
+    pub fn new(
+        alloc: Global,
+        gate: G,
+        from: ItemReceiver,
+        log: Log<D>,
+        log_is_down: Arc<AtomicBool, Global>,
+        tick: u64,
+    ) -> Result<Self, AllocError>
+        requires opened { from.items ≡ Start tick ∷ [] }
+        requires most { tick ≤ TICK_MAX }
+        requires ready { IsReady log.keeper tick }
+        requires fits { IsTrue D.honest → FitsFiles log.keeper (D.content log.a) (D.content log.b) }
+        ensures begun { IfOk result (λ w. w ≡ writer_at from log tick) }
+        ensures rest { IfOk result (λ w. IsAtRest w) }
+    {
+        let ring = HeapCircularBuffer::with_capacity(alloc, RING_ITEMS)?;
+        let answers = Answers::new(alloc, RING_ITEMS, tick)?;
+        let opening = Snapshot::of(&log);
+        Ok(LogWriter {
+            gate,
+            from,
+            log,
+            ring,
+            answers,
+            opening,
+            log_is_down,
+            acked: tick,
+            down: false,
+            over: false,
+        })
+    }
+
+    /// Whether there are no more items.
+    pub fn is_over(&self) -> bool
+        ensures { result ≡ self.now.over }
+    {
+        self.over
+    }
+
+    /// Whether the log is down: no tick is acknowledged any more.
+    pub fn is_down(&self) -> bool
+        ensures { result ≡ self.now.down }
+    {
+        self.down
+    }
+
+    /// The greatest tick of a receipt, or else that of the start.
+    pub fn acked(&self) -> u64
+        ensures { result ≡ self.now.acked }
+    {
+        self.acked
+    }
+
+    // The log is down: tells it, and refuses each answer that waits.
+    fn fall<R: Wait>(&mut self, rt: &R)
+        ensures { self.new ≡ record self.old { down = true; answers = refused self.old.answers } }
+    {
+        self.down = true;
+        self.log_is_down.store(true, Ordering::SeqCst);
+        self.answers.refuse_all(rt);
+    }
+
+    // Pops an item and keeps it. It waits for one.
+    fn take<R: Wait>(&mut self, rt: &R)
+        requires up { self.old.down ≡ false }
+        requires goes_on { self.old.over ≡ false }
+        requires room { (length self.old.ring.items < RING_ITEMS) × (length self.old.answers.waiting < RING_ITEMS) }
+        ensures { (more : List Popped) × Took self.old self.new more × (self.new.over ≡ is_over more) }
+    {
+        match self.from.pop(rt) {
+            Ok(item) => self.over = keep(&self.log.keeper, &mut self.ring, &mut self.answers, item),
+            Err(_) => self.over = true,
+        }
+    }
+
+    // Pops an item and keeps it, if there is one.
+    fn try_take<R: Wait>(&mut self, rt: &R) -> bool
+        requires up { self.old.down ≡ false }
+        requires goes_on { self.old.over ≡ false }
+        requires room { (length self.old.ring.items < RING_ITEMS) × (length self.old.answers.waiting < RING_ITEMS) }
+        ensures took { result ≡ true → (item : Popped) × Took self.old self.new (item ∷ []) × (self.new.over ≡ is_end item) }
+        ensures none { result ≡ false → self.new ≡ self.old }
+        ensures queued { result ≡ true → self.new.over ≡ false → length self.new.ring.items ≡ length self.old.ring.items + 1 }
+    {
+        match self.from.try_pop(rt) {
+            Ok(item) => {
+                self.over = keep(&self.log.keeper, &mut self.ring, &mut self.answers, item);
+                true
+            }
+            Err(_) => false,
+        }
+    }
+
+    // Pops what is there and keeps it, up to a group of records.
+    fn gather<R: Wait>(&mut self, rt: &R)
+        requires up { self.old.down ≡ false }
+        requires goes_on { self.old.over ≡ false }
+        requires few { length self.old.answers.waiting ≤ length self.old.ring.items }
+        ensures { (more : List Popped) × Took self.old self.new more × (self.new.over ≡ has_end more) }
+    {
+        while !self.over && self.ring.len() < GROUP_TICKS {
+            if !self.try_take(rt) {
+                return;
+            }
+        }
+    }
+
+    // Pops an item, waiting for one, and what is there behind it, up to a group of records.
+    fn fill<R: Wait>(&mut self, rt: &R)
+        requires up { self.old.down ≡ false }
+        requires goes_on { self.old.over ≡ false }
+        requires none { (self.old.ring.items ≡ []) × (self.old.answers.waiting ≡ []) }
+        ensures { (more : List Popped) × Took self.old self.new more × (self.new.over ≡ is_over more) }
+    {
+        self.take(rt);
+        if self.over {
+            return;
+        }
+        self.gather(rt);
+    }
+
+    // The next step of the log, if the gate lets it be made, and the answers of what it made durable.
+    fn step<R: Wait>(&mut self, rt: &R)
+        requires up { self.old.down ≡ false }
+        ensures same { self.new
+            ≡ record self.old { log = self.new.log; ring = self.new.ring; answers = self.new.answers; acked = self.new.acked; down = self.new.down } }
+        ensures acked { self.old.acked ≤ self.new.acked }
+        ensures posts { (self.new.acked ≡ self.old.acked) ⊎ AreLater self.new.acked self.new.answers.waiting }
+        ensures lowers { self.new.down ≡ false → 0 < work_of self.old.log.keeper self.old.ring.items
+            → work_of self.new.log.keeper self.new.ring.items < work_of self.old.log.keeper self.old.ring.items }
+        ensures refused { self.new.down ≡ true → self.new.answers.waiting ≡ [] }
+    {
+        if !passes(rt, &mut self.gate, Place::Device) {
+            self.fall(rt);
+            return;
+        }
+        match self
+            .log
+            .keeper
+            .step(&mut self.ring, &mut self.log.a, &mut self.log.b)
+        {
+            LogAnswer::Down => self.fall(rt),
+            LogAnswer::Acked(receipt) => {
+                self.answers.post_all(rt, receipt);
+                self.acked = greater(self.acked, receipt.tick());
+            }
+            LogAnswer::Idle | LogAnswer::Working => {}
+        }
+    }
+
+    // Steps the log until nothing is left to do or it is down. An answer that still waits then has no receipt, so it is
+    // refused too.
+    fn write_all<R: Wait>(&mut self, rt: &R)
+        requires up { self.old.down ≡ false }
+        ensures same { self.new
+            ≡ record self.old { log = self.new.log; ring = self.new.ring; answers = self.new.answers; acked = self.new.acked; down = self.new.down } }
+        ensures acked { self.old.acked ≤ self.new.acked }
+        ensures rest { IsAtRest self.new }
+        ensures posted { self.new.down ≡ false → IsPosted self.new }
+    {
+        while !self.down && self.log.keeper.work(&self.ring) > 0 {
+            self.step(rt);
+        }
+        if self.down || self.answers.is_empty() {
+            return;
+        }
+        self.fall(rt);
+    }
+
+    // Pops an item, waiting for one, and refuses its answer: the log is down.
+    fn refuse_next<R: Wait>(&mut self, rt: &R)
+        requires down { self.old.down ≡ true }
+        requires goes_on { self.old.over ≡ false }
+        requires none { self.old.answers.waiting ≡ [] }
+        ensures popped { (more : List Popped) × (self.new.from.items ≡ self.old.from.items ++ more) × (self.new.over ≡ is_over more) }
+        ensures end { self.new.from.end ≡ self.old.from.end }
+        ensures none { self.new.answers.waiting ≡ [] }
+        ensures same { self.new
+            ≡ record self.old { from = self.new.from; answers = self.new.answers; over = self.new.over } }
+    {
+        match self.from.pop(rt) {
+            Ok(item) => self.over = lose(rt, &mut self.answers, item),
+            Err(_) => self.over = true,
+        }
+    }
+
+    /// Pops an item, waiting for one, and what is there behind it, up to a group; writes all that to the log, and answers
+    /// what is durable. Once the log is down it pops an item and refuses it.
+    pub fn turn<R: Wait>(&mut self, rt: &R)
+        requires goes_on { self.old.over ≡ false }
+        requires rest { IsAtRest self.old }
+        ensures rest { IsAtRest self.new }
+        ensures popped { (more : List Popped) × (self.new.from.items ≡ self.old.from.items ++ more) × (self.new.over ≡ is_over more) }
+        ensures same { (self.new.from.end ≡ self.old.from.end) × (self.new.opening ≡ self.old.opening) }
+        ensures down { self.old.down ≡ true → self.new ≡ record self.old { from = self.new.from; answers = self.new.answers; over = self.new.over } }
+        ensures posted { self.new.down ≡ false → IsPosted self.new }
+        ensures acked { self.old.acked ≤ self.new.acked }
+    {
+        if self.down {
+            self.refuse_next(rt);
+            return;
+        }
+        self.fill(rt);
+        self.write_all(rt);
+    }
+}
+
+fn greater(x: u64, y: u64) -> u64
+    ensures least { (x ≤ result) × (y ≤ result) }
+    ensures one { (result ≡ x) ⊎ (result ≡ y) }
+{
+    if x < y { y } else { x }
+}

@@ -1,0 +1,135 @@
+//! The answers that wait until their ticks are durable.
+ghost use Rattle.std.specs.Prelude.{◌≡◌, ◌+◌, ◌<◌, ◌≤◌, ◌++◌, ◌∷◌, [], length, IfOk, IsTrue, ◌↔◌, List, false};
+ghost use Rattle.workers.specs.declared.post.Waiting.{Waiting as Answer};
+ghost use Rattle.workers.specs.Answering.{AreLater, Posts};
+
+use crate::post::{Post, Reply, Waiting};
+use action_log::Receipt;
+use circular_buffer::HeapCircularBuffer;
+use std::alloc::{AllocError, Global};
+use std::marker::Model;
+use std::sync::Wait;
+use world_actions::Refusal;
+
+// The last tick that was answered, and the last one that a post answered.
+#[derive(Drop)]
+pub struct Given {
+    answered: u64,
+    posted: u64,
+}
+
+impl Given {
+    // Answers the next tick by a post.
+    fn post<R: Wait>(&mut self, rt: &R, next: Waiting, receipt: Receipt)
+        requires next { next.number ≡ self.old.answered + 1 }
+        requires durable { next.number ≤ receipt }
+        ensures { self.new ≡ record { answered = next.number; posted = next.number } }
+    {
+        let Waiting { number, text, to } = next;
+        let _ = to.send(rt, Reply::Post(Post::new(number, text, receipt)));
+        self.answered = number;
+        self.posted = number;
+    }
+
+    // Answers the next tick by a fault: the log is down.
+    fn refuse<R: Wait>(&mut self, rt: &R, next: Waiting)
+        requires { next.number ≡ self.old.answered + 1 }
+        ensures { self.new ≡ record self.old { answered = next.number } }
+    {
+        let Waiting {
+            number,
+            text: _,
+            to,
+        } = next;
+        let _ = to.send(rt, Reply::Fault(Refusal::LogDown));
+        self.answered = number;
+    }
+}
+
+/// The answers of the ticks that aren't durable yet, oldest first.
+#[derive(Drop)]
+pub struct Answers {
+    waiting: HeapCircularBuffer<Waiting>,
+    given: Given,
+}
+
+impl Model for Answers {
+    ghost use Rattle.workers.specs.Answering.{Answering, AreNext};
+
+    ghost Value = { Answering };
+
+    ghost view = { λ a. record { waiting = a.waiting.items; room = a.waiting.capacity; answered = a.given.answered; posted = a.given.posted } };
+
+    ghost invariant = { λ a. AreNext a.given.answered a.waiting.items };
+}
+
+impl Answers {
+    /// None wait; the ticks up to this one are answered.
+    pub(crate) fn new(alloc: Global, room: usize, tick: u64) -> Result<Self, AllocError>
+        ensures { IfOk result (λ a. a ≡ record { waiting = []; room = room; answered = tick; posted = tick }) }
+    {
+        Ok(Answers {
+            waiting: HeapCircularBuffer::with_capacity(alloc, room)?,
+            given: Given {
+                answered: tick,
+                posted: tick,
+            },
+        })
+    }
+
+    pub(crate) fn is_empty(&self) -> bool
+        ensures { IsTrue result ↔ (self.now.waiting ≡ []) }
+    {
+        self.waiting.is_empty()
+    }
+
+    /// Lets the answer of the next tick wait.
+    pub(crate) fn push(&mut self, next: Waiting)
+        requires next { next.number ≡ self.old.answered + length self.old.waiting + 1 }
+        requires room { length self.old.waiting < self.old.room }
+        ensures { self.new ≡ record self.old { waiting = self.old.waiting ++ next ∷ [] } }
+    {
+        let _ = self.waiting.try_push_back(next);
+    }
+
+    /// Posts each answer that the receipt makes durable, oldest first.
+    pub(crate) fn post_all<R: Wait>(&mut self, rt: &R, receipt: Receipt)
+        ensures posts { Posts receipt self.old self.new }
+        ensures others { AreLater receipt self.new.waiting }
+    {
+        while self.first_is_durable(receipt) {
+            if let Some(next) = self.waiting.pop_front() {
+                self.given.post(rt, next, receipt);
+            }
+        }
+    }
+
+    /// Refuses each answer, oldest first: the log is down.
+    pub(crate) fn refuse_all<R: Wait>(&mut self, rt: &R)
+        ensures { self.new
+            ≡ record self.old { waiting = []; answered = self.old.answered + length self.old.waiting } }
+    {
+        while let Some(next) = self.waiting.pop_front() {
+            self.given.refuse(rt, next);
+        }
+    }
+
+    /// Refuses the answer of the next tick, where none waits: the log is down.
+    pub(crate) fn refuse<R: Wait>(&mut self, rt: &R, next: Waiting)
+        requires none { self.old.waiting ≡ [] }
+        requires next { next.number ≡ self.old.answered + 1 }
+        ensures { self.new ≡ record self.old { answered = next.number } }
+    {
+        self.given.refuse(rt, next);
+    }
+
+    fn first_is_durable(&self, receipt: Receipt) -> bool
+        ensures first { IsTrue result → (first : Answer) × (rest : List Answer) × (self.now.waiting ≡ first ∷ rest) × (first.number ≤ receipt) }
+        ensures others { result ≡ false → AreLater receipt self.now.waiting }
+    {
+        match self.waiting.front() {
+            Some(first) => first.number <= receipt.tick(),
+            None => false,
+        }
+    }
+}
