@@ -123,6 +123,11 @@ impl FileDisk {
     {
         self.failure.take()
     }
+
+    /// The same, and it stays.
+    pub fn failure(&self) -> Option<&io::Error> {
+        self.failure.as_ref()
+    }
 }
 
 impl Disk for FileDisk {

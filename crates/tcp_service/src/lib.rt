@@ -1,15 +1,22 @@
 //! The clients of a world that workers run: a thread for each connection.
 //!
-//! A session reads batches, sends each to the mutator, and writes what the log writer posts for it, which is
-//! only after the batch's tick is durable. A client that fails or leaves ends its own session alone.
+//! `open_world` opens a world of four files for its workers, and `serve_tcp` starts them, serves so many connections,
+//! and stops them. A session reads batches, sends each to the mutator, and writes what the log writer posts for it,
+//! which is only after the batch's tick is durable. A client that fails or leaves ends its own session alone.
 #![tactic(auto)]
 
 mod accept;
+mod door;
+mod opening;
 mod remote;
+mod serving;
 mod session;
 #[cfg(test)]
 mod tests;
 
-pub use accept::accept_sessions;
+pub use accept::{Accepted, accept_sessions};
+pub use door::{Door, Unserved};
+pub use opening::{Seats, open_world};
 pub use remote::Remote;
+pub use serving::{Stopped, serve_tcp};
 pub use session::serve_session;

@@ -1,9 +1,9 @@
-use crate::{Remote, accept_sessions};
+use crate::{Accepted, Door, Remote, Unserved, accept_sessions};
 use crossbeam_channel::{Receiver, unbounded};
 use line_service::serve_lines;
 use sessions::Request;
 use std::alloc::Global;
-use std::io::{Read, Write};
+use std::io::{self, Read, Write};
 use std::net::{Net, Shutdown, SocketAddr, TcpListener, TcpStream};
 use std::sync::Wait;
 use std::test::Fail;
@@ -11,9 +11,21 @@ use std::thread;
 use workers::{Ask, Reply};
 use world_actions::Refusal;
 
+mod opening;
+
 const BATCHES: &[u8] = b"set 0 5\nend\nget 0\nend\nend\nset 0 1\n";
 
 const FAULTS: &[u8] = b"fault 6\nfault 12\nfault 21\n";
+
+// Hears nothing.
+#[derive(Clone, Copy)]
+struct Nobody;
+
+impl Door for Nobody {
+    fn session_refused(&mut self, _why: Unserved) {}
+
+    fn listener_failed(&mut self, _error: &io::Error) {}
+}
 
 // In the place of the workers: it refuses batches, and drops those that begin with a read.
 fn refuse<R: Wait>(rt: &R, asks: Receiver<Ask>) -> u64 {
@@ -91,7 +103,7 @@ fn serves_clients_of_a_port(rt: HostRuntime) -> Result<(), Fail> {
     let Ok(worker) = thread::spawn(&rt, move || refuse(&here, asks)) else {
         return Err(Fail::new("no thread"));
     };
-    let accept = move || accept_sessions(&here, alloc, &listener, 3, requests);
+    let accept = move || accept_sessions(&here, alloc, &listener, 3, requests, Nobody);
     let Ok(server) = thread::spawn(&rt, accept) else {
         return Err(Fail::new("no thread"));
     };
@@ -101,7 +113,11 @@ fn serves_clients_of_a_port(rt: HostRuntime) -> Result<(), Fail> {
         let page = try_client(&rt, alloc, to, BATCHES)?;
         assert_eq!(rt; page.as_slice(), FAULTS);
     }
-    assert_eq!(rt; server.join(&rt), Ok(()));
+    let all = Accepted {
+        connections: 3,
+        fault: None,
+    };
+    assert_eq!(rt; server.join(&rt), all);
     assert_eq!(rt; worker.join(&rt), 6);
     Ok(())
 }

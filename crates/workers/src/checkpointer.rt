@@ -1,6 +1,7 @@
 //! The worker that writes the images.
-ghost use Rattle.std.specs.Prelude.{◌≡◌, false, [], IsTrue};
-ghost use Rattle.workers.specs.Imaging.{IsAtRest, TellsFaults, Turned, WriterFits};
+ghost use Rattle.std.specs.Prelude.{◌≡◌, ◌↔◌, false, [], IsTrue, MatchOption};
+ghost use Rattle.image_files.specs.declared.phase.Phase.TheVariants.{Down};
+ghost use Rattle.workers.specs.Imaging.{IsAtRest, IsDone, TellsFaults, Turned, WriterFits};
 
 use crate::checkpointer::round::run_round;
 use crate::gate::Gate;
@@ -66,24 +67,40 @@ impl<M: Method, D: Disk + Drop, G: Gate + Drop> Checkpointer<M, D, G> {
         self.over
     }
 
-    /// Writes the image of the open round, or waits for the bell where none is open. A round whose image can't be
-    /// written stays open, so that no other is begun.
-    pub fn turn<R: Wait>(&mut self, rt: &R)
+    /// Whether no image is written any more: a call of a device failed.
+    pub fn is_down(&self) -> bool
+        ensures { IsTrue result ↔ (self.now.images.keeper.phase ≡ Down) }
+    {
+        self.images.keeper.is_down()
+    }
+
+    /// The keeper of the images and their files.
+    pub fn images(&self) -> &ImageWriter<D>
+        ensures { result.now ≡ self.now.images }
+    {
+        &self.images
+    }
+
+    /// Writes the image of the open round and answers its tick, or waits for the bell where none is open. A round
+    /// whose image can't be written stays open, so that no other is begun.
+    pub fn turn<R: Wait>(&mut self, rt: &R) -> Option<u64>
         requires { self.old.over ≡ false }
         ensures same { (self.new.back.pair ≡ self.old.back.pair) × (self.new.back.cells ≡ self.old.back.cells) × (self.new.opening ≡ self.old.opening) }
         ensures turned { Turned self.old self.new }
+        ensures opened { MatchOption result (self.new.back.done ≡ self.old.back.done) (λ tick. IsDone self.old.back tick self.new.back) }
         ensures faults { TellsFaults D.faults self.old.images self.new.images }
     {
         images_stay::<D>();
         let Some(tick) = self.back.look() else {
             self.over = self.bell.recv(rt).is_err();
-            return;
+            return None;
         };
         if tick > TICK_MAX {
             self.over = true;
-            return;
+            return None;
         }
         self.images.keeper.begin(tick);
         self.over = run_round(rt, &mut self.gate, &mut self.back, &mut self.images);
+        if self.over { None } else { Some(tick) }
     }
 }

@@ -109,6 +109,13 @@ impl<D: Disk + Drop, G: Gate + Drop> LogWriter<D, G> {
         self.down
     }
 
+    /// The keeper of the log and its files.
+    pub fn log(&self) -> &Log<D>
+        ensures { result.now ≡ self.now.log }
+    {
+        &self.log
+    }
+
     /// The greatest tick of a receipt, or else that of the start.
     pub fn acked(&self) -> u64
         ensures { result ≡ self.now.acked }

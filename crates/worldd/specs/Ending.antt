@@ -6,7 +6,7 @@ use Rattle.std.specs.declared.io.Error.{Error}
 use Rattle.world_actions.specs.declared.refusal.Refusal.TheVariants.{NoMemory}
 use Rattle.disk_model.specs.declared.four_files.FourFiles.{FourFiles}
 use Rattle.worldd.specs.declared.ending.Ending.{Ending}
-use Rattle.worldd.specs.declared.ending.Ending.TheVariants.{Ran, Told, Mistaken, Fault, Unreadable, NoWorld, Occupied}
+use Rattle.worldd.specs.declared.ending.Ending.TheVariants.{Ran, Told, Mistaken, Fault, Unreadable, NoWorld, Occupied, NoPort, LogDown, ImagesDown}
 use Rattle.worldd.specs.Fault.{Files, AreRead, Explains}
 use Rattle.worldd.specs.declared.folder.TheConstants.{IMAGE_A, IMAGE_B, LOG_A, LOG_B}
 
@@ -19,6 +19,9 @@ IsFault (Fault refusal) = Unit {0}
 IsFault (Unreadable file) = Unit {0}
 IsFault (NoWorld fault) = Unit {0}
 IsFault (Occupied file) = Unit {0}
+IsFault (NoPort port) = Unit {0}
+IsFault LogDown = ⊥
+IsFault ImagesDown = ⊥
 
 -- it tells this error of the file of this name in a folder, or that there was no memory for its path
 abbrev pub TellsOf : (folder name : List ℕ) → Error → Ending → Type 0

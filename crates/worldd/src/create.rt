@@ -3,15 +3,13 @@ ghost use Rattle.world_actions.specs.declared.world.TheConstants.{CELLS};
 ghost use Rattle.worldd.specs.Ending.{IsFault};
 
 use crate::ending::{Ending, Occupied};
-use crate::folder::{IMAGE_A, IMAGE_B, LOG_A, LOG_B, Unreadable, open_to_write};
+use crate::folder::{IMAGE_A, IMAGE_B, LOG_A, LOG_B, failure_of, open_to_write, path_of};
 use action_log::{LogState, read_log};
 use disk_model::{FileDisk, FourFiles};
 use image_files::{ImageState, read_image};
 use served::fresh_files;
 use std::alloc::Global;
 use std::fs::{File, Files};
-use std::io;
-use std::path::Path;
 use world_actions::Refusal;
 
 /// Makes the files of a world of zeros at tick 0 in a folder, and tells how many cells it has. Where one of
@@ -42,10 +40,7 @@ fn not_made(alloc: Global, folder: &str, files: FourFiles<FileDisk>, refusal: Re
             Ok(bytes) => occupied(alloc, folder, first_open(alloc, &bytes)),
             Err(_) => Ending::Fault(refusal),
         },
-        Refusal::Device => match first_failure(&mut files) {
-            Some((name, error)) => unwritable(alloc, folder, name, error),
-            None => Ending::Fault(refusal),
-        },
+        Refusal::Device => failure_of(alloc, folder, files),
         _ => Ending::Fault(refusal),
     }
 }
@@ -53,34 +48,10 @@ fn not_made(alloc: Global, folder: &str, files: FourFiles<FileDisk>, refusal: Re
 fn occupied(alloc: Global, folder: &str, name: &str) -> Ending
     ensures { IsFault result }
 {
-    match Path::new(folder).join(alloc, name) {
+    match path_of(alloc, folder, name) {
         Ok(path) => Ending::Occupied(Occupied { path }),
         Err(_) => Ending::Fault(Refusal::NoMemory),
     }
-}
-
-fn unwritable(alloc: Global, folder: &str, name: &str, error: io::Error) -> Ending
-    ensures { IsFault result }
-{
-    match Path::new(folder).join(alloc, name) {
-        Ok(path) => Ending::Unreadable(Unreadable { path, error }),
-        Err(_) => Ending::Fault(Refusal::NoMemory),
-    }
-}
-
-// The first file that failed, and why.
-fn first_failure(files: &mut FourFiles<FileDisk>) -> Option<(&'static str, io::Error)> {
-    if let Some(error) = files.image_a.take_failure() {
-        return Some((IMAGE_A, error));
-    }
-    if let Some(error) = files.image_b.take_failure() {
-        return Some((IMAGE_B, error));
-    }
-    if let Some(error) = files.log_a.take_failure() {
-        return Some((LOG_A, error));
-    }
-    let error = files.log_b.take_failure()?;
-    Some((LOG_B, error))
 }
 
 // The name of the first file that isn't closed, of four of which one isn't.

@@ -4,6 +4,7 @@ ghost use Rattle.std.specs.Process.{exit_status};
 use crate::fault::Fault;
 use crate::folder::Unreadable;
 use crate::system_error::refusal_of;
+use std::alloc::AllocError;
 use std::fmt::{self, Display};
 use std::io;
 use std::path::PathBuf;
@@ -27,6 +28,12 @@ pub enum Ending {
     NoWorld(Fault),
     /// A world can't be made over this file.
     Occupied(Occupied),
+    /// No client can come by this port.
+    NoPort(NoPort),
+    /// A server stopped, and its log is down.
+    LogDown,
+    /// A server stopped whose log isn't down, but its images are.
+    ImagesDown,
 }
 
 /// A file that isn't closed.
@@ -38,6 +45,19 @@ pub struct Occupied {
 impl fmt::Display for Occupied {
     fn fmt<W: fmt::Write>(&self, f: &mut fmt::Formatter<W>) -> fmt::Result {
         write!(f, "{}: {}", self.path.as_str(), Refusal::NotEmpty)
+    }
+}
+
+/// A port that can't be listened on, and why.
+#[derive(Debug, Drop)]
+pub struct NoPort {
+    pub port: u16,
+    pub error: io::Error,
+}
+
+impl fmt::Display for NoPort {
+    fn fmt<W: fmt::Write>(&self, f: &mut fmt::Formatter<W>) -> fmt::Result {
+        write!(f, "port {}: {}", self.port, self.error)
     }
 }
 
@@ -67,6 +87,18 @@ impl Ending {
     }
 }
 
+impl From<AllocError> for Ending {
+    ghost use Rattle.std.specs.Prelude.{◌≡◌};
+    ghost use Rattle.world_actions.specs.declared.refusal.Refusal.TheVariants.{NoMemory};
+    ghost use Rattle.worldd.specs.declared.ending.Ending.TheVariants.{Fault as Refused};
+
+    ghost from_gives = { λ _ ending. ending ≡ Refused NoMemory };
+
+    fn from(_: AllocError) -> Self {
+        Ending::Fault(Refusal::NoMemory)
+    }
+}
+
 /// What can't be printed is a fault of the device, or of memory.
 impl From<io::Error> for Ending {
     ghost use Rattle.worldd.specs.Ending.{IsFault};
@@ -83,6 +115,7 @@ impl Termination for Ending {
     ghost use Rattle.std.specs.Process.{exit_status};
     ghost use Rattle.worldd.specs.declared.folder.Unreadable.{Unreadable as File};
     ghost use Rattle.worldd.specs.declared.ending.Occupied.{Occupied as Open};
+    ghost use Rattle.worldd.specs.declared.ending.NoPort.{NoPort as Port};
 
     /// Tells a fault by its code and in words, and gives the exit status.
     fn report<R: Eprint>(self, rt: &R) -> ExitCode
@@ -91,7 +124,10 @@ impl Termination for Ending {
         ensures unreadable { (file : File) → self ≡ Ending.Unreadable file → exit_status result ≡ 1 }
         ensures no_world { (fault : Fault) → self ≡ Ending.NoWorld fault → exit_status result ≡ 1 }
         ensures occupied { (file : Open) → self ≡ Ending.Occupied file → exit_status result ≡ 1 }
+        ensures no_port { (port : Port) → self ≡ Ending.NoPort port → exit_status result ≡ 1 }
         ensures mistaken { self ≡ Ending.Mistaken → exit_status result ≡ 2 }
+        ensures images_down { self ≡ Ending.ImagesDown → exit_status result ≡ 11 }
+        ensures log_down { self ≡ Ending.LogDown → exit_status result ≡ 12 }
     {
         match self {
             Ending::Ran | Ending::Told => ExitCode::SUCCESS,
@@ -100,6 +136,9 @@ impl Termination for Ending {
             Ending::Unreadable(file) => report_fault(rt, refusal_of(&file.error), file),
             Ending::NoWorld(fault) => report_fault(rt, fault.refusal(), fault),
             Ending::Occupied(file) => report_fault(rt, Refusal::NotEmpty, file),
+            Ending::NoPort(port) => report_fault(rt, refusal_of(&port.error), port),
+            Ending::ImagesDown => ExitCode::from(11),
+            Ending::LogDown => ExitCode::from(12),
         }
     }
 }

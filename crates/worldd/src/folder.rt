@@ -1,11 +1,12 @@
 ghost use Rattle.std.specs.Prelude.{◌≡◌, Ok, IfOk, IfErr, IsErrAnd};
+ghost use Rattle.std.specs.Path.{path_buf_bytes, path_join};
 ghost use Rattle.worldd.specs.Fault.{AreRead};
 ghost use Rattle.worldd.specs.Ending.{IsFault, TellsOf, TellsOfFirst};
 
 use crate::ending::Ending;
 use crate::system_error::error_of;
 use disk_model::{FileDisk, FourFiles, read_all};
-use std::alloc::Global;
+use std::alloc::{AllocError, Global};
 use std::fs::{self, File, Files, OpenOptions, TryLockError};
 use std::path::{Path, PathBuf};
 use std::{fmt, io};
@@ -70,7 +71,14 @@ fn open_to_read<R: Files<File = File> + AllocGlobal>(
     FileDisk::open(file).map_err(error_of)
 }
 
-/// The four files of a folder, for who writes them: absent ones are made, and the folder is synced. Who
+// What is done about a file that isn't there.
+#[derive(Clone, Copy, PartialEq, Eq)]
+enum Absent {
+    Make,
+    Refuse,
+}
+
+/// The four files of a folder, for who makes a world in them: absent ones are made, and the folder is synced. Who
 /// writes a world holds a lock on its image.a as long as the file is open, so no two do.
 pub fn open_to_write<R: Files<File = File> + AllocGlobal>(
     rt: &R,
@@ -78,24 +86,54 @@ pub fn open_to_write<R: Files<File = File> + AllocGlobal>(
 ) -> Result<FourFiles<FileDisk>, Ending>
     ensures { IfErr result IsFault }
 {
-    let files = FourFiles {
+    let files = open_files(rt, folder, Absent::Make)?;
+    opened(rt.alloc(), folder, "", sync_folder(rt, folder))?;
+    Ok(files)
+}
+
+/// The four files of a folder, for who goes on with the world in them, under the same lock. None is made.
+pub fn open_existing<R: Files<File = File> + AllocGlobal>(
+    rt: &R,
+    folder: &str,
+) -> Result<FourFiles<FileDisk>, Ending>
+    ensures { IfErr result IsFault }
+{
+    open_files(rt, folder, Absent::Refuse)
+}
+
+fn open_files<R: Files<File = File> + AllocGlobal>(
+    rt: &R,
+    folder: &str,
+    absent: Absent,
+) -> Result<FourFiles<FileDisk>, Ending>
+    ensures { IfErr result IsFault }
+{
+    Ok(FourFiles {
         image_a: opened(
             rt.alloc(),
             folder,
             IMAGE_A,
-            open_locked(rt, folder, IMAGE_A),
+            open_locked(rt, folder, IMAGE_A, absent),
         )?,
         image_b: opened(
             rt.alloc(),
             folder,
             IMAGE_B,
-            open_or_make(rt, folder, IMAGE_B),
+            open_unlocked(rt, folder, IMAGE_B, absent),
         )?,
-        log_a: opened(rt.alloc(), folder, LOG_A, open_or_make(rt, folder, LOG_A))?,
-        log_b: opened(rt.alloc(), folder, LOG_B, open_or_make(rt, folder, LOG_B))?,
-    };
-    opened(rt.alloc(), folder, "", sync_folder(rt, folder))?;
-    Ok(files)
+        log_a: opened(
+            rt.alloc(),
+            folder,
+            LOG_A,
+            open_unlocked(rt, folder, LOG_A, absent),
+        )?,
+        log_b: opened(
+            rt.alloc(),
+            folder,
+            LOG_B,
+            open_unlocked(rt, folder, LOG_B, absent),
+        )?,
+    })
 }
 
 // What the system gave for a file, or how the program ends where it gave an error.
@@ -106,19 +144,56 @@ fn opened<T>(alloc: Global, folder: &str, name: &str, answer: io::Result<T>) -> 
 {
     match answer {
         Ok(value) => Ok(value),
-        Err(error) => match Path::new(folder).join(alloc, name) {
+        Err(error) => match path_of(alloc, folder, name) {
             Ok(path) => Err(Ending::Unreadable(Unreadable { path, error })),
             Err(_) => Err(Ending::Fault(Refusal::NoMemory)),
         },
     }
 }
 
+/// The path of the file of this name in a folder.
+pub fn path_of(alloc: Global, folder: &str, name: &str) -> Result<PathBuf, AllocError>
+    ensures { IfOk result (λ path. path_buf_bytes path ≡ path_join folder.now name.now) }
+{
+    Path::new(folder).join(alloc, name)
+}
+
+/// How the program ends where a call of one of the files failed: the first one is named.
+pub fn failure_of(alloc: Global, folder: &str, files: FourFiles<FileDisk>) -> Ending
+    ensures { IsFault result }
+{
+    let mut files = files;
+    let Some((name, error)) = first_failure(&mut files) else {
+        return Ending::Fault(Refusal::Device);
+    };
+    match path_of(alloc, folder, name) {
+        Ok(path) => Ending::Unreadable(Unreadable { path, error }),
+        Err(_) => Ending::Fault(Refusal::NoMemory),
+    }
+}
+
+// The first file that failed, and why.
+fn first_failure(files: &mut FourFiles<FileDisk>) -> Option<(&'static str, io::Error)> {
+    if let Some(error) = files.image_a.take_failure() {
+        return Some((IMAGE_A, error));
+    }
+    if let Some(error) = files.image_b.take_failure() {
+        return Some((IMAGE_B, error));
+    }
+    if let Some(error) = files.log_a.take_failure() {
+        return Some((LOG_A, error));
+    }
+    let error = files.log_b.take_failure()?;
+    Some((LOG_B, error))
+}
+
 fn open_locked<R: Files<File = File> + AllocGlobal>(
     rt: &R,
     folder: &str,
     name: &str,
+    absent: Absent,
 ) -> io::Result<FileDisk> {
-    let file = make_file(rt, folder, name)?;
+    let file = open_file(rt, folder, name, absent)?;
     match file.try_lock() {
         Ok(()) => FileDisk::open(file).map_err(error_of),
         Err(TryLockError::WouldBlock) => Err(io::Error::other("another program writes this world")),
@@ -126,19 +201,21 @@ fn open_locked<R: Files<File = File> + AllocGlobal>(
     }
 }
 
-fn open_or_make<R: Files<File = File> + AllocGlobal>(
+fn open_unlocked<R: Files<File = File> + AllocGlobal>(
     rt: &R,
     folder: &str,
     name: &str,
+    absent: Absent,
 ) -> io::Result<FileDisk> {
-    FileDisk::open(make_file(rt, folder, name)?).map_err(error_of)
+    FileDisk::open(open_file(rt, folder, name, absent)?).map_err(error_of)
 }
 
-// A file of the folder for reading and writing, made where it is absent.
-fn make_file<R: Files<File = File> + AllocGlobal>(
+// A file of the folder for reading and writing.
+fn open_file<R: Files<File = File> + AllocGlobal>(
     rt: &R,
     folder: &str,
     name: &str,
+    absent: Absent,
 ) -> io::Result<File> {
     let path = Path::new(folder).join(rt.alloc(), name)?;
     match fs::metadata(rt, path.as_path()) {
@@ -146,7 +223,7 @@ fn make_file<R: Files<File = File> + AllocGlobal>(
         _ => OpenOptions::new()
             .read(true)
             .write(true)
-            .create(true)
+            .create(absent == Absent::Make)
             .open(rt, path.as_path()),
     }
 }

@@ -59,3 +59,27 @@ a line for each, in this order:
   NAME: unreadable: REASON
 Then it prints `recovered N from T in NAME`: the world after tick N stands in them, built
 from the image of tick T. Where none stands it ends as `recover` does.";
+
+/// What `worldd serve --help` says of its lines.
+pub const SERVE_HELP: &str = "\
+It recovers the world in the folder, and listens on 127.0.0.1 until K connections have
+come and gone, each in a thread of its own. It makes no file. METHOD is zigzag or
+pingpong, E from 1 to 65536, P from 0 to 65535, K from 1 to 100000.
+A client writes lines, and `end` closes a batch, which is answered once it is durable:
+  set, add, move, get   as in `steps`; a client's batch has 1024 lines at most
+  end                   `tick NUMBER: + =5 -3`, a word for each line, or `fault CODE`
+It prints, each line at once:
+  recovered N from T        the world after tick N stood there, built from the image of T
+  listening PORT            clients may come
+  stopped tick N acked A    all are gone: N ticks ended, and those up to A are durable
+On standard error it tells people:
+  worldd: image of tick T opened
+  worldd: images down: FILE: REASON            play goes on without images
+  worldd: log down after tick T: FILE: REASON  batches are answered `fault 12`
+  worldd: session refused: REASON              a client was closed unanswered
+  worldd: listener failed: REASON              no more clients can come
+Its status is 0; 12 where the log is down at the end, else 11 where images are; 2 for a
+wrong command line; else 1, and standard error has `fault CODE`:
+  13 no image is open, 14 an image is damaged, 15 the log is damaged,
+  17 there is no memory or no thread for the workers, 18 a file is missing or fails,
+  another program writes this world, or the port can't be listened on";

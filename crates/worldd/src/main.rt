@@ -1,10 +1,11 @@
 //! The program `worldd`: its command line, its exit statuses, and what it says of a fault.
 //!
 //! `steps` runs a script over a world in memory. `create` makes the files of a new world in a folder. `recover` and `inspect` tell what the files of a folder
-//! hold, and write nothing into it.
+//! hold, and write nothing into it. `serve` serves the world of a folder to clients of a port.
 //!
 //! Status 0 is a run that ended well, 1 one that a fault ended, told as `fault CODE` on the standard
-//! error and then in words, and 2 a wrong command line.
+//! error and then in words, and 2 a wrong command line. A server whose images are down when it stops ends with 11, and
+//! with 12 where its log is.
 #![tactic(auto)]
 
 ghost use Rattle.std.specs.Prelude.{◌≡◌, ◌≢◌, ◌⊎◌, ◌≤◌, IfSome};
@@ -19,8 +20,11 @@ mod folder;
 mod help;
 mod inspect;
 mod recover;
+mod serve;
+mod service;
 mod system_error;
 mod told;
+mod watch;
 mod words;
 
 use clap::error::{Error, ErrorKind};
@@ -30,6 +34,8 @@ use ending::Ending;
 use help::{CREATE_HELP, INSPECT_HELP, RECOVER_HELP, STEPS_HELP};
 use inspect::inspect;
 use recover::recover;
+use serve::serve;
+use service::{serve_command, service_of};
 use std::alloc::Global;
 use std::fs::{File, Files};
 use std::io;
@@ -47,13 +53,20 @@ const CELLS: &str = "cells";
 const WORDS: &str = "words";
 
 fn main(rt: HostRuntime) -> Ending {
-    match command_words(&rt) {
-        Ok(words) => answer(&rt, &words),
-        Err(error) => unreadable(&rt, &error),
+    let words = match command_words(&rt) {
+        Ok(words) => words,
+        Err(error) => return unreadable(&rt, &error),
+    };
+    match matches_of(rt.alloc(), &words) {
+        Ok(matches) => match service_of(&matches) {
+            Some(service) => serve(&rt, &service),
+            None => run(&rt, &matches),
+        },
+        Err(error) => refused(&rt, &error),
     }
 }
 
-// Does what the words ask for.
+// Does what the words ask for, but for a server, which needs more of the system.
 fn answer<R: Input + Print + Eprint + Files<File = File> + AllocGlobal>(
     rt: &R,
     words: &[String],
@@ -101,6 +114,7 @@ fn matches_of<'a>(alloc: Global, words: &'a [String]) -> Result<ArgMatches<'a>, 
         .subcommand(create)?
         .subcommand(recover)?
         .subcommand(inspect)?
+        .subcommand(serve_command(alloc)?)?
         .try_get_matches_from(words)
 }
 

@@ -13,6 +13,7 @@ use world_actions::Refusal;
 
 mod creating;
 mod folders;
+mod serving;
 
 // A runtime with the files of another one and this input, whose outputs are kept. Its standard output
 // may be closed.
@@ -223,10 +224,10 @@ fn faults_are_told_by_code_and_in_words(rt: HostRuntime) {
 
 #[test]
 fn wrong_command_lines_end_with_two(rt: HostRuntime) -> Result<(), Fail> {
-    let cases: [(&[&str], &str); 10] = [
+    let cases: [(&[&str], &str); 16] = [
         (
             &["worldd"],
-            "error: 'worldd' requires a subcommand but one was not provided\n  [subcommands: steps, create, recover, inspect, help]\n\nUsage: worldd <COMMAND>\n\nFor more information, try '--help'.\n",
+            "error: 'worldd' requires a subcommand but one was not provided\n  [subcommands: steps, create, recover, inspect, serve, help]\n\nUsage: worldd <COMMAND>\n\nFor more information, try '--help'.\n",
         ),
         (
             &["worldd", "stepz"],
@@ -263,6 +264,30 @@ fn wrong_command_lines_end_with_two(rt: HostRuntime) -> Result<(), Fail> {
         (
             &["worldd", "inspect", "--words"],
             "error: the following required arguments were not provided:\n  --dir <FOLDER>\n\nUsage: worldd inspect --dir <FOLDER> --words\n\nFor more information, try '--help'.\n",
+        ),
+        (
+            &["worldd", "serve", "--dir", "world"],
+            "error: the following required arguments were not provided:\n  --method <METHOD>\n  --port <P>\n  --clients <K>\n\nUsage: worldd serve --dir <FOLDER> --method <METHOD> --port <P> --clients <K>\n\nFor more information, try '--help'.\n",
+        ),
+        (
+            &["worldd", "serve", "--method", "plain"],
+            "error: invalid value 'plain' for '--method <METHOD>'\n  [possible values: zigzag, pingpong]\n\nFor more information, try '--help'.\n",
+        ),
+        (
+            &["worldd", "serve", "--every", "0"],
+            "error: invalid value '0' for '--every <E>': 0 is not in 1..=65536\n\nFor more information, try '--help'.\n",
+        ),
+        (
+            &["worldd", "serve", "--every", "65537"],
+            "error: invalid value '65537' for '--every <E>': 65537 is not in 1..=65536\n\nFor more information, try '--help'.\n",
+        ),
+        (
+            &["worldd", "serve", "--port", "65536"],
+            "error: invalid value '65536' for '--port <P>': 65536 is not in 0..=65535\n\nFor more information, try '--help'.\n",
+        ),
+        (
+            &["worldd", "serve", "--clients", "100001"],
+            "error: invalid value '100001' for '--clients <K>': 100001 is not in 1..=100000\n\nFor more information, try '--help'.\n",
         ),
     ];
     for (line, text) in cases {
@@ -304,7 +329,7 @@ fn the_version_is_told(rt: HostRuntime) -> Result<(), Fail> {
 
 #[test]
 fn help_ends_well(rt: HostRuntime) -> Result<(), Fail> {
-    let cases: [(&[&str], &str, &str); 5] = [
+    let cases: [(&[&str], &str, &str); 6] = [
         (
             &["worldd", "--help"],
             "A main-memory world server with asynchronous checkpoints\n\nUsage: worldd <COMMAND>\n",
@@ -329,6 +354,11 @@ fn help_ends_well(rt: HostRuntime) -> Result<(), Fail> {
             &["worldd", "inspect", "--help"],
             "Tells what each file of a folder holds, and which world stands in them\n\nUsage: worldd inspect [OPTIONS] --dir <FOLDER>\n",
             "\nfrom the image of tick T. Where none stands it ends as `recover` does.\n",
+        ),
+        (
+            &["worldd", "serve", "--help"],
+            "Serves the world in the files of a folder to clients of a port\n\nUsage: worldd serve [OPTIONS] --dir <FOLDER> --method <METHOD> --port <P> --clients <K>\n",
+            "\n  another program writes this world, or the port can't be listened on\n",
         ),
     ];
     for (line, start, end) in cases {

@@ -1,7 +1,9 @@
 use super::FileDisk;
 use crate::{Disk, read_all};
 use std::fs::OpenOptions;
+use std::io::{self, ErrorKind};
 use std::path::PathBuf;
+use std::process::Abort;
 use std::test::Fail;
 use std::{env, fs, process};
 use world_actions::Refusal;
@@ -46,6 +48,14 @@ fn what_was_written_is_read(rt: HostRuntime) -> Result<(), Fail> {
     Ok(())
 }
 
+// Whether this is the reason of a failure of this kind.
+fn check_failure(rt: &impl Abort, failure: Option<&io::Error>, kind: ErrorKind) {
+    let Some(error) = failure else {
+        panic!(rt; "no failure is kept");
+    };
+    assert_eq!(rt; error.kind(), kind);
+}
+
 #[test]
 fn what_is_not_whole_is_a_fault(rt: HostRuntime) -> Result<(), Fail> {
     let folder = new_folder(&rt, "faults")?;
@@ -70,6 +80,9 @@ fn what_is_not_whole_is_a_fault(rt: HostRuntime) -> Result<(), Fail> {
     );
     assert_eq!(rt; disk.write_at(u64::MAX, &[9]), Err(Refusal::Device));
     assert_eq!(rt; disk.faults, 5);
+    check_failure(&rt, disk.failure(), ErrorKind::InvalidInput);
+    check_failure(&rt, disk.take_failure().as_ref(), ErrorKind::InvalidInput);
+    assert!(rt; disk.failure().is_none());
     let read = read_all(rt.alloc(), &mut disk)?;
     assert_eq!(rt; read.as_slice(), [1, 2, 3].as_slice());
     fs::remove_dir_all(&rt, folder.as_path())?;

@@ -1,0 +1,106 @@
+ghost use Rattle.std.specs.Prelude.{◌≡◌, [], false, All, IsTrue, IfOk, IfErr};
+ghost use Rattle.world_actions.specs.World.{IsWord};
+ghost use Rattle.image_files.specs.declared.phase.Phase.TheVariants.{Idle};
+ghost use Rattle.served.specs.Parts.{AreAtRest};
+ghost use Rattle.served.specs.Opening.{IsRefused};
+ghost use Rattle.shared_capture.specs.States.{IsStart};
+ghost use Rattle.worker_threads.specs.Begun.{IsWhole};
+ghost use Rattle.tcp_service.specs.Opening.{IsRecovered};
+
+use capture_core::PlainCopy;
+use disk_model::{Disk, FourFiles};
+use served::{Parts, Served};
+use shared_capture::{Back, Front, Method, Pong, Zig, ping_pong_pair, zigzag_pair};
+use std::alloc::Global;
+use worker_threads::Opened;
+use workers::{ImageWriter, Log};
+use world_actions::Refusal;
+
+/// A method whose two seats can be made.
+pub trait Seats: Method {
+    /// Two seats at a new table, which has these words.
+    fn seats(alloc: Global, words: &[u64]) -> Result<(Front<Self>, Back<Self>), Refusal>
+        requires { All IsWord words.now }
+        ensures ok { IfOk result (λ pair. IsStart words.now pair.0 pair.1) }
+        ensures err { IfErr result (λ refusal. refusal ≡ Refusal.NoMemory) };
+}
+
+impl Seats for Zig {
+    fn seats(alloc: Global, words: &[u64]) -> Result<(Front<Zig>, Back<Zig>), Refusal> {
+        zigzag_pair(alloc, words)
+    }
+}
+
+impl Seats for Pong {
+    fn seats(alloc: Global, words: &[u64]) -> Result<(Front<Pong>, Back<Pong>), Refusal> {
+        ping_pong_pair(alloc, words)
+    }
+}
+
+/// Opens the world that stands in the files for its workers: recovers it, and runs the start to its end. It
+/// tells the tick of the image that the world was built from, too. Refused, it gives the files back.
+pub fn open_world<M: Seats, D: Disk + Drop>(
+    alloc: Global,
+    files: FourFiles<D>,
+) -> Result<(Opened<M, D>, u64), (FourFiles<D>, Refusal)>
+    ensures whole { IfOk result (λ made.
+        IsWhole D.honest D.content made.0.front made.0.back made.0.images made.0.log made.0.ended) }
+    ensures recovered { IsTrue D.honest → IfOk result (λ made.
+        IsRecovered D.content files made.0.front.live made.0.ended made.1) }
+    ensures refused { IfErr result (λ refused. IsRefused D.content D.honest files refused.1) }
+{
+    let served = Served::<PlainCopy, D>::open(alloc, files, 1)?;
+    let (_, from) = served.recovered();
+    let opened = seated(alloc, served.into_parts()?)?;
+    Ok((opened, from))
+}
+
+// The parts of a world whose start has just ended, with two seats over its words.
+fn seated<M: Seats, D: Disk + Drop>(
+    alloc: Global,
+    parts: Parts<D>,
+) -> Result<Opened<M, D>, (FourFiles<D>, Refusal)>
+    requires rest { AreAtRest D.content D.honest parts }
+    requires images { parts.images.phase ≡ Idle }
+    requires log { parts.log.down ≡ false }
+    requires none { parts.since ≡ 0 }
+    ensures whole { IfOk result (λ opened.
+        IsWhole D.honest D.content opened.front opened.back opened.images opened.log opened.ended) }
+    ensures words { IfOk result (λ opened. opened.front.live ≡ parts.words.items) }
+    ensures ended { IfOk result (λ opened. opened.ended ≡ parts.ended) }
+    ensures refused { IfErr result (λ refused. (refused.0 ≡ parts.files) × (refused.1 ≡ Refusal.NoMemory)) }
+{
+    let Parts {
+        words,
+        images,
+        log,
+        files,
+        ended,
+        since: _,
+    } = parts;
+    let (front, back) = match M::seats(alloc, &words) {
+        Ok(seats) => seats,
+        Err(refusal) => return Err((files, refusal)),
+    };
+    let FourFiles {
+        image_a,
+        image_b,
+        log_a,
+        log_b,
+    } = files;
+    Ok(Opened {
+        front,
+        back,
+        images: ImageWriter {
+            keeper: images,
+            image_a,
+            image_b,
+        },
+        log: Log {
+            keeper: log,
+            a: log_a,
+            b: log_b,
+        },
+        ended,
+    })
+}

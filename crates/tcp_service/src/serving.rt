@@ -1,0 +1,55 @@
+ghost use Rattle.std.specs.Prelude.{◌≡◌, ◌⊎◌, None, IfOk, IfErr, IfSome};
+ghost use Rattle.worker_threads.specs.Begun.{IsWhole};
+
+use crate::accept::{Accepted, accept_sessions};
+use crate::door::Door;
+use disk_model::Disk;
+use shared_capture::Method;
+use std::alloc::Global;
+use std::net::TcpListener;
+use std::sync::Wait;
+use std::thread::Threads;
+use worker_threads::{Ends, Gates, Opened, Watch, start, stop};
+use workers::Gate;
+use world_actions::Refusal;
+
+/// What a server leaves once it has stopped.
+#[derive(Drop)]
+pub struct Stopped<M: Method, D: Disk + Drop, G: Gate + Drop> {
+    pub ends: Ends<M, D, G>,
+    pub accepted: Accepted,
+}
+
+/// Serves so many connections of a listener by the workers of a world, and stops the workers after the last one,
+/// also where the listener fails. A round is due after every `every` ticks. Where the workers can't be started
+/// no thread is left running, and no connection is accepted.
+pub fn serve_tcp<
+    R: Threads + Wait + Copy + Send + 'static,
+    M: Method + Send + 'static,
+    D: Disk + Drop + Send + 'static,
+    G: Gate + Drop + Send + 'static,
+    W: Watch<D> + Door + Clone + Send + 'static,
+>(
+    rt: &R,
+    alloc: Global,
+    gates: Gates<G>,
+    watch: W,
+    opened: Opened<M, D>,
+    every: u32,
+    listener: &TcpListener,
+    clients: u32,
+) -> Result<Stopped<M, D, G>, Refusal>
+    requires { IsWhole D.honest D.content opened.front opened.back opened.images opened.log opened.ended }
+    ensures all { IfOk result (λ stopped. stopped.accepted.fault ≡ None → stopped.accepted.connections ≡ clients) }
+    ensures fault { IfOk result (λ stopped. IfSome stopped.accepted.fault (λ refusal.
+        (refusal ≡ Refusal.NoMemory) ⊎ (refusal ≡ Refusal.Device))) }
+    ensures began { IfOk result (λ stopped. (stopped.ends.mutator.opening ≡ opened.front.live)
+        × (stopped.ends.checkpointer.opening ≡ opened.images) × (stopped.ends.log_writer.opening ≡ opened.log)) }
+    ensures memory { IfErr result (λ refusal. refusal ≡ Refusal.NoMemory) }
+{
+    let door = watch.clone()?;
+    let (workers, requests) = start(rt, alloc, gates, watch, opened, every)?;
+    let accepted = accept_sessions(rt, alloc, listener, clients, requests, door);
+    let ends = stop(rt, workers);
+    Ok(Stopped { ends, accepted })
+}

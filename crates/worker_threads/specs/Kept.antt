@@ -1,0 +1,22 @@
+-- What a worker keeps while its thread runs.
+use Rattle.std.specs.Prelude.{◌≡◌}
+use Rattle.workers.specs.Mutating.{Playing}
+use Rattle.workers.specs.Imaging.{Imaging}
+use Rattle.workers.specs.Logging.{Logging}
+
+-- the mutator stays at its front and its end of the channel, and knows the words that it began with
+pub record KeepsFront (old new : Playing) : Type 0 where
+  pub pair : new.front.pair ≡ old.front.pair
+  pub end : new.to.end ≡ old.to.end
+  pub opening : new.opening ≡ old.opening
+
+-- the checkpointer stays at its back, and knows the keeper and the files that it began with
+pub record KeepsBack {D : Type 0} (old new : Imaging D) : Type 0 where
+  pub pair : new.back.pair ≡ old.back.pair
+  pub cells : new.back.cells ≡ old.back.cells
+  pub opening : new.opening ≡ old.opening
+
+-- the log writer stays at its end of the channel, and knows the keeper and the files that it began with
+pub record KeepsLog {D : Type 0} (old new : Logging D) : Type 0 where
+  pub end : new.from.end ≡ old.from.end
+  pub opening : new.opening ≡ old.opening

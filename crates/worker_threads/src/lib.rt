@@ -1,0 +1,14 @@
+//! The workers of a world, each in a thread of its own: how they start, what each does until it ends, and what
+//! they leave.
+#![tactic(auto)]
+
+mod opened;
+mod promises;
+mod running;
+mod threads;
+mod watch;
+mod work;
+
+pub use opened::{Gates, Opened};
+pub use threads::{Ends, Workers, start, stop};
+pub use watch::Watch;

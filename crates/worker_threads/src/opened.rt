@@ -1,0 +1,22 @@
+use disk_model::Disk;
+use shared_capture::{Back, Front, Method};
+use workers::{Gate, ImageWriter, Log};
+
+/// A world whose start has ended: its two seats, and the keepers with their files.
+#[derive(Drop)]
+pub struct Opened<M: Method, D: Disk + Drop> {
+    pub front: Front<M>,
+    pub back: Back<M>,
+    pub images: ImageWriter<D>,
+    pub log: Log<D>,
+    /// How many ticks have ended.
+    pub ended: u64,
+}
+
+/// What may hold each worker.
+#[derive(Drop)]
+pub struct Gates<G: Gate + Drop> {
+    pub mutator: G,
+    pub checkpointer: G,
+    pub log_writer: G,
+}

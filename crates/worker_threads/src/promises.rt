@@ -1,0 +1,41 @@
+//! What the join of each thread tells of the worker that it brings back.
+use disk_model::Disk;
+use shared_capture::Method;
+use std::snapshot::Snapshot;
+use std::thread::Promise;
+use workers::{Checkpointer, Gate, LogWriter, Mutator};
+
+/// The mutator that ends is the one that began.
+#[derive(Drop)]
+pub(crate) struct SameMutator<M: Method, G: Gate + Drop>(pub(crate) Snapshot<Mutator<M, G>>);
+
+impl<M: Method, G: Gate + Drop> Promise<Mutator<M, G>> for SameMutator<M, G> {
+    ghost use Rattle.worker_threads.specs.Kept.{KeepsFront};
+
+    ghost kept_by = { λ p m. KeepsFront p.0.value m };
+}
+
+/// The checkpointer that ends is the one that began.
+#[derive(Drop)]
+pub(crate) struct SameCheckpointer<M: Method, D: Disk + Drop, G: Gate + Drop>(
+    pub(crate) Snapshot<Checkpointer<M, D, G>>,
+);
+
+impl<M: Method, D: Disk + Drop, G: Gate + Drop> Promise<Checkpointer<M, D, G>>
+    for SameCheckpointer<M, D, G> {
+    ghost use Rattle.worker_threads.specs.Kept.{KeepsBack};
+
+    ghost kept_by = { λ p c. KeepsBack p.0.value c };
+}
+
+/// The log writer that ends is the one that began.
+#[derive(Drop)]
+pub(crate) struct SameLogWriter<D: Disk + Drop, G: Gate + Drop>(
+    pub(crate) Snapshot<LogWriter<D, G>>,
+);
+
+impl<D: Disk + Drop, G: Gate + Drop> Promise<LogWriter<D, G>> for SameLogWriter<D, G> {
+    ghost use Rattle.worker_threads.specs.Kept.{KeepsLog};
+
+    ghost kept_by = { λ p w. KeepsLog p.0.value w };
+}

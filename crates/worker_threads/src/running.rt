@@ -1,0 +1,112 @@
+//! What each worker does in its thread until it ends.
+ghost use Rattle.std.specs.Prelude.{◌≡◌, false};
+ghost use Rattle.workers.specs.Logging.{IsAtRest};
+ghost use Rattle.worker_threads.specs.Kept.{KeepsFront, KeepsBack, KeepsLog};
+
+use crate::watch::Watch;
+use crate::work::Work;
+use crossbeam_channel::Receiver;
+use disk_model::Disk;
+use shared_capture::Method;
+use std::sync::Wait;
+use workers::{Ask, Checkpointer, Gate, LogWriter, Mutator};
+
+#[tactic(auto, using(crate::proofs::Keeping::turn_keeps, crate::proofs::Keeping::end_keeps, crate::proofs::Keeping::then))]
+// Runs the batches of the sessions until the last one is gone, and tells the others that no more comes.
+fn play_batches<R: Wait, M: Method, G: Gate + Drop>(
+    rt: &R,
+    asks: Receiver<Ask>,
+    mut mutator: Mutator<M, G>,
+) -> Mutator<M, G>
+    ensures { KeepsFront mutator result }
+{
+    for ask in asks.iter(rt) {
+        let _ = mutator.turn(rt, ask);
+    }
+    mutator.end(rt);
+    mutator
+}
+
+// Writes the images of the rounds until no more is opened.
+fn write_images<R: Wait, M: Method, D: Disk + Drop, G: Gate + Drop, W: Watch<D>>(
+    rt: &R,
+    watch: &mut W,
+    mut checkpointer: Checkpointer<M, D, G>,
+) -> Checkpointer<M, D, G>
+    ensures { KeepsBack checkpointer result }
+{
+    for _ in rt.forever() {
+        if checkpointer.is_over() {
+            break;
+        }
+        if let Some(tick) = checkpointer.turn(rt) {
+            watch.image_opened(tick);
+        }
+    }
+    if checkpointer.is_down() {
+        watch.images_down(checkpointer.images());
+    }
+    checkpointer
+}
+
+// Writes the log until no more is pushed.
+fn write_log<R: Wait, D: Disk + Drop, G: Gate + Drop, W: Watch<D>>(
+    rt: &R,
+    watch: &mut W,
+    mut log_writer: LogWriter<D, G>,
+) -> LogWriter<D, G>
+    requires { IsAtRest log_writer }
+    ensures { KeepsLog log_writer result }
+{
+    for _ in rt.forever() {
+        if log_writer.is_over() {
+            break;
+        }
+        let was_down = log_writer.is_down();
+        log_writer.turn(rt);
+        if log_writer.is_down() && !was_down {
+            watch.log_down(log_writer.acked(), log_writer.log());
+        }
+    }
+    log_writer
+}
+
+impl<M: Method, G: Gate + Drop> Work<Receiver<Ask>> for Mutator<M, G> {
+    ghost use Rattle.std.specs.Prelude.{⊤};
+    ghost use Rattle.worker_threads.specs.Kept.{KeepsFront};
+
+    ghost ready = { λ mutator. ⊤ };
+
+    ghost ended = { KeepsFront };
+
+    fn work<R: Wait>(self, rt: &R, asks: Receiver<Ask>) -> Self {
+        play_batches(rt, asks, self)
+    }
+}
+
+impl<M: Method, D: Disk + Drop, G: Gate + Drop, W: Watch<D> + Drop> Work<W>
+    for Checkpointer<M, D, G> {
+    ghost use Rattle.std.specs.Prelude.{⊤};
+    ghost use Rattle.worker_threads.specs.Kept.{KeepsBack};
+
+    ghost ready = { λ checkpointer. ⊤ };
+
+    ghost ended = { KeepsBack };
+
+    fn work<R: Wait>(self, rt: &R, mut watch: W) -> Self {
+        write_images(rt, &mut watch, self)
+    }
+}
+
+impl<D: Disk + Drop, G: Gate + Drop, W: Watch<D> + Drop> Work<W> for LogWriter<D, G> {
+    ghost use Rattle.workers.specs.Logging.{IsAtRest};
+    ghost use Rattle.worker_threads.specs.Kept.{KeepsLog};
+
+    ghost ready = { IsAtRest };
+
+    ghost ended = { KeepsLog };
+
+    fn work<R: Wait>(self, rt: &R, mut watch: W) -> Self {
+        write_log(rt, &mut watch, self)
+    }
+}

@@ -1,0 +1,222 @@
+//! The workers of a world started and stopped, and what they leave.
+ghost use Rattle.std.specs.Prelude.{◌≡◌, IfOk};
+ghost use Rattle.std.specs.Thread.{IsSend};
+ghost use Rattle.workers.specs.Logging.{IsAtRest};
+ghost use Rattle.workers.specs.Channel.{AreOneChannel};
+ghost use Rattle.worker_threads.specs.Begun.{IsWhole, IsBegun};
+ghost use Rattle.worker_threads.specs.Kept.{KeepsFront, KeepsBack, KeepsLog};
+
+use crate::opened::{Gates, Opened};
+use crate::promises::{SameCheckpointer, SameLogWriter, SameMutator};
+use crate::watch::Watch;
+use crate::work::spawn;
+use action_log::Record;
+use circular_buffer::HeapCircularBuffer;
+use crossbeam_channel::{Receiver, Sender, bounded};
+use disk_model::Disk;
+use shared_capture::{Back, Front, Method};
+use std::alloc::{AllocError, Global};
+use std::marker::Model;
+use std::snapshot::Snapshot;
+use std::sync::atomic::AtomicBool;
+use std::sync::{Arc, Wait};
+use std::thread::{PromisedHandle, Threads};
+use workers::{
+    Ask, Checkpointer, Gate, ItemReceiver, ItemSender, LogWriter, Mutator, Waiting, open,
+};
+
+/// How many batches may wait for the mutator. A session has one at a time, and waits where there is no room.
+pub const ASKS: usize = 64;
+
+/// The workers of a world, each in its thread. Contracts see them as they began.
+pub struct Workers<M: Method, D: Disk + Drop, G: Gate + Drop> {
+    mutator: PromisedHandle<Mutator<M, G>, SameMutator<M, G>>,
+    checkpointer: PromisedHandle<Checkpointer<M, D, G>, SameCheckpointer<M, D, G>>,
+    log_writer: PromisedHandle<LogWriter<D, G>, SameLogWriter<D, G>>,
+}
+
+impl<M: Method, D: Disk + Drop, G: Gate + Drop> Model for Workers<M, D, G> {
+    ghost use Rattle.worker_threads.specs.Begun.{Started, AreTogether};
+
+    ghost Value = { Started D };
+
+    ghost view = { λ w. record { mutator = w.mutator.promise.0.value; checkpointer = w.checkpointer.promise.0.value; log_writer = w.log_writer.promise.0.value } };
+
+    ghost invariant = { λ w. AreTogether (record { mutator = w.mutator.promise.0.value; checkpointer = w.checkpointer.promise.0.value; log_writer = w.log_writer.promise.0.value }) };
+}
+
+/// What the workers of a world leave.
+#[derive(Drop)]
+pub struct Ends<M: Method, D: Disk + Drop, G: Gate + Drop> {
+    pub mutator: Mutator<M, G>,
+    pub checkpointer: Checkpointer<M, D, G>,
+    pub log_writer: LogWriter<D, G>,
+    ghost pair: { mutator.front.pair ≡ checkpointer.back.pair },
+    ghost channel: { AreOneChannel log_writer.from.end mutator.to.end },
+}
+
+/// Starts the workers of a world, where a round is due after every `every` ticks. What is sent on the channel
+/// that is given back is run as batches. Refused, no thread is left running.
+pub fn start<
+    R: Threads + Wait + Copy + Send + 'static,
+    M: Method + Send + 'static,
+    D: Disk + Drop + Send + 'static,
+    G: Gate + Drop + Send + 'static,
+    W: Watch<D> + Clone + Send + 'static,
+>(
+    rt: &R,
+    alloc: Global,
+    gates: Gates<G>,
+    watch: W,
+    opened: Opened<M, D>,
+    every: u32,
+) -> Result<(Workers<M, D, G>, Sender<Ask>), AllocError>
+    requires { IsWhole D.honest D.content opened.front opened.back opened.images opened.log opened.ended }
+    ensures { IfOk result (λ made. IsBegun opened.front opened.back opened.images opened.log opened.ended every made.0) }
+{
+    let Opened {
+        front,
+        back,
+        images,
+        log,
+        ended,
+    } = opened;
+    let (asks, asked) = bounded(alloc, ASKS)?;
+    let (bell, rung) = bounded(alloc, 1)?;
+    let (to, from) = open(rt, alloc, ended)?;
+    let is_down = Arc::new(alloc, AtomicBool::new(false))?;
+    let told_down = is_down.clone()?;
+    let Gates {
+        mutator,
+        checkpointer,
+        log_writer,
+    } = gates;
+    let log_writer = LogWriter::new(alloc, log_writer, from, log, is_down, ended)?;
+    let checkpointer = Checkpointer::new(checkpointer, back, images, rung);
+    let mutator = Mutator::new(mutator, alloc, front, to, ended, every, bell, told_down);
+    let workers = start_threads(rt, watch, asked, mutator, checkpointer, log_writer)?;
+    Ok((workers, asks))
+}
+
+// Starts the threads. Where one can't be made the others end, since the channels between them close.
+fn start_threads<
+    R: Threads + Wait + Copy + Send + 'static,
+    M: Method + Send + 'static,
+    D: Disk + Drop + Send + 'static,
+    G: Gate + Drop + Send + 'static,
+    W: Watch<D> + Clone + Send + 'static,
+>(
+    rt: &R,
+    watch: W,
+    asked: Receiver<Ask>,
+    mutator: Mutator<M, G>,
+    checkpointer: Checkpointer<M, D, G>,
+    log_writer: LogWriter<D, G>,
+) -> Result<Workers<M, D, G>, AllocError>
+    requires pair { mutator.front.pair ≡ checkpointer.back.pair }
+    requires channel { AreOneChannel log_writer.from.end mutator.to.end }
+    requires rest { IsAtRest log_writer }
+    ensures { IfOk result (λ workers. workers ≡ record { mutator = mutator; checkpointer = checkpointer; log_writer = log_writer }) }
+{
+    let watch_too = watch.clone()?;
+    let log_writer = start_log_writer(rt, watch_too, log_writer)?;
+    let Ok(checkpointer) = start_checkpointer(rt, watch, checkpointer) else {
+        drop(mutator);
+        log_writer.join(rt);
+        return Err(AllocError);
+    };
+    let Ok(mutator) = start_mutator(rt, asked, mutator) else {
+        checkpointer.join(rt);
+        log_writer.join(rt);
+        return Err(AllocError);
+    };
+    Ok(Workers {
+        mutator,
+        checkpointer,
+        log_writer,
+    })
+}
+
+// What crosses threads may cross them.
+fn crosses<T: Send>()
+    ensures { IsSend T.row }
+{}
+
+fn start_mutator<
+    R: Threads + Wait + Copy + Send + 'static,
+    M: Method + Send + 'static,
+    G: Gate + Drop + Send + 'static,
+>(
+    rt: &R,
+    asked: Receiver<Ask>,
+    mutator: Mutator<M, G>,
+) -> Result<PromisedHandle<Mutator<M, G>, SameMutator<M, G>>, AllocError>
+    ensures { IfOk result (λ handle. handle.promise.0.value ≡ mutator) }
+{
+    crosses::<Front<M>>();
+    crosses::<ItemSender>();
+    let same = SameMutator(Snapshot::of(&mutator));
+    spawn(rt, same, asked, mutator)
+}
+
+fn start_checkpointer<
+    R: Threads + Wait + Copy + Send + 'static,
+    M: Method + Send + 'static,
+    D: Disk + Drop + Send + 'static,
+    G: Gate + Drop + Send + 'static,
+    W: Watch<D> + Clone + Send + 'static,
+>(
+    rt: &R,
+    watch: W,
+    checkpointer: Checkpointer<M, D, G>,
+) -> Result<PromisedHandle<Checkpointer<M, D, G>, SameCheckpointer<M, D, G>>, AllocError>
+    ensures { IfOk result (λ handle. handle.promise.0.value ≡ checkpointer) }
+{
+    crosses::<Back<M>>();
+    let same = SameCheckpointer(Snapshot::of(&checkpointer));
+    spawn(rt, same, watch, checkpointer)
+}
+
+fn start_log_writer<
+    R: Threads + Wait + Copy + Send + 'static,
+    D: Disk + Drop + Send + 'static,
+    G: Gate + Drop + Send + 'static,
+    W: Watch<D> + Clone + Send + 'static,
+>(
+    rt: &R,
+    watch: W,
+    log_writer: LogWriter<D, G>,
+) -> Result<PromisedHandle<LogWriter<D, G>, SameLogWriter<D, G>>, AllocError>
+    requires { IsAtRest log_writer }
+    ensures { IfOk result (λ handle. handle.promise.0.value ≡ log_writer) }
+{
+    crosses::<ItemReceiver>();
+    crosses::<HeapCircularBuffer<Record>>();
+    crosses::<HeapCircularBuffer<Waiting>>();
+    let same = SameLogWriter(Snapshot::of(&log_writer));
+    spawn(rt, same, watch, log_writer)
+}
+
+/// Waits until the workers have ended, which they do once no session can send a batch any more.
+pub fn stop<R: Threads, M: Method, D: Disk + Drop, G: Gate + Drop>(
+    rt: &R,
+    workers: Workers<M, D, G>,
+) -> Ends<M, D, G>
+    ensures mutator { KeepsFront workers.mutator result.mutator }
+    ensures checkpointer { KeepsBack workers.checkpointer result.checkpointer }
+    ensures log_writer { KeepsLog workers.log_writer result.log_writer }
+{
+    let Workers {
+        mutator,
+        checkpointer,
+        log_writer,
+    } = workers;
+    let mutator = mutator.join(rt);
+    let checkpointer = checkpointer.join(rt);
+    let log_writer = log_writer.join(rt);
+    Ends {
+        mutator,
+        checkpointer,
+        log_writer,
+    }
+}

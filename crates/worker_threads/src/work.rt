@@ -1,0 +1,41 @@
+//! A worker in a thread of its own.
+ghost use Rattle.std.specs.Prelude.{◌≡◌, IfOk};
+
+use std::alloc::AllocError;
+use std::sync::Wait;
+use std::thread::{self, Promise, PromisedHandle, Threads};
+
+/// What a worker does in its thread, from its start to its end, with what it is given there.
+pub(crate) trait Work<X> {
+    /// When it may start.
+    ghost ready: { Self → Type 0 };
+
+    /// What is true of it at its end.
+    ghost ended: { Self → Self → Type 0 };
+
+    fn work<R: Wait>(self, rt: &R, with: X) -> Self
+        requires { ready self }
+        ensures { ended self result };
+}
+
+/// Gives a worker a thread.
+pub(crate) fn spawn<
+    R: Threads + Wait + Copy + Send + 'static,
+    X: Send + Drop + 'static,
+    T: Work<X> + Send + Drop + 'static,
+    P: Promise<T> + Drop,
+>(rt: &R, promise: P, with: X, worker: T) -> Result<PromisedHandle<T, P>, AllocError>
+    requires ready { T.ready worker }
+    requires keeps { (end : T) → T.ended worker end → P.kept_by promise end }
+    ensures { IfOk result (λ handle. handle.promise ≡ promise) }
+{
+    let here = *rt;
+    let run = move || -> T
+        requires { T.ready worker }
+        ensures { T.ended worker result }
+    { worker.work(&here, with) };
+    match thread::spawn_with(rt, promise, run) {
+        Ok(handle) => Ok(handle),
+        Err(_) => Err(AllocError),
+    }
+}

@@ -1,0 +1,183 @@
+#!/usr/bin/env python3
+"""Lets a crowd of clients play on a serving worldd at once, among them some that keep to no rule.
+
+    scripts/crowd_trial.py crates/worldd/out/worldd
+
+First two clients come one after the other, and what they and the program print is known to the byte. Then 50 clients
+send 200 batches each, while one leaves in half a batch, one sends 10 MB without a newline, and one sends its batch byte
+by byte and ends it last. Each tick must be answered once, and all answers, by tick, must be those of one plain model.
+"""
+import argparse
+import os
+import pathlib
+import random
+import re
+import shutil
+import socket
+import subprocess
+import sys
+import tempfile
+import threading
+
+from kill_trial import CELLS, METHODS, PATIENCE_SECONDS, Batch, Wrong, answer, random_request, text_of
+
+CLIENTS, BATCHES = 50, 200
+FLOOD = 10_000_000
+COUNT = 0
+ROW = b"set 0 5\nget 0\nmove 0 1 9\nfoo\nend\n"
+
+
+class Server:
+    """A serving worldd, whose lines are kept."""
+
+    def __init__(self, worldd: str, folder: pathlib.Path, method: str, cells: int, every: int, clients: int) -> None:
+        folder.mkdir()
+        subprocess.run([worldd, "create", "--dir", folder, "--cells", str(cells)], check=True, capture_output=True)
+        flags = ["--method", method, "--every", str(every), "--port", "0", "--clients", str(clients)]
+        command = [worldd, "serve", "--dir", folder, *flags]
+        self.errors = folder.with_suffix(".errors")
+        with self.errors.open("w") as errors:
+            self.process = subprocess.Popen(command, stdout=subprocess.PIPE, stderr=errors, text=True)
+        self.expect("recovered 0 from 0")
+        self.port = int(self.line().removeprefix("listening "))
+
+    def line(self) -> str:
+        """The next line that it prints."""
+        return self.process.stdout.readline().removesuffix("\n")
+
+    def expect(self, line: str) -> None:
+        """The next line must be this one."""
+        told = self.line()
+        if told != line:
+            raise Wrong(f"worldd printed `{told}` in the place of `{line}`")
+
+    def connect(self) -> socket.socket:
+        """A client's connection."""
+        return socket.create_connection(("127.0.0.1", self.port), PATIENCE_SECONDS)
+
+    def end(self, ticks: int) -> str:
+        """Waits for its end after so many ticks, and gives what it told people."""
+        printed, _ = self.process.communicate(timeout=PATIENCE_SECONDS)
+        if printed != f"stopped tick {ticks} acked {ticks}\n" or self.process.returncode:
+            raise Wrong(f"worldd ended with status {self.process.returncode} and `{printed}`")
+        return self.errors.read_text()
+
+
+def told_to(stream: socket.socket, text: bytes) -> str:
+    """All that a client is told that sends this and no more."""
+    with stream:
+        stream.sendall(text)
+        stream.shutdown(socket.SHUT_WR)
+        return stream.makefile(encoding="ascii").read()
+
+
+def try_row(worldd: str, room: pathlib.Path, method: str) -> None:
+    """Two clients come one after the other."""
+    server = Server(worldd, room / f"row-{method}", method, 2, 64, 2)
+    for tick in (1, 2):
+        line = told_to(server.connect(), ROW)
+        if line != f"tick {tick}: + =5 -3 -16\n":
+            raise Wrong(f"the client of tick {tick} was told `{line}`")
+    told = server.end(2)
+    if told:
+        raise Wrong(f"worldd told people `{told}`")
+
+
+def batch_of(chance: random.Random) -> Batch:
+    """A batch that looks at the count and adds to it."""
+    lines = (random_request(chance) for _ in range(chance.randrange(6)))
+    return ("get", COUNT), ("add", COUNT, 1), *lines, ("get", COUNT)
+
+
+class Client(threading.Thread):
+    """A client of the crowd, with what it was answered."""
+
+    def __init__(self, stream: socket.socket, chance: random.Random) -> None:
+        super().__init__(daemon=True)
+        self.stream, self.chance = stream, chance
+        self.answered: list[tuple[Batch, str]] = []
+
+    def run(self) -> None:
+        """Sends each batch once the one before is answered."""
+        with self.stream, self.stream.makefile(encoding="ascii") as reader:
+            for _ in range(BATCHES):
+                batch = batch_of(self.chance)
+                self.stream.sendall(text_of(batch))
+                self.answered.append((batch, reader.readline().removesuffix("\n")))
+
+
+def flood(stream: socket.socket) -> None:
+    """Sends a line without an end, and leaves."""
+    with stream:
+        for _ in range(100):
+            stream.sendall(b"x" * (FLOOD // 100))
+
+
+def leave(stream: socket.socket) -> None:
+    """Sends half a batch, and leaves."""
+    with stream:
+        stream.sendall(b"add 0 1000\nadd 0 1")
+
+
+def judge(answered: list[tuple[Batch, str]], ticks: int) -> None:
+    """Holds all answers, by tick, to the plain model."""
+    words = [0] * CELLS
+    numbers = {}
+    for batch, line in answered:
+        told = re.match(r"tick ([0-9]+):", line)
+        if not told or int(told[1]) in numbers:
+            raise Wrong(f"a batch was answered `{line}`")
+        numbers[int(told[1])] = batch, line
+    if sorted(numbers) != list(range(1, ticks + 1)):
+        raise Wrong(f"{len(numbers)} ticks were answered, up to {max(numbers)}")
+    for number in range(1, ticks + 1):
+        batch, line = numbers[number]
+        wanted = answer(words, batch, number)
+        if line != wanted:
+            raise Wrong(f"tick {number} was answered `{line}`, and the model has `{wanted}`")
+
+
+def try_crowd(worldd: str, room: pathlib.Path, method: str, seed: int) -> int:
+    """A crowd plays at once, and gives how many images were opened meanwhile."""
+    server = Server(worldd, room / f"crowd-{method}", method, CELLS, 8, CLIENTS + 3)
+    slow, last = server.connect(), (("add", COUNT, 1), ("get", COUNT))
+    text = text_of(last)
+    rude = [threading.Thread(target=act, args=(server.connect(),), daemon=True) for act in (flood, leave)]
+    clients = [Client(server.connect(), random.Random(f"{seed} {client}")) for client in range(CLIENTS)]
+    for thread in [*rude, *clients]:
+        thread.start()
+    for byte in text[:-1]:
+        slow.sendall(bytes([byte]))
+    for thread in [*rude, *clients]:
+        thread.join()
+    answered = [one for client in clients for one in client.answered]
+    answered.append((last, told_to(slow, text[-1:]).removesuffix("\n")))
+    judge(answered, CLIENTS * BATCHES + 1)
+    told = server.end(CLIENTS * BATCHES + 1)
+    opened = len(re.findall(r"image of tick [0-9]+ opened", told))
+    if opened != told.count("\n") or not opened:
+        raise Wrong(f"worldd told people `{told[-500:]}`")
+    return opened
+
+
+def main() -> int:
+    """Runs the trial, and keeps the files where it fails."""
+    parser = argparse.ArgumentParser(description=__doc__.splitlines()[0])
+    parser.add_argument("worldd", type=os.path.abspath, help="the built program")
+    parser.add_argument("--seed", type=int, default=1, help="of the batches")
+    given = parser.parse_args()
+    room = pathlib.Path(tempfile.mkdtemp(prefix="crowd-trial-"))
+    try:
+        for method in METHODS:
+            try_row(given.worldd, room, method)
+            opened = try_crowd(given.worldd, room, method, given.seed)
+            print(f"{method}: {CLIENTS * BATCHES + 1} ticks answered once each to one world, {opened} images opened meanwhile")
+    except (Wrong, OSError, subprocess.SubprocessError) as wrong:
+        print(f"crowd_trial: {wrong}\ncrowd_trial: seed {given.seed}, files in {room}", file=sys.stderr)
+        return 1
+    shutil.rmtree(room)
+    return 0
+
+
+if __name__ == "__main__":
+    sys.exit(main())
