@@ -12,28 +12,15 @@ ghost use Rattle.std.specs.Prelude.{◌≡◌, ◌≢◌, ◌⊎◌, ◌≤◌, 
 ghost use Rattle.world_actions.specs.declared.world.TheConstants.{CELLS as world_cells};
 ghost use Rattle.clap.specs.Values.{kind_of};
 
-mod counted;
-mod create;
-mod ending;
-mod fault;
-mod folder;
 mod help;
-mod inspect;
-mod recover;
 mod serve;
 mod service;
-mod system_error;
-mod told;
 mod watch;
 mod words;
 
 use clap::error::{Error, ErrorKind};
 use clap::{Arg, ArgAction, ArgMatches, Command, value_parser};
-use create::create;
-use ending::Ending;
 use help::{CREATE_HELP, INSPECT_HELP, RECOVER_HELP, STEPS_HELP};
-use inspect::inspect;
-use recover::recover;
 use serve::serve;
 use service::{serve_command, service_of};
 use std::alloc::Global;
@@ -42,6 +29,7 @@ use std::io;
 use steps::run_script;
 use words::{command_words, unreadable};
 use world_actions::Refusal;
+use world_folder::{Ending, create, inspect, recover};
 
 /// The name of the argument for a folder.
 const FOLDER: &str = "dir";

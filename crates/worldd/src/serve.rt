@@ -1,10 +1,7 @@
 ghost use Rattle.std.specs.Prelude.{◌≡◌, ◌≢◌, true, false, Some, None, Ok, IfErr};
 ghost use Rattle.image_files.specs.declared.phase.Phase.TheVariants.{Down};
-ghost use Rattle.worldd.specs.Ending.{IsFault};
+ghost use Rattle.world_folder.specs.Ending.{IsFault};
 
-use crate::ending::{Ending, NoPort};
-use crate::fault::stands_in;
-use crate::folder::{failure_of, open_existing};
 use crate::service::Service;
 use crate::watch::Lines;
 use disk_model::{Disk, FileDisk, FourFiles};
@@ -18,6 +15,7 @@ use tcp_service::{Seats, Stopped, open_world, serve_tcp};
 use worker_threads::Gates;
 use workers::{Gate, Open};
 use world_actions::Refusal;
+use world_folder::{Ending, NoPort, failure_of, open_existing, stands_in};
 
 /// Serves the world in a folder to so many clients, and tells what stood there, the port, and what stands at the
 /// end.

@@ -1,5 +1,4 @@
 use super::{answer, matches_of, refused};
-use crate::ending::Ending;
 use crate::words::unreadable;
 use clap::error::Error;
 use std::alloc::{AllocError, Allocator, Global};
@@ -10,8 +9,10 @@ use std::io::{self, BufRead, ErrorKind, Lines};
 use std::process::{ExitCode, Termination};
 use std::test::Fail;
 use world_actions::Refusal;
+use world_folder::Ending;
 
 mod creating;
+mod faults;
 mod folders;
 mod serving;
 

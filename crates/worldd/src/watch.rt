@@ -1,4 +1,3 @@
-use crate::folder::{IMAGE_A, IMAGE_B, LOG_A, LOG_B, path_of};
 use disk_model::{FileDisk, FourFiles};
 use std::alloc::{AllocError, Global};
 use std::io;
@@ -7,6 +6,7 @@ use std::sync::Arc;
 use tcp_service::{Door, Unserved};
 use worker_threads::Watch;
 use workers::{ImageWriter, Log};
+use world_folder::{IMAGE_A, IMAGE_B, LOG_A, LOG_B, path_of};
 
 /// What a running server tells people: a line on standard error each time.
 #[derive(Drop)]

@@ -1,10 +1,10 @@
 ghost use Rattle.std.specs.Prelude.{◌≡◌, ◌≢◌};
 ghost use Rattle.std.specs.IoError.{error_kind};
 
-use crate::ending::Ending;
 use std::env::{self, Env};
 use std::io::{self, ErrorKind};
 use world_actions::Refusal;
+use world_folder::Ending;
 
 /// The words of the command line, the program's name first.
 pub fn command_words(rt: &(impl Env + AllocGlobal)) -> io::Result<Vec<String>> {

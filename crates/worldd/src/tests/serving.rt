@@ -1,6 +1,5 @@
 use super::folders::{GARBAGE, NEW_IMAGE, NO_FILE, new_folder, put, put_all};
 use super::{Desk, words};
-use crate::ending::Ending;
 use crate::matches_of;
 use crate::serve::serve;
 use crate::service::{Service, service_of};

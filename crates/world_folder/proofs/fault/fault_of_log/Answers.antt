@@ -1,0 +1,28 @@
+use Rattle.std.proofs.Common.{◌≡◌, ◌⊎◌, inl, inr, ◌↔◌, IsTrue, Bool, true, false, ◌||◌, List, ℕ, sym, ap, subst, ◌∙◌}
+use Rattle.action_log.specs.Segment.{MalformedSegment, IsSegment}
+use Rattle.world_folder.proofs.fault.fault_of_log.Goals as goal
+
+-- what is told of bytes is told of those that they are
+told_of : (is_bad : Bool) (bytes file : List ℕ) → bytes ≡ file → (IsTrue is_bad ↔ IsSegment bytes MalformedSegment) → (IsTrue is_bad ↔ IsSegment file MalformedSegment)
+told_of is_bad bytes file e = subst (λ (b : List ℕ). IsTrue is_bad ↔ IsSegment b MalformedSegment) e
+
+one_of : (a b : Bool) → (a ≡ true) ⊎ ((a ≡ false) × (b ≡ true)) → (a || b) ≡ true
+one_of a b (inl is) = ap (λ (x : Bool). x || b) is
+one_of a b (inr is) = ap (λ (x : Bool). x || b) is.0 ∙ is.1
+
+not_both : (b : Bool) → b ≡ false → IsTrue b → ⊥
+not_both b is_false is_true = (let h : true ≡ false = sym is_true ∙ is_false in absurd cc)
+
+pub returns-then-b : goal.returns-then-b
+returns-then-b c = (
+  c.requires,
+  told_of c.in-Ok-Ok.a c.deref.result.now c.args.files.now.log_a.items c.deref.ensures.value c.in-Ok-Ok.ensures.told,
+  told_of c.in-Ok-Ok.b c.deref-2.result.now c.args.files.now.log_b.items c.deref-2.ensures.value c.in-Ok-Ok.ensures'.told,
+  one_of c.in-Ok-Ok.a c.in-Ok-Ok.b c.if-b.either,
+)
+
+pub returns-else-b : goal.returns-else-b
+returns-else-b c =
+    let a = told_of c.in-Ok-Ok.a c.deref.result.now c.args.files.now.log_a.items c.deref.ensures.value c.in-Ok-Ok.ensures.told in
+    let b = told_of c.in-Ok-Ok.b c.deref-2.result.now c.args.files.now.log_b.items c.deref-2.ensures.value c.in-Ok-Ok.ensures'.told in
+    (c.requires, λ bad. not_both c.in-Ok-Ok.a c.if-b.false.0 (a.1 bad), λ bad. not_both c.in-Ok-Ok.b c.if-b.false.1 (b.1 bad))

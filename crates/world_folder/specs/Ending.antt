@@ -1,0 +1,44 @@
+-- How the program ends.
+use Rattle.std.specs.Prelude.{◌≡◌, ℕ, List, Result, MatchResult, Vec}
+use Rattle.std.specs.Path.{path_buf_bytes, path_join}
+use Rattle.std.specs.declared.alloc.Global.{Global}
+use Rattle.std.specs.declared.io.Error.{Error}
+use Rattle.world_actions.specs.declared.refusal.Refusal.TheVariants.{NoMemory}
+use Rattle.disk_model.specs.declared.four_files.FourFiles.{FourFiles}
+use Rattle.world_folder.specs.declared.ending.Ending.{Ending}
+use Rattle.world_folder.specs.declared.ending.Ending.TheVariants.{Ran, Told, Mistaken, Fault, Unreadable, NoWorld, Occupied, NoPort, LogDown, ImagesDown}
+use Rattle.world_folder.specs.Fault.{Files, AreRead, Explains}
+use Rattle.world_folder.specs.declared.folder.TheConstants.{IMAGE_A, IMAGE_B, LOG_A, LOG_B}
+
+-- it is told as a fault
+abbrev pub IsFault : Ending → Type 0
+IsFault Ran = ⊥
+IsFault Told = ⊥
+IsFault Mistaken = ⊥
+IsFault (Fault refusal) = Unit {0}
+IsFault (Unreadable file) = Unit {0}
+IsFault (NoWorld fault) = Unit {0}
+IsFault (Occupied file) = Unit {0}
+IsFault (NoPort port) = Unit {0}
+IsFault LogDown = ⊥
+IsFault ImagesDown = ⊥
+
+-- it tells this error of the file of this name in a folder, or that there was no memory for its path
+abbrev pub TellsOf : (folder name : List ℕ) → Error → Ending → Type 0
+TellsOf folder name error (Fault refusal) = refusal ≡ NoMemory
+TellsOf folder name error (Unreadable file) = (path_buf_bytes file.path ≡ path_join folder name) × (file.error ≡ error)
+TellsOf folder name error other = ⊥
+
+-- it tells of the first of four files in a folder that couldn't be read
+abbrev pub TellsOfFirst : (folder : List ℕ) → FourFiles (Result (Vec ℕ Global) Error) → Ending → Type 0
+TellsOfFirst folder files ending =
+    MatchResult files.image_a (λ _. MatchResult files.image_b (λ _. MatchResult files.log_a (λ _. MatchResult files.log_b (λ _. ⊥)
+    (λ error. TellsOf folder LOG_B.now error ending))
+    (λ error. TellsOf folder LOG_A.now error ending))
+    (λ error. TellsOf folder IMAGE_B.now error ending))
+    (λ error. TellsOf folder IMAGE_A.now error ending)
+
+-- it tells why no world was found in the four files of a folder, which were read so
+abbrev pub TellsWhy : (folder : List ℕ) → FourFiles (Result (Vec ℕ Global) Error) → Ending → Type 0
+TellsWhy folder files (NoWorld fault) = (bytes : Files) × AreRead files bytes × Explains bytes fault
+TellsWhy folder files ending = TellsOfFirst folder files ending

@@ -1,0 +1,56 @@
+-- Why no world stands in four files.
+use Rattle.std.specs.Prelude.{◌≡◌, ◌↔◌, ℕ, true, ◌||◌, IsTrue, Result, Ok, Err, Vec}
+use Rattle.std.specs.declared.alloc.Global.{Global}
+use Rattle.world_actions.specs.declared.refusal.Refusal.{Refusal}
+use Rattle.world_actions.specs.declared.refusal.Refusal.TheVariants as refusal
+use Rattle.image_files.specs.Image.{image_of}
+use Rattle.action_log.specs.Segment.{MalformedSegment, IsSegment}
+use Rattle.recovery.specs.Recovery.{Recovers, is_bad_image}
+use Rattle.recovery.specs.declared.recovered.Recovered.{Recovered}
+use Rattle.recovery.specs.Recovered.{recovery_of_answer}
+use Rattle.disk_model.specs.declared.four_files.FourFiles.{FourFiles}
+use Rattle.disk_model.specs.FourFiles.{EachFile}
+use Rattle.world_folder.specs.declared.fault.Fault.{Fault}
+use Rattle.world_folder.specs.declared.fault.Fault.TheVariants.{NoMemory, NoImage, Images, Segments, Replay}
+
+-- the bytes of four files
+abbrev pub Files : Type 0
+Files = FourFiles (Vec ℕ Global)
+
+-- four files were read, and these are their bytes
+abbrev pub AreRead : {E : Type 0} → FourFiles (Result (Vec ℕ Global) E) → Files → Type 0
+AreRead given files = EachFile given files (λ file bytes. file ≡ Ok bytes)
+
+-- recovery finds this in the four files
+abbrev pub Stands : Files → Recovered → Type 0
+Stands files found = Recovers files.image_a.items files.image_b.items files.log_a.items files.log_b.items (Ok (recovery_of_answer found))
+
+-- what recovery answers
+abbrev pub refusal_of : Fault → Refusal
+refusal_of NoMemory = refusal.NoMemory
+refusal_of NoImage = refusal.NoImage
+refusal_of (Images damaged) = refusal.BadImage
+refusal_of (Segments damaged) = refusal.BadLog
+refusal_of Replay = refusal.BadLog
+
+-- recovery refuses the four files with this
+abbrev pub IsRefused : Files → Refusal → Type 0
+IsRefused files refused = Recovers files.image_a.items files.image_b.items files.log_a.items files.log_b.items (Err refused)
+
+-- what a fault tells of the four files; of NoMemory nothing can be said
+abbrev pub Explains : Files → Fault → Type 0
+Explains files NoMemory = Unit {0}
+Explains files NoImage = IsRefused files refusal.NoImage
+Explains files (Images damaged) =
+    IsRefused files refusal.BadImage
+    × (damaged.a ≡ is_bad_image (image_of files.image_a.items))
+    × (damaged.b ≡ is_bad_image (image_of files.image_b.items))
+Explains files (Segments damaged) =
+    IsRefused files refusal.BadLog
+    × (IsTrue damaged.a ↔ IsSegment files.log_a.items MalformedSegment)
+    × (IsTrue damaged.b ↔ IsSegment files.log_b.items MalformedSegment)
+    × (damaged.a || damaged.b ≡ true)
+Explains files Replay =
+    IsRefused files refusal.BadLog
+    × ¬ IsSegment files.log_a.items MalformedSegment
+    × ¬ IsSegment files.log_b.items MalformedSegment

@@ -1,0 +1,153 @@
+ghost use Rattle.std.specs.Prelude.{◌≡◌};
+ghost use Rattle.std.specs.Process.{exit_status};
+
+use crate::fault::Fault;
+use crate::folder::Unreadable;
+use crate::system_error::refusal_of;
+use std::alloc::AllocError;
+use std::fmt::{self, Display};
+use std::io;
+use std::path::PathBuf;
+use std::process::{ExitCode, Termination};
+use world_actions::Refusal;
+
+/// How the program ends.
+#[derive(Debug, Drop)]
+pub enum Ending {
+    /// What was asked for was done.
+    Ran,
+    /// The help or the version was told.
+    Told,
+    /// The command line is wrong.
+    Mistaken,
+    /// This refusal ended the program.
+    Fault(Refusal),
+    /// This file can't be read.
+    Unreadable(Unreadable),
+    /// No world stands in the files.
+    NoWorld(Fault),
+    /// A world can't be made over this file.
+    Occupied(Occupied),
+    /// No client can come by this port.
+    NoPort(NoPort),
+    /// A server stopped, and its log is down.
+    LogDown,
+    /// A server stopped whose log isn't down, but its images are.
+    ImagesDown,
+}
+
+/// A file that isn't closed.
+#[derive(Debug, Drop)]
+pub struct Occupied {
+    pub path: PathBuf,
+}
+
+impl fmt::Display for Occupied {
+    fn fmt<W: fmt::Write>(&self, f: &mut fmt::Formatter<W>) -> fmt::Result {
+        write!(f, "{}: {}", self.path.as_str(), Refusal::NotEmpty)
+    }
+}
+
+/// A port that can't be listened on, and why.
+#[derive(Debug, Drop)]
+pub struct NoPort {
+    pub port: u16,
+    pub error: io::Error,
+}
+
+impl fmt::Display for NoPort {
+    fn fmt<W: fmt::Write>(&self, f: &mut fmt::Formatter<W>) -> fmt::Result {
+        write!(f, "port {}: {}", self.port, self.error)
+    }
+}
+
+impl Ending {
+    ghost use Rattle.std.specs.Prelude.{◌≡◌, Ok, Err, IfErr};
+
+    /// The end of a run.
+    pub fn of_run(run: Result<(), Refusal>) -> Self
+        ensures well { run ≡ Ok tt → result ≡ Ending.Ran }
+        ensures fault { (refusal : Refusal) → run ≡ Err refusal → result ≡ Ending.Fault refusal }
+    {
+        match run {
+            Ok(()) => Ending::Ran,
+            Err(refusal) => Ending::Fault(refusal),
+        }
+    }
+
+    /// The end of a command that tells how it ends where it doesn't end well.
+    pub fn of_command(run: Result<(), Self>) -> Self
+        ensures well { run ≡ Ok tt → result ≡ Ending.Ran }
+        ensures fails { IfErr run (λ ending. result ≡ ending) }
+    {
+        match run {
+            Ok(()) => Ending::Ran,
+            Err(ending) => ending,
+        }
+    }
+}
+
+impl From<AllocError> for Ending {
+    ghost use Rattle.std.specs.Prelude.{◌≡◌};
+    ghost use Rattle.world_actions.specs.declared.refusal.Refusal.TheVariants.{NoMemory};
+    ghost use Rattle.world_folder.specs.declared.ending.Ending.TheVariants.{Fault as Refused};
+
+    ghost from_gives = { λ _ ending. ending ≡ Refused NoMemory };
+
+    fn from(_: AllocError) -> Self {
+        Ending::Fault(Refusal::NoMemory)
+    }
+}
+
+/// What can't be printed is a fault of the device, or of memory.
+impl From<io::Error> for Ending {
+    ghost use Rattle.world_folder.specs.Ending.{IsFault};
+
+    ghost from_gives = { λ _ ending. IsFault ending };
+
+    fn from(error: io::Error) -> Self {
+        Ending::Fault(refusal_of(&error))
+    }
+}
+
+impl Termination for Ending {
+    ghost use Rattle.std.specs.Prelude.{◌≡◌, ◌⊎◌};
+    ghost use Rattle.std.specs.Process.{exit_status};
+    ghost use Rattle.world_folder.specs.declared.folder.Unreadable.{Unreadable as File};
+    ghost use Rattle.world_folder.specs.declared.ending.Occupied.{Occupied as Open};
+    ghost use Rattle.world_folder.specs.declared.ending.NoPort.{NoPort as Port};
+
+    /// Tells a fault by its code and in words, and gives the exit status.
+    fn report<R: Eprint>(self, rt: &R) -> ExitCode
+        ensures well { (self ≡ Ending.Ran) ⊎ (self ≡ Ending.Told) → exit_status result ≡ 0 }
+        ensures fault { (refusal : Refusal) → self ≡ Ending.Fault refusal → exit_status result ≡ 1 }
+        ensures unreadable { (file : File) → self ≡ Ending.Unreadable file → exit_status result ≡ 1 }
+        ensures no_world { (fault : Fault) → self ≡ Ending.NoWorld fault → exit_status result ≡ 1 }
+        ensures occupied { (file : Open) → self ≡ Ending.Occupied file → exit_status result ≡ 1 }
+        ensures no_port { (port : Port) → self ≡ Ending.NoPort port → exit_status result ≡ 1 }
+        ensures mistaken { self ≡ Ending.Mistaken → exit_status result ≡ 2 }
+        ensures images_down { self ≡ Ending.ImagesDown → exit_status result ≡ 11 }
+        ensures log_down { self ≡ Ending.LogDown → exit_status result ≡ 12 }
+    {
+        match self {
+            Ending::Ran | Ending::Told => ExitCode::SUCCESS,
+            Ending::Mistaken => ExitCode::from(2),
+            Ending::Fault(refusal) => report_fault(rt, refusal, refusal),
+            Ending::Unreadable(file) => report_fault(rt, refusal_of(&file.error), file),
+            Ending::NoWorld(fault) => report_fault(rt, fault.refusal(), fault),
+            Ending::Occupied(file) => report_fault(rt, Refusal::NotEmpty, file),
+            Ending::NoPort(port) => report_fault(rt, refusal_of(&port.error), port),
+            Ending::ImagesDown => ExitCode::from(11),
+            Ending::LogDown => ExitCode::from(12),
+        }
+    }
+}
+
+// Tells a fault by the code of what it answers, and in these words.
+fn report_fault<R: Eprint, D: Display + Drop>(rt: &R, refusal: Refusal, words: D) -> ExitCode
+    ensures { exit_status result ≡ 1 }
+{
+    let _ = eprintln!(rt; "fault {}", refusal.code());
+    let _ = eprintln!(rt; "worldd: {words}");
+    ExitCode::from(1)
+}

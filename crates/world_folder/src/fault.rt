@@ -1,0 +1,156 @@
+ghost use Rattle.std.specs.Prelude.{◌≡◌, ◌⊎◌, ◌↔◌, IsTrue, Err, IfOk, IfErr};
+ghost use Rattle.image_files.specs.Image.{image_of};
+ghost use Rattle.action_log.specs.Segment.{MalformedSegment, IsSegment};
+ghost use Rattle.recovery.specs.Recovery.{Recovers, is_bad_image};
+ghost use Rattle.world_folder.specs.Fault.{Stands, Explains};
+
+use crate::folder::{IMAGE_A, IMAGE_B, LOG_A, LOG_B};
+use action_log::read_log;
+use disk_model::FourFiles;
+use image_files::read_image;
+use recovery::{Recovered, recover};
+use std::alloc::Global;
+use std::fmt;
+use world_actions::Refusal;
+
+/// Which of the two files of a kind are damaged: one of them at least.
+#[derive(Clone, Copy, Debug, PartialEq, Eq)]
+pub struct Damaged {
+    pub a: bool,
+    pub b: bool,
+}
+
+/// Why no world stands in four files.
+#[derive(Clone, Copy, Debug, PartialEq, Eq)]
+pub enum Fault {
+    /// There is no memory to read them.
+    NoMemory,
+    /// No image is open, and no file is damaged.
+    NoImage,
+    /// Images are open and not of the format.
+    Images(Damaged),
+    /// The images are right; segments are open and not of the format.
+    Segments(Damaged),
+    /// All files are of the format, and an action of the log is refused.
+    Replay,
+}
+
+impl Fault {
+    ghost use Rattle.std.specs.Prelude.{◌≡◌};
+    ghost use Rattle.world_folder.specs.Fault.{refusal_of};
+
+    /// What recovery answers.
+    pub fn refusal(&self) -> Refusal
+        ensures { result ≡ refusal_of self.now }
+    {
+        match self {
+            Fault::NoMemory => Refusal::NoMemory,
+            Fault::NoImage => Refusal::NoImage,
+            Fault::Images(_) => Refusal::BadImage,
+            Fault::Segments(_) | Fault::Replay => Refusal::BadLog,
+        }
+    }
+}
+
+impl fmt::Display for Fault {
+    fn fmt<W: fmt::Write>(&self, f: &mut fmt::Formatter<W>) -> fmt::Result {
+        let refusal = self.refusal();
+        match self {
+            Fault::NoMemory | Fault::NoImage => write!(f, "{refusal}"),
+            Fault::Images(damaged) => {
+                let names = names_of(*damaged, IMAGE_A, IMAGE_B);
+                write!(f, "{refusal}: {}{}{}", names.0, names.1, names.2)
+            }
+            Fault::Segments(damaged) => {
+                let names = names_of(*damaged, LOG_A, LOG_B);
+                write!(f, "{refusal}: {}{}{}", names.0, names.1, names.2)
+            }
+            Fault::Replay => write!(f, "{refusal}: an action of the log is refused in replay"),
+        }
+    }
+}
+
+// The names of the files that are damaged, in parts.
+fn names_of(
+    damaged: Damaged,
+    a: &'static str,
+    b: &'static str,
+) -> (&'static str, &'static str, &'static str) {
+    match (damaged.a, damaged.b) {
+        (true, true) => (a, " and ", b),
+        (true, false) => (a, "", ""),
+        _ => (b, "", ""),
+    }
+}
+
+/// What stands in four files, or why nothing does.
+pub fn stands_in(alloc: Global, files: &FourFiles<Vec<u8>>) -> Result<Recovered, Fault>
+    ensures recovered { IfOk result (Stands files.now) }
+    ensures fault { IfErr result (Explains files.now) }
+{
+    match recover(
+        alloc,
+        &files.image_a,
+        &files.image_b,
+        &files.log_a,
+        &files.log_b,
+    ) {
+        Ok(found) => Ok(found),
+        Err(refusal) => Err(fault_of(alloc, files, refusal)),
+    }
+}
+
+// Which file a refusal is of.
+fn fault_of(alloc: Global, files: &FourFiles<Vec<u8>>, refusal: Refusal) -> Fault
+    requires { (refusal ≡ Refusal.NoMemory) ⊎ Recovers files.now.image_a.items files.now.image_b.items
+        files.now.log_a.items files.now.log_b.items (Err refusal) }
+    ensures { Explains files.now result }
+{
+    match refusal {
+        Refusal::NoImage => Fault::NoImage,
+        Refusal::BadImage => Fault::Images(Damaged {
+            a: is_bad_image(alloc, &files.image_a),
+            b: is_bad_image(alloc, &files.image_b),
+        }),
+        Refusal::BadLog => fault_of_log(alloc, files),
+        _ => Fault::NoMemory,
+    }
+}
+
+// Which segments are damaged, or that none is.
+fn fault_of_log(alloc: Global, files: &FourFiles<Vec<u8>>) -> Fault
+    requires { Recovers files.now.image_a.items files.now.image_b.items
+        files.now.log_a.items files.now.log_b.items (Err Refusal.BadLog) }
+    ensures { Explains files.now result }
+{
+    let (Ok(a), Ok(b)) = (
+        is_bad_segment(alloc, &files.log_a),
+        is_bad_segment(alloc, &files.log_b),
+    ) else {
+        return Fault::NoMemory;
+    };
+    if a || b {
+        Fault::Segments(Damaged { a, b })
+    } else {
+        Fault::Replay
+    }
+}
+
+// Whether an image is open and not of the format. An image that wants memory is of the format.
+fn is_bad_image(alloc: Global, bytes: &[u8]) -> bool
+    ensures { result ≡ is_bad_image (image_of bytes.now) }
+{
+    matches!(read_image(alloc, bytes), Err(Refusal::BadImage))
+}
+
+// Whether a segment is open and not of the format, as far as there is memory to tell.
+fn is_bad_segment(alloc: Global, bytes: &[u8]) -> Result<bool, Refusal>
+    ensures told { IfOk result (λ is_bad. IsTrue is_bad ↔ IsSegment bytes.now MalformedSegment) }
+    ensures memory { IfErr result (λ refusal. refusal ≡ Refusal.NoMemory) }
+{
+    match read_log(alloc, bytes) {
+        Ok(_) => Ok(false),
+        Err(Refusal::BadLog) => Ok(true),
+        Err(refusal) => Err(refusal),
+    }
+}

@@ -1,0 +1,110 @@
+ghost use Rattle.std.specs.Prelude.{◌≡◌, IfErr};
+ghost use Rattle.world_folder.specs.Ending.{IsFault};
+
+use crate::counted::Counted;
+use crate::ending::Ending;
+use crate::folder::{IMAGE_A, IMAGE_B, LOG_A, LOG_B, read_folder};
+use crate::recovering::{found_in, print_recovered};
+use crate::told::{tell_image, tell_log};
+use recovery::Slot;
+use std::alloc::{AllocError, Global};
+use std::fmt::Display;
+use std::fs::{File, Files};
+use std::io;
+
+/// Tells how each file of a folder reads, and then what stands in them, with the words where they are
+/// asked for. It writes nothing into the folder.
+pub fn inspect<R: Files<File = File> + Print + AllocGlobal>(
+    rt: &R,
+    folder: &str,
+    with_words: bool,
+) -> Result<(), Ending>
+    ensures { IfErr result IsFault }
+{
+    let files = read_folder(rt, folder);
+    print_image(rt, IMAGE_A, &files.image_a)?;
+    print_image(rt, IMAGE_B, &files.image_b)?;
+    print_log(rt, LOG_A, &files.log_a)?;
+    print_log(rt, LOG_B, &files.log_b)?;
+    let found = found_in(rt.alloc(), folder, files)?;
+    print_recovered(rt, &found)?;
+    println!(rt; " in {}", name_of(found.slot))?;
+    if with_words {
+        rt.println(line_of(rt.alloc(), &found.words).map_err(io::Error::from)?)?;
+    }
+    Ok(())
+}
+
+fn print_image<R: Print + AllocGlobal>(
+    rt: &R,
+    name: &str,
+    file: &io::Result<Vec<u8>>,
+) -> Result<(), Ending>
+    ensures { IfErr result IsFault }
+{
+    match file {
+        Ok(bytes) => match tell_image(rt.alloc(), bytes) {
+            Ok(told) => print_told(rt, name, told, bytes.len())?,
+            Err(refusal) => return Err(Ending::Fault(refusal)),
+        },
+        Err(error) => print_unreadable(rt, name, error)?,
+    }
+    Ok(())
+}
+
+fn print_log<R: Print + AllocGlobal>(
+    rt: &R,
+    name: &str,
+    file: &io::Result<Vec<u8>>,
+) -> Result<(), Ending>
+    ensures { IfErr result IsFault }
+{
+    match file {
+        Ok(bytes) => match tell_log(rt.alloc(), bytes) {
+            Ok(told) => print_told(rt, name, told, bytes.len())?,
+            Err(refusal) => return Err(Ending::Fault(refusal)),
+        },
+        Err(error) => print_unreadable(rt, name, error)?,
+    }
+    Ok(())
+}
+
+fn print_told<R: Print, T: Display + Drop>(
+    rt: &R,
+    name: &str,
+    told: T,
+    length: usize,
+) -> io::Result<()> {
+    let length = Counted {
+        count: length,
+        noun: "byte",
+    };
+    println!(rt; "{name}: {told}, {length}")
+}
+
+fn print_unreadable<R: Print>(rt: &R, name: &str, error: &io::Error) -> io::Result<()> {
+    println!(rt; "{name}: unreadable: {error}")
+}
+
+// The name of the image file in a slot.
+fn name_of(slot: Slot) -> &'static str
+    ensures a { slot ≡ Slot.A → result.now ≡ IMAGE_A.now }
+    ensures b { slot ≡ Slot.B → result.now ≡ IMAGE_B.now }
+{
+    match slot {
+        Slot::A => IMAGE_A,
+        Slot::B => IMAGE_B,
+    }
+}
+
+// All words, one space between.
+fn line_of(alloc: Global, words: &[u64]) -> Result<String, AllocError> {
+    let mut line = String::new(alloc);
+    for word in words {
+        if !line.is_empty() {
+            line.push(' ')?;
+        }
+        write!(line, "{word}")?;
+    }
+    Ok(line)
+}

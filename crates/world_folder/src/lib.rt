@@ -1,0 +1,24 @@
+//! A world in the files of a folder: the commands that make one and tell what stands there, and how a program over one
+//! ends.
+//!
+//! `create` makes the files of a new world. `recover` and `inspect` tell what four files hold, and write nothing.
+//! `open_existing` locks the files for who goes on with their world. What went wrong is told as an `Ending`, which names
+//! the file.
+#![tactic(auto)]
+
+mod counted;
+mod creating;
+mod ending;
+mod fault;
+mod folder;
+mod inspecting;
+mod recovering;
+mod system_error;
+mod told;
+
+pub use creating::create;
+pub use ending::{Ending, NoPort, Occupied};
+pub use fault::{Damaged, Fault, stands_in};
+pub use folder::{IMAGE_A, IMAGE_B, LOG_A, LOG_B, Unreadable, failure_of, open_existing, path_of};
+pub use inspecting::inspect;
+pub use recovering::recover;

@@ -1,0 +1,47 @@
+ghost use Rattle.std.specs.Prelude.{IfOk, IfErr};
+ghost use Rattle.world_folder.specs.Ending.{IsFault, TellsWhy};
+ghost use Rattle.world_folder.specs.Fault.{Files, AreRead, Stands};
+
+use crate::ending::Ending;
+use crate::fault::stands_in;
+use crate::folder::{all_read, read_folder};
+use disk_model::FourFiles;
+use recovery::Recovered;
+use std::alloc::Global;
+use std::fs::{self, File};
+use std::io;
+
+/// Tells what stands in the files of a folder, and writes nothing into it.
+pub fn recover<R: fs::Files<File = File> + Print + AllocGlobal>(
+    rt: &R,
+    folder: &str,
+) -> Result<(), Ending>
+    ensures { IfErr result IsFault }
+{
+    let found = found_in(rt.alloc(), folder, read_folder(rt, folder))?;
+    print_recovered(rt, &found)?;
+    println!(rt)?;
+    Ok(())
+}
+
+/// What stands in files that were read so, or how the program ends.
+pub fn found_in(
+    alloc: Global,
+    folder: &str,
+    files: FourFiles<io::Result<Vec<u8>>>,
+) -> Result<Recovered, Ending>
+    ensures found { IfOk result (λ found. (bytes : Files) × AreRead files bytes × Stands bytes found) }
+    ensures why { IfErr result (TellsWhy folder.now files) }
+    ensures fault { IfErr result IsFault }
+{
+    let files = all_read(alloc, folder, files)?;
+    match stands_in(alloc, &files) {
+        Ok(found) => Ok(found),
+        Err(fault) => Err(Ending::NoWorld(fault)),
+    }
+}
+
+/// Prints the tick of a world and the one of its image, and doesn't end the line.
+pub fn print_recovered<R: Print>(rt: &R, found: &Recovered) -> io::Result<()> {
+    print!(rt; "recovered {} from {}", found.tick, found.from)
+}
