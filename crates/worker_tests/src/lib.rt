@@ -1,0 +1,14 @@
+//! Tests of workers that run in threads, in files of a model: a round that is open while ticks are answered, and each
+//! call of a file failing in turn.
+#![tactic(auto)]
+
+#[cfg(test)]
+mod failing;
+#[cfg(test)]
+mod held;
+#[cfg(test)]
+mod rounds;
+#[cfg(test)]
+mod serial;
+#[cfg(test)]
+mod worlds;

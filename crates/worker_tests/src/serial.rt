@@ -1,0 +1,110 @@
+//! Workers that take their turns in one thread.
+ghost use Rattle.std.specs.Prelude.{IfOk};
+ghost use Rattle.workers.specs.Logging.{IsAtRest};
+
+use crate::held::Held;
+use crate::worlds::{new_files, open_files, stands_in};
+use crossbeam_channel::{Sender, bounded};
+use disk_model::ModelFile;
+use sessions::{Batch, Request};
+use shared_capture::{Method, Pong, Zig};
+use std::alloc::Global;
+use std::process::Abort;
+use std::sync::atomic::{AtomicBool, AtomicU64, Ordering};
+use std::sync::{Arc, Wait};
+use std::test::Fail;
+use tcp_service::Seats;
+use worker_threads::Opened;
+use workers::{Ask, Checkpointer, LogWriter, Mutator, Open, Reply, open};
+use world_actions::{Action, Refusal};
+
+/// The workers of a world.
+#[derive(Drop)]
+struct Serial<M: Method> {
+    mutator: Mutator<M, Open>,
+    log_writer: LogWriter<ModelFile, Open>,
+    checkpointer: Checkpointer<M, ModelFile, Held>,
+}
+
+// The workers of a new world of two cells, an image of which is due after each tick.
+fn begin<M: Seats>(
+    rt: &impl Wait,
+    alloc: Global,
+    answered: Arc<AtomicU64, Global>,
+) -> Result<Serial<M>, Fail>
+    ensures { IfOk result (λ world. IsAtRest world.log_writer) }
+{
+    let (bell, rung) = bounded(alloc, 1)?;
+    let is_down = Arc::new(alloc, AtomicBool::new(false))?;
+    let told_down = is_down.clone()?;
+    let Opened {
+        front,
+        back,
+        images,
+        log,
+        ended,
+    } = open_files::<M, ModelFile>(alloc, new_files(alloc, 2)?)?;
+    let (to, from) = open(rt, alloc, ended)?;
+    let log_writer = LogWriter::new(alloc, Open, from, log, is_down, ended)?;
+    Ok(Serial {
+        mutator: Mutator::new(Open, alloc, front, to, ended, 1, bell, told_down),
+        log_writer,
+        checkpointer: Checkpointer::new(Held::until(answered), back, images, rung),
+    })
+}
+
+fn ask_for(alloc: Global, to: Sender<Reply>) -> Result<Ask, Refusal> {
+    let mut batch = Batch::new(alloc)?;
+    batch.push_reserved(Request::Act(Action::Add { cell: 0, by: 1 }));
+    batch.push_reserved(Request::Get(0));
+    Ok(Ask { batch, to })
+}
+
+// Runs and logs a batch, whose answer is a post of this text.
+fn answer<M: Method>(
+    rt: &(impl Wait + Abort),
+    alloc: Global,
+    world: &mut Serial<M>,
+    text: &[u8],
+) -> Result<(), Fail>
+    requires rest { IsAtRest world.old.log_writer }
+    ensures rest { IsAtRest world.new.log_writer }
+{
+    let (to, from) = bounded(alloc, 1)?;
+    world.mutator.turn(rt, ask_for(alloc, to)?)?;
+    assert!(rt; !world.log_writer.is_over());
+    world.log_writer.turn(rt);
+    match from.recv(rt) {
+        Ok(Reply::Post(post)) => assert_eq!(rt; post.into_text().as_slice(), text),
+        _ => panic!(rt; "no post"),
+    }
+    Ok(())
+}
+
+// The round stays open, and play goes on.
+fn is_stuck<M: Method>(
+    rt: &(impl Wait + Abort),
+    checkpointer: &mut Checkpointer<M, ModelFile, Held>,
+) {
+    assert!(rt; !checkpointer.is_over());
+    assert_eq!(rt; checkpointer.turn(rt), None);
+    assert!(rt; checkpointer.is_over() && !checkpointer.is_down());
+}
+
+fn try_serial_round<M: Seats>(rt: &(impl Wait + Abort), alloc: Global) -> Result<(), Fail> {
+    let answered = Arc::new(alloc, AtomicU64::new(0))?;
+    let mut world = begin::<M>(rt, alloc, answered.clone()?)?;
+    answer(rt, alloc, &mut world, b"tick 1: + =1\n")?;
+    answered.fetch_add(1, Ordering::SeqCst);
+    is_stuck(rt, &mut world.checkpointer);
+    answer(rt, alloc, &mut world, b"tick 2: + =2\n")?;
+    let (images, log) = (world.checkpointer.images(), world.log_writer.log());
+    assert_eq!(rt; stands_in(alloc, images, log)?, (2, 0, 2));
+    Ok(())
+}
+
+#[test]
+fn serial_rounds_are_stuck(rt: HostRuntime) -> Result<(), Fail> {
+    try_serial_round::<Zig>(&rt, rt.alloc())?;
+    try_serial_round::<Pong>(&rt, rt.alloc())
+}
