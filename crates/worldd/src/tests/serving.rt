@@ -8,6 +8,7 @@ use std::fs::{self, OpenOptions};
 use std::path::PathBuf;
 use std::process::{Abort, ExitCode, Termination};
 use std::test::Fail;
+use world_folder::Ending;
 
 const METHODS: [Kind; 2] = [Kind::Zigzag, Kind::PingPong];
 
