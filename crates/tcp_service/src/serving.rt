@@ -45,6 +45,7 @@ pub fn serve_tcp<
         (refusal ≡ Refusal.NoMemory) ⊎ (refusal ≡ Refusal.Device))) }
     ensures began { IfOk result (λ stopped. (stopped.ends.mutator.opening ≡ opened.front.live)
         × (stopped.ends.checkpointer.opening ≡ opened.images) × (stopped.ends.log_writer.opening ≡ opened.log)) }
+    ensures every { IfOk result (λ stopped. stopped.ends.mutator.every ≡ every) }
     ensures memory { IfErr result (λ refusal. refusal ≡ Refusal.NoMemory) }
 {
     let door = watch.clone()?;

@@ -1,14 +1,18 @@
 -- What a worker keeps while its thread runs.
-use Rattle.std.specs.Prelude.{◌≡◌}
+use Rattle.std.specs.Prelude.{◌≡◌, ◌++◌, List}
+use Rattle.workers.specs.declared.item.Item.{Item}
 use Rattle.workers.specs.Mutating.{Playing}
 use Rattle.workers.specs.Imaging.{Imaging}
 use Rattle.workers.specs.Logging.{Logging}
 
--- the mutator stays at its front and its end of the channel, and knows the words that it began with
+-- the mutator stays at its front and its end of the channel, pushes behind what it had pushed, knows the words that it
+-- began with, and after how many ticks a round is due
 pub record KeepsFront (old new : Playing) : Type 0 where
   pub pair : new.front.pair ≡ old.front.pair
   pub end : new.to.end ≡ old.to.end
+  pub items : (more : List Item) × (new.to.items ≡ old.to.items ++ more)
   pub opening : new.opening ≡ old.opening
+  pub every : new.every ≡ old.every
 
 -- the checkpointer stays at its back, and knows the keeper and the files that it began with
 pub record KeepsBack {D : Type 0} (old new : Imaging D) : Type 0 where

@@ -11,7 +11,7 @@ use shared_capture::Method;
 use std::sync::Wait;
 use workers::{Ask, Checkpointer, Gate, LogWriter, Mutator};
 
-#[tactic(auto, using(crate::proofs::Keeping::turn_keeps, crate::proofs::Keeping::end_keeps, crate::proofs::Keeping::then))]
+#[tactic(auto, using(crate::proofs::Keeping::begins))]
 // Runs the batches of the sessions until the last one is gone, and tells the others that no more comes.
 fn play_batches<R: Wait, M: Method, G: Gate + Drop>(
     rt: &R,

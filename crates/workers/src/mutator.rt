@@ -155,11 +155,7 @@ impl<M: Method, G: Gate + Drop> Mutator<M, G> {
             Err(reason) => return refuse(rt, ask, reason),
         };
         let number = number + 1;
-        let answer = Waiting {
-            number,
-            text,
-            to: ask.to,
-        };
+        let answer = Waiting::new(number, text, ask.to);
         if !self.to.push(rt, Item::Tick(Ended { tick, answer })) {
             self.down = true;
             return Ok(());

@@ -4,6 +4,7 @@ ghost use Rattle.std.specs.Prelude.{◌≤◌};
 use action_log::Receipt;
 use crossbeam_channel::Sender;
 use std::marker::Model;
+use std::sync::Wait;
 use world_actions::Refusal;
 
 /// The answer of a batch whose tick is durable. Contracts see its tick, its text, and the number of the
@@ -68,12 +69,53 @@ pub enum Reply {
     Fault(Refusal),
 }
 
-/// The answer of a tick that isn't durable yet, and where it is to go.
+/// The answer of a tick that isn't durable yet. It alone knows the session that it goes to.
 #[derive(Drop)]
 pub struct Waiting {
+    number: u64,
+    text: Vec<u8>,
+    to: Sender<Reply>,
+}
+
+impl Waiting {
+    ghost use Rattle.std.specs.Prelude.{◌≡◌, ◌≤◌};
+
+    /// The answer of the tick of this number: the line for the batch of this session.
+    pub(crate) fn new(number: u64, text: Vec<u8>, to: Sender<Reply>) -> Self
+        ensures number { result.number ≡ number }
+        ensures text { result.text ≡ text }
+        ensures session { result.to ≡ to }
+    {
+        Waiting { number, text, to }
+    }
+
     /// The number of the tick.
-    pub number: u64,
-    /// The line that answers its batch.
-    pub text: Vec<u8>,
-    pub to: Sender<Reply>,
+    pub(crate) fn number(&self) -> u64
+        ensures { result ≡ self.now.number }
+    {
+        self.number
+    }
+
+    /// Posts it to its session: its tick is durable.
+    pub(crate) fn post<R: Wait>(self, rt: &R, receipt: Receipt)
+        requires durable { self.number ≤ receipt }
+    {
+        let (post, to) = self.into_post(receipt);
+        let _ = to.send(rt, Reply::Post(post));
+    }
+
+    /// Tells its session a fault: the log is down.
+    pub(crate) fn refuse<R: Wait>(self, rt: &R) {
+        let _ = self.to.send(rt, Reply::Fault(Refusal::LogDown));
+    }
+
+    // The post that it becomes, and its session.
+    fn into_post(self, receipt: Receipt) -> (Post, Sender<Reply>)
+        requires durable { self.number ≤ receipt }
+        ensures post { result.0 ≡ record { tick = self.number; text = self.text.items; receipt = receipt } }
+        ensures session { result.1 ≡ self.to }
+    {
+        let Waiting { number, text, to } = self;
+        (Post::new(number, text, receipt), to)
+    }
 }

@@ -3,13 +3,12 @@ ghost use Rattle.std.specs.Prelude.{◌≡◌, ◌+◌, ◌<◌, ◌≤◌, ◌+
 ghost use Rattle.workers.specs.declared.post.Waiting.{Waiting as Answer};
 ghost use Rattle.workers.specs.Answering.{AreLater, Posts};
 
-use crate::post::{Post, Reply, Waiting};
+use crate::post::Waiting;
 use action_log::Receipt;
 use circular_buffer::HeapCircularBuffer;
 use std::alloc::{AllocError, Global};
 use std::marker::Model;
 use std::sync::Wait;
-use world_actions::Refusal;
 
 // The last tick that was answered, and the last one that a post answered.
 #[derive(Drop)]
@@ -25,8 +24,8 @@ impl Given {
         requires durable { next.number ≤ receipt }
         ensures { self.new ≡ record { answered = next.number; posted = next.number } }
     {
-        let Waiting { number, text, to } = next;
-        let _ = to.send(rt, Reply::Post(Post::new(number, text, receipt)));
+        let number = next.number();
+        next.post(rt, receipt);
         self.answered = number;
         self.posted = number;
     }
@@ -36,13 +35,8 @@ impl Given {
         requires { next.number ≡ self.old.answered + 1 }
         ensures { self.new ≡ record self.old { answered = next.number } }
     {
-        let Waiting {
-            number,
-            text: _,
-            to,
-        } = next;
-        let _ = to.send(rt, Reply::Fault(Refusal::LogDown));
-        self.answered = number;
+        self.answered = next.number();
+        next.refuse(rt);
     }
 }
 
@@ -128,7 +122,7 @@ impl Answers {
         ensures others { result ≡ false → AreLater receipt self.now.waiting }
     {
         match self.waiting.front() {
-            Some(first) => first.number <= receipt.tick(),
+            Some(first) => first.number() <= receipt.tick(),
             None => false,
         }
     }
