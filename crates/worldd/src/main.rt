@@ -8,18 +8,17 @@
 //! with 12 where its log is.
 #![tactic(auto)]
 
-ghost use Rattle.std.specs.Prelude.{◌≡◌, ◌≢◌, ◌⊎◌, ◌≤◌, IfSome};
+ghost use Rattle.std.specs.Prelude.{◌≡◌, ◌≤◌, IfSome};
 ghost use Rattle.world_actions.specs.declared.world.TheConstants.{CELLS as world_cells};
-ghost use Rattle.clap.specs.Values.{kind_of};
 
 mod help;
 mod serve;
 mod service;
 mod watch;
-mod words;
 
-use clap::error::{Error, ErrorKind};
+use clap::error::Error;
 use clap::{Arg, ArgAction, ArgMatches, Command, value_parser};
+use command_line::{NotRun, command_words, refused, unreadable};
 use help::{CREATE_HELP, INSPECT_HELP, RECOVER_HELP, STEPS_HELP};
 use serve::serve;
 use service::{serve_command, service_of};
@@ -27,7 +26,6 @@ use std::alloc::Global;
 use std::fs::{File, Files};
 use std::io;
 use steps::run_script;
-use words::{command_words, unreadable};
 use world_actions::Refusal;
 use world_folder::{Ending, create, inspect, recover};
 
@@ -43,14 +41,14 @@ const WORDS: &str = "words";
 fn main(rt: HostRuntime) -> Ending {
     let words = match command_words(&rt) {
         Ok(words) => words,
-        Err(error) => return unreadable(&rt, &error),
+        Err(error) => return not_run(unreadable(&rt, &error)),
     };
     match matches_of(rt.alloc(), &words) {
         Ok(matches) => match service_of(&matches) {
             Some(service) => serve(&rt, &service),
             None => run(&rt, &matches),
         },
-        Err(error) => refused(&rt, &error),
+        Err(error) => not_run(refused(&rt, &error)),
     }
 }
 
@@ -61,7 +59,7 @@ fn answer<R: Input + Print + Eprint + Files<File = File> + AllocGlobal>(
 ) -> Ending {
     match matches_of(rt.alloc(), words) {
         Ok(matches) => run(rt, &matches),
-        Err(error) => refused(rt, &error),
+        Err(error) => not_run(refused(rt, &error)),
     }
 }
 
@@ -149,22 +147,16 @@ fn cells_of(given: &ArgMatches<'_>) -> Option<u32>
         .then_some(cells)
 }
 
-// A command line that isn't right, or that asks for help or the version: clap's text tells which.
-fn refused<R: Print + Eprint>(rt: &R, error: &Error) -> Ending
-    ensures memory { kind_of error.now ≡ ErrorKind.OutOfMemory → result ≡ Ending.Fault Refusal.NoMemory }
-    ensures told { (kind_of error.now ≡ ErrorKind.DisplayHelp) ⊎ (kind_of error.now ≡ ErrorKind.DisplayVersion)
-        → result ≡ Ending.Told }
-    ensures mistaken { kind_of error.now ≢ ErrorKind.OutOfMemory → kind_of error.now ≢ ErrorKind.DisplayHelp
-        → kind_of error.now ≢ ErrorKind.DisplayVersion → result ≡ Ending.Mistaken }
+// How the program ends where it isn't run.
+fn not_run(reason: NotRun) -> Ending
+    ensures told { reason ≡ NotRun.Told → result ≡ Ending.Told }
+    ensures mistaken { reason ≡ NotRun.Mistaken → result ≡ Ending.Mistaken }
+    ensures memory { reason ≡ NotRun.NoMemory → result ≡ Ending.Fault Refusal.NoMemory }
 {
-    if error.kind() == ErrorKind::OutOfMemory {
-        return Ending::Fault(Refusal::NoMemory);
-    }
-    let _ = error.print(rt);
-    if error.use_stderr() {
-        Ending::Mistaken
-    } else {
-        Ending::Told
+    match reason {
+        NotRun::Told => Ending::Told,
+        NotRun::Mistaken => Ending::Mistaken,
+        NotRun::NoMemory => Ending::Fault(Refusal::NoMemory),
     }
 }
 

@@ -1,6 +1,6 @@
-use super::{answer, matches_of, refused};
-use crate::words::unreadable;
+use super::{answer, matches_of, not_run};
 use clap::error::Error;
+use command_line::{refused, unreadable};
 use std::alloc::{AllocError, Allocator, Global};
 use std::cell::RefCell;
 use std::fmt::Display;
@@ -307,7 +307,7 @@ fn wrong_command_lines_end_with_two(rt: HostRuntime) -> Result<(), Fail> {
 #[test]
 fn unreadable_words_end_with_two(rt: HostRuntime) {
     let desk = Desk::new(&rt, b"", false);
-    let ending = unreadable(&desk, &io::Error::from(ErrorKind::InvalidData));
+    let ending = not_run(unreadable(&desk, &io::Error::from(ErrorKind::InvalidData)));
     assert!(rt; matches!(ending, Ending::Mistaken) && ending.report(&desk) == ExitCode::from(2));
     assert_eq!(rt;
         desk.errors.into_inner().as_str(),
@@ -377,8 +377,8 @@ fn help_ends_well(rt: HostRuntime) -> Result<(), Fail> {
 #[test]
 fn want_of_memory_is_a_fault(rt: HostRuntime) {
     let desk = Desk::new(&rt, b"", false);
-    let in_line = refused(&desk, &Error::from(AllocError));
-    let in_words = unreadable(&desk, &io::Error::from(AllocError));
+    let in_line = not_run(refused(&desk, &Error::from(AllocError)));
+    let in_words = not_run(unreadable(&desk, &io::Error::from(AllocError)));
     assert!(rt; matches!(in_line, Ending::Fault(Refusal::NoMemory)));
     assert!(rt; matches!(in_words, Ending::Fault(Refusal::NoMemory)));
     assert_eq!(rt; desk.errors.into_inner().as_str(), "");
