@@ -9,7 +9,7 @@ mod kind;
 mod log_model;
 mod model;
 mod player;
-mod remains;
+mod spoiling;
 mod stretches;
 mod tally;
 #[cfg(test)]

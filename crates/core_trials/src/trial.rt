@@ -3,13 +3,13 @@ ghost use Rattle.world_actions.specs.declared.world.TheConstants.{CELLS};
 
 use crate::asked::Asked;
 use crate::model::PlainModel;
-use crate::remains::{left_by, spoil};
+use crate::spoiling::spoil;
 use crate::tally::Tally;
 use crate::told::Told;
 use crate::wrong::Wrong;
 use capture_core::Capture;
 use std::alloc::Global;
-use trial_kit::Random;
+use trial_kit::{Random, left_by};
 use world_actions::Refusal;
 use world_core::{Core, FileName, Move, Remains};
 

@@ -5,7 +5,7 @@ ghost use Rattle.disk_model.specs.FileKept.{IsKept};
 ghost use Rattle.disk_model.specs.CrashOutcome.{IsCrashOutcome, content_stays};
 
 use crate::Disk;
-use crate::places::{clear_from, copy_from, write_marked};
+use crate::places::{clear_from, copy_from, grow, write_marked};
 use std::alloc::Global;
 use std::marker::Model;
 use world_actions::Refusal;
@@ -59,6 +59,18 @@ impl ModelFile {
             unsynced,
             faults: 0,
         })
+    }
+
+    /// Takes the memory for a file of this length: until a crash no write within it takes any.
+    pub fn reserve(&mut self, len: u64) -> Result<(), Refusal>
+        ensures same { self.new ≡ self.old }
+        ensures memory { IfErr result (λ refusal. refusal ≡ Refusal.NoMemory) }
+    {
+        let len = len as usize;
+        grow(&mut self.durable, len)?;
+        grow(&mut self.content, len)?;
+        grow(&mut self.unsynced, len)?;
+        Ok(())
     }
 
     /// The bytes that are durable.

@@ -37,7 +37,7 @@ pub(crate) fn write_marked(
 }
 
 // Makes room for so many items in all.
-fn grow<T>(items: &mut Vec<T>, count: usize) -> Result<(), AllocError>
+pub(crate) fn grow<T>(items: &mut Vec<T>, count: usize) -> Result<(), AllocError>
     ensures items { items.new.items ≡ items.old.items }
     ensures room { OnOk result (count ≤ vec_capacity items.new) }
     ensures keeps_room { vec_capacity items.old ≤ vec_capacity items.new }

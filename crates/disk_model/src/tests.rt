@@ -151,6 +151,20 @@ fn refused_growth_changes_nothing(rt: HostRuntime) -> Result<(), Fail> {
     Ok(())
 }
 
+#[test]
+fn reserved_files_are_the_same(rt: HostRuntime) -> Result<(), Fail> {
+    let alloc = rt.alloc();
+    let mut file = ModelFile::new(alloc, vec![in alloc; 1, 2, 3]?)?;
+    file.write_at(0, &[4])?;
+    file.reserve(2)?;
+    file.reserve(100)?;
+    assert_eq!(rt; file.now(), [4, 2, 3].as_slice());
+    assert_eq!(rt; file.durable(), [1, 2, 3].as_slice());
+    file.write_at(3, &[5; 97])?;
+    assert_eq!(rt; file.now().len(), 100);
+    Ok(())
+}
+
 fn sevens(alloc: Global, count: usize) -> Result<Vec<u8>, Fail> {
     Ok(vec![in alloc; 7; count]?)
 }

@@ -30,6 +30,11 @@ const IMAGE: &[u8] = &[
     1, 1, 0, 0, 0, 0, 0, 0, 0, 0, 0, 0, 0, 0, 0, 0, 0, 0, 0, 0, 0, 0, 0, 0, 0,
 ];
 
+// The same at the last tick, 10^18.
+const LAST_IMAGE: &[u8] = &[
+    1, 1, 0, 0, 0, 0, 0, 0, 0, 0, 0, 0x64, 0xa7, 0xb3, 0xb6, 0xe0, 0x0d, 0, 0, 0, 0, 0, 0, 0, 0,
+];
+
 // An open image of too many cells.
 const BAD_IMAGE: &[u8] = &[1; 17];
 
@@ -217,6 +222,27 @@ fn makes_checkpoints(rt: HostRuntime) -> Result<(), Fail> {
     try_checkpoints::<PlainCopy>(&rt, rt.alloc())?;
     try_checkpoints::<Zigzag>(&rt, rt.alloc())?;
     try_checkpoints::<PingPong>(&rt, rt.alloc())
+}
+
+#[test]
+fn ends_no_tick_after_the_last_one(rt: HostRuntime) -> Result<(), Fail> {
+    let alloc = rt.alloc();
+    let files = files_of(alloc, [LAST_IMAGE, NONE, NONE, NONE])?;
+    let mut served = open::<Zigzag>(alloc, files, 64)?;
+    answers(
+        &rt,
+        alloc,
+        &mut served,
+        b"end\nset 0 1\nend\n",
+        b"fault 21\nfault 21\n",
+    );
+    assert_eq!(rt; served.acked(), 1_000_000_000_000_000_000);
+    let found = durable(alloc, &served.into_files())?;
+    assert_eq!(rt;
+        (found.tick, found.words.as_slice()),
+        (1_000_000_000_000_000_000, [0].as_slice())
+    );
+    Ok(())
 }
 
 #[test]

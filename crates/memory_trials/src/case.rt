@@ -1,0 +1,80 @@
+use crate::stretch::{refuse_none, refuse_one};
+use std::alloc::Global;
+use world_actions::Refusal;
+
+/// A call that takes memory, with the values that it is made on.
+pub trait Case: Sized + Drop {
+    /// What is printed of it.
+    fn name() -> &'static str;
+
+    /// What it answers where an allocation is refused.
+    fn refusal() -> Refusal;
+
+    /// The values, as they are before.
+    fn set_up(alloc: Global) -> Result<Self, Refusal>;
+
+    /// Makes the call, and gives a number for its answer.
+    fn call(&mut self) -> Result<u64, Refusal>;
+
+    /// A number for the values.
+    fn seen(&mut self) -> u64;
+}
+
+/// How a call went one of whose allocations may have been refused.
+#[derive(Clone, Copy, Debug, PartialEq, Eq)]
+pub enum Outcome {
+    /// None was refused.
+    Answered,
+    /// It answered so, its values were as before, and once more made it answered as if nothing had been.
+    Refused,
+    /// Something else.
+    Wrong,
+}
+
+/// Makes a call while one of its allocations may be refused, and once more where it was.
+pub fn try_case<X: Case>(alloc: Global) -> Result<Outcome, Refusal> {
+    let mut ample = X::set_up(alloc)?;
+    let wanted = ample.call()?;
+    let mut case = X::set_up(alloc)?;
+    let before = case.seen();
+    refuse_one(alloc);
+    let first = case.call();
+    refuse_none(alloc);
+    let (outcome, answer) = match first {
+        Ok(answer) => (Outcome::Answered, answer),
+        Err(refusal) if refusal == X::refusal() && case.seen() == before => {
+            (Outcome::Refused, case.call()?)
+        }
+        Err(_) => return Ok(Outcome::Wrong),
+    };
+    if answer == wanted && case.seen() == ample.seen() {
+        Ok(outcome)
+    } else {
+        Ok(Outcome::Wrong)
+    }
+}
+
+/// A number for some words.
+pub fn digest(words: &[u64]) -> u64 {
+    let mut sum = 0_u64;
+    for word in words {
+        sum = folded(sum, *word);
+    }
+    sum
+}
+
+/// A number for some bytes.
+pub fn digest_of_bytes(bytes: &[u8]) -> u64 {
+    let mut sum = 0_u64;
+    for byte in bytes {
+        sum = folded(sum, u64::from(*byte));
+    }
+    sum
+}
+
+/// A number for one and one more.
+pub fn folded(sum: u64, more: u64) -> u64 {
+    sum.wrapping_mul(6_364_136_223_846_793_005)
+        .wrapping_add(more)
+        .wrapping_add(1)
+}

@@ -1,0 +1,97 @@
+use crate::fixed::Step;
+use crate::run::Run;
+use crate::stops::KINDS;
+use crate::tally::Tally;
+use action_log::LogAnswer;
+use capture_core::Capture;
+use disk_model::Leaving;
+use image_files::ImageAnswer;
+use std::alloc::Global;
+use world_actions::Refusal;
+use world_core::{Answer, Fate};
+
+/// More moves than the log has here.
+const MOVES: u32 = 100;
+
+/// The last tick of the run.
+const LAST: u64 = 3;
+
+/// Lets the call of each keeper's move fail in turn, judges what is answered then, and crashes by each kind.
+pub fn try_failures<C: Capture>(
+    alloc: Global,
+    steps: &[Step],
+    tally: &mut Tally,
+) -> Result<(), Refusal> {
+    for at in 0..steps.len() {
+        for leaving in KINDS {
+            try_failure::<C>(alloc, steps, at, leaving, tally)?;
+        }
+    }
+    Ok(())
+}
+
+// The move at this place fails, if it makes a call.
+fn try_failure<C: Capture>(
+    alloc: Global,
+    steps: &[Step],
+    at: usize,
+    leaving: Leaving,
+    tally: &mut Tally,
+) -> Result<(), Refusal> {
+    let (before, rest) = steps.split_at(at.min(steps.len()));
+    let Some((step, after)) = rest.split_first() else {
+        return Ok(());
+    };
+    let mut run = Run::<C>::started(alloc)?;
+    run.follow(before);
+    match run.step(*step, Fate::Failed) {
+        Answer::Image(ImageAnswer::Down) => {
+            fail_images(&mut run, after, tally);
+            let stands = run.crash(leaving)?;
+            tally.judge(leaving != Leaving::Lose || stands == Some(LAST));
+            tally.crash(stands);
+        }
+        Answer::Log(LogAnswer::Down) => {
+            fail_log(&mut run, after, tally);
+            tally.crash(run.crash(leaving)?);
+        }
+        _ => {}
+    }
+    Ok(())
+}
+
+// The images are down: play goes on, no round is opened, and the log writes all.
+fn fail_images<C: Capture>(run: &mut Run<C>, after: &[Step], tally: &mut Tally) {
+    tally.images_failed();
+    for step in after {
+        let given = run.step(*step, Fate::Done);
+        tally.judge(match step {
+            Step::Set { .. } => given == Answer::Did,
+            Step::End => matches!(given, Answer::Ended(_)),
+            Step::Mark => given == Answer::Refused(Refusal::ImageDown),
+            Step::Image => given == Answer::Image(ImageAnswer::Down),
+            Step::Log => matches!(given, Answer::Log(_)),
+        });
+    }
+    for _ in 0..MOVES {
+        if run.step(Step::Log, Fate::Done) == Answer::Log(LogAnswer::Idle) {
+            break;
+        }
+    }
+    tally.judge(run.acked() == LAST);
+}
+
+// The log is down: no tick ends any more.
+fn fail_log<C: Capture>(run: &mut Run<C>, after: &[Step], tally: &mut Tally) {
+    tally.log_failed();
+    for step in after {
+        let given = run.step(*step, Fate::Done);
+        tally.judge(match step {
+            Step::Set { .. } | Step::End | Step::Mark => {
+                given == Answer::Refused(Refusal::LogDown)
+            }
+            Step::Image => matches!(given, Answer::Image(_)),
+            Step::Log => given == Answer::Log(LogAnswer::Down),
+        });
+    }
+}

@@ -1,0 +1,83 @@
+//! The program `stop_trials`: one run of two ticks, a round, a third tick and another round is stopped after each of
+//! its moves, by crashes of five kinds, and stopped again after each move of the restart; and each call of a device that
+//! it makes fails in turn. It tells how often each tick stood after a crash, and fails where another one did, where a
+//! tick never did, or where the run has other moves than it is to have.
+#![tactic(auto)]
+
+mod failures;
+mod fixed;
+mod run;
+mod stops;
+mod tally;
+
+use capture_core::Capture;
+use failures::try_failures;
+use fixed::{Shape, fixed_run};
+use ping_pong::PingPong;
+use shared_capture::{Joined, Pong, Zig};
+use std::alloc::Global;
+use std::io;
+use std::process::ExitCode;
+use stops::try_stops;
+use tally::Tally;
+use trial_kit::ended;
+use world_actions::Refusal;
+use zigzag::Zigzag;
+
+/// The calls of devices and the takes of the first part of the run, those of the images and those of the log.
+const FIRST: (u32, u32) = (9, 12);
+
+/// Those of its second part by Zigzag.
+const SECOND: (u32, u32) = (9, 10);
+
+/// Those of its second part by Ping-Pong, which reads the cell that was never written since from the other image.
+const SECOND_BY_PING_PONG: (u32, u32) = (10, 10);
+
+fn main(rt: HostRuntime) -> ExitCode {
+    ended(&rt, try_all(&rt))
+}
+
+// Whether all was right, and each tick stood once.
+fn try_all<R: Print + AllocGlobal>(rt: &R) -> io::Result<bool> {
+    let zigzag = Shape {
+        first: FIRST,
+        second: SECOND,
+    };
+    let ping_pong = Shape {
+        first: FIRST,
+        second: SECOND_BY_PING_PONG,
+    };
+    Ok(
+        try_store::<R, Zigzag>(rt, "zigzag", zigzag)?
+            & try_store::<R, PingPong>(rt, "pingpong", ping_pong)?
+            & try_store::<R, Joined<Zig>>(rt, "zigzag-shared", zigzag)?
+            & try_store::<R, Joined<Pong>>(rt, "pingpong-shared", ping_pong)?,
+    )
+}
+
+// Tries a store, and tells what was seen.
+fn try_store<R: Print + AllocGlobal, C: Capture>(
+    rt: &R,
+    store: &str,
+    shape: Shape,
+) -> io::Result<bool> {
+    match seen_of::<C>(rt.alloc(), shape) {
+        Ok(tally) => {
+            println!(rt; "{store}: {tally}")?;
+            Ok(tally.passes())
+        }
+        Err(refusal) => {
+            println!(rt; "{store}: refused with {}: {refusal}", refusal.code())?;
+            Ok(false)
+        }
+    }
+}
+
+fn seen_of<C: Capture>(alloc: Global, shape: Shape) -> Result<Tally, Refusal> {
+    let mut tally = Tally::new();
+    let (steps, found) = fixed_run::<C>(alloc)?;
+    tally.judge(found == shape);
+    try_stops::<C>(alloc, &steps, &mut tally)?;
+    try_failures::<C>(alloc, &steps, &mut tally)?;
+    Ok(tally)
+}

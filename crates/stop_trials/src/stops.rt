@@ -1,0 +1,72 @@
+use crate::fixed::Step;
+use crate::run::Run;
+use crate::tally::Tally;
+use capture_core::Capture;
+use disk_model::Leaving;
+use std::alloc::Global;
+use world_actions::Refusal;
+
+/// What a crash leaves of each file.
+pub const KINDS: [Leaving; 5] = [
+    Leaving::Lose,
+    Leaving::Keep,
+    Leaving::Fill(0),
+    Leaving::Fill(1),
+    Leaving::Fill(255),
+];
+
+/// A gate that a crash may leave open it leaves open.
+const OPENING: Leaving = Leaving::Fill(1);
+
+/// More moves than a start has.
+const MOVES: u32 = 100;
+
+/// Stops the run after each number of moves.
+pub fn try_stops<C: Capture>(
+    alloc: Global,
+    steps: &[Step],
+    tally: &mut Tally,
+) -> Result<(), Refusal> {
+    for count in 0..=steps.len() {
+        let (made, _) = steps.split_at(count.min(steps.len()));
+        tally.stop();
+        for leaving in KINDS {
+            try_stop::<C>(alloc, made, leaving, tally)?;
+        }
+    }
+    Ok(())
+}
+
+// Stops the run after these moves, by a crash of this kind, and again after each number of moves of the start, by the same
+// one and by one that may open a gate.
+fn try_stop<C: Capture>(
+    alloc: Global,
+    made: &[Step],
+    leaving: Leaving,
+    tally: &mut Tally,
+) -> Result<(), Refusal> {
+    let mut run = Run::<C>::started(alloc)?;
+    run.follow(made);
+    tally.crash(run.crash(leaving)?);
+    for moves in 0..=run.start(MOVES) {
+        for again in [leaving, OPENING] {
+            tally.crash_in_start(stopped_again::<C>(alloc, made, [leaving, again], moves)?);
+        }
+    }
+    Ok(())
+}
+
+// The tick that stands after two crashes, the second one after so many moves of the start.
+fn stopped_again<C: Capture>(
+    alloc: Global,
+    made: &[Step],
+    leaving: [Leaving; 2],
+    moves: u32,
+) -> Result<Option<u64>, Refusal> {
+    let [first, second] = leaving;
+    let mut run = Run::<C>::started(alloc)?;
+    run.follow(made);
+    run.crash(first)?;
+    run.start(moves);
+    run.crash(second)
+}

@@ -1,0 +1,131 @@
+use crate::cuts::try_cuts;
+use crate::player::Answered;
+use crate::recorded::keep_calls;
+use crate::replay::{Calls, Replay};
+use crate::serving::{BATCHES, PLAYERS, Served, serve};
+use crate::tally::Tally;
+use crate::ticks::Ticks;
+use disk_model::FourFiles;
+use recovery::{Recovered, recover};
+use std::alloc::Global;
+use std::fs::{File, Files};
+use std::sync::atomic::{AtomicU64, Ordering};
+use std::sync::{Arc, Wait};
+use std::thread::Threads;
+use tcp_service::Seats;
+use trial_kit::Random;
+use world_actions::Refusal;
+use world_folder::open_existing;
+
+/// How often the power is cut for each method.
+pub const CUTS: u64 = 500;
+
+/// Plays the world that stands in the files of a folder, and cuts the power at random moments of that.
+pub fn cut_power<
+    R: Threads + Wait + Files<File = File> + AllocGlobal + Copy + Send + 'static,
+    M: Seats + Send + 'static,
+>(rt: &R, folder: &str, seed: u64) -> Result<Tally, Refusal> {
+    let alloc = rt.alloc();
+    let mut files = open_existing(rt, folder).map_err(|_: _| Refusal::Device)?;
+    let bytes = files.read_all(alloc)?;
+    let begun = stands_in(alloc, &bytes)?;
+    let copies = replays(alloc, bytes)?;
+    let clock = Arc::new(alloc, AtomicU64::new(1))?;
+    let files = keep_calls(alloc, files, &clock)?;
+    let served = serve::<R, M>(rt, alloc, files, &clock)?;
+    let last = clock.load(Ordering::SeqCst);
+    cut_all(alloc, &served, copies, begun, last, seed)
+}
+
+// What stands in these files.
+fn stands_in(alloc: Global, bytes: &FourFiles<Vec<u8>>) -> Result<Recovered, Refusal> {
+    recover(
+        alloc,
+        &bytes.image_a,
+        &bytes.image_b,
+        &bytes.log_a,
+        &bytes.log_b,
+    )
+}
+
+// Cuts the power of a run in which no file failed and each batch was answered.
+fn cut_all<M: Seats>(
+    alloc: Global,
+    served: &Served<M>,
+    files: FourFiles<Replay>,
+    begun: Recovered,
+    last: u64,
+    seed: u64,
+) -> Result<Tally, Refusal> {
+    if !is_up(served) {
+        return Err(Refusal::Device);
+    }
+    let ticks = ticks_of(alloc, begun, &served.answers)?;
+    look_at(alloc, served, files, &ticks, last, seed)
+}
+
+fn replays(alloc: Global, bytes: FourFiles<Vec<u8>>) -> Result<FourFiles<Replay>, Refusal> {
+    let FourFiles {
+        image_a,
+        image_b,
+        log_a,
+        log_b,
+    } = bytes;
+    Ok(FourFiles {
+        image_a: Replay::new(alloc, image_a)?,
+        image_b: Replay::new(alloc, image_b)?,
+        log_a: Replay::new(alloc, log_a)?,
+        log_b: Replay::new(alloc, log_b)?,
+    })
+}
+
+// What power cuts leave of a run that was played to its end.
+fn look_at<M: Seats>(
+    alloc: Global,
+    served: &Served<M>,
+    files: FourFiles<Replay>,
+    ticks: &Ticks,
+    last: u64,
+    seed: u64,
+) -> Result<Tally, Refusal> {
+    let calls = calls_of(served).ok_or(Refusal::NoMemory)?;
+    let mut random = Random::new(seed);
+    try_cuts(alloc, files, &calls, ticks, last, CUTS, &mut random)
+}
+
+// The calls of the files of a run, if there was memory for all.
+fn calls_of<M: Seats>(served: &Served<M>) -> Option<Calls<'_>> {
+    let images = served.ends.checkpointer.images();
+    let log = served.ends.log_writer.log();
+    Some(Calls {
+        image_a: images.image_a.calls()?,
+        image_b: images.image_b.calls()?,
+        log_a: log.a.calls()?,
+        log_b: log.b.calls()?,
+    })
+}
+
+// Whether no file failed.
+fn is_up<M: Seats>(served: &Served<M>) -> bool {
+    !served.ends.checkpointer.is_down() && !served.ends.log_writer.is_down()
+}
+
+// The ticks of all players, each of whose batches was answered, by a tick of its own.
+fn ticks_of(alloc: Global, begun: Recovered, answers: &[Vec<Answered>]) -> Result<Ticks, Refusal> {
+    let count = (PLAYERS as usize).saturating_mul(BATCHES as usize);
+    let mut ticks = Ticks::new(alloc, begun, count)?;
+    let mut kept = 0_usize;
+    for player in answers {
+        for one in player {
+            if !ticks.keep(*one) {
+                return Err(Refusal::BadLog);
+            }
+            kept = kept.saturating_add(1);
+        }
+    }
+    if kept == count {
+        Ok(ticks)
+    } else {
+        Err(Refusal::BadLog)
+    }
+}

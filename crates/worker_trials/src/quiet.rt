@@ -1,0 +1,43 @@
+ghost use Rattle.worker_threads.specs.Begun.{IsWhole};
+
+use crossbeam_channel::Sender;
+use disk_model::Disk;
+use shared_capture::Method;
+use std::alloc::{AllocError, Global};
+use std::sync::Wait;
+use std::thread::Threads;
+use worker_threads::{Gates, Opened, Watch, Workers, start};
+use workers::{Ask, ImageWriter, Log, Open};
+
+/// Tells nothing: what went wrong is seen at the end.
+#[derive(Clone, Copy)]
+struct Quiet;
+
+impl<D: Disk + Drop> Watch<D> for Quiet {
+    fn image_opened(&mut self, _tick: u64) {}
+
+    fn images_down(&mut self, _images: &ImageWriter<D>) {}
+
+    fn log_down(&mut self, _acked: u64, _log: &Log<D>) {}
+}
+
+/// Starts workers that nothing holds and that tell nothing.
+pub fn start_quiet<
+    R: Threads + Wait + Copy + Send + 'static,
+    M: Method + Send + 'static,
+    D: Disk + Drop + Send + 'static,
+>(
+    rt: &R,
+    alloc: Global,
+    opened: Opened<M, D>,
+    every: u32,
+) -> Result<(Workers<M, D, Open>, Sender<Ask>), AllocError>
+    requires { IsWhole D.honest D.content opened.front opened.back opened.images opened.log opened.ended }
+{
+    let gates = Gates {
+        mutator: Open,
+        checkpointer: Open,
+        log_writer: Open,
+    };
+    start(rt, alloc, gates, Quiet, opened, every)
+}

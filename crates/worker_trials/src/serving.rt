@@ -1,0 +1,82 @@
+use crate::player::{Answered, play};
+use crate::quiet::start_quiet;
+use crate::recorded::{Clock, Recorded};
+use crossbeam_channel::Sender;
+use disk_model::FourFiles;
+use std::alloc::Global;
+use std::sync::Wait;
+use std::thread::{self, JoinHandle, Threads};
+use tcp_service::{Seats, open_world};
+use worker_threads::{Ends, stop};
+use workers::{Ask, Open};
+use world_actions::Refusal;
+
+/// How many players there are, each with a cell of its own.
+pub const PLAYERS: u32 = 4;
+
+/// How many batches each plays.
+pub const BATCHES: u32 = 200;
+
+/// After how many ticks an image is due.
+const EVERY: u32 = 8;
+
+type Answers = Result<Vec<Answered>, Refusal>;
+
+/// What a run leaves: the workers, and the answers of each player.
+#[derive(Drop)]
+pub struct Served<M: Seats> {
+    pub ends: Ends<M, Recorded, Open>,
+    pub answers: Vec<Vec<Answered>>,
+}
+
+/// Opens the world in these files for workers, lets the players play it, and waits until all are over.
+pub fn serve<R: Threads + Wait + Copy + Send + 'static, M: Seats + Send + 'static>(
+    rt: &R,
+    alloc: Global,
+    files: FourFiles<Recorded>,
+    clock: &Clock,
+) -> Result<Served<M>, Refusal> {
+    let opened = match open_world::<M, Recorded>(alloc, files) {
+        Ok((opened, _)) => opened,
+        Err((_, refusal)) => return Err(refusal),
+    };
+    let (workers, requests) = start_quiet(rt, alloc, opened, EVERY)?;
+    let players = start_players(rt, alloc, requests, clock);
+    let answers = join_players(rt, alloc, players);
+    let ends = stop(rt, workers);
+    Ok(Served {
+        ends,
+        answers: answers?,
+    })
+}
+
+// A thread for each player. They have the channel of requests alone.
+fn start_players<R: Threads + Wait + Copy + Send + 'static>(
+    rt: &R,
+    alloc: Global,
+    requests: Sender<Ask>,
+    clock: &Clock,
+) -> Result<Vec<JoinHandle<Answers>>, Refusal> {
+    let mut players = Vec::new(alloc);
+    for cell in 0..PLAYERS {
+        let requests = requests.clone()?;
+        let clock = clock.clone()?;
+        let here = *rt;
+        let play_all = move || play(&here, alloc, requests, &clock, cell, BATCHES);
+        let player = thread::spawn(rt, play_all).map_err(|_: _| Refusal::NoMemory)?;
+        players.push(player)?;
+    }
+    Ok(players)
+}
+
+fn join_players<R: Threads>(
+    rt: &R,
+    alloc: Global,
+    players: Result<Vec<JoinHandle<Answers>>, Refusal>,
+) -> Result<Vec<Vec<Answered>>, Refusal> {
+    let mut answers = Vec::new(alloc);
+    for player in players? {
+        answers.push(player.join(rt)?)?;
+    }
+    Ok(answers)
+}

@@ -1,0 +1,348 @@
+#!/usr/bin/env python3
+"""Refuses worldd each of its allocations in turn, and looks at what it answers and at what stands in its files then.
+
+    scripts/memory_trial.py crates/worldd/out/worldd
+
+First each call that takes memory, by the program memory_trials; then a script over each store, create, recover and
+inspect, and serve, by either method: each is run again and again, the Nth time with its Nth allocation refused, until it
+has none left to refuse. It needs a C compiler, as cc.
+"""
+import argparse
+import collections
+import dataclasses
+import itertools
+import os
+import pathlib
+import shutil
+import socket
+import subprocess
+import sys
+import tempfile
+from collections.abc import Iterator
+
+from kill_trial import METHODS, PATIENCE_SECONDS, QUIET, Batch, Wrong, answer, text_of
+
+STORES = "plain", "zigzag", "pingpong", "zigzag-shared", "pingpong-shared"
+SCRIPT = """\
+open {store} 2
+set 0 5
+move 0 1 2
+get 1
+end
+mark
+image*
+set 0 6
+end
+log*
+crash keep
+image*
+log*
+world
+set 1 9
+end
+mark
+image*
+log*
+crash lose
+world
+"""
+# What tells that a growth of a file in memory was refused; in a start the lines before it are refused too.
+REFUSED_LINES = "image down", "log down"
+STARTING = "- 19"
+FAULT = "fault 17"
+UNREADABLE = ": unreadable: out of memory"
+BATCHES: tuple[Batch, ...] = (
+    (("set", 0, 5), ("get", 0), ("move", 0, 1, 2)),
+    (("add", 1, 1),) * 40,
+    (("get", 0), ("get", 1), ("foo",)),
+    (("set", 1, 3), ("get", 1)),
+)
+# One more than those that may be closed: one of them loses its connection.
+CLIENTS = 3
+EVERY = 2
+TOP = pathlib.Path(__file__).resolve().parent.parent
+CALLS = TOP / "crates" / "memory_trials" / "out" / "memory_trials"
+CALL_REFUSED, CALL_ANSWERED, CALLS_MADE = "refused, and answered then", "answered", "made"
+
+
+@dataclasses.dataclass(frozen=True)
+class Run:
+    """A run: its status, what it printed and told, and whether an allocation was refused."""
+
+    status: int
+    printed: str
+    told: str
+    was_refused: bool
+
+
+class Refuser:
+    """Refuses an allocation of each program that it starts."""
+
+    def __init__(self, room: pathlib.Path) -> None:
+        self.library = room / "refused_allocation.so"
+        source = pathlib.Path(__file__).with_suffix("").parent / "refused_allocation.c"
+        subprocess.run(["cc", "-shared", "-fPIC", "-O1", "-o", self.library, source], check=True)
+
+    def start(
+        self, command: list[object], number: int, which: str = "REFUSED_ALLOCATION", **files: object
+    ) -> tuple[subprocess.Popen, int]:
+        """A program whose allocation of this number is refused, and where that is told."""
+        reader, writer = os.pipe()
+        refused = {"LD_PRELOAD": str(self.library), which: str(number), "REFUSED_TO": str(writer)}
+        with open(writer, closefd=True):
+            process = subprocess.Popen(
+                command, env=os.environ | refused, pass_fds=[writer], stdout=subprocess.PIPE, text=True, **files
+            )
+        return process, reader
+
+    def run(self, command: list[object], number: int, script: str = "", **which: str) -> Run:
+        """A run whose allocation of this number is refused, 0 for none."""
+        process, reader = self.start(command, number, **which, stdin=subprocess.PIPE, stderr=subprocess.PIPE)
+        printed, told = process.communicate(script, PATIENCE_SECONDS)
+        return Run(process.returncode, printed, told, was_told(reader))
+
+    def runs(self, command: list[object], script: str = "") -> Iterator[Run]:
+        """A run for each allocation, which is refused, and a last one for which none is."""
+        for number in itertools.count(1):
+            run = self.run(command, number, script)
+            yield run
+            if not run.was_refused:
+                return
+
+
+def was_told(reader: int) -> bool:
+    """Whether an allocation was refused, told once the program has ended."""
+    with open(reader, "rb") as told:
+        return bool(told.read())
+
+
+def is_fault(run: Run) -> bool:
+    """Whether want of memory ended the run, and was told so."""
+    return run.status == 1 and run.told.partition("\n")[0] == FAULT
+
+
+def require(seen: collections.Counter[str], *kinds: str) -> None:
+    """Each of these kinds must have been seen."""
+    missing = ", ".join(set(kinds) - set(seen))
+    if missing:
+        raise Wrong(f"never {missing}")
+
+
+# The calls.
+
+
+def try_calls(refuser: Refuser) -> collections.Counter[str]:
+    """Makes each call that takes memory, and gives how often each was refused."""
+    refused: collections.Counter[str] = collections.Counter()
+    for number in itertools.count(1):
+        run = refuser.run([CALLS], number, which="REFUSED_IN_STRETCH")
+        told = dict(line.split(": ") for line in run.printed.splitlines())
+        if run.status or set(told.values()) - {CALL_REFUSED, CALL_ANSWERED, CALLS_MADE}:
+            raise Wrong(f"with allocation {number} of each call refused: `{run.printed}`")
+        if CALL_REFUSED not in told.values():
+            require(refused, *(call for call, kind in told.items() if kind == CALL_ANSWERED))
+            return refused
+        refused.update(call for call, kind in told.items() if kind == CALL_REFUSED)
+    raise AssertionError
+
+
+# A script.
+
+
+def kind_of(run: Run, whole: str) -> str:
+    """How a script went, whose answers with ample memory are known."""
+    if run.printed == whole and run.status == 0:
+        return "whole"
+    if is_fault(run) and whole.startswith(run.printed) and run.printed[-1:] in ("", "\n"):
+        return "ended by the fault"
+    given, wanted = run.printed.splitlines(), whole.splitlines()
+    others = [told for told, right in zip(given, wanted) if told != right]
+    refused = next((told for told in others if told in REFUSED_LINES), None)
+    if refused and others[0] in (refused, STARTING) and len(given) == len(wanted) and run.status == 0:
+        return f"gone on after `{refused}`"
+    raise Wrong(f"a script ended with status {run.status}, `{run.printed}` and `{run.told}`")
+
+
+def try_script(worldd: str, refuser: Refuser, store: str) -> collections.Counter[str]:
+    """Runs a script over a store."""
+    command, script = [worldd, "steps"], SCRIPT.format(store=store)
+    whole = refuser.run(command, 0, script).printed
+    kinds = collections.Counter(kind_of(run, whole) for run in refuser.runs(command, script))
+    require(kinds, "whole", "ended by the fault", *(f"gone on after `{line}`" for line in REFUSED_LINES))
+    return kinds
+
+
+# A folder.
+
+
+def told_of(worldd: str, folder: pathlib.Path) -> list[str]:
+    """The lines of `inspect` for a folder, with ample memory."""
+    run = subprocess.run([worldd, "inspect", "--words", "--dir", folder], capture_output=True, text=True, check=True)
+    return run.stdout.splitlines()
+
+
+def try_create(worldd: str, refuser: Refuser, room: pathlib.Path) -> int:
+    """Makes a world, and once more where that was refused: it stands then, or is made."""
+    for number in itertools.count(1):
+        folder = room / f"create-{number}"
+        folder.mkdir()
+        command = [worldd, "create", "--dir", folder, "--cells", "2"]
+        run = refuser.run(command, number)
+        if not (is_fault(run) if run.printed != "created 2\n" else run.status == 0):
+            raise Wrong(f"create ended with status {run.status} and `{run.told}`")
+        if is_fault(run):
+            subprocess.run(command, check=True, capture_output=True)
+        if told_of(worldd, folder)[-2:] != ["recovered 0 from 0 in image.a", "0 0"]:
+            raise Wrong(f"create left `{told_of(worldd, folder)}` in {folder}")
+        if not run.was_refused:
+            return number - 1
+    raise AssertionError
+
+
+def try_reading(worldd: str, refuser: Refuser, folder: pathlib.Path, command: str, *flags: str) -> int:
+    """Reads a folder, and must leave it as it is."""
+    words = [worldd, command, "--dir", folder, *flags]
+    whole, before = refuser.run(words, 0).printed, told_of(worldd, folder)
+    refused = 0
+    for run in refuser.runs(words):
+        told = zip(run.printed.splitlines(), whole.splitlines())
+        is_front = all(line == right or line.endswith(UNREADABLE) for line, right in told)
+        if not (is_fault(run) and is_front) and (run.status, run.printed) != (0, whole):
+            raise Wrong(f"{command} ended with status {run.status}, `{run.printed}` and `{run.told}`")
+        refused += is_fault(run)
+    if told_of(worldd, folder) != before or not refused:
+        raise Wrong(f"{command} was refused {refused} times, and left `{told_of(worldd, folder)}`")
+    return refused
+
+
+# A server.
+
+
+class World:
+    """The model of a served world: its words by tick, and the batch that may have been run unanswered."""
+
+    def __init__(self, line: str, words: list[int]) -> None:
+        self.tick, self.words = int(line.split(" ")[1]), words
+        self.unanswered: Batch | None = None
+
+    def run(self, batch: Batch) -> str:
+        """Runs a batch, and gives its answer."""
+        self.tick += 1
+        return answer(self.words, batch, self.tick)
+
+    def take(self, batch: Batch, line: str) -> None:
+        """Holds the answer of a batch to the model: one that was sent before, unanswered, may have been run."""
+        if line.startswith(f"tick {self.tick + 2}:"):
+            self.run(batch)
+        self.unanswered = None
+        wanted = self.run(batch)
+        if line != wanted:
+            raise Wrong(f"a batch was answered `{line}` in the place of `{wanted}`")
+
+    def judge(self, told: list[str]) -> None:
+        """Holds what stands in the files to the model."""
+        if self.unanswered and told[-2].startswith(f"recovered {self.tick + 1} "):
+            self.run(self.unanswered)
+        line, words = told[-2:]
+        if not line.startswith(f"recovered {self.tick} ") or words != " ".join(map(str, self.words)):
+            raise Wrong(f"`{line}` and `{words}` stand after tick {self.tick}, whose words are {self.words}")
+
+
+def play(port: int, world: World, batches: collections.deque[Batch], seen: collections.Counter[str]) -> None:
+    """Sends what is left of the batches, until all are sent or the connection is closed."""
+    with socket.create_connection(("127.0.0.1", port), PATIENCE_SECONDS) as stream:
+        reader = stream.makefile(encoding="ascii")
+        while batches:
+            world.unanswered = batches[0]
+            stream.sendall(text_of(batches[0]))
+            line = reader.readline().removesuffix("\n")
+            if not line:
+                raise ConnectionError
+            if line == FAULT:
+                seen["batches refused"] += 1
+                world.unanswered = None
+            else:
+                world.take(batches[0], line)
+            batches.popleft()
+
+
+def play_all(port: int, world: World, seen: collections.Counter[str]) -> bool:
+    """Plays by one connection after another, as many as the server takes, and tells whether all batches were sent."""
+    batches = collections.deque(BATCHES)
+    for _ in range(CLIENTS):
+        try:
+            play(port, world, batches, seen)
+        except ConnectionError:
+            seen["connections closed"] += 1
+    return not batches
+
+
+def try_server(
+    worldd: str, refuser: Refuser, folder: pathlib.Path, method: str, number: int, seen: collections.Counter[str]
+) -> bool:
+    """Serves a folder while an allocation is refused, and tells whether one was."""
+    before = told_of(worldd, folder)
+    world = World(before[-2], [int(word) for word in before[-1].split(" ")])
+    flags = ["--method", method, "--every", str(EVERY), "--port", "0", "--clients", str(CLIENTS)]
+    errors = folder.with_suffix(".errors")
+    with errors.open("w") as file:
+        command = [worldd, "serve", "--dir", folder, *flags]
+        process, reader = refuser.start(command, number, stdin=QUIET, stderr=file)
+    lines = [process.stdout.readline(), process.stdout.readline()]
+    is_whole = lines[1].startswith("listening ") and play_all(int(lines[1].split(" ")[1]), world, seen)
+    last, _ = process.communicate(timeout=PATIENCE_SECONDS)
+    run = Run(process.returncode, last, errors.read_text(), was_told(reader))
+    world.judge(told_of(worldd, folder))
+    if is_fault(run):
+        seen["ended by the fault"] += 1
+    elif (run.status, last) == (0, f"stopped tick {world.tick} acked {world.tick}\n") and is_whole:
+        seen["served to its end"] += 1
+    else:
+        raise Wrong(f"serve ended with status {run.status}, `{lines}`, `{last}` and `{run.told}`")
+    return run.was_refused
+
+
+def try_serving(worldd: str, refuser: Refuser, room: pathlib.Path, method: str) -> collections.Counter[str]:
+    """Serves a world again and again."""
+    seen: collections.Counter[str] = collections.Counter()
+    for number in itertools.count(1):
+        folder = room / f"serve-{method}-{number}"
+        shutil.copytree(room / "create-1", folder)
+        if not try_server(worldd, refuser, folder, method, number, seen):
+            require(seen, "connections closed", "batches refused", "served to its end", "ended by the fault")
+            return seen
+        shutil.rmtree(folder)
+    raise AssertionError
+
+
+def line_of(kinds: collections.Counter[str]) -> str:
+    """What was seen, and how often."""
+    return ", ".join(f"{count} {kind}" for kind, count in sorted(kinds.items()))
+
+
+def main() -> int:
+    """Runs the trial, and keeps the files where it fails."""
+    parser = argparse.ArgumentParser(description=__doc__.splitlines()[0])
+    parser.add_argument("worldd", type=os.path.abspath, help="the built program")
+    given = parser.parse_args()
+    room = pathlib.Path(tempfile.mkdtemp(prefix="memory-trial-"))
+    try:
+        refuser = Refuser(room)
+        calls = try_calls(refuser)
+        print(f"{len(calls)} calls refused {calls.total()} times, and answered then: {line_of(calls)}")
+        for store in STORES:
+            print(f"steps over {store}: {line_of(try_script(given.worldd, refuser, store))}")
+        print(f"create: refused {try_create(given.worldd, refuser, room)} times, and made once there was memory")
+        for command, *flags in (("recover",), ("inspect", "--words")):
+            print(f"{command}: refused {try_reading(given.worldd, refuser, room / 'create-1', command, *flags)} times")
+        for method in METHODS:
+            print(f"serve by {method}: {line_of(try_serving(given.worldd, refuser, room, method))}")
+    except (Wrong, OSError, subprocess.SubprocessError) as wrong:
+        print(f"memory_trial: {wrong}\nmemory_trial: files in {room}", file=sys.stderr)
+        return 1
+    shutil.rmtree(room)
+    return 0
+
+
+if __name__ == "__main__":
+    sys.exit(main())
