@@ -1,5 +1,5 @@
-use crate::told::Told;
 use crate::wrong::{Rule, Wrong, expect, hold};
+use core_rows::Told;
 use world_core::Fate;
 
 /// A round that is open.

@@ -1,4 +1,4 @@
-use crate::told::Told;
+use core_rows::Told;
 use world_actions::Refusal;
 
 /// The kinds of answers that can come. NoMemory would need a growth that is refused, and TicksEnded as

@@ -3,7 +3,6 @@
 //! each answer came, and fails where one was wrong, or where one that can come did not.
 #![tactic(auto)]
 
-mod asked;
 mod image_model;
 mod kind;
 mod log_model;
@@ -12,9 +11,6 @@ mod player;
 mod spoiling;
 mod stretches;
 mod tally;
-#[cfg(test)]
-mod tests;
-mod told;
 mod trial;
 mod weights;
 mod words;

@@ -1,9 +1,8 @@
-use crate::asked::Asked;
 use crate::image_model::ImageModel;
 use crate::log_model::LogModel;
-use crate::told::Told;
 use crate::words::Words;
 use crate::wrong::{Rule, Wrong, expect, hold};
+use core_rows::{Asked, Told};
 use std::alloc::Global;
 use world_actions::Refusal;
 

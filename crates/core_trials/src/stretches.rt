@@ -1,11 +1,10 @@
 ghost use Rattle.std.specs.Prelude.{◌≤◌};
 ghost use Rattle.world_actions.specs.declared.world.TheConstants.{CELLS};
 
-use crate::asked::Asked;
 use crate::tally::Tally;
-use crate::told::Told;
 use crate::trial::{Stop, Trial};
 use capture_core::Capture;
+use core_rows::{Asked, Told};
 use std::alloc::Global;
 use trial_kit::Random;
 use world_actions::Action;

@@ -1,5 +1,5 @@
 use crate::kind::{KINDS, kind_of};
-use crate::told::Told;
+use core_rows::Told;
 use trial_kit::Counts;
 
 /// How many moves were made, and how often each kind of answer came.

@@ -1,13 +1,12 @@
 ghost use Rattle.std.specs.Prelude.{◌≤◌};
 ghost use Rattle.world_actions.specs.declared.world.TheConstants.{CELLS};
 
-use crate::asked::Asked;
 use crate::model::PlainModel;
 use crate::spoiling::spoil;
 use crate::tally::Tally;
-use crate::told::Told;
 use crate::wrong::Wrong;
 use capture_core::Capture;
+use core_rows::{Asked, Told};
 use std::alloc::Global;
 use trial_kit::{Random, left_by};
 use world_actions::Refusal;

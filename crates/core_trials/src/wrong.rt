@@ -1,4 +1,4 @@
-use crate::told::Told;
+use core_rows::Told;
 use std::alloc::{AllocError, AllocFailed};
 use world_actions::Refusal;
 

@@ -16,8 +16,6 @@ mod parts;
 mod round;
 mod served;
 mod serving;
-#[cfg(test)]
-mod tests;
 
 pub use fresh::fresh_files;
 pub use laws::served_worlds_are_safe;

@@ -11,8 +11,6 @@ mod opening;
 mod remote;
 mod serving;
 mod session;
-#[cfg(test)]
-mod tests;
 
 pub use accept::{Accepted, accept_sessions};
 pub use door::{Door, Unserved};

@@ -1,5 +1,5 @@
-//! Tests of workers that run in threads, in files of a model: a round that is open while ticks are answered, and each
-//! call of a file failing in turn.
+//! Tests of sessions over a port, and of workers that run in threads, in files of a model: a round that is open while
+//! ticks are answered, and each call of a file failing in turn.
 #![tactic(auto)]
 
 #[cfg(test)]
@@ -10,5 +10,7 @@ mod held;
 mod rounds;
 #[cfg(test)]
 mod serial;
+#[cfg(test)]
+mod tcp;
 #[cfg(test)]
 mod worlds;

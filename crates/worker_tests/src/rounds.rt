@@ -88,9 +88,23 @@ fn try_open_round<M: Seats + Send + 'static, R: Threads + Wait + Abort + Copy + 
     let (workers, requests) = begin::<M, R>(rt, alloc, answered.clone()?, to)?;
     let page = play_held(rt, alloc, requests, &answered, &heard);
     let ends = stop(rt, workers);
-    check_ends(rt, alloc, &ends)?;
-    check_heard(rt, &heard);
-    assert_eq!(rt; page?.as_slice(), ANSWERS);
+    check_round(rt, alloc, &ends, &heard, &page)
+}
+
+// What is left, told and answered once the rounds are over.
+fn check_round<M: Method>(
+    rt: &(impl Wait + Abort),
+    alloc: Global,
+    ends: &Ends<M, ModelFile, Held>,
+    heard: &Receiver<Told>,
+    page: &Result<Vec<u8>, Refusal>,
+) -> Result<(), Fail> {
+    check_ends(rt, alloc, ends)?;
+    check_heard(rt, heard);
+    match page {
+        Ok(page) => assert_eq!(rt; page.as_slice(), ANSWERS),
+        Err(refusal) => panic!(rt; "no page: {refusal}"),
+    }
     Ok(())
 }
 

@@ -94,10 +94,21 @@ fn is_stuck<M: Method>(
 fn try_serial_round<M: Seats>(rt: &(impl Wait + Abort), alloc: Global) -> Result<(), Fail> {
     let answered = Arc::new(alloc, AtomicU64::new(0))?;
     let mut world = begin::<M>(rt, alloc, answered.clone()?)?;
-    answer(rt, alloc, &mut world, b"tick 1: + =1\n")?;
+    play_round(rt, alloc, &mut world, &answered)
+}
+
+fn play_round<M: Method>(
+    rt: &(impl Wait + Abort),
+    alloc: Global,
+    world: &mut Serial<M>,
+    answered: &AtomicU64,
+) -> Result<(), Fail>
+    requires { IsAtRest world.old.log_writer }
+{
+    answer(rt, alloc, world, b"tick 1: + =1\n")?;
     answered.fetch_add(1, Ordering::SeqCst);
     is_stuck(rt, &mut world.checkpointer);
-    answer(rt, alloc, &mut world, b"tick 2: + =2\n")?;
+    answer(rt, alloc, world, b"tick 2: + =2\n")?;
     let (images, log) = (world.checkpointer.images(), world.log_writer.log());
     assert_eq!(rt; stands_in(alloc, images, log)?, (2, 0, 2));
     Ok(())

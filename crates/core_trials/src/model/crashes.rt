@@ -1,8 +1,8 @@
 use crate::image_model::ImageModel;
 use crate::log_model::LogModel;
 use crate::model::PlainModel;
-use crate::told::Told;
 use crate::wrong::{Rule, Wrong, hold};
+use core_rows::Told;
 
 impl PlainModel {
     pub fn follow_crash(&mut self, given: Told) -> Result<(), Wrong> {

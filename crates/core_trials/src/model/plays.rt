@@ -1,6 +1,6 @@
 use crate::model::PlainModel;
-use crate::told::Told;
 use crate::wrong::{Wrong, expect};
+use core_rows::Told;
 use world_actions::{Action, Refusal};
 
 /// The most actions of a tick.

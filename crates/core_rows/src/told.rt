@@ -1,3 +1,6 @@
+ghost use Rattle.std.specs.Prelude.{◌≡◌};
+ghost use Rattle.core_rows.specs.Plain.{told_of};
+
 use action_log::LogAnswer;
 use image_files::ImageAnswer;
 use world_actions::Refusal;
@@ -40,7 +43,9 @@ pub enum Told {
 
 impl Told {
     /// What an answer tells.
-    pub fn of(given: Answer) -> Self {
+    pub fn of(given: Answer) -> Self
+        ensures { result ≡ told_of given }
+    {
         match given {
             Answer::Did => Told::Did,
             Answer::Word(word) => Told::Word(word),
@@ -54,7 +59,9 @@ impl Told {
         }
     }
 
-    fn of_image(given: ImageAnswer) -> Self {
+    fn of_image(given: ImageAnswer) -> Self
+        ensures { result ≡ told_of (Answer.Image given) }
+    {
         match given {
             ImageAnswer::Idle => Told::ImageIdle,
             ImageAnswer::Working => Told::ImageWorking,
@@ -63,7 +70,9 @@ impl Told {
         }
     }
 
-    fn of_log(given: LogAnswer) -> Self {
+    fn of_log(given: LogAnswer) -> Self
+        ensures { result ≡ told_of (Answer.Log given) }
+    {
         match given {
             LogAnswer::Idle => Told::LogIdle,
             LogAnswer::Working => Told::LogWorking,

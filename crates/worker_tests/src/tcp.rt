@@ -1,4 +1,4 @@
-use crate::{Accepted, Door, Remote, Unserved, accept_sessions};
+use tcp_service::{Accepted, Door, Remote, Unserved, accept_sessions};
 use crossbeam_channel::{Receiver, unbounded};
 use line_service::serve_lines;
 use sessions::Request;

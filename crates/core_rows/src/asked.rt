@@ -1,3 +1,6 @@
+ghost use Rattle.std.specs.Prelude.{◌≡◌};
+ghost use Rattle.core_rows.specs.Plain.{move_of};
+
 use world_actions::Action;
 use world_core::{Fate, Move};
 
@@ -24,7 +27,9 @@ pub enum Asked {
 
 impl Asked {
     /// As the core takes it, where it is no crash.
-    pub fn as_move(self) -> Option<Move> {
+    pub fn as_move(self) -> Option<Move>
+        ensures { result ≡ move_of self }
+    {
         match self {
             Asked::Act(action) => Some(Move::Act(action)),
             Asked::Get(cell) => Some(Move::Get(cell)),

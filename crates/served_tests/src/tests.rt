@@ -1,12 +1,12 @@
 ghost use Rattle.std.specs.Prelude.{◌≤◌};
 ghost use Rattle.world_actions.specs.declared.world.TheConstants.{CELLS};
 
-use crate::{Served, fresh_files};
 use capture_core::{Capture, PlainCopy};
 use disk_model::{Disk, FourFiles, ModelFile};
 use line_service::serve_lines;
 use ping_pong::PingPong;
 use recovery::{Recovered, recover};
+use served::{Parts, Served, fresh_files};
 use std::alloc::Global;
 use std::io::{self, Read};
 use std::process::Abort;
@@ -245,32 +245,33 @@ fn ends_no_tick_after_the_last_one(rt: HostRuntime) -> Result<(), Fail> {
     Ok(())
 }
 
+// A world in these files, of which this stands, is played up to this acknowledged tick.
+fn play_in<C: Capture>(
+    rt: &impl Abort,
+    alloc: Global,
+    files: FourFiles<ModelFile>,
+    stands: (u64, u64),
+    input: &[u8],
+    text: &[u8],
+    acked: u64,
+) -> Result<FourFiles<ModelFile>, Refusal> {
+    let mut served = open::<C>(alloc, files, 64)?;
+    assert_eq!(rt; (served.recovered(), served.acked()), (stands, stands.0));
+    answers(rt, alloc, &mut served, input, text);
+    assert_eq!(rt; (served.recovered(), served.acked()), (stands, acked));
+    Ok(served.into_files())
+}
+
 #[test]
 fn opens_again(rt: HostRuntime) -> Result<(), Fail> {
     let alloc = rt.alloc();
-    let mut served = open::<PlainCopy>(alloc, fresh(alloc, 1)?, 64)?;
-    assert_eq!(rt; (served.recovered(), served.acked()), ((0, 0), 0));
-    answers(
-        &rt,
-        alloc,
-        &mut served,
-        SET_TWICE,
-        b"tick 1: +\ntick 2: +\n",
-    );
-    assert_eq!(rt; (served.recovered(), served.acked()), ((0, 0), 2));
-    let mut served = open::<Zigzag>(alloc, served.into_files(), 64)?;
-    assert_eq!(rt; (served.recovered(), served.acked()), ((2, 0), 2));
-    answers(
-        &rt,
-        alloc,
-        &mut served,
-        b"get 0\nset 0 7\nend\n",
-        b"tick 3: =6 +\n",
-    );
-    assert_eq!(rt; (served.recovered(), served.acked()), ((2, 0), 3));
-    let mut served = open::<PingPong>(alloc, served.into_files(), 64)?;
-    assert_eq!(rt; (served.recovered(), served.acked()), ((3, 2), 3));
-    answers(&rt, alloc, &mut served, b"get 0\nend\n", b"tick 4: =7\n");
+    let files = fresh(alloc, 1)?;
+    let text = b"tick 1: +\ntick 2: +\n";
+    let files = play_in::<PlainCopy>(&rt, alloc, files, (0, 0), SET_TWICE, text, 2)?;
+    let (input, text) = (b"get 0\nset 0 7\nend\n", b"tick 3: =6 +\n");
+    let files = play_in::<Zigzag>(&rt, alloc, files, (2, 0), input, text, 3)?;
+    let (input, text) = (b"get 0\nend\n", b"tick 4: =7\n");
+    play_in::<PingPong>(&rt, alloc, files, (3, 2), input, text, 4)?;
     Ok(())
 }
 
@@ -284,6 +285,11 @@ fn try_parts<C: Capture>(rt: &impl Abort, alloc: Global) -> Result<(), Fail> {
         b"tick 1: +\ntick 2: +\ntick 3: +\n",
     );
     let parts = told(served.into_parts())?;
+    check_parts(rt, alloc, &parts)
+}
+
+// The parts of a world after its third tick, the second of which was marked.
+fn check_parts(rt: &impl Abort, alloc: Global, parts: &Parts<ModelFile>) -> Result<(), Fail> {
     assert_eq!(rt; parts.words.as_slice(), [7, 6].as_slice());
     assert_eq!(rt; (parts.ended, parts.since), (3, 1));
     let found = durable(alloc, &parts.files)?;

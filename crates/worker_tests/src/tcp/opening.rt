@@ -1,4 +1,4 @@
-use crate::{Seats, open_world};
+use tcp_service::{Seats, open_world};
 use capture_core::PlainCopy;
 use disk_model::{FourFiles, ModelFile};
 use line_service::serve_lines;

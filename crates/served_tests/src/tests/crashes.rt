@@ -1,11 +1,11 @@
 ghost use Rattle.std.specs.Prelude.{◌≤◌};
 
 use super::{NONE, bytes_of, fresh, serve};
-use crate::{Served, fresh_files};
 use capture_core::{Capture, PlainCopy};
 use disk_model::{Disk, FourFiles, Fused, Leaving, ModelFile};
 use ping_pong::PingPong;
 use recovery::{Recovered, recover};
+use served::{Served, fresh_files};
 use std::alloc::Global;
 use std::process::Abort;
 use std::test::Fail;

@@ -1,8 +1,8 @@
 use super::{BATCH, NONE, SET_TWICE, serve, told};
-use crate::{Served, fresh_files};
 use capture_core::Capture;
 use disk_model::{FileDisk, FourFiles};
 use ping_pong::PingPong;
+use served::{Served, fresh_files};
 use std::alloc::Global;
 use std::fs::OpenOptions;
 use std::path::PathBuf;

@@ -1,0 +1,12 @@
+//! Moves and answers of the core as plain values, which can be compared and kept, and rows of them that each store
+//! has to give.
+#![tactic(auto)]
+
+mod asked;
+mod told;
+
+pub use asked::Asked;
+pub use told::Told;
+
+#[cfg(test)]
+mod tests;
