@@ -1,12 +1,12 @@
 use crate::fixed::Step;
 use crate::run::Run;
 use crate::stops::KINDS;
-use crate::tally::Tally;
 use action_log::LogAnswer;
 use capture_core::Capture;
 use disk_model::Leaving;
 use image_files::ImageAnswer;
 use std::alloc::Global;
+use trial_tallies::StopTally;
 use world_actions::Refusal;
 use world_core::{Answer, Fate};
 
@@ -20,7 +20,7 @@ const LAST: u64 = 3;
 pub fn try_failures<C: Capture>(
     alloc: Global,
     steps: &[Step],
-    tally: &mut Tally,
+    tally: &mut StopTally,
 ) -> Result<(), Refusal> {
     for at in 0..steps.len() {
         for leaving in KINDS {
@@ -36,7 +36,7 @@ fn try_failure<C: Capture>(
     steps: &[Step],
     at: usize,
     leaving: Leaving,
-    tally: &mut Tally,
+    tally: &mut StopTally,
 ) -> Result<(), Refusal> {
     let (before, rest) = steps.split_at(at.min(steps.len()));
     let Some((step, after)) = rest.split_first() else {
@@ -44,15 +44,26 @@ fn try_failure<C: Capture>(
     };
     let mut run = Run::<C>::started(alloc)?;
     run.follow(before);
-    match run.step(*step, Fate::Failed) {
+    let given = run.step(*step, Fate::Failed);
+    judge_failure(&mut run, given, after, leaving, tally)
+}
+
+fn judge_failure<C: Capture>(
+    run: &mut Run<C>,
+    given: Answer,
+    after: &[Step],
+    leaving: Leaving,
+    tally: &mut StopTally,
+) -> Result<(), Refusal> {
+    match given {
         Answer::Image(ImageAnswer::Down) => {
-            fail_images(&mut run, after, tally);
+            fail_images(run, after, tally);
             let stands = run.crash(leaving)?;
             tally.judge(leaving != Leaving::Lose || stands == Some(LAST));
             tally.crash(stands);
         }
         Answer::Log(LogAnswer::Down) => {
-            fail_log(&mut run, after, tally);
+            fail_log(run, after, tally);
             tally.crash(run.crash(leaving)?);
         }
         _ => {}
@@ -61,7 +72,7 @@ fn try_failure<C: Capture>(
 }
 
 // The images are down: play goes on, no round is opened, and the log writes all.
-fn fail_images<C: Capture>(run: &mut Run<C>, after: &[Step], tally: &mut Tally) {
+fn fail_images<C: Capture>(run: &mut Run<C>, after: &[Step], tally: &mut StopTally) {
     tally.images_failed();
     for step in after {
         let given = run.step(*step, Fate::Done);
@@ -82,7 +93,7 @@ fn fail_images<C: Capture>(run: &mut Run<C>, after: &[Step], tally: &mut Tally) 
 }
 
 // The log is down: no tick ends any more.
-fn fail_log<C: Capture>(run: &mut Run<C>, after: &[Step], tally: &mut Tally) {
+fn fail_log<C: Capture>(run: &mut Run<C>, after: &[Step], tally: &mut StopTally) {
     tally.log_failed();
     for step in after {
         let given = run.step(*step, Fate::Done);

@@ -58,11 +58,16 @@ const MOVES: u32 = 100;
 
 /// The moves of the run, and how many of the keepers' either part has.
 pub fn fixed_run<C: Capture>(alloc: Global) -> Result<(Vec<Step>, Shape), Refusal> {
-    let mut run = Run::<C>::started(alloc)?;
     let mut steps = Vec::new(alloc);
-    let first = add_part(&mut run, &FIRST, &mut steps)?;
-    let second = add_part(&mut run, &SECOND, &mut steps)?;
-    Ok((steps, Shape { first, second }))
+    let mut run = Run::<C>::started(alloc)?;
+    let shape = add_parts(&mut run, &mut steps)?;
+    Ok((steps, shape))
+}
+
+fn add_parts<C: Capture>(run: &mut Run<C>, steps: &mut Vec<Step>) -> Result<Shape, Refusal> {
+    let first = add_part(run, &FIRST, steps)?;
+    let second = add_part(run, &SECOND, steps)?;
+    Ok(Shape { first, second })
 }
 
 // Moves, and then those of images and log in turn, each keeper's left out once it has nothing to do.

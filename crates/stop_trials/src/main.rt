@@ -8,7 +8,6 @@ mod failures;
 mod fixed;
 mod run;
 mod stops;
-mod tally;
 
 use capture_core::Capture;
 use failures::try_failures;
@@ -19,8 +18,8 @@ use std::alloc::Global;
 use std::io;
 use std::process::ExitCode;
 use stops::try_stops;
-use tally::Tally;
 use trial_kit::ended;
+use trial_tallies::StopTally;
 use world_actions::Refusal;
 use zigzag::Zigzag;
 
@@ -73,8 +72,8 @@ fn try_store<R: Print + AllocGlobal, C: Capture>(
     }
 }
 
-fn seen_of<C: Capture>(alloc: Global, shape: Shape) -> Result<Tally, Refusal> {
-    let mut tally = Tally::new();
+fn seen_of<C: Capture>(alloc: Global, shape: Shape) -> Result<StopTally, Refusal> {
+    let mut tally = StopTally::new();
     let (steps, found) = fixed_run::<C>(alloc)?;
     tally.judge(found == shape);
     try_stops::<C>(alloc, &steps, &mut tally)?;

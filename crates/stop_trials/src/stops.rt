@@ -1,9 +1,9 @@
 use crate::fixed::Step;
 use crate::run::Run;
-use crate::tally::Tally;
 use capture_core::Capture;
 use disk_model::Leaving;
 use std::alloc::Global;
+use trial_tallies::StopTally;
 use world_actions::Refusal;
 
 /// What a crash leaves of each file.
@@ -25,7 +25,7 @@ const MOVES: u32 = 100;
 pub fn try_stops<C: Capture>(
     alloc: Global,
     steps: &[Step],
-    tally: &mut Tally,
+    tally: &mut StopTally,
 ) -> Result<(), Refusal> {
     for count in 0..=steps.len() {
         let (made, _) = steps.split_at(count.min(steps.len()));
@@ -43,17 +43,27 @@ fn try_stop<C: Capture>(
     alloc: Global,
     made: &[Step],
     leaving: Leaving,
-    tally: &mut Tally,
+    tally: &mut StopTally,
 ) -> Result<(), Refusal> {
-    let mut run = Run::<C>::started(alloc)?;
-    run.follow(made);
-    tally.crash(run.crash(leaving)?);
-    for moves in 0..=run.start(MOVES) {
+    for moves in 0..=stopped_once::<C>(alloc, made, leaving, tally)? {
         for again in [leaving, OPENING] {
             tally.crash_in_start(stopped_again::<C>(alloc, made, [leaving, again], moves)?);
         }
     }
     Ok(())
+}
+
+// How many moves the start has after a crash behind these moves.
+fn stopped_once<C: Capture>(
+    alloc: Global,
+    made: &[Step],
+    leaving: Leaving,
+    tally: &mut StopTally,
+) -> Result<u32, Refusal> {
+    let mut run = Run::<C>::started(alloc)?;
+    run.follow(made);
+    tally.crash(run.crash(leaving)?);
+    Ok(run.start(MOVES))
 }
 
 // The tick that stands after two crashes, the second one after so many moves of the start.
@@ -63,9 +73,17 @@ fn stopped_again<C: Capture>(
     leaving: [Leaving; 2],
     moves: u32,
 ) -> Result<Option<u64>, Refusal> {
-    let [first, second] = leaving;
     let mut run = Run::<C>::started(alloc)?;
     run.follow(made);
+    stop_twice(&mut run, leaving, moves)
+}
+
+fn stop_twice<C: Capture>(
+    run: &mut Run<C>,
+    leaving: [Leaving; 2],
+    moves: u32,
+) -> Result<Option<u64>, Refusal> {
+    let [first, second] = leaving;
     run.crash(first)?;
     run.start(moves);
     run.crash(second)

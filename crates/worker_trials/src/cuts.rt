@@ -1,11 +1,11 @@
 use crate::replay::{Calls, Replay, cut, go_on};
-use crate::tally::Tally;
 use crate::ticks::Ticks;
 use disk_model::FourFiles;
 use image_files::Slot;
 use recovery::Recovered;
 use std::alloc::Global;
 use trial_kit::Random;
+use trial_tallies::CutTally;
 use world_actions::Refusal;
 
 /// Cuts the power at so many random moments up to the last one, in order, and looks at what stands then.
@@ -17,8 +17,8 @@ pub fn try_cuts(
     last: u64,
     cuts: u64,
     random: &mut Random,
-) -> Result<Tally, Refusal> {
-    let mut tally = Tally::new();
+) -> Result<CutTally, Refusal> {
+    let mut tally = CutTally::new();
     let part = last.checked_div(cuts).unwrap_or(0);
     for i in 0..cuts {
         let moment = part
@@ -37,7 +37,7 @@ pub fn try_cuts(
 }
 
 // Counts what stands after a power cut at this moment.
-fn judge(found: &Recovered, ticks: &Ticks, moment: u64, tally: &mut Tally) {
+fn judge(found: &Recovered, ticks: &Ticks, moment: u64, tally: &mut CutTally) {
     let answered = ticks.answered_before(moment);
     if found.tick < answered || !ticks.leads_to(found) {
         tally.wrong = tally.wrong.saturating_add(1);

@@ -8,11 +8,11 @@ use line_service::World;
 use recovery::recover;
 use served::fresh_files;
 use std::alloc::Global;
-use std::fmt;
 use std::sync::Wait;
 use std::thread::Threads;
 use tcp_service::{Remote, Seats, open_world};
-use worker_threads::{Ends, stop};
+use trial_tallies::{FAILING_FILES, FailureTally};
+use worker_threads::{Ends, Workers, stop};
 use workers::{Ask, Open};
 use world_actions::Refusal;
 
@@ -25,58 +25,15 @@ const EVERY: u32 = 2;
 /// More calls than a file has in a run.
 const CALLS: u64 = 1_000;
 
-/// The files, each of which fails.
-const FILES: u32 = 4;
-
-/// How often a call failed where the world was opened, of an image and of the log, in how many runs none did, and
-/// after how many an answered tick was lost or another world stood.
-#[derive(Clone, Copy, Debug, PartialEq, Eq)]
-pub struct Failures {
-    pub opening: u32,
-    pub images: u32,
-    pub log: u32,
-    pub none: u32,
-    pub wrong: u32,
-}
-
-impl Failures {
-    ghost use Rattle.std.specs.Prelude.{◌≡◌, ◌<◌, IsTrue};
-
-    /// Whether nothing was wrong, each file was tried to its end, and each kind came.
-    pub fn passes(&self) -> bool
-        ensures { IsTrue result → (self.now.wrong ≡ 0) × (self.now.none ≡ 4) × (0 < self.now.opening)
-            × (0 < self.now.images) × (0 < self.now.log) }
-    {
-        let each_came = self.opening > 0 && self.images > 0 && self.log > 0;
-        each_came && self.none == FILES && self.wrong == 0
-    }
-}
-
-impl fmt::Display for Failures {
-    fn fmt<W: fmt::Write>(&self, f: &mut fmt::Formatter<W>) -> fmt::Result {
-        write!(
-            f,
-            "{} calls failed in a start, {} of images and {} of the log under workers; {} wrong",
-            self.opening, self.images, self.log, self.wrong
-        )
-    }
-}
-
 type File = Fused<ModelFile>;
 
 /// Lets each call of each file fail in turn.
 pub fn fail_calls<R: Threads + Wait + Copy + Send + 'static, M: Seats + Send + 'static>(
     rt: &R,
     alloc: Global,
-) -> Result<Failures, Refusal> {
-    let mut failures = Failures {
-        opening: 0,
-        images: 0,
-        log: 0,
-        none: 0,
-        wrong: 0,
-    };
-    for file in 0..FILES {
+) -> Result<FailureTally, Refusal> {
+    let mut failures = FailureTally::new();
+    for file in 0..FAILING_FILES {
         for call in 1..CALLS {
             if !fail_call::<R, M>(rt, alloc, file, call, &mut failures)? {
                 failures.none = failures.none.saturating_add(1);
@@ -93,26 +50,38 @@ fn fail_call<R: Threads + Wait + Copy + Send + 'static, M: Seats + Send + 'stati
     alloc: Global,
     file: u32,
     call: u64,
-    failures: &mut Failures,
+    failures: &mut FailureTally,
 ) -> Result<bool, Refusal>
     requires { 1 ≤ call }
 {
     let files = failing_files(alloc, file, call)?;
-    let opened = match open_world::<M, File>(alloc, files) {
-        Ok((opened, _)) => opened,
+    match open_world::<M, File>(alloc, files) {
+        Ok((opened, _)) => {
+            let (workers, requests) = start_quiet(rt, alloc, opened, EVERY)?;
+            play(rt, alloc, workers, requests, failures)
+        }
         Err((files, _)) => {
             judge_opening(alloc, files, failures);
-            return Ok(true);
+            Ok(true)
         }
-    };
-    let (workers, requests) = start_quiet(rt, alloc, opened, EVERY)?;
+    }
+}
+
+// Plays, and tells whether a call had failed.
+fn play<R: Threads + Wait + Copy, M: Seats>(
+    rt: &R,
+    alloc: Global,
+    workers: Workers<M, File, Open>,
+    requests: Sender<Ask>,
+    failures: &mut FailureTally,
+) -> Result<bool, Refusal> {
     let answered = run_batches(rt, alloc, requests);
     let ends = stop(rt, workers);
-    Ok(judge_end(alloc, &ends, answered?, failures))
+    judge_end(alloc, &ends, answered, failures)
 }
 
 // Judges what stands where a call of the start failed.
-fn judge_opening(alloc: Global, files: FourFiles<File>, failures: &mut Failures) {
+fn judge_opening(alloc: Global, files: FourFiles<File>, failures: &mut FailureTally) {
     let stands = stands_in(
         alloc,
         [&files.image_a, &files.image_b, &files.log_a, &files.log_b],
@@ -125,16 +94,17 @@ fn judge_opening(alloc: Global, files: FourFiles<File>, failures: &mut Failures)
 fn judge_end<M: Seats>(
     alloc: Global,
     ends: &Ends<M, File, Open>,
-    answered: u64,
-    failures: &mut Failures,
-) -> bool {
+    answered: Result<u64, Refusal>,
+    failures: &mut FailureTally,
+) -> Result<bool, Refusal> {
+    let answered = answered?;
     let (images, log) = (ends.checkpointer.images(), ends.log_writer.log());
     let stands = stands_in(alloc, [&images.image_a, &images.image_b, &log.a, &log.b]);
     judge(stands, answered, ends.mutator.ended(), failures);
     let (images_down, log_down) = (ends.checkpointer.is_down(), ends.log_writer.is_down());
     failures.images = failures.images.saturating_add(u32::from(images_down));
     failures.log = failures.log.saturating_add(u32::from(log_down));
-    images_down || log_down
+    Ok(images_down || log_down)
 }
 
 // The files of a new world of one cell, of which one fails at its call of this number.
@@ -202,7 +172,7 @@ fn stands_in(alloc: Global, files: [&File; 4]) -> Option<(u64, u64)> {
 }
 
 // What stands has each answered tick, and none that didn't end; each added one.
-fn judge(stands: Option<(u64, u64)>, answered: u64, ended: u64, failures: &mut Failures) {
+fn judge(stands: Option<(u64, u64)>, answered: u64, ended: u64, failures: &mut FailureTally) {
     let is_right = match stands {
         Some((tick, word)) => answered <= tick && tick <= ended && word == tick,
         None => false,

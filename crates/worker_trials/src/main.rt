@@ -14,19 +14,18 @@ mod quiet;
 mod recorded;
 mod replay;
 mod serving;
-mod tally;
 mod ticks;
 
-use failing::{Failures, fail_calls};
+use failing::fail_calls;
 use power::{CUTS, cut_power};
 use shared_capture::{Pong, Zig};
 use std::fs::{File, Files};
 use std::process::ExitCode;
 use std::sync::Wait;
 use std::thread::Threads;
-use tally::Tally;
 use tcp_service::Seats;
 use trial_kit::ended;
+use trial_tallies::{CutTally, FailureTally};
 use world_actions::Refusal;
 use world_folder::create;
 
@@ -58,7 +57,7 @@ fn try_method<
     Ok(tell_failures(rt, method, failures)? && is_kept)
 }
 
-fn tell_cuts<R: Print + Eprint>(rt: &R, method: &str, tally: Tally) -> Result<bool, Refusal> {
+fn tell_cuts<R: Print + Eprint>(rt: &R, method: &str, tally: CutTally) -> Result<bool, Refusal> {
     let _ = eprintln!(rt; "{method}: {tally}");
     let passes = tally.passes(CUTS);
     println!(rt; "{method}: {CUTS} power cuts, {}", text_of(passes)).map_err(
@@ -70,7 +69,7 @@ fn tell_cuts<R: Print + Eprint>(rt: &R, method: &str, tally: Tally) -> Result<bo
 fn tell_failures<R: Print + Eprint>(
     rt: &R,
     method: &str,
-    failures: Failures,
+    failures: FailureTally,
 ) -> Result<bool, Refusal> {
     let _ = eprintln!(rt; "{method}: {failures}");
     let passes = failures.passes();

@@ -1,11 +1,10 @@
 use crate::cuts::try_cuts;
 use crate::player::Answered;
-use crate::recorded::keep_calls;
+use crate::recorded::{Clock, keep_calls};
 use crate::replay::{Calls, Replay};
 use crate::serving::{BATCHES, PLAYERS, Served, serve};
-use crate::tally::Tally;
 use crate::ticks::Ticks;
-use disk_model::FourFiles;
+use disk_model::{FileDisk, FourFiles};
 use recovery::{Recovered, recover};
 use std::alloc::Global;
 use std::fs::{File, Files};
@@ -14,6 +13,7 @@ use std::sync::{Arc, Wait};
 use std::thread::Threads;
 use tcp_service::Seats;
 use trial_kit::Random;
+use trial_tallies::CutTally;
 use world_actions::Refusal;
 use world_folder::open_existing;
 
@@ -24,17 +24,41 @@ pub const CUTS: u64 = 500;
 pub fn cut_power<
     R: Threads + Wait + Files<File = File> + AllocGlobal + Copy + Send + 'static,
     M: Seats + Send + 'static,
->(rt: &R, folder: &str, seed: u64) -> Result<Tally, Refusal> {
+>(rt: &R, folder: &str, seed: u64) -> Result<CutTally, Refusal> {
     let alloc = rt.alloc();
     let mut files = open_existing(rt, folder).map_err(|_: _| Refusal::Device)?;
+    let left = read_left(alloc, &mut files)?;
+    let clock = Arc::new(alloc, AtomicU64::new(1))?;
+    let served = play::<R, M>(rt, alloc, files, &clock)?;
+    let last = clock.load(Ordering::SeqCst);
+    cut_all(alloc, &served, left, last, seed)
+}
+
+/// What the files held before, and the world that stood in them.
+#[derive(Drop)]
+struct Left {
+    begun: Recovered,
+    files: FourFiles<Replay>,
+}
+
+fn read_left(alloc: Global, files: &mut FourFiles<FileDisk>) -> Result<Left, Refusal> {
     let bytes = files.read_all(alloc)?;
     let begun = stands_in(alloc, &bytes)?;
-    let copies = replays(alloc, bytes)?;
-    let clock = Arc::new(alloc, AtomicU64::new(1))?;
-    let files = keep_calls(alloc, files, &clock)?;
-    let served = serve::<R, M>(rt, alloc, files, &clock)?;
-    let last = clock.load(Ordering::SeqCst);
-    cut_all(alloc, &served, copies, begun, last, seed)
+    Ok(Left {
+        begun,
+        files: replays(alloc, bytes)?,
+    })
+}
+
+// Plays over these files, whose calls are kept.
+fn play<R: Threads + Wait + Copy + Send + 'static, M: Seats + Send + 'static>(
+    rt: &R,
+    alloc: Global,
+    files: FourFiles<FileDisk>,
+    clock: &Clock,
+) -> Result<Served<M>, Refusal> {
+    let files = keep_calls(alloc, files, clock)?;
+    serve::<R, M>(rt, alloc, files, clock)
 }
 
 // What stands in these files.
@@ -52,14 +76,14 @@ fn stands_in(alloc: Global, bytes: &FourFiles<Vec<u8>>) -> Result<Recovered, Ref
 fn cut_all<M: Seats>(
     alloc: Global,
     served: &Served<M>,
-    files: FourFiles<Replay>,
-    begun: Recovered,
+    left: Left,
     last: u64,
     seed: u64,
-) -> Result<Tally, Refusal> {
+) -> Result<CutTally, Refusal> {
     if !is_up(served) {
         return Err(Refusal::Device);
     }
+    let Left { begun, files } = left;
     let ticks = ticks_of(alloc, begun, &served.answers)?;
     look_at(alloc, served, files, &ticks, last, seed)
 }
@@ -87,7 +111,7 @@ fn look_at<M: Seats>(
     ticks: &Ticks,
     last: u64,
     seed: u64,
-) -> Result<Tally, Refusal> {
+) -> Result<CutTally, Refusal> {
     let calls = calls_of(served).ok_or(Refusal::NoMemory)?;
     let mut random = Random::new(seed);
     try_cuts(alloc, files, &calls, ticks, last, CUTS, &mut random)

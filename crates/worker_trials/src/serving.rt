@@ -7,7 +7,7 @@ use std::alloc::Global;
 use std::sync::Wait;
 use std::thread::{self, JoinHandle, Threads};
 use tcp_service::{Seats, open_world};
-use worker_threads::{Ends, stop};
+use worker_threads::{Ends, Workers, stop};
 use workers::{Ask, Open};
 use world_actions::Refusal;
 
@@ -29,18 +29,30 @@ pub struct Served<M: Seats> {
     pub answers: Vec<Vec<Answered>>,
 }
 
-/// Opens the world in these files for workers, lets the players play it, and waits until all are over.
+/// Opens the world in these files for workers, and lets the players play it.
 pub fn serve<R: Threads + Wait + Copy + Send + 'static, M: Seats + Send + 'static>(
     rt: &R,
     alloc: Global,
     files: FourFiles<Recorded>,
     clock: &Clock,
 ) -> Result<Served<M>, Refusal> {
-    let opened = match open_world::<M, Recorded>(alloc, files) {
-        Ok((opened, _)) => opened,
-        Err((_, refusal)) => return Err(refusal),
-    };
-    let (workers, requests) = start_quiet(rt, alloc, opened, EVERY)?;
+    match open_world::<M, Recorded>(alloc, files) {
+        Ok((opened, _)) => {
+            let (workers, requests) = start_quiet(rt, alloc, opened, EVERY)?;
+            let_play(rt, alloc, workers, requests, clock)
+        }
+        Err((_, refusal)) => Err(refusal),
+    }
+}
+
+// Lets the players play, and waits until all are over.
+fn let_play<R: Threads + Wait + Copy + Send + 'static, M: Seats>(
+    rt: &R,
+    alloc: Global,
+    workers: Workers<M, Recorded, Open>,
+    requests: Sender<Ask>,
+    clock: &Clock,
+) -> Result<Served<M>, Refusal> {
     let players = start_players(rt, alloc, requests, clock);
     let answers = join_players(rt, alloc, players);
     let ends = stop(rt, workers);

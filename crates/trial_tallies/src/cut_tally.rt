@@ -2,7 +2,7 @@ use std::fmt;
 
 /// What was seen of power cuts.
 #[derive(Clone, Copy, Debug, PartialEq, Eq)]
-pub struct Tally {
+pub struct CutTally {
     /// How many there were.
     pub cuts: u64,
     /// After how many more than one thing might have been left.
@@ -16,12 +16,12 @@ pub struct Tally {
     pub wrong: u64,
 }
 
-impl Tally {
+impl CutTally {
     ghost use Rattle.std.specs.Prelude.{◌≡◌, ◌<◌, ◌≤◌, IsTrue};
 
     /// Nothing was seen yet.
     pub fn new() -> Self {
-        Tally {
+        CutTally {
             cuts: 0,
             uncertain: 0,
             kept_more: 0,
@@ -44,7 +44,7 @@ impl Tally {
     }
 }
 
-impl fmt::Display for Tally {
+impl fmt::Display for CutTally {
     fn fmt<W: fmt::Write>(&self, f: &mut fmt::Formatter<W>) -> fmt::Result {
         write!(
             f,

@@ -4,29 +4,29 @@ use trial_kit::Counts;
 /// The ticks that may stand.
 const TICKS: usize = 4;
 
-/// What was tried and seen of a store.
+/// What was tried and seen of a run that is stopped.
 #[derive(Drop)]
-pub struct Tally {
-    // After how many numbers of moves the run was stopped.
-    stops: u64,
-    // How many crashes came, but for those in starts.
-    crashes: u64,
-    crashes_in_starts: u64,
-    images_failed: u64,
-    log_failed: u64,
-    // How often each tick stood.
-    stood: Counts<TICKS>,
-    // How many answers were judged, and how many of them were wrong.
-    judged: u64,
-    wrong: u64,
+pub struct StopTally {
+    /// After how many numbers of moves the run was stopped.
+    pub stops: u64,
+    /// How many crashes came, but for those in starts.
+    pub crashes: u64,
+    pub crashes_in_starts: u64,
+    pub images_failed: u64,
+    pub log_failed: u64,
+    /// How often each tick stood.
+    pub stood: Counts<TICKS>,
+    /// How many answers were judged, and how many of them were wrong.
+    pub judged: u64,
+    pub wrong: u64,
 }
 
-impl Tally {
+impl StopTally {
     ghost use Rattle.std.specs.Prelude.{◌≡◌, ◌<◌, IsTrue};
 
     /// Nothing was tried yet.
     pub fn new() -> Self {
-        Tally {
+        StopTally {
             stops: 0,
             crashes: 0,
             crashes_in_starts: 0,
@@ -94,7 +94,7 @@ impl Tally {
     }
 }
 
-impl fmt::Display for Tally {
+impl fmt::Display for StopTally {
     fn fmt<W: fmt::Write>(&self, f: &mut fmt::Formatter<W>) -> fmt::Result {
         write!(
             f,
