@@ -11,32 +11,20 @@
 ghost use Rattle.std.specs.Prelude.{◌≡◌, ◌≤◌, IfSome};
 ghost use Rattle.world_actions.specs.declared.world.TheConstants.{CELLS as world_cells};
 
+mod arguments;
 mod help;
-mod serve;
 mod service;
-mod watch;
 
-use clap::error::Error;
-use clap::{Arg, ArgAction, ArgMatches, Command, value_parser};
+use arguments::{CELLS, FOLDER, WORDS, matches_of};
+use clap::ArgMatches;
 use command_line::{NotRun, command_words, refused, unreadable};
-use help::{CREATE_HELP, INSPECT_HELP, RECOVER_HELP, STEPS_HELP};
-use serve::serve;
-use service::{serve_command, service_of};
-use std::alloc::Global;
+use service::service_of;
 use std::fs::{File, Files};
 use std::io;
 use steps::run_script;
 use world_actions::Refusal;
 use world_folder::{Ending, create, inspect, recover};
-
-/// The name of the argument for a folder.
-const FOLDER: &str = "dir";
-
-/// The name of the argument for a number of cells.
-const CELLS: &str = "cells";
-
-/// The name of the flag for words.
-const WORDS: &str = "words";
+use world_server::serve;
 
 fn main(rt: HostRuntime) -> Ending {
     let words = match command_words(&rt) {
@@ -61,57 +49,6 @@ fn answer<R: Input + Print + Eprint + Files<File = File> + AllocGlobal>(
         Ok(matches) => run(rt, &matches),
         Err(error) => not_run(refused(rt, &error)),
     }
-}
-
-// What the words ask for; the error has clap's text.
-fn matches_of<'a>(alloc: Global, words: &'a [String]) -> Result<ArgMatches<'a>, Error> {
-    let steps = Command::new(alloc, "steps")
-        .about("Runs the script on standard input, over a world in memory")
-        .after_help(STEPS_HELP);
-    let cells = Arg::new(alloc, CELLS)
-        .long(CELLS)
-        .value_name("N")
-        .required(true)
-        .value_parser(value_parser!(u32).range(1..=65_536))
-        .help("The number of cells");
-    let create = Command::new(alloc, "create")
-        .about("Makes the files of a new world in a folder")
-        .arg(folder_argument(alloc))?
-        .arg(cells)?
-        .after_help(CREATE_HELP);
-    let recover = Command::new(alloc, "recover")
-        .about("Tells which world stands in the files of a folder")
-        .arg(folder_argument(alloc))?
-        .after_help(RECOVER_HELP);
-    let words_too = Arg::new(alloc, WORDS)
-        .long(WORDS)
-        .action(ArgAction::SetTrue)
-        .help("Prints the words of the world too, on a line of their own");
-    let inspect = Command::new(alloc, "inspect")
-        .about("Tells what each file of a folder holds, and which world stands in them")
-        .arg(folder_argument(alloc))?
-        .arg(words_too)?
-        .after_help(INSPECT_HELP);
-    Command::new(alloc, "worldd")
-        .version("0.1.0")
-        .about("A main-memory world server with asynchronous checkpoints")
-        .subcommand_required(true)
-        .subcommand(steps)?
-        .subcommand(create)?
-        .subcommand(recover)?
-        .subcommand(inspect)?
-        .subcommand(serve_command(alloc)?)?
-        .try_get_matches_from(words)
-}
-
-// The argument that names a folder.
-fn folder_argument<'a>(alloc: Global) -> Arg<'a> {
-    Arg::new(alloc, FOLDER)
-        .long(FOLDER)
-        .value_name("FOLDER")
-        .required(true)
-        .action(ArgAction::Set)
-        .help("The folder of image.a, image.b, log.a and log.b")
 }
 
 fn run<R: Input + Print + Files<File = File> + AllocGlobal>(

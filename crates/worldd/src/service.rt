@@ -1,11 +1,12 @@
 ghost use Rattle.std.specs.Prelude.{◌≤◌, IfSome};
 
-use crate::folder_argument;
+use crate::arguments::{FOLDER, folder_argument};
 use crate::help::SERVE_HELP;
 use clap::error::Error;
 use clap::{Arg, ArgMatches, Command, value_parser};
 use shared_capture::Kind;
 use std::alloc::{AllocError, Global};
+use world_server::Service;
 
 /// The name of the command.
 pub const SERVE: &str = "serve";
@@ -19,53 +20,52 @@ const PORT: &str = "port";
 
 const CLIENTS: &str = "clients";
 
-/// What `serve` is asked to do.
-#[derive(Clone, Copy)]
-pub struct Service<'a> {
-    pub folder: &'a str,
-    pub method: Kind,
-    /// After how many ticks a round is due.
-    pub every: u32,
-    /// 0 lets the system choose.
-    pub port: u16,
-    /// After how many connections it stops.
-    pub clients: u32,
-}
-
 /// The command `serve`, with its arguments.
 pub fn serve_command<'a>(alloc: Global) -> Result<Command<'a>, AllocError> {
-    let method = Arg::new(alloc, METHOD)
-        .long(METHOD)
-        .value_name("METHOD")
-        .required(true)
-        .value_parser(["zigzag", "pingpong"].as_slice())
-        .help("How the words of a tick are captured while play goes on");
-    let every = Arg::new(alloc, EVERY)
-        .long(EVERY)
-        .value_name("E")
-        .default_value("64")
-        .value_parser(value_parser!(u32).range(1..=65_536))
-        .help("After how many ticks an image is due");
-    let port = Arg::new(alloc, PORT)
-        .long(PORT)
-        .value_name("P")
-        .required(true)
-        .value_parser(value_parser!(u16))
-        .help("The port on 127.0.0.1, 0 for one that the system chooses");
-    let clients = Arg::new(alloc, CLIENTS)
-        .long(CLIENTS)
-        .value_name("K")
-        .required(true)
-        .value_parser(value_parser!(u32).range(1..=100_000))
-        .help("After how many connections it accepts no more");
     Command::new(alloc, SERVE)
         .about("Serves the world in the files of a folder to clients of a port")
         .after_help(SERVE_HELP)
         .arg(folder_argument(alloc))?
-        .arg(method)?
-        .arg(every)?
-        .arg(port)?
-        .arg(clients)
+        .arg(method_argument(alloc))?
+        .arg(every_argument(alloc))?
+        .arg(port_argument(alloc))?
+        .arg(clients_argument(alloc))
+}
+
+fn method_argument<'a>(alloc: Global) -> Arg<'a> {
+    Arg::new(alloc, METHOD)
+        .long(METHOD)
+        .value_name("METHOD")
+        .required(true)
+        .value_parser(["zigzag", "pingpong"].as_slice())
+        .help("How the words of a tick are captured while play goes on")
+}
+
+fn every_argument<'a>(alloc: Global) -> Arg<'a> {
+    Arg::new(alloc, EVERY)
+        .long(EVERY)
+        .value_name("E")
+        .default_value("64")
+        .value_parser(value_parser!(u32).range(1..=65_536))
+        .help("After how many ticks an image is due")
+}
+
+fn port_argument<'a>(alloc: Global) -> Arg<'a> {
+    Arg::new(alloc, PORT)
+        .long(PORT)
+        .value_name("P")
+        .required(true)
+        .value_parser(value_parser!(u16))
+        .help("The port on 127.0.0.1, 0 for one that the system chooses")
+}
+
+fn clients_argument<'a>(alloc: Global) -> Arg<'a> {
+    Arg::new(alloc, CLIENTS)
+        .long(CLIENTS)
+        .value_name("K")
+        .required(true)
+        .value_parser(value_parser!(u32).range(1..=100_000))
+        .help("After how many connections it accepts no more")
 }
 
 /// What is asked for, where that is to serve.
@@ -75,7 +75,7 @@ pub fn service_of<'a>(matches: &ArgMatches<'a>) -> Option<Service<'a>> {
         return None;
     }
     Some(Service {
-        folder: given.get_str(crate::FOLDER)?,
+        folder: given.get_str(FOLDER)?,
         method: method_of(given.get_str(METHOD)?)?,
         every: given.get_one(EVERY)?,
         port: given.get_one(PORT)?,

@@ -1,4 +1,5 @@
-use super::{answer, matches_of, not_run};
+use super::{answer, not_run};
+use crate::arguments::matches_of;
 use clap::error::Error;
 use command_line::{refused, unreadable};
 use std::alloc::{AllocError, Allocator, Global};

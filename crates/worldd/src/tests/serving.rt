@@ -1,14 +1,14 @@
 use super::folders::{GARBAGE, NEW_IMAGE, NO_FILE, new_folder, put, put_all};
 use super::{Desk, words};
-use crate::matches_of;
-use crate::serve::serve;
-use crate::service::{Service, service_of};
+use crate::arguments::matches_of;
+use crate::service::service_of;
 use shared_capture::Kind;
 use std::fs::{self, OpenOptions};
 use std::path::PathBuf;
 use std::process::{Abort, ExitCode, Termination};
 use std::test::Fail;
 use world_folder::Ending;
+use world_server::{Service, serve};
 
 const METHODS: [Kind; 2] = [Kind::Zigzag, Kind::PingPong];
 

@@ -1,6 +1,7 @@
 ghost use Rattle.std.specs.Prelude.{◌≡◌, ◌≢◌, true, false, Some, None, Ok, IfErr};
 ghost use Rattle.image_files.specs.declared.phase.Phase.TheVariants.{Down};
 ghost use Rattle.world_folder.specs.Ending.{IsFault};
+ghost use Rattle.worker_threads.specs.Begun.{IsWhole};
 
 use crate::service::Service;
 use crate::watch::Lines;
@@ -11,8 +12,8 @@ use std::fs::{File, Files};
 use std::net::{Ipv4Addr, Net, SocketAddr, TcpListener, TcpStream};
 use std::sync::Wait;
 use std::thread::Threads;
-use tcp_service::{Seats, Stopped, open_world, serve_tcp};
-use worker_threads::Gates;
+use tcp_service::{Door, Seats, Stopped, open_world, serve_tcp};
+use worker_threads::{Gates, Opened, Watch};
 use workers::{Gate, Open};
 use world_actions::Refusal;
 use world_folder::{Ending, NoPort, failure_of, open_existing, stands_in};
@@ -63,9 +64,34 @@ fn serve_by<
         Ok(opened) => opened,
         Err((files, refusal)) => return Err(not_opened(alloc, service.folder, files, refusal)),
     };
-    println!(rt; "recovered {} from {from}", opened.ended)?;
-    let listener = listen(rt, service.port)?;
     let watch = Lines::new(*rt, service.folder)?;
+    serve_opened(rt, service, watch, opened, from)
+}
+
+// Serves a world that was opened from the image of this tick.
+fn serve_opened<
+    R: Threads
+        + Wait
+        + Net<Listener = TcpListener, Stream = TcpStream>
+        + Print
+        + AllocGlobal
+        + Copy
+        + Send
+        + 'static,
+    M: Method + Send + 'static,
+    D: Disk + Drop + Send + 'static,
+    W: Watch<D> + Door + Clone + Send + 'static,
+>(
+    rt: &R,
+    service: &Service<'_>,
+    watch: W,
+    opened: Opened<M, D>,
+    from: u64,
+) -> Result<Ending, Ending>
+    requires { IsWhole D.honest D.content opened.front opened.back opened.images opened.log opened.ended }
+    ensures { IfErr result IsFault }
+{
+    let listener = begin(rt, service.port, opened.ended, from)?;
     let gates = Gates {
         mutator: Open,
         checkpointer: Open,
@@ -73,7 +99,7 @@ fn serve_by<
     };
     let stopped = serve_tcp(
         rt,
-        alloc,
+        rt.alloc(),
         gates,
         watch,
         opened,
@@ -85,6 +111,19 @@ fn serve_by<
         Ok(stopped) => Ok(ending_of(&stopped, print_stopped(rt, &stopped))),
         Err(refusal) => Err(Ending::Fault(refusal)),
     }
+}
+
+// Tells what stood in the files, and listens.
+fn begin<R: Net<Listener = TcpListener, Stream = TcpStream> + Print>(
+    rt: &R,
+    port: u16,
+    ended: u64,
+    from: u64,
+) -> Result<TcpListener, Ending>
+    ensures { IfErr result IsFault }
+{
+    println!(rt; "recovered {ended} from {from}")?;
+    listen(rt, port)
 }
 
 // How the program ends where no world was opened: the file that is damaged or that failed is named.
