@@ -44,6 +44,14 @@ fn run<C: Capture>(
     requires { (1 ≤ cells) × (cells ≤ CELLS) }
 {
     let mut trial = ImageTrial::<C>::new(alloc, cells)?;
+    run_rounds(&mut trial, failing, tally)
+}
+
+fn run_rounds<C: Capture>(
+    trial: &mut ImageTrial<C>,
+    failing: Option<u32>,
+    tally: &mut Tally,
+) -> Result<u32, Refusal> {
     let mut steps = 0u32;
     for round in 1..=ROUNDS {
         trial.begin(round)?;

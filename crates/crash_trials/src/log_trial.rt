@@ -62,6 +62,14 @@ pub fn cost_of_group(alloc: Global, ticks: u64) -> Result<(usize, u32), Refusal>
 // Runs to the end or up to the step whose call fails, and counts the steps that made a call.
 fn run(alloc: Global, failing: Option<u32>, tally: &mut Tally) -> Result<u32, Refusal> {
     let mut trial = LogTrial::new(alloc, records(alloc)?)?;
+    run_steps(&mut trial, failing, tally)
+}
+
+fn run_steps(
+    trial: &mut LogTrial,
+    failing: Option<u32>,
+    tally: &mut Tally,
+) -> Result<u32, Refusal> {
     for step in 0..STEPS {
         if failing == Some(step.saturating_add(1)) {
             trial.fail(tally)?;

@@ -27,27 +27,36 @@ struct Counts {
 /// Tells of each store what its takes hand out, and how many bytes a cell needs: so many words, and so
 /// many marks, of which 64 stand in a word.
 pub fn tell_counts<R: Print + AllocGlobal>(rt: &R) -> Result<(), Error> {
-    let words = zeros(rt.alloc(), CELLS)?;
-    let mut plain_copy = PlainCopy::build(rt.alloc(), &words)?;
-    tell_store(rt, "plain copy", &mut plain_copy, 2, 0)?;
-    let mut zigzag = Zigzag::new(rt.alloc(), &words)?;
-    tell_store(rt, "zigzag", &mut zigzag, 2, 2)?;
-    let mut ping_pong = PingPong::new(rt.alloc(), &words)?;
-    tell_store(rt, "pingpong", &mut ping_pong, 3, 2)?;
-    let (front, back) = zigzag_pair(rt.alloc(), &words)?;
-    tell_store(rt, "shared zigzag", &mut Seats::new(front, back), 3, 5)?;
-    let (front, back) = ping_pong_pair(rt.alloc(), &words)?;
-    tell_store(rt, "shared pingpong", &mut Seats::new(front, back), 3, 3)
+    tell_owned(rt)?;
+    tell_shared(rt)
 }
 
-fn tell_store<R: Print, S: Store>(
+fn tell_owned<R: Print + AllocGlobal>(rt: &R) -> Result<(), Error> {
+    let words = zeros(rt.alloc(), CELLS)?;
+    let plain_copy = PlainCopy::build(rt.alloc(), &words)?;
+    tell_store(rt, "plain copy", plain_copy, 2, 0)?;
+    let zigzag = Zigzag::new(rt.alloc(), &words)?;
+    tell_store(rt, "zigzag", zigzag, 2, 2)?;
+    let ping_pong = PingPong::new(rt.alloc(), &words)?;
+    tell_store(rt, "pingpong", ping_pong, 3, 2)
+}
+
+fn tell_shared<R: Print + AllocGlobal>(rt: &R) -> Result<(), Error> {
+    let words = zeros(rt.alloc(), CELLS)?;
+    let (front, back) = zigzag_pair(rt.alloc(), &words)?;
+    tell_store(rt, "shared zigzag", Seats::new(front, back), 3, 5)?;
+    let (front, back) = ping_pong_pair(rt.alloc(), &words)?;
+    tell_store(rt, "shared pingpong", Seats::new(front, back), 3, 3)
+}
+
+fn tell_store<R: Print, S: Store + Drop>(
     rt: &R,
     name: &str,
-    store: &mut S,
+    mut store: S,
     words: u32,
     marks: u32,
 ) -> Result<(), Error> {
-    let counts = count_takes(store);
+    let counts = count_takes(&mut store);
     let takes = counts.words.saturating_add(counts.same);
     let eighths = words.saturating_mul(64).saturating_add(marks);
     println!(rt;

@@ -79,33 +79,36 @@ impl AllFigures {
         let words = zeros(alloc, CELLS)?;
         let mut vector = Words::new(zeros(alloc, CELLS)?);
         self.vector.time_cells(rt, &mut vector)?;
-        let mut plain_copy = PlainCopy::build(alloc, &words)?;
-        measure(rt, clock, &mut self.plain_copy, &mut plain_copy)?;
-        let mut zigzag = Zigzag::new(alloc, &words)?;
-        measure(rt, clock, &mut self.zigzag, &mut zigzag)?;
-        let mut ping_pong = PingPong::new(alloc, &words)?;
-        measure(rt, clock, &mut self.ping_pong, &mut ping_pong)
+        let plain_copy = PlainCopy::build(alloc, &words)?;
+        measure(rt, clock, &mut self.plain_copy, plain_copy)?;
+        let zigzag = Zigzag::new(alloc, &words)?;
+        measure(rt, clock, &mut self.zigzag, zigzag)?;
+        let ping_pong = PingPong::new(alloc, &words)?;
+        measure(rt, clock, &mut self.ping_pong, ping_pong)
     }
 
     fn measure_shared<R: Clock>(&mut self, rt: &R, alloc: Global, clock: u64) -> Result<(), Error> {
         let words = zeros(alloc, CELLS)?;
         let (front, back) = zigzag_pair(alloc, &words)?;
-        let mut seats = Seats::new(front, back);
-        measure(rt, clock, &mut self.shared_zigzag, &mut seats)?;
+        measure(rt, clock, &mut self.shared_zigzag, Seats::new(front, back))?;
         let (front, back) = ping_pong_pair(alloc, &words)?;
-        let mut seats = Seats::new(front, back);
-        measure(rt, clock, &mut self.shared_ping_pong, &mut seats)
+        measure(
+            rt,
+            clock,
+            &mut self.shared_ping_pong,
+            Seats::new(front, back),
+        )
     }
 }
 
-fn measure<R: Clock, S: Store>(
+fn measure<R: Clock, S: Store + Drop>(
     rt: &R,
     clock: u64,
     figures: &mut Figures,
-    store: &mut S,
+    mut store: S,
 ) -> Result<(), Error> {
-    figures.time_cells(rt, store)?;
-    figures.time_rounds(rt, clock, store)
+    figures.time_cells(rt, &mut store)?;
+    figures.time_rounds(rt, clock, &mut store)
 }
 
 /// Measures two threads at a pair of seats of the method Zigzag.

@@ -5,6 +5,7 @@
 mod opened;
 mod promises;
 mod running;
+mod signals;
 mod threads;
 mod watch;
 mod work;

@@ -8,18 +8,18 @@ ghost use Rattle.worker_threads.specs.Kept.{KeepsFront, KeepsBack, KeepsLog};
 
 use crate::opened::{Gates, Opened};
 use crate::promises::{SameCheckpointer, SameLogWriter, SameMutator};
+use crate::signals::Signals;
 use crate::watch::Watch;
 use crate::work::spawn;
 use action_log::Record;
 use circular_buffer::HeapCircularBuffer;
-use crossbeam_channel::{Receiver, Sender, bounded};
+use crossbeam_channel::{Receiver, Sender};
 use disk_model::Disk;
 use shared_capture::{Back, Front, Method};
 use std::alloc::{AllocError, Global};
 use std::marker::Model;
 use std::snapshot::Snapshot;
-use std::sync::atomic::AtomicBool;
-use std::sync::{Arc, Wait};
+use std::sync::Wait;
 use std::thread::{PromisedHandle, Threads};
 use workers::{
     Ask, Checkpointer, Gate, ItemReceiver, ItemSender, LogWriter, Mutator, Waiting, open,
@@ -55,6 +55,11 @@ pub struct Ends<M: Method, D: Disk + Drop, G: Gate + Drop> {
     ghost channel: { AreOneChannel log_writer.from.end mutator.to.end },
 }
 
+type Players<M, D, G> = (
+    PromisedHandle<Mutator<M, G>, SameMutator<M, G>>,
+    PromisedHandle<Checkpointer<M, D, G>, SameCheckpointer<M, D, G>>,
+);
+
 /// Starts the workers of a world, where a round is due after every `every` ticks. What is sent on the channel
 /// that is given back is run as batches. Refused, no thread is left running.
 pub fn start<
@@ -74,6 +79,8 @@ pub fn start<
     requires { IsWhole D.honest D.content opened.front opened.back opened.images opened.log opened.ended }
     ensures { IfOk result (λ made. IsBegun opened.front opened.back opened.images opened.log opened.ended every made.0) }
 {
+    let signals = Signals::new(alloc)?;
+    let (to, from) = open(rt, alloc, opened.ended)?;
     let Opened {
         front,
         back,
@@ -81,19 +88,22 @@ pub fn start<
         log,
         ended,
     } = opened;
-    let (asks, asked) = bounded(alloc, ASKS)?;
-    let (bell, rung) = bounded(alloc, 1)?;
-    let (to, from) = open(rt, alloc, ended)?;
-    let is_down = Arc::new(alloc, AtomicBool::new(false))?;
-    let told_down = is_down.clone()?;
     let Gates {
         mutator,
         checkpointer,
         log_writer,
     } = gates;
-    let log_writer = LogWriter::new(alloc, log_writer, from, log, is_down, ended)?;
-    let checkpointer = Checkpointer::new(checkpointer, back, images, rung);
+    let Signals {
+        asks,
+        asked,
+        bell,
+        rung,
+        is_down,
+        told_down,
+    } = signals;
     let mutator = Mutator::new(mutator, alloc, front, to, ended, every, bell, told_down);
+    let checkpointer = Checkpointer::new(checkpointer, back, images, rung);
+    let log_writer = LogWriter::new(alloc, log_writer, from, log, is_down, ended)?;
     let workers = start_threads(rt, watch, asked, mutator, checkpointer, log_writer)?;
     Ok((workers, asks))
 }
@@ -120,21 +130,44 @@ fn start_threads<
 {
     let watch_too = watch.clone()?;
     let log_writer = start_log_writer(rt, watch_too, log_writer)?;
-    let Ok(checkpointer) = start_checkpointer(rt, watch, checkpointer) else {
-        drop(mutator);
-        log_writer.join(rt);
-        return Err(AllocError);
-    };
-    let Ok(mutator) = start_mutator(rt, asked, mutator) else {
-        checkpointer.join(rt);
-        log_writer.join(rt);
-        return Err(AllocError);
-    };
-    Ok(Workers {
-        mutator,
-        checkpointer,
-        log_writer,
-    })
+    match start_players(rt, watch, asked, mutator, checkpointer) {
+        Ok((mutator, checkpointer)) => Ok(Workers {
+            mutator,
+            checkpointer,
+            log_writer,
+        }),
+        Err(error) => {
+            log_writer.join(rt);
+            Err(error)
+        }
+    }
+}
+
+// Starts the two that hold a seat.
+fn start_players<
+    R: Threads + Wait + Copy + Send + 'static,
+    M: Method + Send + 'static,
+    D: Disk + Drop + Send + 'static,
+    G: Gate + Drop + Send + 'static,
+    W: Watch<D> + Clone + Send + 'static,
+>(
+    rt: &R,
+    watch: W,
+    asked: Receiver<Ask>,
+    mutator: Mutator<M, G>,
+    checkpointer: Checkpointer<M, D, G>,
+) -> Result<Players<M, D, G>, AllocError>
+    ensures mutator { IfOk result (λ players. players.0.promise.0.value ≡ mutator) }
+    ensures checkpointer { IfOk result (λ players. players.1.promise.0.value ≡ checkpointer) }
+{
+    let checkpointer = start_checkpointer(rt, watch, checkpointer)?;
+    match start_mutator(rt, asked, mutator) {
+        Ok(mutator) => Ok((mutator, checkpointer)),
+        Err(error) => {
+            checkpointer.join(rt);
+            Err(error)
+        }
+    }
 }
 
 // What crosses threads may cross them.

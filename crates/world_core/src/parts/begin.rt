@@ -11,7 +11,7 @@ use crate::moves::{Answer, Remains};
 use crate::parts::{Parts, QUEUE_RECORDS};
 use capture_core::Capture;
 use circular_buffer::HeapCircularBuffer;
-use disk_model::{Fused, ModelFile};
+use disk_model::{FourFiles, Fused, ModelFile};
 use image_files::Slot;
 use recovery::{Recovered, recover};
 use restart::{has_round, images_of, log_of, store_of, zeros};
@@ -51,12 +51,12 @@ impl<C: Capture> Parts<C> {
         )?;
         let log = log_of(alloc, tick, &left.log_a, &left.log_b)?;
         let queue = HeapCircularBuffer::with_capacity(alloc, QUEUE_RECORDS)?;
-        let Remains {
+        let FourFiles {
             image_a,
             image_b,
             log_a,
             log_b,
-        } = left;
+        } = files_of(alloc, left)?;
         Ok(Parts {
             alloc,
             cells,
@@ -67,10 +67,10 @@ impl<C: Capture> Parts<C> {
             queue,
             images,
             log,
-            image_a: file_of(alloc, image_a)?,
-            image_b: file_of(alloc, image_b)?,
-            log_a: file_of(alloc, log_a)?,
-            log_b: file_of(alloc, log_b)?,
+            image_a,
+            image_b,
+            log_a,
+            log_b,
         })
     }
 
@@ -134,6 +134,30 @@ impl<C: Capture> Parts<C> {
             Err(refusal) => Err(refusal),
         }
     }
+}
+
+// Files of which these bytes are durable.
+fn files_of(alloc: Global, left: Remains) -> Result<FourFiles<Fused<ModelFile>>, Refusal>
+    ensures image_a { IfOk result (λ files. HasOnly left.image_a.items files.image_a) }
+    ensures image_b { IfOk result (λ files. HasOnly left.image_b.items files.image_b) }
+    ensures log_a { IfOk result (λ files. HasOnly left.log_a.items files.log_a) }
+    ensures log_b { IfOk result (λ files. HasOnly left.log_b.items files.log_b) }
+    ensures unarmed { IfOk result (λ files. (files.image_a.left ≡ None) × (files.image_b.left ≡ None)
+        × (files.log_a.left ≡ None) × (files.log_b.left ≡ None)) }
+    ensures memory { IfErr result (λ refusal. refusal ≡ Refusal.NoMemory) }
+{
+    let Remains {
+        image_a,
+        image_b,
+        log_a,
+        log_b,
+    } = left;
+    Ok(FourFiles {
+        image_a: file_of(alloc, image_a)?,
+        image_b: file_of(alloc, image_b)?,
+        log_a: file_of(alloc, log_a)?,
+        log_b: file_of(alloc, log_b)?,
+    })
 }
 
 // A file of which these bytes are durable.
