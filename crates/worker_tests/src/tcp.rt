@@ -1,4 +1,3 @@
-use tcp_service::{Accepted, Door, Remote, Unserved, accept_sessions};
 use crossbeam_channel::{Receiver, unbounded};
 use line_service::serve_lines;
 use sessions::Request;
@@ -8,6 +7,7 @@ use std::net::{Net, Shutdown, SocketAddr, TcpListener, TcpStream};
 use std::sync::Wait;
 use std::test::Fail;
 use std::thread;
+use tcp_service::{Accepted, Door, Remote, Unserved, accept_sessions};
 use workers::{Ask, Reply};
 use world_actions::Refusal;
 

@@ -13,7 +13,7 @@ use crate::watch::Watch;
 use crate::work::spawn;
 use action_log::Record;
 use circular_buffer::HeapCircularBuffer;
-use crossbeam_channel::{Receiver, Sender};
+use crossbeam_channel::{Receiver, Sender, bounded};
 use disk_model::Disk;
 use shared_capture::{Back, Front, Method};
 use std::alloc::{AllocError, Global};
@@ -79,6 +79,38 @@ pub fn start<
     requires { IsWhole D.honest D.content opened.front opened.back opened.images opened.log opened.ended }
     ensures { IfOk result (λ made. IsBegun opened.front opened.back opened.images opened.log opened.ended every made.0) }
 {
+    let (asks, asked) = bounded(alloc, ASKS)?;
+    let Made {
+        mutator,
+        checkpointer,
+        log_writer,
+    } = make(rt, alloc, gates, opened, every)?;
+    let workers = start_threads(rt, watch, asked, mutator, checkpointer, log_writer)?;
+    Ok((workers, asks))
+}
+
+// The workers before they have threads.
+#[derive(Drop)]
+struct Made<M: Method, D: Disk + Drop, G: Gate + Drop> {
+    mutator: Mutator<M, G>,
+    checkpointer: Checkpointer<M, D, G>,
+    log_writer: LogWriter<D, G>,
+}
+
+fn make<R: Wait, M: Method, D: Disk + Drop, G: Gate + Drop>(
+    rt: &R,
+    alloc: Global,
+    gates: Gates<G>,
+    opened: Opened<M, D>,
+    every: u32,
+) -> Result<Made<M, D, G>, AllocError>
+    requires { IsWhole D.honest D.content opened.front opened.back opened.images opened.log opened.ended }
+    ensures begun { IfOk result (λ made. IsBegun opened.front opened.back opened.images opened.log opened.ended every
+        (record { mutator = made.mutator; checkpointer = made.checkpointer; log_writer = made.log_writer })) }
+    ensures pair { IfOk result (λ made. made.mutator.front.pair ≡ made.checkpointer.back.pair) }
+    ensures channel { IfOk result (λ made. AreOneChannel made.log_writer.from.end made.mutator.to.end) }
+    ensures rest { IfOk result (λ made. IsAtRest made.log_writer) }
+{
     let signals = Signals::new(alloc)?;
     let (to, from) = open(rt, alloc, opened.ended)?;
     let Opened {
@@ -94,8 +126,6 @@ pub fn start<
         log_writer,
     } = gates;
     let Signals {
-        asks,
-        asked,
         bell,
         rung,
         is_down,
@@ -104,8 +134,11 @@ pub fn start<
     let mutator = Mutator::new(mutator, alloc, front, to, ended, every, bell, told_down);
     let checkpointer = Checkpointer::new(checkpointer, back, images, rung);
     let log_writer = LogWriter::new(alloc, log_writer, from, log, is_down, ended)?;
-    let workers = start_threads(rt, watch, asked, mutator, checkpointer, log_writer)?;
-    Ok((workers, asks))
+    Ok(Made {
+        mutator,
+        checkpointer,
+        log_writer,
+    })
 }
 
 // Starts the threads. Where one can't be made the others end, since the channels between them close.

@@ -1,4 +1,3 @@
-use tcp_service::{Seats, open_world};
 use capture_core::PlainCopy;
 use disk_model::{FourFiles, ModelFile};
 use line_service::serve_lines;
@@ -8,6 +7,7 @@ use shared_capture::{Front, Method, Pong, Zig};
 use std::alloc::Global;
 use std::process::Abort;
 use std::test::Fail;
+use tcp_service::{Seats, open_world};
 use world_actions::Refusal;
 use world_ticks::Cells;
 
