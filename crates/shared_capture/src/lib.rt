@@ -14,6 +14,7 @@
 #![tactic(auto)]
 
 mod back;
+mod cover;
 mod front;
 mod joined;
 mod method;
@@ -26,6 +27,7 @@ mod tests;
 mod view;
 
 pub use back::Back;
+pub use cover::{CoverIn, CoverOut, cover_pair, meet_cover};
 pub use front::{Front, accesses_keep};
 pub use joined::Joined;
 pub use method::{Kind, Method, Pong, Zig};

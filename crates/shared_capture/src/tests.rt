@@ -4,6 +4,7 @@ use std::test::Fail;
 use world_actions::Refusal;
 use world_ticks::Cells;
 
+mod covers;
 mod threads;
 
 // For each method a pair over 5 and 7, step by step.

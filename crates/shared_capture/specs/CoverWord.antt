@@ -1,0 +1,95 @@
+-- The word that tells the tick of the newest open image: its rule, and what its two seats know.
+use Rattle.std.specs.Prelude.{Some, ◌≡◌, ◌⊎◌, ℕ, List, [], ◌∷◌, ◌++◌, slice_get}
+use mathlib.Core.Option as maybe
+use lib.ListN.{get_elem?}
+use Rattle.atomic_table.specs.Table.{State, Me, Step}
+use Rattle.atomic_table.specs.Seated.{TableId}
+use Rattle.atomic_table.specs.declared.shared.Seat.{Seat}
+use Rattle.shared_capture.specs.declared.cover.CoverView.{CoverView}
+use Rattle.shared_capture.specs.declared.cover.CoverView.TheVariants.{Spent, Out, In, Both}
+
+-- what contracts see of a seat: its pair, and the ticks that it stored or loaded
+pub record CoverState : Type 0 where
+  pub pair : TableId
+  pub ticks : List ℕ
+
+-- the last of these, or 0
+abbrev pub last_of : List ℕ → ℕ
+last_of [] = 0
+last_of (tick ∷ []) = tick
+last_of (tick ∷ next ∷ ticks) = last_of (next ∷ ticks)
+
+-- each of these was stored, or is 0
+abbrev pub AreStored : (stored loaded : List ℕ) → Type 0
+AreStored stored loaded = (i tick : ℕ) → slice_get loaded i ≡ Some tick → (tick ≡ 0) ⊎ ((j : ℕ) × (slice_get stored j ≡ Some tick))
+
+-- a seat with this view is the one that stores, the one that loads, both, or of no use
+abbrev pub Knows : List ℕ → ℕ → List ℕ → ℕ → ℕ → CoverView → Type 0
+Knows stored p loaded q seat Spent = Unit {0}
+Knows stored p loaded q seat (Out ticks) = (seat ≡ p) × (ticks ≡ stored)
+Knows stored p loaded q seat (In ticks) = (seat ≡ q) × (ticks ≡ loaded)
+Knows stored p loaded q seat (Both first second) = (seat ≡ p) × (seat ≡ q) × (first ≡ stored) × (second ≡ loaded)
+
+-- the rule: the word is the last tick that was stored, each that was loaded was stored, and no other seat knows anything
+pub record Kept (s : State (Unit {0}) CoverView) : Type 0 where
+  pub stored : List ℕ
+  pub out_at : ℕ
+  pub loaded : List ℕ
+  pub in_at : ℕ
+  pub word : s.words ≡ last_of stored ∷ []
+  pub are_stored : AreStored stored loaded
+  pub each_seat : (j : ℕ) (v : CoverView) → get_elem? s.views j ≡ maybe.some v → Knows stored out_at loaded in_at j v
+
+-- ---- what each step tells
+
+abbrev pub Sitting : Type 0
+Sitting = Me (Unit {0}) CoverView
+
+abbrev pub stored_of : CoverView → List ℕ
+stored_of (Out ticks) = ticks
+stored_of (Both stored loaded) = stored
+stored_of view = []
+
+abbrev pub loaded_of : CoverView → List ℕ
+loaded_of (In ticks) = ticks
+loaded_of (Both stored loaded) = loaded
+loaded_of view = []
+
+-- a tick is stored
+abbrev pub stored_next : Step (Unit {0}) → Sitting → ℕ → Sitting → Type 0
+stored_next st m tick m' = m' ≡ (Out (stored_of m.0 ++ tick ∷ []), m.1)
+
+-- the word is loaded
+abbrev pub loaded_next : Step (Unit {0}) → Sitting → ℕ → Sitting → Type 0
+loaded_next st m found m' = m' ≡ (In (loaded_of m.0 ++ found ∷ []), m.1)
+
+-- both meet
+abbrev pub met : Step (Unit {0}) → Sitting → ℕ → Sitting → Type 0
+met st m found m' = (m' ≡ m) × AreStored (stored_of m.0) (loaded_of m.0)
+
+abbrev pub out_part : CoverView → CoverView
+out_part (Both stored loaded) = Out stored
+out_part view = view
+
+abbrev pub in_part : CoverView → CoverView
+in_part (Both stored loaded) = In loaded
+in_part view = Spent
+
+abbrev pub paired : CoverView → CoverView → CoverView
+paired (Out stored) (In loaded) = Both stored loaded
+paired first second = first
+
+-- ---- who sits where
+
+abbrev pub CoverSeat : Type 0
+CoverSeat = Seat (Unit {0}) CoverView
+
+-- the seat is at this word, and stored these ticks; or loaded them; or knows of both
+abbrev pub IsOut : TableId → List ℕ → CoverSeat → Type 0
+IsOut t stored seat = (seat.table_id ≡ t) × (seat.me ≡ (Out stored, [])) × (t.words ≡ 1)
+
+abbrev pub IsIn : TableId → List ℕ → CoverSeat → Type 0
+IsIn t loaded seat = (seat.table_id ≡ t) × (seat.me ≡ (In loaded, [])) × (t.words ≡ 1)
+
+abbrev pub IsBoth : TableId → (stored loaded : List ℕ) → CoverSeat → Type 0
+IsBoth t stored loaded seat = (seat.table_id ≡ t) × (seat.me ≡ (Both stored loaded, [])) × (t.words ≡ 1)

@@ -1,0 +1,80 @@
+// The tick of the newest open image goes from one thread to another.
+ghost use Rattle.std.specs.Prelude.{◌≡◌, []};
+ghost use Rattle.shared_capture.specs.CoverWord.{AreStored};
+
+use crate::{CoverIn, CoverOut, cover_pair, meet_cover};
+use std::test::Fail;
+use std::thread::{Threads, join, yield_now};
+
+const TICKS: u64 = 1000;
+
+const TRIES: u64 = 1_000_000_000;
+
+// The first ticks, one after the other.
+fn publish_all(mut out: CoverOut) -> CoverOut
+    requires { out.ticks ≡ [] }
+    ensures { result.pair ≡ out.pair }
+{
+    for tick in 0..TICKS {
+        out.publish(tick + 1);
+    }
+    out
+}
+
+// Loads until the last tick comes, and tells whether none was below the one before.
+fn load_all(mut from: CoverIn) -> (CoverIn, bool)
+    ensures { result.0.pair ≡ from.pair }
+{
+    let mut last = 0;
+    for _ in 0..TRIES {
+        let tick = from.latest();
+        if tick < last || tick == TICKS {
+            return (from, tick == TICKS);
+        }
+        last = tick;
+        yield_now();
+    }
+    (from, false)
+}
+
+// What one thread loaded the other stored.
+fn run_both<R: Threads + Sync>(rt: &R, out: CoverOut, from: CoverIn) -> (CoverOut, CoverIn, bool)
+    requires pair { out.pair ≡ from.pair }
+    requires fresh { out.ticks ≡ [] }
+    ensures { AreStored result.0.ticks result.1.ticks }
+{
+    let (mut out, loaded) = join(
+        rt,
+        move || -> CoverOut
+            requires { out.ticks ≡ [] }
+            ensures { result.pair ≡ out.pair }
+        { publish_all(out) },
+        move || -> (CoverIn, bool)
+            ensures { result.0.pair ≡ from.pair }
+        { load_all(from) },
+    );
+    let (mut from, rises) = loaded;
+    meet_cover(&mut out, &mut from);
+    (out, from, rises)
+}
+
+#[test]
+fn the_newest_image_is_told(rt: HostRuntime) -> Result<(), Fail> {
+    let (mut out, mut from) = cover_pair(rt.alloc())?;
+    assert_eq!(rt; from.latest(), 0);
+    out.publish(3);
+    assert_eq!(rt; from.latest(), 3);
+    assert_eq!(rt; from.latest(), 3);
+    meet_cover(&mut out, &mut from);
+    assert_eq!(rt; from.latest(), 3);
+    Ok(())
+}
+
+#[test]
+fn ticks_rise_between_threads(rt: HostRuntime) -> Result<(), Fail> {
+    let (out, from) = cover_pair(rt.alloc())?;
+    let (_out, mut from, rises) = run_both(&rt, out, from);
+    assert!(rt; rises);
+    assert_eq!(rt; from.latest(), TICKS);
+    Ok(())
+}
