@@ -401,6 +401,3 @@ fn target_beside(newest: Option<(Slot, u64)>) -> Slot
         Some((slot, _)) => slot.other(),
     }
 }
-
-#[cfg(test)]
-mod tests;

@@ -76,6 +76,3 @@ fn words(alloc: Global, bytes: &[u8], cells: usize) -> Result<Vec<u64>, Refusal>
     }
     Ok(words)
 }
-
-#[cfg(test)]
-mod tests;

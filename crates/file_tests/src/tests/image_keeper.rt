@@ -4,12 +4,12 @@ ghost use Rattle.image_files.specs.declared.phase.Phase.TheVariants.{Idle};
 ghost use Rattle.image_files.specs.Files.{FitsFiles};
 ghost use Rattle.image_files.specs.Steps.{IfOpened};
 
-use super::*;
-use crate::{ImageState, read_image};
-use capture_core::{Capture, PlainCopy};
-use disk_model::{Fused, ModelFile};
+use capture_core::{Capture, PlainCopy, Taken, Taker};
+use disk_model::{Disk, Fused, ModelFile};
+use image_files::{ImageAnswer, ImageKeeper, ImageState, Slot, read_image};
+use std::alloc::Global;
 use std::test::Fail;
-use world_actions::LIMIT;
+use world_actions::{LIMIT, Refusal};
 use world_ticks::Cells;
 
 // Hands out the newest image's words.

@@ -1,6 +1,7 @@
-use super::*;
-use crate::is_shut;
+use image_files::{ImageState, is_shut, read_image};
+use std::alloc::Global;
 use std::test::Fail;
+use world_ticks::TICK_MAX;
 
 const ONE: [u8; 8] = [1, 0, 0, 0, 0, 0, 0, 0];
 

@@ -1,0 +1,4 @@
+mod image_keeper;
+mod image_reader;
+mod log_keeper;
+mod log_reader;
