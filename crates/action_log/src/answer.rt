@@ -13,8 +13,9 @@ pub enum LogAnswer {
     Down,
 }
 
-/// That every tick above the current segment's base, up to this one, is durable. Only a keeper of this crate makes one.
-/// Contracts see that tick.
+/// That every tick up to this one is durable: those above the current segment's base in that segment, or, where a cover
+/// gave it, all of them in the image that its caller knew to be open. Only a keeper of this crate makes one. Contracts
+/// see that tick.
 #[derive(Clone, Copy, Debug, PartialEq, Eq)]
 pub struct Receipt {
     tick: u64,

@@ -94,6 +94,3 @@ fn base_of(bytes: &[u8]) -> u64
 {
     u64_at(bytes, BASE_PLACE)
 }
-
-#[cfg(test)]
-mod tests;

@@ -19,6 +19,7 @@ move_of asked.End = Some move.End
 move_of asked.Mark = Some move.Mark
 move_of (asked.Image fate) = Some (move.Image fate)
 move_of (asked.Log fate) = Some (move.Log fate)
+move_of (asked.Cover tick) = Some (move.Cover tick)
 move_of asked.Crash = None
 move_of asked.ImpossibleCrash = None
 

@@ -19,6 +19,8 @@ pub enum Asked {
     Image(Fate),
     /// A step of the log.
     Log(Fate),
+    /// A cover of the image of this tick.
+    Cover(u64),
     /// A crash that leaves bytes which it may leave.
     Crash,
     /// A crash that leaves bytes which none may leave.
@@ -37,6 +39,7 @@ impl Asked {
             Asked::Mark => Some(Move::Mark),
             Asked::Image(fate) => Some(Move::Image(fate)),
             Asked::Log(fate) => Some(Move::Log(fate)),
+            Asked::Cover(tick) => Some(Move::Cover(tick)),
             Asked::Crash | Asked::ImpossibleCrash => None,
         }
     }

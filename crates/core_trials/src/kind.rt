@@ -1,8 +1,9 @@
-use core_rows::Told;
+use core_rows::{Asked, Told};
 use world_actions::Refusal;
 
 /// The kinds of answers that can come. NoMemory would need a growth that is refused, and TicksEnded as
-/// many ticks as nobody can end; the other refusals are not the core's.
+/// many ticks as nobody can end; the other refusals are not the core's. A cover isn't answered Working, since
+/// between two switches a tick has ended.
 #[derive(Clone, Copy)]
 pub enum Kind {
     Did,
@@ -17,6 +18,8 @@ pub enum Kind {
     LogWorking,
     LogAcked,
     LogDown,
+    CoverIdle,
+    CoverAcked,
     RecoveredReplayed,
     RecoveredAtImage,
     Blank,
@@ -34,10 +37,13 @@ pub enum Kind {
     MarkLogDown,
     Starting,
     Impossible,
+    CoverLogDown,
+    CoverStarting,
+    Uncovered,
 }
 
 /// How many kinds there are.
-pub const KINDS: usize = 29;
+pub const KINDS: usize = 34;
 
 /// All kinds, each with its name, in the order in which they are declared.
 pub const NAMES: [&str; KINDS] = [
@@ -53,6 +59,8 @@ pub const NAMES: [&str; KINDS] = [
     "Log(Working)",
     "Log(Acked)",
     "Log(Down)",
+    "Cover: Log(Idle)",
+    "Cover: Log(Acked)",
     "Recovered, from < tick",
     "Recovered, from = tick",
     "Blank",
@@ -70,10 +78,31 @@ pub const NAMES: [&str; KINDS] = [
     "Refused(LogDown)",
     "Refused(Starting)",
     "Refused(Impossible)",
+    "Cover: Refused(LogDown)",
+    "Cover: Refused(Starting)",
+    "Cover: Refused(Uncovered)",
 ];
 
-/// The kind of an answer, if it can come.
-pub fn kind_of(given: Told) -> Option<Kind> {
+/// The kind of an answer to a move, if it can come.
+pub fn kind_of(asked: Asked, given: Told) -> Option<Kind> {
+    match asked {
+        Asked::Cover(_) => kind_of_cover(given),
+        _ => kind_of_other(given),
+    }
+}
+
+fn kind_of_cover(given: Told) -> Option<Kind> {
+    match given {
+        Told::LogIdle => Some(Kind::CoverIdle),
+        Told::LogAcked(_) => Some(Kind::CoverAcked),
+        Told::Refused(Refusal::LogDown) => Some(Kind::CoverLogDown),
+        Told::Refused(Refusal::Starting) => Some(Kind::CoverStarting),
+        Told::Refused(Refusal::Uncovered) => Some(Kind::Uncovered),
+        _ => None,
+    }
+}
+
+fn kind_of_other(given: Told) -> Option<Kind> {
     match given {
         Told::Did => Some(Kind::Did),
         Told::Word(_) => Some(Kind::Word),

@@ -20,7 +20,7 @@ const CLOSING: u32 = 2;
 #[derive(Clone, Copy, PartialEq, Eq)]
 enum Queued {
     Tick,
-    Switch,
+    Switch(u64),
 }
 
 /// What the log does.
@@ -76,7 +76,17 @@ impl LogModel {
         self.queue.len() >= RECORDS
     }
 
-    /// The greatest tick of a receipt, or the start's tick before the first one.
+    /// The tick of the first switch that waits.
+    pub fn next_switch(&self) -> Option<u64> {
+        for queued in &self.queue {
+            if let Queued::Switch(tick) = queued {
+                return Some(*tick);
+            }
+        }
+        None
+    }
+
+    /// The greatest tick of a receipt or of an open image, or the start's tick before the first one.
     pub fn acknowledged(&self) -> u64 {
         self.acknowledged
     }
@@ -87,8 +97,46 @@ impl LogModel {
     }
 
     /// Lets the switch of a mark wait.
-    pub fn queue_switch(&mut self) -> Result<(), Wrong> {
-        Ok(self.queue.push_back(Queued::Switch)?)
+    pub fn queue_switch(&mut self, tick: u64) -> Result<(), Wrong> {
+        Ok(self.queue.push_back(Queued::Switch(tick))?)
+    }
+
+    /// Counts the ticks up to this one as acknowledged.
+    pub fn acknowledge(&mut self, tick: u64) {
+        self.acknowledged = self.acknowledged.max(tick);
+    }
+
+    /// Judges the answer to a cover of an open image's tick, and follows it: while no job is in work, what
+    /// waits before the switch at that tick is dropped.
+    pub fn cover(&mut self, tick: u64, given: Told) -> Result<(), Wrong> {
+        let before = self.taken;
+        let count = self.before_switch(tick);
+        for _ in 0..count {
+            if self.queue.pop_front() == Some(Queued::Tick) {
+                self.taken = self.taken.saturating_add(1);
+            }
+        }
+        if self.taken == before {
+            return expect(Told::LogIdle, given);
+        }
+        self.acknowledge(self.taken);
+        hold(self.taken == tick, Rule::CoversItsTick)?;
+        expect(Told::LogAcked(tick), given)
+    }
+
+    // How many records wait before the switch at this tick, where no job is in work.
+    fn before_switch(&self, tick: u64) -> usize {
+        if self.job != Job::Rest {
+            return 0;
+        }
+        let mut count = 0usize;
+        for queued in &self.queue {
+            if *queued == Queued::Switch(tick) {
+                return count;
+            }
+            count = count.saturating_add(1);
+        }
+        0
     }
 
     /// Judges the answer to a step, and follows it. `waits` says that the start's image is not open yet,
@@ -131,7 +179,7 @@ impl LogModel {
             Job::Start { done } => return self.advance_start(done.saturating_add(1), starting),
             Job::Rest => self.take(),
             Job::Group { left: 1 } => {
-                self.acknowledged = self.taken;
+                self.acknowledge(self.taken);
                 self.job = Job::Rest;
             }
             Job::Group { left } => self.job = Job::Group {
@@ -162,7 +210,7 @@ impl LogModel {
     // The first step of a group or of a switch. The first switch after a start finds the other segment
     // shut, each later one has to close it.
     fn take(&mut self) {
-        if self.queue.front() == Some(&Queued::Switch) {
+        if let Some(Queued::Switch(_)) = self.queue.front() {
             self.queue.pop_front();
             let closing = if self.has_switched { CLOSING } else { 0 };
             self.job = Job::Switch {

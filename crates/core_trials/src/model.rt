@@ -5,6 +5,7 @@ use crate::wrong::{Rule, Wrong, expect, hold};
 use core_rows::{Asked, Told};
 use std::alloc::Global;
 use world_actions::Refusal;
+use world_core::Fate;
 
 mod crashes;
 mod plays;
@@ -50,15 +51,35 @@ impl PlainModel {
             Asked::Get(cell) => self.follow_get(cell, given)?,
             Asked::End => self.follow_end(given)?,
             Asked::Mark => self.follow_mark(given)?,
-            Asked::Image(fate) => self.images.step(fate, given)?,
+            Asked::Image(fate) => self.follow_image(fate, given)?,
             Asked::Log(fate) => {
                 let waits = self.is_image_ahead();
                 self.log.step(fate, waits, given, starting)?;
             },
+            Asked::Cover(tick) => self.follow_cover(tick, given)?,
             Asked::Crash => self.follow_crash(given)?,
             Asked::ImpossibleCrash => expect(Told::Refused(Refusal::Impossible), given)?,
         }
         hold(starting == self.is_starting(), Rule::StartsAlike)
+    }
+
+    // An open image acknowledges its tick.
+    fn follow_image(&mut self, fate: Fate, given: Told) -> Result<(), Wrong> {
+        self.images.step(fate, given)?;
+        if let Told::ImageOpened(tick) = given {
+            self.log.acknowledge(tick);
+        }
+        Ok(())
+    }
+
+    /// The tick of the newest image, 0 before the first.
+    pub fn newest(&self) -> u64 {
+        self.images.newest().unwrap_or(0)
+    }
+
+    /// The tick of the first switch that waits for the log.
+    pub fn next_switch(&self) -> Option<u64> {
+        self.log.next_switch()
     }
 
     /// Whether the start has not ended.

@@ -43,10 +43,10 @@ impl Player {
         } else {
             self.weights
         };
-        self.choose_by(weights, random)
+        self.choose_by(weights, model, random)
     }
 
-    fn choose_by(&mut self, weights: Weights, random: &mut Random) -> Asked {
+    fn choose_by(&mut self, weights: Weights, model: &PlainModel, random: &mut Random) -> Asked {
         match weights.draw(random) {
             0 => Asked::Act(self.action(random)),
             1 => Asked::Get(self.cell(random)),
@@ -54,6 +54,7 @@ impl Player {
             3 => Asked::Mark,
             4 => Asked::Image(fate(random)),
             5 => Asked::Log(fate(random)),
+            6 => Asked::Cover(covered(model, random)),
             _ if random.percent(10) => Asked::ImpossibleCrash,
             _ => Asked::Crash,
         }
@@ -84,6 +85,17 @@ impl Player {
             1 => u32::MAX,
             _ => random.below(u64::from(self.cells)) as u32,
         }
+    }
+}
+
+// Mostly the newest image's tick, else that of a switch that waits, or one that no image has.
+fn covered(model: &PlainModel, random: &mut Random) -> u64 {
+    let newest = model.newest();
+    match random.below(10) {
+        0 => newest.saturating_add(random.below(3)),
+        1 => u64::MAX,
+        2..5 => model.next_switch().unwrap_or(newest),
+        _ => newest,
     }
 }
 

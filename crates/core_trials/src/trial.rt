@@ -97,7 +97,7 @@ impl<C: Capture> Trial<C> {
 
     fn step(&mut self, asked: Asked, plain: Move) -> Result<Told, Stop> {
         let given = Told::of(self.core.step(plain));
-        self.tally.count(given);
+        self.tally.count(asked, given);
         let starting = self.core.starting();
         match self.model.follow(asked, given, starting) {
             Ok(()) => Ok(given),

@@ -1,38 +1,38 @@
 use trial_kit::Random;
 
 /// How often each kind of move is chosen: actions, reads, ends, marks, steps of the images, steps of the
-/// log, and crashes.
+/// log, covers, and crashes.
 #[derive(Clone, Copy)]
 pub struct Weights {
-    of: [u64; 7],
+    of: [u64; 8],
 }
 
 impl Weights {
     /// Some of all.
     pub fn of_play() -> Self {
         Weights {
-            of: [380, 60, 140, 40, 200, 150, 30],
+            of: [380, 60, 140, 40, 200, 130, 20, 30],
         }
     }
 
     /// The image of a start is ahead.
     pub fn of_start_image() -> Self {
         Weights {
-            of: [20, 20, 20, 20, 870, 40, 10],
+            of: [20, 20, 20, 20, 860, 40, 10, 10],
         }
     }
 
     /// The log's part of a start is ahead.
     pub fn of_start_log() -> Self {
         Weights {
-            of: [30, 20, 30, 30, 60, 800, 30],
+            of: [30, 20, 30, 30, 60, 780, 20, 30],
         }
     }
 
     /// A keeper is down, which only a crash ends.
     pub fn of_failure() -> Self {
         Weights {
-            of: [150, 50, 120, 120, 150, 150, 120],
+            of: [150, 50, 120, 120, 140, 140, 20, 120],
         }
     }
 
@@ -40,15 +40,15 @@ impl Weights {
     pub fn any(random: &mut Random) -> Self {
         let of = match random.below(6) {
             // Long ticks.
-            0 => [970, 10, 2, 10, 8, 0, 0],
+            0 => [970, 10, 2, 10, 8, 0, 0, 0],
             // The log rests, so its queue gets full.
-            1 => [150, 30, 540, 80, 185, 0, 15],
+            1 => [150, 30, 500, 80, 185, 0, 40, 15],
             // Rounds.
-            2 => [150, 30, 80, 60, 545, 120, 15],
+            2 => [150, 30, 80, 60, 545, 60, 60, 15],
             // The log keeps up.
-            3 => [190, 30, 150, 30, 100, 485, 15],
+            3 => [190, 30, 150, 30, 100, 465, 20, 15],
             // Crashes.
-            4 => [200, 30, 150, 50, 250, 250, 70],
+            4 => [200, 30, 150, 50, 250, 220, 30, 70],
             _ => return Weights::of_play(),
         };
         Weights { of }

@@ -19,6 +19,8 @@ pub enum Rule {
     StartSteps,
     /// What a crash may leave is recovered, or is Blank where there was no image.
     Recovers,
+    /// A cover's receipt is of the covered tick.
+    CoversItsTick,
     /// Acknowledged ticks stand after a crash.
     KeepsAcknowledged,
     /// Only ended ticks stand after a crash.

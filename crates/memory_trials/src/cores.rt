@@ -115,12 +115,18 @@ impl Case for Run {
 
 /// Runs both keepers until they have nothing to do.
 pub fn settle(core: &mut Core<Zigzag>) -> u64 {
+    let mut sum = settle_images(core);
+    for _ in 0..MOVES {
+        sum = folded(sum, number_of(core.step(Move::Log(Fate::Done))));
+    }
+    sum
+}
+
+/// Runs the image keeper until it has nothing to do.
+pub fn settle_images(core: &mut Core<Zigzag>) -> u64 {
     let mut sum = 0;
     for _ in 0..MOVES {
         sum = folded(sum, number_of(core.step(Move::Image(Fate::Done))));
-    }
-    for _ in 0..MOVES {
-        sum = folded(sum, number_of(core.step(Move::Log(Fate::Done))));
     }
     sum
 }

@@ -1,5 +1,5 @@
 use crate::case::folded;
-use crate::cores::{number_of, settle};
+use crate::cores::{number_of, settle, settle_images};
 use crate::files::{IMAGE, file_of};
 use crate::stretch::{refuse_each, refuse_none};
 use action_log::read_log;
@@ -29,6 +29,9 @@ const PIECES: u32 = 1_000;
 
 /// After so many rounds each file of a core has the length that it keeps.
 const ROUNDS: u32 = 4;
+
+/// The tick that is covered: it follows those of these rounds, and a logged one.
+const COVERED: u64 = 6;
 
 /// Calls that take no memory, with what they are made on.
 trait Free: Sized + Drop {
@@ -200,7 +203,8 @@ impl Free for EndlessLine {
     }
 }
 
-// A tick without an action, a mark, and the moves of both keepers.
+// A tick without an action, a mark, and the moves of both keepers; and the same with a cover of the tick, once its image is
+// open.
 #[derive(Drop)]
 struct SettledCore {
     core: Core<Zigzag>,
@@ -218,7 +222,8 @@ impl Free for SettledCore {
 
     fn call(self, _alloc: Global) -> Option<u64> {
         let SettledCore { mut core } = self;
-        Some(round(&mut core))
+        let logged = round(&mut core);
+        covered_round(&mut core).map(|covered| folded(logged, covered))
     }
 }
 
@@ -226,4 +231,14 @@ fn round(core: &mut Core<Zigzag>) -> u64 {
     let ended = number_of(core.step(Move::End));
     let marked = number_of(core.step(Move::Mark));
     folded(folded(ended, marked), settle(core))
+}
+
+fn covered_round(core: &mut Core<Zigzag>) -> Option<u64> {
+    let ended = number_of(core.step(Move::End));
+    let marked = number_of(core.step(Move::Mark));
+    let opened = settle_images(core);
+    let covered = number_of(core.step(Move::Cover(COVERED)));
+    let rest = settle(core);
+    let is_acked = covered == folded(6, folded(3, COVERED));
+    is_acked.then_some(folded(folded(folded(ended, marked), opened), rest))
 }

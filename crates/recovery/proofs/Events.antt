@@ -78,6 +78,17 @@ logs_later ticks acknowledged newest newer logs le f = record {
   switch = switch_later newest newer logs logs.switch le f.switch;
 }
 
+-- and acknowledges its tick
+pub logs_opened : (ticks : List (List Action)) (acknowledged newest newer : ℕ) (logs : Logs) → newest ≤ newer → LogsFollow ticks acknowledged newest logs → LogsFollow ticks (max acknowledged newer) newer logs
+logs_opened ticks acknowledged newest newer logs le f =
+    let after = logs_later ticks acknowledged newest newer logs le f in
+    record {
+      taken = after.taken;
+      acknowledges = reached_max acknowledged newer (logs.base + length logs.kept) newer after.acknowledges (inr (omega arith));
+      before = after.before;
+      switch = after.switch;
+    }
+
 pub has_later : (logs : Logs) (taken newest newer : ℕ) (queue : List Record) → newest ≤ newer → HasUpTo logs taken newest queue → HasUpTo logs taken newer queue
 has_later logs taken newest newer queue le (inl e) = inl e
 has_later logs taken newest newer queue le (inr h) = inr (h.0, h.1, omega (arith, h.2), h.3)
@@ -214,6 +225,71 @@ first_more (Some number) queue added h = tt
 pub has_more : (logs : Logs) (taken newest : ℕ) (switch : Option ℕ) (queue : List Record) (added : Record) → HasUpTo logs taken newest (with_work switch queue) → HasUpTo logs taken newest (with_work switch (queue ++ added ∷ []))
 has_more logs taken newest switch queue added (inl e) = inl e
 has_more logs taken newest switch queue added (inr h) = inr (h.0, h.1, h.2, first_more switch queue added h.3)
+
+-- ---- a cover
+
+-- all of these are below
+abbrev pub AreBelow : ℕ → List ℕ → Type 0
+AreBelow most [] = Unit {0}
+AreBelow most (tick ∷ ticks) = (tick < most) × AreBelow most ticks
+
+-- what rises up to a tick is below it
+pub below_rising : (low tick : ℕ) (ticks later : List ℕ) → RiseFrom low (ticks ++ tick ∷ later) → (low < tick) × AreBelow tick ticks × RiseFrom low (tick ∷ later)
+below_rising low tick [] later rise = (rise.0, tt, rise)
+below_rising low tick (one ∷ ticks) later rise =
+    let rest = below_rising one tick ticks later rise.1 in
+    let lt : low < tick = omega (arith, rise.0, rest.0) in
+    (lt, (rest.0, rest.1), (lt, rest.2.1))
+
+-- the newest image isn't among ticks below its own
+bases_behind : (newest tick : ℕ) (below later earlier round : List ℕ) → AreBelow tick below → tick ≤ newest → below ++ tick ∷ later ≡ earlier ++ newest ∷ round
+    → (front : List ℕ) × (tick ∷ later ≡ front ++ newest ∷ round)
+bases_behind newest tick [] later earlier round all le e = (earlier, e)
+bases_behind newest tick (one ∷ below) later [] round all le e = absurd (let same : one ≡ newest = cc in omega (arith, all.0))
+bases_behind newest tick (one ∷ below) later (first ∷ earlier) round all le e =
+    let rest : below ++ tick ∷ later ≡ earlier ++ newest ∷ round = cc in
+    bases_behind newest tick below later earlier round all.1 le rest
+
+base_below : (ticks : List (List Action)) (newest base tick : ℕ) (before : Segment) (below : List ℕ) → LeadsTo ticks newest base before → base < tick → AreBelow tick below → AreBelow tick (base_in before ++ base ∷ below)
+base_below ticks newest base tick ClosedSegment below h lt all = (lt, all)
+base_below ticks newest base tick MalformedSegment below h lt all = absurd h
+base_below ticks newest base tick (OpenSegment earlier first) below h lt all = (omega (arith, h.0), (lt, all))
+
+-- without the switches before this one the last bases are the same
+pub bases_covered : (ticks : List (List Action)) (base newest tick : ℕ) (before : Segment) (switches later earlier round : List ℕ) → LeadsTo ticks newest base before → RiseFrom base (switches ++ tick ∷ later) → tick ≤ newest
+    → base_in before ++ base ∷ (switches ++ tick ∷ later) ≡ earlier ++ newest ∷ round
+    → (front : List ℕ) × (base_in before ++ base ∷ tick ∷ later ≡ front ++ newest ∷ round)
+bases_covered ticks base newest tick before switches later earlier round leads rise le e =
+    let rising = below_rising base tick switches later rise in
+    let all : AreBelow tick (base_in before ++ base ∷ switches) = base_below ticks newest base tick before switches leads rising.0 rising.1 in
+    let whole : (base_in before ++ base ∷ switches) ++ tick ∷ later ≡ earlier ++ newest ∷ round = append_assoc (base_in before) (base ∷ switches) (tick ∷ later) ∙ e in
+    let behind = bases_behind newest tick (base_in before ++ base ∷ switches) later earlier round all le whole in (
+      base_in before ++ base ∷ behind.0,
+      ap (λ l. base_in before ++ base ∷ l) behind.1 ∙ sym (append_assoc (base_in before) (base ∷ behind.0) (newest ∷ round)),
+    )
+
+pub switches_behind : (taken left : List Record) → switches_in (taken ++ left) ≡ switches_in taken ++ switches_in left
+switches_behind [] left = refl
+switches_behind (records.Tick tick ∷ taken) left = switches_behind taken left
+switches_behind (records.Switch number ∷ taken) left = ap (λ l. number ∷ l) (switches_behind taken left)
+
+pub ticks_behind : (taken left : List Record) → ticks_in (taken ++ left) ≡ ticks_in taken ++ ticks_in left
+ticks_behind [] left = refl
+ticks_behind (records.Tick tick ∷ taken) left = ap (λ l. tick.list ∷ l) (ticks_behind taken left)
+ticks_behind (records.Switch number ∷ taken) left = ticks_behind taken left
+
+-- the switch has the number of the ticks before it
+pub numbered_behind : (taken tick : ℕ) (front behind : List Record) → AreNumbered taken (front ++ records.Switch tick ∷ behind) → (tick ≡ taken + length (ticks_in front)) × AreNumbered tick behind
+numbered_behind taken tick [] behind n = (omega (arith, n.0), subst (λ m. AreNumbered m behind) (sym n.0) n.1)
+numbered_behind taken tick (records.Tick first ∷ front) behind n =
+    let rest = numbered_behind (taken + 1) tick front behind n in
+    (omega (arith, rest.0), rest.1)
+numbered_behind taken tick (records.Switch number ∷ front) behind n = numbered_behind taken tick front behind n.1
+
+-- the segment has no more than the ticks that were taken
+pub has_upto : (logs : Logs) (taken newest : ℕ) (queue : List Record) → logs.pending ≡ [] → HasUpTo logs taken newest queue → logs.base + length (logs.kept ++ logs.pending) ≤ taken
+has_upto logs taken newest queue none (inl e) = omega (arith, e)
+has_upto logs taken newest queue none (inr h) = omega (arith, h.1, length-append logs.kept logs.pending, ap length none)
 
 -- ---- a tick ends
 

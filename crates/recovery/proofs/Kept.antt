@@ -1,5 +1,5 @@
 -- Each event keeps what the law of recovery asks for.
-use Rattle.std.proofs.Common.{◌≡◌, ℕ, ◌+◌, ◌<◌, ◌≤◌, inl, inr, List, [], ◌∷◌, ◌++◌, length, Option, Some, None, Ok, refl, sym, ap, subst, ◌∙◌, arith}
+use Rattle.std.proofs.Common.{◌≡◌, ℕ, ◌+◌, ◌<◌, ◌≤◌, inl, inr, max, List, [], ◌∷◌, ◌++◌, length, Option, Some, None, Ok, refl, sym, ap, subst, ◌∙◌, arith}
 use Rattle.std.specs.Prelude.{replicate}
 use Rattle.std.proofs.lemmas.List.{append-nil, append_assoc, length-append, length-drop, drop-append-le}
 use Rattle.world_actions.specs.declared.action.Action.{Action}
@@ -11,12 +11,12 @@ use Rattle.image_files.specs.Images.{Round, Images, ImageFiles, Newest, round_in
 use Rattle.action_log.specs.Logs.{Logs}
 use Rattle.recovery.specs.Recovery.{words_after}
 use Rattle.recovery.specs.Follow.{IsRoundOf, round_tick, base_in, coming, RiseFrom, BeginFrom, FollowMarks}
-use Rattle.recovery.specs.Events.{ticks_in, switches_in, with_work, IsKept}
+use Rattle.recovery.specs.Events.{ticks_in, switches_in, with_work, IsKept, acknowledged_opened}
 use Rattle.action_log.specs.declared.record.Record.{Record}
 use Rattle.action_log.specs.declared.record.Record.TheVariants as records
 use Rattle.world_ticks.specs.Tick.{Actions}
 use Rattle.recovery.proofs.Replay.{words_after-append}
-use Rattle.recovery.proofs.Events.{with_round_begun, with_round_opened, logs_later, has_later, coming_more, bases_more, rising_more, begin_more, mark_numbered, tick_numbered, has_more, end_images, end_logs, opened_follows}
+use Rattle.recovery.proofs.Events.{with_round_begun, with_round_opened, logs_opened, has_later, coming_more, bases_more, rising_more, begin_more, mark_numbered, tick_numbered, has_more, end_images, end_logs, opened_follows}
 
 -- ---- a tick ends
 
@@ -130,7 +130,7 @@ with_words cells ticks acknowledged images logs queue round taken k some of =
 
 opened_keeps : (cells : ℕ) (ticks : List (List Action)) (acknowledged : ℕ) (images : Images) (logs : Logs) (queue : List Record) (round : Round)
     → IsKept cells ticks acknowledged images logs queue → images.round ≡ Some round → length round.taken ≡ cells
-    → IsKept cells ticks acknowledged (with_round_opened images round) logs queue
+    → IsKept cells ticks (max acknowledged round.tick) (with_round_opened images round) logs queue
 opened_keeps cells ticks acknowledged images logs queue round k some whole =
     let m = k.follow_marks in
     let of : IsRoundOf cells ticks images.tick (Some round) = subst (IsRoundOf cells ticks images.tick) some k.images_follow.round in
@@ -140,7 +140,7 @@ opened_keeps cells ticks acknowledged images logs queue round k some whole =
       last = k.last;
       accepted = k.accepted;
       images_follow = opened_follows cells ticks images round k.images_follow of whole;
-      logs_follow = logs_later ticks acknowledged images.tick round.tick logs later k.logs_follow;
+      logs_follow = logs_opened ticks acknowledged images.tick round.tick logs later k.logs_follow;
       follow_marks = record {
         earlier = m.earlier ++ images.tick ∷ [];
         bases = m.bases ∙ ap (λ r. m.earlier ++ images.tick ∷ round_tick r) some ∙ sym (append_assoc m.earlier (images.tick ∷ []) (round.tick ∷ []));
@@ -157,7 +157,7 @@ opened_keeps cells ticks acknowledged images logs queue round k some whole =
 module _ {S : Type 0} (took : S → Option Taken → S → Type 0) (cells : ℕ) (ticks : List (List Action)) (acknowledged : ℕ) (images : Images) (logs : Logs) (queue : List Record) where
   pub image_step_keeps : (answer : ImageAnswer) (next : ImageFiles) (old new : S)
       → IsKept cells ticks acknowledged images logs queue → StepsImages took cells (Newest images) answer next old new
-      → IsRoundOf cells ticks images.tick (round_in next) → (after : Images) × (next ≡ Newest after) × IsKept cells ticks acknowledged after logs queue
+      → IsRoundOf cells ticks images.tick (round_in next) → (after : Images) × (next ≡ Newest after) × IsKept cells ticks (acknowledged_opened acknowledged answer) after logs queue
   image_step_keeps answer.Idle next old new k s of = (images, s.1, k)
   image_step_keeps answer.Working next old new k (round, some, inl same) of = (images, same.0, k)
   image_step_keeps answer.Working next old new k (round, some, inr (cell, taken, is)) of =
@@ -166,5 +166,5 @@ module _ {S : Type 0} (took : S → Option Taken → S → Type 0) (cells : ℕ)
       let here : IsRoundOf cells ticks images.tick (Some (with_cell cell images.words round)) = subst (λ n. IsRoundOf cells ticks images.tick (round_in n)) grown of in
       (record images { round = Some (with_cell cell images.words round) }, grown, with_words cells ticks acknowledged images logs queue round (with_cell cell images.words round).taken k some here)
   image_step_keeps (answer.Opened tick) next old new k (round, some, at, whole, is, same) of =
-      (with_round_opened images round, is, opened_keeps cells ticks acknowledged images logs queue round k some whole)
+      (with_round_opened images round, is, subst (λ n. IsKept cells ticks (max acknowledged n) (with_round_opened images round) logs queue) (sym at) (opened_keeps cells ticks acknowledged images logs queue round k some whole))
   image_step_keeps answer.Down next old new k (round, some, is, same) of = (images, is, k)

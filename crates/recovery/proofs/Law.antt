@@ -56,6 +56,10 @@ pub reached_more : (acknowledged end more newest : ℕ) → Reached acknowledged
 reached_more acknowledged end more newest (inl h) le = inl (omega arith)
 reached_more acknowledged end more newest (inr h) le = inr h
 
+pub reached_fewer : (acknowledged fewer end newest : ℕ) → fewer ≤ acknowledged → Reached acknowledged end newest → Reached fewer end newest
+reached_fewer acknowledged fewer end newest le (inl h) = inl (omega (arith, le, h))
+reached_fewer acknowledged fewer end newest le (inr h) = inr (omega (arith, le, h))
+
 pub reached_newer : (acknowledged end newest newer : ℕ) → newest ≤ newer → Reached acknowledged end newest → Reached acknowledged end newer
 reached_newer acknowledged end newest newer le (inl h) = inl h
 reached_newer acknowledged end newest newer le (inr h) = inr (omega (arith, h))

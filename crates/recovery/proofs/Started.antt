@@ -1,5 +1,5 @@
 -- Each event of a start keeps what its law asks for.
-use Rattle.std.proofs.Common.{◌≡◌, ℕ, ◌<◌, ◌≤◌, ◌⊎◌, inl, inr, true, List, [], ◌∷◌, length, Option, Some, None, Ok, refl, sym, ap, subst, ◌∙◌, arith}
+use Rattle.std.proofs.Common.{◌≡◌, ℕ, ◌<◌, ◌≤◌, ◌⊎◌, inl, inr, true, max, List, [], ◌∷◌, length, Option, Some, None, Ok, refl, sym, ap, subst, ◌∙◌, arith}
 use Rattle.std.specs.Prelude.{replicate, option_map}
 use Rattle.std.proofs.lemmas.List.{drop_all}
 use Rattle.world_actions.specs.declared.action.Action.{Action}
@@ -17,7 +17,7 @@ use Rattle.recovery.specs.Recovery.{words_after, tail, is_bad_segment}
 use Rattle.recovery.specs.Sound.{IsWorldAt, IsSound}
 use Rattle.recovery.specs.Follow.{IsRoundOf, round_tick}
 use Rattle.recovery.specs.Start.{IsStarting, IsFirstRound, FirstFollows}
-use Rattle.recovery.specs.Events.{IsKept}
+use Rattle.recovery.specs.Events.{IsKept, acknowledged_opened}
 use Rattle.recovery.proofs.Starting.{IsStartRound, start_is_sound}
 use Rattle.recovery.proofs.Events.{with_round_begun, with_round_opened, opened_follows}
 use Rattle.recovery.proofs.Restart.{zeros_at}
@@ -57,7 +57,7 @@ start_words cells ticks acknowledged images from start round taken s some of =
 
 start_opened : (cells : ℕ) (ticks : List (List Action)) (acknowledged : ℕ) (images : Images) (from : ℕ) (start : Start) (round : Round)
     → IsStarting cells ticks acknowledged images from start → images.round ≡ Some round → length round.taken ≡ cells
-    → IsStarting cells ticks acknowledged (with_round_opened images round) from start
+    → IsStarting cells ticks (max acknowledged round.tick) (with_round_opened images round) from start
 start_opened cells ticks acknowledged images from start round s some whole =
     let f = s.start_follows in
     let at : IsStartRound start.tick (Some round) = subst (IsStartRound start.tick) some f.round in
@@ -66,7 +66,7 @@ start_opened cells ticks acknowledged images from start round s some whole =
       last = s.last;
       accepted = s.accepted;
       images_follow = opened_follows cells ticks images round s.images_follow of whole;
-      start_follows = record { whole = f.whole; ahead = f.ahead; ends = f.ends; replays = f.replays; a_formed = f.a_formed; b_formed = f.b_formed; acknowledges = f.acknowledges; image = inl at; round = tt };
+      start_follows = record { whole = f.whole; ahead = f.ahead; ends = f.ends; replays = f.replays; a_formed = f.a_formed; b_formed = f.b_formed; acknowledges = omega (arith, f.acknowledges, at); image = inl at; round = tt };
     }
 
 module _ {S : Type 0} (took : S → Option Taken → S → Type 0) where
@@ -74,7 +74,7 @@ module _ {S : Type 0} (took : S → Option Taken → S → Type 0) where
       (answer : ImageAnswer) (next : ImageFiles) (old new : S)
       → IsStarting cells ticks acknowledged images from start → StepsImages took cells (Newest images) answer next old new
       → IsRoundOf cells ticks images.tick (round_in next)
-      → (after : Images) × (next ≡ Newest after) × IsStarting cells ticks acknowledged after from start
+      → (after : Images) × (next ≡ Newest after) × IsStarting cells ticks (acknowledged_opened acknowledged answer) after from start
   start_image_step_keeps cells ticks acknowledged images from start answer.Idle next old new s step of = (images, step.1, s)
   start_image_step_keeps cells ticks acknowledged images from start answer.Working next old new s (round, some, inl same) of = (images, same.0, s)
   start_image_step_keeps cells ticks acknowledged images from start answer.Working next old new s (round, some, inr (cell, taken, is)) of =
@@ -83,7 +83,7 @@ module _ {S : Type 0} (took : S → Option Taken → S → Type 0) where
       let here : IsRoundOf cells ticks images.tick (Some (with_cell cell images.words round)) = subst (λ n. IsRoundOf cells ticks images.tick (round_in n)) grown of in
       (record images { round = Some (with_cell cell images.words round) }, grown, start_words cells ticks acknowledged images from start round (with_cell cell images.words round).taken s some here)
   start_image_step_keeps cells ticks acknowledged images from start (answer.Opened tick) next old new s (round, some, at, whole, is, same) of =
-      (with_round_opened images round, is, start_opened cells ticks acknowledged images from start round s some whole)
+      (with_round_opened images round, is, subst (λ n. IsStarting cells ticks (max acknowledged n) (with_round_opened images round) from start) (sym at) (start_opened cells ticks acknowledged images from start round s some whole))
   start_image_step_keeps cells ticks acknowledged images from start answer.Down next old new s (round, some, is, same) of = (images, is, s)
 
 start_log_begins : (cells : ℕ) (ticks : List (List Action)) (acknowledged : ℕ) (images : Images) (from : ℕ) (start : Start)
@@ -168,7 +168,7 @@ module _ {S : Type 0} (took : S → Option Taken → S → Type 0) where
   pub first_image_step_keeps : (cells : ℕ) (images : FirstImages) (start : Start) (answer : ImageAnswer) (next : ImageFiles) (old new : S)
       → FirstFollows cells images start → StepsImages took cells (NoneYet images) answer next old new → IsFirstRound cells (round_in next)
       → ((after : FirstImages) × (next ≡ NoneYet after) × FirstFollows cells after start)
-      ⊎ ((after : Images) × (next ≡ Newest after) × (after.tick ≡ 0) × (after.round ≡ None) × IsStarting cells [] 0 after 0 start)
+      ⊎ ((after : Images) × (next ≡ Newest after) × (after.tick ≡ 0) × (after.round ≡ None) × IsStarting cells [] (acknowledged_opened 0 answer) after 0 start)
   first_image_step_keeps cells images start answer.Idle next old new f step of = inl (images, step.1, f)
   first_image_step_keeps cells images start answer.Working next old new f (round, some, inl same) of = inl (images, same.0, f)
   first_image_step_keeps cells images start answer.Working next old new f (round, some, inr (cell, taken, is)) of =
@@ -176,5 +176,5 @@ module _ {S : Type 0} (took : S → Option Taken → S → Type 0) where
       inl (record { round = option_map (with_cell cell []) images.round }, is, first_words cells images start (option_map (with_cell cell []) images.round) f here)
   first_image_step_keeps cells images start (answer.Opened tick) next old new f (round, some, at, whole, is, same) of =
       let first : IsFirstRound cells (Some round) = subst (IsFirstRound cells) some f.round in
-      inr (record { slot = A; tick = round.tick; words = round.taken; before = Closed; round = None }, is, first.0, refl, first_starting cells images start round f some whole)
+      inr (record { slot = A; tick = round.tick; words = round.taken; before = Closed; round = None }, is, first.0, refl, subst (λ n. IsStarting cells [] n (record { slot = A; tick = round.tick; words = round.taken; before = Closed; round = None }) 0 start) (let none : 0 ≡ max 0 tick = omega (arith, at, first.0) in none) (first_starting cells images start round f some whole))
   first_image_step_keeps cells images start answer.Down next old new f (round, some, is, same) of = inl (images, is, f)

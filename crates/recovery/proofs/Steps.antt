@@ -8,17 +8,36 @@ use Rattle.recovery.specs.Follow.{FollowsFrom, Reaches, round_tick, base_in, com
 use Rattle.recovery.specs.Events.{ticks_in, switches_in, with_work, AreNumbered, HasUpTo, IsKept, acknowledged_after, ReceiptIs}
 use Rattle.action_log.specs.Logs.{switched_to}
 use Rattle.action_log.specs.LogSteps.{is_idle, GoesOn, EndsSwitch, Acknowledges, LogsStep}
+use Rattle.action_log.specs.Cover.{Covers, CoverStep}
 use Rattle.action_log.specs.declared.answer.LogAnswer.{LogAnswer}
 use Rattle.action_log.specs.declared.answer.LogAnswer.TheVariants as answer
 use Rattle.action_log.specs.declared.record.Record.{Record}
 use Rattle.action_log.specs.declared.record.Record.TheVariants as records
 use Rattle.action_log.specs.Queue.{StandBefore}
 use Rattle.recovery.proofs.Replay.{follows_front}
-use Rattle.recovery.proofs.Law.{IsSwitchOf, Reached, reached_more, begins}
-use Rattle.recovery.proofs.Events.{with_group, with_group_kept, with_switch, reached_max, first_switch, group_at, group_numbered, group_switches, group_ticks, group_follows, bases_done}
+use Rattle.recovery.proofs.Law.{IsSwitchOf, Reached, reached_more, reached_fewer, begins}
+use Rattle.recovery.proofs.Events.{with_group, with_group_kept, with_switch, reached_max, first_switch, group_at, group_numbered, group_switches, group_ticks, group_follows, bases_done, bases_covered, below_rising, switches_behind, ticks_behind, numbered_behind, has_upto}
 
 idle_count : (logs : Logs) → logs.pending ≡ [] → logs.base + length (logs.kept ++ logs.pending) ≡ logs.base + length logs.kept
 idle_count logs none = ap (λ l. logs.base + length (logs.kept ++ l)) none ∙ ap (λ l. logs.base + length l) (append-nil logs.kept)
+
+-- fewer are acknowledged
+keeps_fewer : (cells : ℕ) (ticks : List (List Action)) (acknowledged fewer : ℕ) (images : Images) (logs : Logs) (queue : List Record) → fewer ≤ acknowledged → IsKept cells ticks acknowledged images logs queue → IsKept cells ticks fewer images logs queue
+keeps_fewer cells ticks acknowledged fewer images logs queue le k =
+    let f = k.logs_follow in
+    record {
+      some_cells = k.some_cells;
+      last = k.last;
+      accepted = k.accepted;
+      images_follow = k.images_follow;
+      logs_follow = record { taken = f.taken; acknowledges = reached_fewer acknowledged fewer (logs.base + length logs.kept) images.tick le f.acknowledges; before = f.before; switch = f.switch };
+      follow_marks = k.follow_marks;
+      taken = k.taken;
+      some_taken = k.some_taken;
+      left = k.left;
+      numbered = k.numbered;
+      has = k.has;
+    }
 
 module _ (cells : ℕ) (ticks : List (List Action)) (acknowledged : ℕ) (images : Images) (logs : Logs) where
   -- with no job in work the queue is all that is left
@@ -189,6 +208,85 @@ module _ (cells : ℕ) (ticks : List (List Action)) (acknowledged : ℕ) (images
   log_step_keeps queue answer.Working next left k (inr s) = switching_keeps queue next left k s
   log_step_keeps queue (answer.Acked tick) next left k s = acknowledging_keeps queue next left tick k s
   log_step_keeps queue answer.Down next left k s = going_on_keeps queue next left k s
+
+  -- ---- a cover
+
+  keeps_covered : (tick : ℕ) (front behind : List Record) → IsKept cells ticks acknowledged images logs (front ++ records.Switch tick ∷ behind) → tick ≤ images.tick → is_idle logs
+      → IsKept cells ticks (max acknowledged tick) images logs (records.Switch tick ∷ behind)
+  keeps_covered tick front behind k opened idle =
+      let queue : List Record = front ++ records.Switch tick ∷ behind in
+      let f = k.logs_follow in
+      let m = k.follow_marks in
+      let n = numbered_behind k.taken tick front behind (idle_numbered queue k idle) in
+      let end : logs.base + length (logs.kept ++ logs.pending) ≤ tick = omega (arith, n.0, has_upto logs k.taken images.tick queue idle.0 (idle_has queue k idle)) in
+      let same : switches_in queue ≡ switches_in front ++ tick ∷ switches_in behind = switches_behind front (records.Switch tick ∷ behind) in
+      let rise : RiseFrom logs.base (switches_in front ++ tick ∷ switches_in behind) = subst (RiseFrom logs.base) same (idle_rising queue k idle) in
+      let bases : base_in logs.before ++ logs.base ∷ (switches_in front ++ tick ∷ switches_in behind) ≡ m.earlier ++ images.tick ∷ round_tick images.round =
+      subst (λ l. base_in logs.before ++ logs.base ∷ l ≡ m.earlier ++ images.tick ∷ round_tick images.round) same (idle_bases queue k idle) in
+      let covered = bases_covered ticks logs.base images.tick tick logs.before (switches_in front) (switches_in behind) m.earlier (round_tick images.round) f.before rise opened bases in
+      let rest : drop k.taken ticks ≡ ticks_in front ++ ticks_in behind = k.left ∙ ticks_behind front (records.Switch tick ∷ behind) in
+      record {
+        some_cells = k.some_cells;
+        last = k.last;
+        accepted = k.accepted;
+        images_follow = k.images_follow;
+        logs_follow = record {
+          taken = f.taken;
+          acknowledges = reached_max acknowledged tick (logs.base + length logs.kept) images.tick f.acknowledges (inr opened);
+          before = f.before;
+          switch = f.switch;
+        };
+        follow_marks = record {
+          earlier = covered.0;
+          bases = subst (λ o. base_in logs.before ++ logs.base ∷ coming o (tick ∷ switches_in behind) ≡ covered.0 ++ images.tick ∷ round_tick images.round) (sym idle.1) covered.1;
+          rising = subst (λ o. RiseFrom logs.base (coming o (tick ∷ switches_in behind))) (sym idle.1) (below_rising logs.base tick (switches_in front) (switches_in behind) rise).2;
+          in_order = subst (λ o. BeginFrom (logs.base + length (logs.kept ++ logs.pending)) (coming o (tick ∷ switches_in behind))) (sym idle.1) end;
+        };
+        taken = tick;
+        some_taken = omega (arith, n.0, ap length rest, length-append (ticks_in front) (ticks_in behind), length-drop k.taken ticks, k.some_taken);
+        left = ap (λ i. drop i ticks) n.0 ∙ sym (drop-drop (length (ticks_in front)) k.taken ticks) ∙ ap (drop (length (ticks_in front))) rest ∙ drop_at (ticks_in front) (ticks_in behind) (length (ticks_in front)) refl;
+        numbered = subst (λ o. AreNumbered tick (with_work o (records.Switch tick ∷ behind))) (sym idle.1) (refl, n.1);
+        has = subst (λ o. HasUpTo logs tick images.tick (with_work o (records.Switch tick ∷ behind))) (sym idle.1) (inr (idle.0, omega (arith, end, idle_count logs idle.0), opened, tt));
+      }
+
+  -- with the queue as it was before the cover
+  at_switch : (queue : List Record) (tick : ℕ) (taken left : List Record) → IsKept cells ticks acknowledged images logs queue → (c : Covers logs queue tick taken left) → IsKept cells ticks acknowledged images logs (taken ++ records.Switch tick ∷ c.behind)
+  at_switch queue tick taken left k c = subst (λ q. IsKept cells ticks acknowledged images logs q) (c.in_front ∙ ap (λ l. taken ++ l) c.next) k
+
+  covers_keep : (queue : List Record) (tick : ℕ) (taken left : List Record) → IsKept cells ticks acknowledged images logs queue → tick ≤ images.tick → Covers logs queue tick taken left → IsKept cells ticks (max acknowledged tick) images logs left
+  covers_keep queue tick taken left k opened c =
+      subst (λ q. IsKept cells ticks (max acknowledged tick) images logs q) (sym c.next) (keeps_covered tick taken c.behind (at_switch queue tick taken left k c) opened c.idle)
+
+  pub cover_keeps : (queue : List Record) (tick : ℕ) (given : LogAnswer) (left : List Record) → IsKept cells ticks acknowledged images logs queue → tick ≤ images.tick → CoverStep logs queue tick given left
+      → IsKept cells ticks (acknowledged_after acknowledged given) images logs left
+  cover_keeps queue tick answer.Idle left k opened s = subst (λ q. IsKept cells ticks acknowledged images logs q) (sym s) k
+  cover_keeps queue tick answer.Working left k opened s =
+      keeps_fewer cells ticks (max acknowledged tick) acknowledged images logs left (omega arith) (covers_keep queue tick s.0 left k opened s.1)
+  cover_keeps queue tick (answer.Acked number) left k opened s =
+      subst (λ n. IsKept cells ticks (max acknowledged n) images logs left) (sym s.3) (covers_keep queue tick s.0 left k opened s.1)
+  cover_keeps queue tick answer.Down left k opened s = subst (λ q. IsKept cells ticks acknowledged images logs q) (sym s) k
+
+  pub cover_receipt_is_exact : (queue : List Record) (tick : ℕ) (given : LogAnswer) (left : List Record) → IsKept cells ticks acknowledged images logs queue → CoverStep logs queue tick given left → ReceiptIs given ticks left
+  cover_receipt_is_exact queue tick answer.Idle left k s = tt
+  cover_receipt_is_exact queue tick answer.Working left k s = tt
+  cover_receipt_is_exact queue tick (answer.Acked number) left k s =
+      let taken = s.0 in
+      let behind = s.1.behind in
+      let all : List Record = taken ++ records.Switch tick ∷ behind in
+      let at = at_switch queue tick taken left k s.1 in
+      let n = numbered_behind at.taken tick taken behind (idle_numbered all at s.1.idle) in
+      omega (
+        arith,
+        s.3,
+        n.0,
+        ap length at.left,
+        ap length (ticks_behind taken (records.Switch tick ∷ behind)),
+        length-append (ticks_in taken) (ticks_in behind),
+        length-drop at.taken ticks,
+        at.some_taken,
+        ap (λ q. length (ticks_in q)) s.1.next,
+      )
+  cover_receipt_is_exact queue tick answer.Down left k s = tt
 
   -- ---- the number in a receipt
 

@@ -8,7 +8,9 @@ use Rattle.action_log.specs.declared.answer.LogAnswer.TheVariants as log_answer
 use Rattle.world_ticks.specs.Tick.{Actions}
 use Rattle.action_log.specs.Logs.{Logs, started, Start, InStart, Writing, LogPlace}
 use Rattle.action_log.specs.LogSteps.{LogsStep, StartStep}
+use Rattle.action_log.specs.Cover.{CoverStep}
 use Rattle.image_files.specs.declared.answer.ImageAnswer.{ImageAnswer}
+use Rattle.image_files.specs.declared.answer.ImageAnswer.TheVariants as image_answer
 use Rattle.image_files.specs.Images.{Images, FirstImages, ImageFiles, NoneYet, Newest, round_in, with_round, StepsImages}
 use Rattle.capture_core.specs.declared.taker.Taken.{Taken}
 use Rattle.world_ticks.specs.After.{after_actions, after_ticks}
@@ -83,6 +85,11 @@ MarkIsMade =
     → with_round (length ticks) (Newest images) ≡ Newest next
     → IsKept cells ticks acknowledged next logs (queue ++ records.Switch (length ticks) ∷ [])
 
+-- what is acknowledged after a step of the image keeper: the tick of an image that was opened
+abbrev pub acknowledged_opened : ℕ → ImageAnswer → ℕ
+acknowledged_opened acknowledged (image_answer.Opened tick) = max acknowledged tick
+acknowledged_opened acknowledged answer = acknowledged
+
 -- a step of the image keeper, whose round is the world after its tick once all cells are taken
 abbrev pub ImageStepKeeps : {S : Type 0} → (S → Option Taken → S → Type 0) → Type 0
 ImageStepKeeps {S = S} took =
@@ -90,7 +97,7 @@ ImageStepKeeps {S = S} took =
     (answer : ImageAnswer) (next : ImageFiles) (old new : S)
     → IsKept cells ticks acknowledged images logs queue → StepsImages took cells (Newest images) answer next old new
     → IsRoundOf cells ticks images.tick (round_in next)
-    → (after : Images) × (next ≡ Newest after) × IsKept cells ticks acknowledged after logs queue
+    → (after : Images) × (next ≡ Newest after) × IsKept cells ticks (acknowledged_opened acknowledged answer) after logs queue
 
 -- what is acknowledged after a step of the log keeper: the greatest tick of a receipt
 abbrev pub acknowledged_after : ℕ → LogAnswer → ℕ
@@ -105,6 +112,14 @@ LogStepKeeps =
     → IsKept cells ticks acknowledged images logs queue → LogsStep logs queue answer next left
     → IsKept cells ticks (acknowledged_after acknowledged answer) images next left
 
+-- a cover of a tick whose image was opened
+abbrev pub CoverKeeps : Type 0
+CoverKeeps =
+    (cells : ℕ) (ticks : List (List Action)) (acknowledged : ℕ) (images : Images) (logs : Logs) (queue : List Record)
+    (tick : ℕ) (answer : LogAnswer) (left : List Record)
+    → IsKept cells ticks acknowledged images logs queue → tick ≤ images.tick → CoverStep logs queue tick answer left
+    → IsKept cells ticks (acknowledged_after acknowledged answer) images logs left
+
 -- a receipt's tick is the number of ended ticks, less those that still wait
 abbrev pub ReceiptIs : LogAnswer → (ticks : List (List Action)) → (left : List Record) → Type 0
 ReceiptIs (log_answer.Acked tick) ticks left = tick + length (ticks_in left) ≡ length ticks
@@ -116,6 +131,13 @@ ReceiptIsExact =
     (cells : ℕ) (ticks : List (List Action)) (acknowledged : ℕ) (images : Images) (logs : Logs) (queue : List Record)
     (answer : LogAnswer) (next : Logs) (left : List Record)
     → IsKept cells ticks acknowledged images logs queue → LogsStep logs queue answer next left → ReceiptIs answer ticks left
+
+-- and so is each cover's
+abbrev pub CoverReceiptIsExact : Type 0
+CoverReceiptIsExact =
+    (cells : ℕ) (ticks : List (List Action)) (acknowledged : ℕ) (images : Images) (logs : Logs) (queue : List Record)
+    (tick : ℕ) (answer : LogAnswer) (left : List Record)
+    → IsKept cells ticks acknowledged images logs queue → CoverStep logs queue tick answer left → ReceiptIs answer ticks left
 
 -- ---- the events of a start
 
@@ -133,7 +155,7 @@ StartImageStepKeeps {S = S} took =
     (answer : ImageAnswer) (next : ImageFiles) (old new : S)
     → IsStarting cells ticks acknowledged images from start → StepsImages took cells (Newest images) answer next old new
     → IsRoundOf cells ticks images.tick (round_in next)
-    → (after : Images) × (next ≡ Newest after) × IsStarting cells ticks acknowledged after from start
+    → (after : Images) × (next ≡ Newest after) × IsStarting cells ticks (acknowledged_opened acknowledged answer) after from start
 
 -- a step of the log keeper, once the newest image is of the recovered tick: the start goes on, or ends, with its tick
 -- as the newest image's and the segment's
@@ -155,4 +177,5 @@ FirstImageStepKeeps {S = S} took =
     (cells : ℕ) (images : FirstImages) (start : Start) (answer : ImageAnswer) (next : ImageFiles) (old new : S)
     → FirstFollows cells images start → StepsImages took cells (NoneYet images) answer next old new → IsFirstRound cells (round_in next)
     → ((after : FirstImages) × (next ≡ NoneYet after) × FirstFollows cells after start)
-    ⊎ ((after : Images) × (next ≡ Newest after) × (after.tick ≡ 0) × (after.round ≡ None) × IsStarting cells [] 0 after 0 start)
+    ⊎ ((after : Images) × (next ≡ Newest after) × (after.tick ≡ 0) × (after.round ≡ None)
+    × IsStarting cells [] (acknowledged_opened 0 answer) after 0 start)

@@ -12,10 +12,11 @@ use Rattle.image_files.specs.Images.{Round, Images, FirstImages, ImageFiles, Non
 use Rattle.action_log.specs.declared.record.Record.{Record}
 use Rattle.action_log.specs.declared.answer.LogAnswer.{LogAnswer}
 use Rattle.action_log.specs.declared.answer.LogAnswer.TheVariants as log_answer
-use Rattle.action_log.specs.Logs.{Start, Journal, InStart, Writing, LogPlace, started}
+use Rattle.action_log.specs.Logs.{Logs, Start, Journal, InStart, Writing, LogPlace, started}
 use Rattle.action_log.specs.LogSteps.{StartStep, StepIn, JournalStep}
+use Rattle.action_log.specs.Cover.{CoverStep}
 use Rattle.recovery.specs.Start.{IsStarting}
-use Rattle.recovery.specs.Events.{IsKept, acknowledged_after, ImageStepKeeps, LogStepKeeps, StartImageStepKeeps, StartLogStepKeeps, FirstImageStepKeeps}
+use Rattle.recovery.specs.Events.{IsKept, acknowledged_opened, acknowledged_after, ImageStepKeeps, LogStepKeeps, CoverKeeps, StartImageStepKeeps, StartLogStepKeeps, FirstImageStepKeeps}
 use Rattle.restart.specs.Rounds.{StoreFollowsImages}
 use Rattle.restart.specs.InStep.{IsInStart, HasPhase, InStep, NoneWaitedFor}
 use Rattle.restart.proofs.Stepped.{step_follows, round_follows, first_round_follows}
@@ -75,41 +76,50 @@ caught cells ticks acknowledged from old new image_answer.Working images start n
 caught cells ticks acknowledged from old new (image_answer.Opened tick) images start next after s e none f h = tick_same after (record { slot = other_slot images.slot; tick = s.0.tick; words = s.0.taken; before = Open images.tick images.words; round = None }) (sym e ∙ s.4) ∙ start_tick f.start_follows.round s.1
 caught cells ticks acknowledged from old new image_answer.Down images start next after s e none f h = tick_same after images (sym e ∙ s.2) ∙ h (sym (ap round_in (sym e ∙ s.2)) ∙ none)
 
+-- and until then nothing is acknowledged
+still_none : (cells : ℕ) (old new : Content) (acknowledged : ℕ) (given : ImageAnswer) (images : FirstImages) (next : ImageFiles) (after : FirstImages) → StepsImages Takes cells (NoneYet images) given next old new → next ≡ NoneYet after
+    → acknowledged_opened acknowledged given ≡ acknowledged
+still_none cells old new acknowledged image_answer.Idle images next after s e = refl
+still_none cells old new acknowledged image_answer.Working images next after s e = refl
+still_none cells old new acknowledged (image_answer.Opened tick) images next after s e =
+    absurd (let g : true ≡ false = sym (opened_newest s.0 images) ∙ ap is_newest (sym s.4 ∙ e) ∙ newest_none after in cc)
+still_none cells old new acknowledged image_answer.Down images next after s e = refl
+
 module _ (kept_by : ImageStepKeeps Takes) (started_by : StartImageStepKeeps Takes) (first_by : FirstImageStepKeeps Takes) (cells : ℕ) (ticks : List (List Action)) (acknowledged : ℕ) where
   image_phase : (images : ImageFiles) (journal : Journal) (queue : List Record) (given : ImageAnswer) (next : ImageFiles) (old new : Content) → StepsImages Takes cells images given next old new
-      → StoreFollowsImages cells ticks new next → HasPhase cells ticks acknowledged images journal queue → HasPhase cells ticks acknowledged next journal queue
+      → StoreFollowsImages cells ticks new next → HasPhase cells ticks acknowledged images journal queue → HasPhase cells ticks (acknowledged_opened acknowledged given) next journal queue
   image_phase (NoneYet images) (Writing logs) queue given next old new s store phase = absurd phase
   image_phase (Newest images) (Writing logs) queue given next old new s store phase =
       let round = round_follows cells ticks images given next old new s phase.images_follow.round store in
       let k = kept_by cells ticks acknowledged images logs queue given next old new phase s round in
-      subst (λ i. HasPhase cells ticks acknowledged i (Writing logs) queue) (sym k.1) k.2
+      subst (λ i. HasPhase cells ticks (acknowledged_opened acknowledged given) i (Writing logs) queue) (sym k.1) k.2
   image_phase (Newest images) (InStart start) queue given next old new s store phase =
       let p = phase.0 in
       let round = round_follows cells ticks images given next old new s p.starting.images_follow.round store in
       let k = started_by cells ticks acknowledged images p.from start given next old new p.starting s round in
-      let on : IsInStart cells ticks acknowledged k.0 start = record {
+      let on : IsInStart cells ticks (acknowledged_opened acknowledged given) k.0 start = record {
         from = p.from;
         starting = k.2;
         caught_up = λ none. caught cells ticks acknowledged p.from old new given images start next k.0 s k.1 none p.starting p.caught_up;
       } in
-      subst (λ i. HasPhase cells ticks acknowledged i (InStart start) queue) (sym k.1) (on, phase.1)
+      subst (λ i. HasPhase cells ticks (acknowledged_opened acknowledged given) i (InStart start) queue) (sym k.1) (on, phase.1)
   image_phase (NoneYet images) (InStart start) queue given next old new s store phase =
       let p = phase.0 in
       let first = first_round_follows cells images given next old new s p.follows.round (subst (λ t. StoreFollowsImages cells t new next) p.no_ticks store) in
       elim (first_by cells images start given next old new p.follows s first) [
-        | inl k ↦ subst (λ i. HasPhase cells ticks acknowledged i (InStart start) queue) (sym k.1) (
+        | inl k ↦ subst (λ i. HasPhase cells ticks (acknowledged_opened acknowledged given) i (InStart start) queue) (sym k.1) (
           record {
             no_ticks = p.no_ticks;
-            none_acknowledged = p.none_acknowledged;
+            none_acknowledged = still_none cells old new acknowledged given images next k.0 s k.1 ∙ p.none_acknowledged;
             follows = k.2;
             in_work = still_in_work cells old new given images next k.0 s k.1 p.in_work;
           },
           phase.1,
         )
-        | inr k ↦ subst (λ i. HasPhase cells ticks acknowledged i (InStart start) queue) (sym k.1) (
+        | inr k ↦ subst (λ i. HasPhase cells ticks (acknowledged_opened acknowledged given) i (InStart start) queue) (sym k.1) (
           record {
             from = 0;
-            starting = subst (λ t. IsStarting cells t acknowledged k.0 0 start) (sym p.no_ticks) (subst (λ a. IsStarting cells [] a k.0 0 start) (sym p.none_acknowledged) k.4);
+            starting = subst (λ t. IsStarting cells t (acknowledged_opened acknowledged given) k.0 0 start) (sym p.no_ticks) (subst (λ a. IsStarting cells [] (acknowledged_opened a given) k.0 0 start) (sym p.none_acknowledged) k.4);
             caught_up = λ none. k.2 ∙ sym p.follows.at_zero;
           },
           phase.1,
@@ -117,7 +127,7 @@ module _ (kept_by : ImageStepKeeps Takes) (started_by : StartImageStepKeeps Take
       ]
 
   pub image_step : (images : ImageFiles) (journal : Journal) (queue : List Record) (given : ImageAnswer) (next : ImageFiles) (old new : Content) → StepsImages Takes cells images given next old new
-      → InStep cells ticks acknowledged old images journal queue → InStep cells ticks acknowledged new next journal queue
+      → InStep cells ticks acknowledged old images journal queue → InStep cells ticks (acknowledged_opened acknowledged given) new next journal queue
   image_step images journal queue given next old new s w =
       let store = step_follows cells ticks images given next old new s w.store in
       record { store = store; phase = image_phase images journal queue given next old new s store w.phase }
@@ -182,3 +192,11 @@ module _ (kept_by : LogStepKeeps) (started_by : StartLogStepKeeps) (cells : ℕ)
       → InStep cells ticks (acknowledged_after acknowledged given) content images next.journal queue_left
   log_step content images place queue given next queue_left some waits s w =
       record { store = w.store; phase = log_phase images place.journal place.left queue given next queue_left some waits s w.phase }
+
+-- ---- a cover
+
+pub cover : CoverKeeps → (cells : ℕ) (ticks : List (List Action)) (acknowledged : ℕ) (content : Content) (images : Images) (logs : Logs) (queue : List Record) (tick : ℕ) (given : LogAnswer) (left : List Record)
+    → tick ≤ images.tick → CoverStep logs queue tick given left → InStep cells ticks acknowledged content (Newest images) (Writing logs) queue
+    → InStep cells ticks (acknowledged_after acknowledged given) content (Newest images) (Writing logs) left
+cover kept_by cells ticks acknowledged content images logs queue tick given left opened s w =
+    record { store = w.store; phase = kept_by cells ticks acknowledged images logs queue tick given left w.phase opened s }

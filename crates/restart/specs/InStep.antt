@@ -13,10 +13,11 @@ use Rattle.action_log.specs.declared.record.Record.TheVariants as records
 use Rattle.action_log.specs.Segment.{Segment, ClosedSegment}
 use Rattle.action_log.specs.Logs.{Logs, Start, Journal, InStart, Writing, LogPlace}
 use Rattle.action_log.specs.LogSteps.{JournalStep}
+use Rattle.action_log.specs.Cover.{CoverStep}
 use Rattle.recovery.specs.Recovery.{Recovery}
 use Rattle.recovery.specs.Sound.{IsSound, IsFresh}
 use Rattle.recovery.specs.Start.{IsStarting, FirstFollows}
-use Rattle.recovery.specs.Events.{IsKept, acknowledged_after}
+use Rattle.recovery.specs.Events.{IsKept, acknowledged_opened, acknowledged_after}
 use Rattle.recovery.specs.Restart.{Restarts, recovered_images, recovered_start}
 use Rattle.restart.specs.Start.{IsBuilt, images_begun}
 use Rattle.restart.specs.Rounds.{StoreFollowsImages}
@@ -65,13 +66,14 @@ FreshBegins =
 
 -- ---- what keeps it
 
--- a step of the image keeper
+-- a step of the image keeper; an image that it opens acknowledges
 abbrev pub ImageStepGoesOn : Type 0
 ImageStepGoesOn =
     (cells : ℕ) (ticks : List (List Action)) (acknowledged : ℕ) (images : ImageFiles) (journal : Journal) (queue : List Record)
     (answer : ImageAnswer) (next : ImageFiles) (old new : Content)
     → StepsImages Takes cells images answer next old new
-    → InStep cells ticks acknowledged old images journal queue → InStep cells ticks acknowledged new next journal queue
+    → InStep cells ticks acknowledged old images journal queue
+    → InStep cells ticks (acknowledged_opened acknowledged answer) new next journal queue
 
 -- a start's log waits until no round is in work
 abbrev pub NoneWaitedFor : Journal → ImageFiles → Type 0
@@ -86,6 +88,15 @@ LogStepGoesOn =
     → 1 ≤ cells → NoneWaitedFor place.journal images → JournalStep place queue answer next left
     → InStep cells ticks acknowledged content images place.journal queue
     → InStep cells ticks (acknowledged_after acknowledged answer) content images next.journal left
+
+-- a cover of the tick of an open image, whose receipt acknowledges
+abbrev pub CoverGoesOn : Type 0
+CoverGoesOn =
+    (cells : ℕ) (ticks : List (List Action)) (acknowledged : ℕ) (content : Content) (images : Images) (logs : Logs) (queue : List Record)
+    (tick : ℕ) (answer : LogAnswer) (left : List Record)
+    → tick ≤ images.tick → CoverStep logs queue tick answer left
+    → InStep cells ticks acknowledged content (Newest images) (Writing logs) queue
+    → InStep cells ticks (acknowledged_after acknowledged answer) content (Newest images) (Writing logs) left
 
 -- a tick whose actions were done on the store ends, and is queued
 abbrev pub TickGoesOn : Type 0

@@ -4,7 +4,7 @@ ghost use Rattle.capture_core.specs.Content.{Content};
 ghost use Rattle.image_files.specs.Images.{ImageFiles, ImageFilesAre};
 ghost use Rattle.action_log.specs.declared.record.Record.{Record};
 ghost use Rattle.action_log.specs.Logs.{Journal, JournalIs};
-ghost use Rattle.restart.specs.InStep.{InStep, RecoveryBegins, FreshBegins, ImageStepGoesOn, LogStepGoesOn, TickGoesOn, MarkGoesOn, AllAreAcknowledged, IsSafe};
+ghost use Rattle.restart.specs.InStep.{InStep, RecoveryBegins, FreshBegins, ImageStepGoesOn, LogStepGoesOn, CoverGoesOn, TickGoesOn, MarkGoesOn, AllAreAcknowledged, IsSafe};
 
 use crate::following::stores_follow;
 use capture_core::PlainCopy;
@@ -19,6 +19,7 @@ pub fn worlds_go_on()
     ensures fresh { FreshBegins }
     ensures image_step { ImageStepGoesOn }
     ensures log_step { LogStepGoesOn }
+    ensures cover { CoverGoesOn }
     ensures tick { TickGoesOn }
     ensures mark { MarkGoesOn }
     ensures all_acknowledged { AllAreAcknowledged }

@@ -153,14 +153,14 @@ module _ {C D : Type 0} (content : C → Content) (file : D → List ℕ) (leave
       → Follows content file leaves old files ticks acknowledged
       → Follows content file leaves (record old { store = store; images = images }) (record files { image_a = a; image_b = b }) ticks acknowledged
   image_follows old files store images a b ticks acknowledged cells live goes f =
-      let on = goes ticks f.count f.place.journal old.queue.items (record { images = f.images; stands = f.has_images; in_step = f.in_step }) in
+      let on = goes ticks acknowledged f.place.journal old.queue.items (record { images = f.images; stands = f.has_images; count = f.count; at_least = f.at_least; in_step = f.in_step }) in
       record {
         images = on.images;
         place = f.place;
         has_images = on.stands;
         has_log = f.has_log;
-        count = f.count;
-        at_least = f.at_least;
+        count = on.count;
+        at_least = on.at_least;
         in_step = on.in_step;
         world = ap (λ n. after_ticks n ticks) cells ∙ (f.world ∙ ap (λ (w : List ℕ). Ok w) (sym live));
         ended = f.ended;

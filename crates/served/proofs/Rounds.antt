@@ -13,6 +13,7 @@ use Rattle.image_files.specs.Images.{ImageFiles, StepsImages}
 use Rattle.image_files.specs.Progress.{Progress, cells_taken, left_of, moves_left, opened_keeper, target_of}
 use Rattle.image_files.specs.Steps.{IfOpened, OnWorking}
 use Rattle.image_files.specs.Files.{Stands}
+use Rattle.recovery.specs.Events.{acknowledged_opened}
 use Rattle.restart.specs.InStep.{InStep, ImageStepGoesOn}
 use Rattle.served.specs.Running.{CellsLeft, RoundTick, RoundGoes}
 
@@ -27,6 +28,13 @@ left_taken (entry ∷ left) cell e = omega arith
 left_none : (left : List (Option ℕ)) → None ≡ option_map taken_of (slice_get left 0) → left ≡ []
 left_none [] e = refl
 left_none (entry ∷ left) e = absurd (let h = e in cc)
+
+-- a step acknowledges no less
+no_less : (acknowledged : ℕ) (given : ImageAnswer) → acknowledged ≤ acknowledged_opened acknowledged given
+no_less acknowledged answer.Idle = omega arith
+no_less acknowledged answer.Working = omega arith
+no_less acknowledged (answer.Opened tick) = omega arith
+no_less acknowledged answer.Down = omega arith
 
 -- ---- a step
 
@@ -48,11 +56,13 @@ module _ {S : Type 0} (content : S → Content) (took : S → Option Taken → S
         → RoundGoes content file leaves keeper next_keeper old new a next_a b next_b
     round_steps goes_on keeper next_keeper old new a next_a b next_b given same stands ticks acknowledged journal queue r =
         let next = stands r.images r.stands in
-        let on = goes_on keeper.cells ticks acknowledged r.images journal queue given next.0 (content old) (content new) (steps_content keeper.cells r.images given next.0 old new next.2) r.in_step in
+        let on = goes_on keeper.cells ticks r.count r.images journal queue given next.0 (content old) (content new) (steps_content keeper.cells r.images given next.0 old new next.2) r.in_step in
         record {
           images = next.0;
           stands = next.1;
-          in_step = subst (λ n. InStep n ticks acknowledged (content new) next.0 journal queue) (sym same) on;
+          count = acknowledged_opened r.count given;
+          at_least = (let more = no_less r.count given in omega (arith, r.at_least, more));
+          in_step = subst (λ n. InStep n ticks (acknowledged_opened r.count given) (content new) next.0 journal queue) (sym same) on;
         }
 
   -- ---- whatever the disks are

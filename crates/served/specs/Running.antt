@@ -30,11 +30,14 @@ pub record RoundTick (old new : ImageProgress) : Type 0 where
   pub newest : HasNewest old → HasNewest new
 
 module _ {S D : Type 0} (content : S → Content) (file : D → List ℕ) (leaves : D → List ℕ → Type 0) where
-  -- the keeper and its files stand for images that are in step with these ticks, beside this log
+  -- the keeper and its files stand for images that are in step with these ticks, beside this log; as many of the ticks are
+  -- acknowledged, or more
   pub record RoundStands (keeper : ImageProgress) (store : S) (a b : D) (ticks : List (List Action)) (acknowledged : ℕ) (journal : Journal) (queue : List Record) : Type 0 where
     pub images : ImageFiles
     pub stands : ImagesStand keeper images (file a) (file b) (leaves a) (leaves b)
-    pub in_step : InStep keeper.cells ticks acknowledged (content store) images journal queue
+    pub count : ℕ
+    pub at_least : acknowledged ≤ count
+    pub in_step : InStep keeper.cells ticks count (content store) images journal queue
 
   -- and they go on to
   abbrev pub RoundGoes : (keeper_before keeper_after : ImageProgress) (store_before store_after : S) (a_before a_after b_before b_after : D) → Type 0

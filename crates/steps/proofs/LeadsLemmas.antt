@@ -16,10 +16,10 @@ use Rattle.world_core.specs.Facts.{IsCoreAt}
 use Rattle.world_core.specs.Repeating.{AreLeft, RepeatsImages, RepeatsLog, RunsStart}
 use Rattle.steps.specs.declared.line.Line.{Line}
 use Rattle.steps.specs.declared.line.Method.{Method}
-use Rattle.steps.specs.declared.line.Line.TheVariants.{Open, Command, Mark, Image, Log, Images, Logs, Crash, World}
+use Rattle.steps.specs.declared.line.Line.TheVariants.{Open, Command, Mark, Image, Log, Cover, Images, Logs, Crash, World}
 use Rattle.steps.specs.Text.{answer_text}
 use Rattle.steps.specs.Script.{LineRuns}
-use Rattle.steps.specs.Played.{Played, Opens, Plays, Runs, Starts}
+use Rattle.steps.specs.Played.{Played, Opens, Moves, Plays, Runs, Starts}
 use Rattle.steps.specs.OpenCore.{Leads, MovesOn, method_after}
 use Rattle.steps.specs.Progress.{IsAt, LineLeads}
 
@@ -36,6 +36,17 @@ move_leads line actual asked wanted old new (Ok given) is same plays moves = sub
           let made = MovesOn.on (subst (λ (m : Move). MovesOn old m given new) same moves) past stands in
           (past_after past wanted given, made.stands, plays _ _ _ (given, made, refl));
     }
+
+-- a cover of the newest image's tick
+pub cover_leads : (newest : ℕ) (old new : State) (r : Result Answer Refusal) → ((past : Past) → IsCoreAt past old → newest ≡ past.standing.newest)
+    → IfOk r (λ given. MovesOn old (move.Cover newest) given new) → IfOk r (λ given. Leads Cover old (answer_text given) new)
+cover_leads newest old new (Err refusal) is moves = tt
+cover_leads newest old new (Ok given) is moves = record {
+  on = λ past stands.
+      let made = MovesOn.on moves past stands in
+      let at = is past stands in
+      (past_after past (move.Cover newest) given, made.stands, (given, subst (λ n. Moves (record { past = past; state = old }) (move.Cover n) given (record { past = past_after past (move.Cover newest) given; state = new })) at made, refl));
+}
 
 -- a line that is many steps of a keeper
 pub images_lead : (line : Line) (fate : Fate) (old new : State) (told : ImageAnswer) → line ≡ Images fate
@@ -138,6 +149,7 @@ method_stays (Command command) kept other = refl
 method_stays Mark kept other = refl
 method_stays Image kept other = refl
 method_stays Log kept other = refl
+method_stays Cover kept other = refl
 method_stays (Images fate) kept other = refl
 method_stays (Logs fate) kept other = refl
 method_stays (Crash leaving) kept other = refl

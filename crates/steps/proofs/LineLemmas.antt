@@ -35,6 +35,7 @@ kind_of line.Log = 5
 kind_of (line.Logs fate) = 6
 kind_of (line.Crash leaving) = 7
 kind_of line.Mark = 8
+kind_of line.Cover = 9
 
 text_kind : List ℕ → ℕ
 text_kind text =
@@ -43,7 +44,7 @@ text_kind text =
     if slice_index text 0 == 105 then (if length text == 5 then 3 else 4) else
     if slice_index text 0 == 108 then (if length text == 3 then 5 else 6) else
     if slice_index text 0 == 102 then (if length text == 8 then 6 else 4) else
-    if slice_index text 0 == 99 then 7 else
+    if slice_index text 0 == 99 then (if slice_index text 1 == 111 then 9 else 7) else
     if slice_index text 0 == 109 then (if slice_index text 1 == 97 then 8 else 0) else
     0
 
@@ -66,6 +67,7 @@ text_kind-line_spelling (line.Crash Lose) = refl
 text_kind-line_spelling (line.Crash Keep) = refl
 text_kind-line_spelling (line.Crash (Fill byte)) = refl
 text_kind-line_spelling line.Mark = refl
+text_kind-line_spelling line.Cover = refl
 
 same_kind : (a b : Line) → line_spelling a ≡ line_spelling b → kind_of a ≡ kind_of b
 same_kind a b is = sym (text_kind-line_spelling a) ∙ (ap text_kind is ∙ text_kind-line_spelling b)
@@ -198,6 +200,7 @@ line_spelling_injective same (line.Command a) (line.Command b) first second is =
 line_spelling_injective same line.Mark line.Mark first second is = refl
 line_spelling_injective same line.Image line.Image first second is = refl
 line_spelling_injective same line.Log line.Log first second is = refl
+line_spelling_injective same line.Cover line.Cover first second is = refl
 line_spelling_injective same line.World line.World first second is = refl
 line_spelling_injective same (line.Images a) (line.Images b) first second is = ap line.Images (images_injective a b is)
 line_spelling_injective same (line.Logs a) (line.Logs b) first second is = ap line.Logs (logs_injective a b is)
@@ -229,6 +232,7 @@ line_length short (line.Command command) bounds = short command bounds
 line_length short line.Mark bounds = lit≤ tt
 line_length short line.Image bounds = lit≤ tt
 line_length short line.Log bounds = lit≤ tt
+line_length short line.Cover bounds = lit≤ tt
 line_length short (line.Images Done) bounds = lit≤ tt
 line_length short (line.Images Failed) bounds = lit≤ tt
 line_length short (line.Logs Done) bounds = lit≤ tt

@@ -8,7 +8,7 @@ use Rattle.world_core.specs.declared.moves.Fate.TheVariants.{Done, Failed}
 use Rattle.steps.specs.declared.line.Method.{Method}
 use Rattle.steps.specs.declared.line.Method.TheVariants.{Plain, Zigzag, PingPong, ZigzagShared, PingPongShared}
 use Rattle.steps.specs.declared.line.Line.{Line}
-use Rattle.steps.specs.declared.line.Line.TheVariants.{Open, Command, Mark, Image, Log, Images, Logs, Crash, World}
+use Rattle.steps.specs.declared.line.Line.TheVariants.{Open, Command, Mark, Image, Log, Cover, Images, Logs, Crash, World}
 
 -- the word of a method
 abbrev pub method_word : Method → List ℕ
@@ -33,6 +33,7 @@ line_spelling (Command command) = spelling command
 line_spelling Mark = codes "mark"
 line_spelling Image = codes "image"
 line_spelling Log = codes "log"
+line_spelling Cover = codes "cover"
 line_spelling (Images Done) = codes "image*"
 line_spelling (Images Failed) = codes "fail image"
 line_spelling (Logs Done) = codes "log*"
@@ -65,5 +66,6 @@ abbrev pub IsWord : Line → Type 0
 IsWord Mark = Unit {0}
 IsWord Image = Unit {0}
 IsWord Log = Unit {0}
+IsWord Cover = Unit {0}
 IsWord World = Unit {0}
 IsWord line = IsLongWord line

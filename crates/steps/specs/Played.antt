@@ -20,7 +20,7 @@ use Rattle.world_core.specs.Facts.{IsCoreAt}
 use Rattle.world_core.specs.Headline.{Answers}
 use Rattle.world_core.specs.Repeating.{AreLeft, RepeatsImages, RepeatsLog, RunsStart}
 use Rattle.steps.specs.declared.line.Line.{Line}
-use Rattle.steps.specs.declared.line.Line.TheVariants.{Open, Command, Mark, Image, Log, Images, Logs, Crash, World}
+use Rattle.steps.specs.declared.line.Line.TheVariants.{Open, Command, Mark, Image, Log, Cover, Images, Logs, Crash, World}
 use Rattle.steps.specs.Text.{answer_text}
 
 -- an open core, and what its moves and answers told
@@ -72,6 +72,7 @@ Runs (Command asked) from text to = Plays (move_of asked) from text to
 Runs Mark from text to = Plays move.Mark from text to
 Runs Image from text to = Plays (move.Image Done) from text to
 Runs Log from text to = Plays (move.Log Done) from text to
+Runs Cover from text to = Plays (move.Cover from.past.standing.newest) from text to
 Runs (Images fate) from text to =
     (told : ImageAnswer) × RepeatsImages fate from.past from.state told to.past to.state × (text ≡ answer_text (answer.Image told))
 Runs (Logs fate) from text to =

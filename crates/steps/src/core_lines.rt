@@ -58,10 +58,20 @@ fn answer_line<C: Capture>(core: &mut Core<C>, line: Line) -> Result<Answer, Ref
         Line::Mark => make_move(core, Move::Mark),
         Line::Image => make_move(core, Move::Image(Fate::Done)),
         Line::Log => make_move(core, Move::Log(Fate::Done)),
+        Line::Cover => make_cover(core),
         Line::Images(fate) => Ok(Answer::Image(core.run_images(fate))),
         Line::Logs(fate) => Ok(Answer::Log(core.run_log(fate))),
         Line::Crash(leaving) => crash(core, leaving),
     }
+}
+
+// Covers the tick of the newest image.
+fn make_cover<C: Capture>(core: &mut Core<C>) -> Result<Answer, Refusal>
+    ensures leads { IfOk result (λ given. Leads Line.Cover core.old (answer_text given) core.new) }
+    ensures memory { IfErr result (λ refusal. refusal ≡ Refusal.NoMemory) }
+{
+    let newest = core.newest_tick();
+    make_move(core, Move::Cover(newest))
 }
 
 // Adds the words in decimal, with one space between.

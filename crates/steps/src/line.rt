@@ -31,6 +31,8 @@ pub enum Line {
     Image,
     /// `log`: one step of the log keeper.
     Log,
+    /// `cover`: what the newest image has leaves the queue.
+    Cover,
     /// `image*`, or `fail image` whose calls fail: steps of the image keeper until it is idle or down.
     Images(Fate),
     /// `log*`, or `fail log` whose calls fail: steps of the log keeper until it is idle or down.
@@ -139,6 +141,9 @@ fn read_word(line: &[u8]) -> Option<Line>
     }
     if line == b"log".as_slice() {
         return Some(Line::Log);
+    }
+    if line == b"cover".as_slice() {
+        return Some(Line::Cover);
     }
     if line == b"world".as_slice() {
         return Some(Line::World);

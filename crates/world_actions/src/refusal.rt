@@ -70,6 +70,9 @@ pub enum Refusal {
     /// A file that is to be made anew holds something.
     #[error("a file already holds a world: choose an empty folder")]
     NotEmpty,
+    /// No image of this tick, or of a later one, is open.
+    #[error("no image of this tick is open yet: let it be written first")]
+    Uncovered,
 }
 
 impl Refusal {
@@ -103,6 +106,7 @@ impl Refusal {
             Refusal::Impossible => 20,
             Refusal::TicksEnded => 21,
             Refusal::NotEmpty => 22,
+            Refusal::Uncovered => 23,
         }
     }
 }
@@ -132,9 +136,9 @@ impl<T: Drop> From<AllocFailed<T>> for Refusal {
 ghost use Rattle.std.specs.Prelude.{◌≡◌, ◌≤◌};
 ghost use Rattle.world_actions.specs.Refusal.{code_of};
 
-/// A law: the codes are numbers from 1 to 22, one for each refusal.
+/// A law: the codes are numbers from 1 to 23, one for each refusal.
 pub fn one_code_each()
-    ensures range { (refusal : Refusal) → (1 ≤ code_of refusal) × (code_of refusal ≤ 22) }
+    ensures range { (refusal : Refusal) → (1 ≤ code_of refusal) × (code_of refusal ≤ 23) }
     ensures distinct { (a b : Refusal) → code_of a ≡ code_of b → a ≡ b }
 {}
 
@@ -211,8 +215,12 @@ mod tests {
                 Refusal::NotEmpty,
                 "a file already holds a world: choose an empty folder",
             ),
+            (
+                Refusal::Uncovered,
+                "no image of this tick is open yet: let it be written first",
+            ),
         ];
-        assert_eq!(rt; refusals.len(), 22);
+        assert_eq!(rt; refusals.len(), 23);
         for (at, (refusal, text)) in refusals.iter().enumerate() {
             assert_eq!(rt; refusal.code() as usize, at + 1, "{refusal:?}");
             assert_eq!(rt; refusal.to_string(rt.alloc())?.as_str(), *text);

@@ -3,6 +3,7 @@ pub mod Playing
 pub mod Imaging
 pub mod Logging
 pub mod LogExact
+pub mod Covering
 pub mod Exact
 pub mod Safe
 pub mod Marking

@@ -71,7 +71,7 @@ left_after standing running fate (Writing logs) left queue (given_.Acked tick) n
 left_after standing running fate (Writing logs) left queue given_.Down next rest s none e = e ∙ ap (λ (p : LogPlace). p.left) (sym s.1)
 
 -- both count the same receipts
-counts : (acknowledged : ℕ) (given : LogAnswer) → acknowledged_after acknowledged (answer.Log given) ≡ log_acknowledged acknowledged given
+pub counts : (acknowledged : ℕ) (given : LogAnswer) → acknowledged_after acknowledged (answer.Log given) ≡ log_acknowledged acknowledged given
 counts acknowledged given_.Idle = refl
 counts acknowledged given_.Working = refl
 counts acknowledged (given_.Acked tick) = refl

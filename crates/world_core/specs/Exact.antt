@@ -17,7 +17,8 @@ use Rattle.image_files.specs.Progress.{left_of}
 use Rattle.action_log.specs.declared.answer.LogAnswer.{LogAnswer}
 use Rattle.action_log.specs.declared.answer.LogAnswer.TheVariants as log_answer
 use Rattle.action_log.specs.Progress.{work_of}
-use Rattle.world_core.specs.Standing.{Standing, is_starting, is_round_open, is_log_waiting, unless_refused, action_answer, get_answer, end_answer, tick_refusal_at, mark_refusal_at}
+use Rattle.action_log.specs.Cover.{uncovered, cover_answer}
+use Rattle.world_core.specs.Standing.{Standing, is_starting, is_round_open, is_log_waiting, unless_refused, action_answer, get_answer, end_answer, tick_refusal_at, mark_refusal_at, cover_refusal_at}
 use Rattle.world_core.specs.Past.{Past}
 use Rattle.world_core.specs.State.{State}
 
@@ -63,6 +64,12 @@ IsLogAnswer past state (log_answer.Acked tick) =
     × (tick + length (ticks_in state.queue) ≡ length past.history.ticks)
 IsLogAnswer past state log_answer.Down = is_log_waiting past.standing ≡ false
 
+-- what is answered to a cover. A receipt's tick is the last ended one that doesn't wait in the queue since.
+pub record IsCoverAnswer (past : Past) (state : State) (tick : ℕ) (given : Answer) : Type 0 where
+  pub is : given ≡ unless_refused (cover_refusal_at past.standing tick) (answer.Log (cover_answer state.log tick state.queue))
+  pub receipt : (number : ℕ) → given ≡ answer.Log (log_answer.Acked number)
+      → (number ≡ tick) × (number + length (ticks_in (uncovered state.log tick state.queue)) ≡ length past.history.ticks)
+
 -- what is answered, want of memory apart
 abbrev pub IsExact : Past → State → Move → Answer → Type 0
 IsExact past state (move.Act action) given =
@@ -76,13 +83,16 @@ IsExact past state (move.Image fate) (answer.Image given) = IsImageAnswer past.s
 IsExact past state (move.Image fate) given = ⊥
 IsExact past state (move.Log fate) (answer.Log given) = IsLogAnswer past state given
 IsExact past state (move.Log fate) given = ⊥
+IsExact past state (move.Cover tick) given = IsCoverAnswer past state tick given
 IsExact past state (move.Crash left) given =
     IsCrashAnswer state left.image_a.items left.image_b.items left.log_a.items left.log_b.items given
 
--- a step of a keeper that does its work leaves less to do, and the one that opens an image nothing of the round
+-- a step of a keeper that does its work leaves less to do, as does a cover that takes a record, and the one that opens an image nothing of the round
 abbrev pub Progresses : Move → Answer → (old new : State) → Type 0
 Progresses (move.Image fate) (answer.Image image_answer.Working) old new = left_of new.images < left_of old.images
 Progresses (move.Image fate) (answer.Image (image_answer.Opened tick)) old new = (left_of new.images ≡ 0) × (0 < left_of old.images)
 Progresses (move.Log fate) (answer.Log log_answer.Working) old new = work_of new.log new.queue < work_of old.log old.queue
 Progresses (move.Log fate) (answer.Log (log_answer.Acked tick)) old new = work_of new.log new.queue < work_of old.log old.queue
+Progresses (move.Cover tick) (answer.Log log_answer.Working) old new = work_of new.log new.queue < work_of old.log old.queue
+Progresses (move.Cover tick) (answer.Log (log_answer.Acked number)) old new = work_of new.log new.queue < work_of old.log old.queue
 Progresses asked given old new = Unit {0}

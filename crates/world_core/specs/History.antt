@@ -35,8 +35,9 @@ history_of history (asked ∷ moves) (given ∷ answers) = history_of (history_a
 abbrev pub ended : List Move → List Answer → List (List Action)
 ended moves answers = (history_of no_history moves answers).ticks
 
--- the greatest tick in an answered receipt
+-- the greatest tick in an answered receipt, or of an image that was answered to be open
 abbrev pub acknowledged_after : ℕ → Answer → ℕ
+acknowledged_after acknowledged (answer.Image (image_answer.Opened tick)) = max acknowledged tick
 acknowledged_after acknowledged (answer.Log (log_answer.Acked tick)) = max acknowledged tick
 acknowledged_after acknowledged given = acknowledged
 

@@ -20,12 +20,14 @@ use Rattle.action_log.specs.declared.format.TheConstants.{SEGMENT_TICKS}
 use Rattle.action_log.specs.Segment.{Segment, IsSegment}
 use Rattle.action_log.specs.Spellings.{ReadsOnce}
 use Rattle.action_log.specs.Progress.{begun as begun_log, QueueFollows, end_of}
-use Rattle.action_log.specs.Logs.{LogPlace, start_of, start_moves}
-use Rattle.recovery.specs.Events.{TickEnds, ReceiptIsExact}
+use Rattle.action_log.specs.Logs.{Logs, Writing, LogPlace, start_of, start_moves}
+use Rattle.action_log.specs.LogSteps.{is_idle}
+use Rattle.action_log.specs.declared.phase.Phase.TheVariants.{Ready}
+use Rattle.recovery.specs.Events.{TickEnds, ReceiptIsExact, CoverReceiptIsExact}
 use Rattle.recovery.specs.Restart.{SoundRestarts, FreshRestarts}
 use Rattle.restart.specs.Start.{is_shut}
 use Rattle.restart.specs.Rounds.{WritesFollow, TicksFollow, AllAreTaken}
-use Rattle.restart.specs.InStep.{InStep, RecoveryBegins, FreshBegins, ImageStepGoesOn, LogStepGoesOn, MarkGoesOn, IsSafe}
+use Rattle.restart.specs.InStep.{InStep, RecoveryBegins, FreshBegins, ImageStepGoesOn, LogStepGoesOn, CoverGoesOn, MarkGoesOn, IsSafe}
 use Rattle.world_core.specs.State.{File, State, ImagesIn, LogIn, HasImages, HasLog}
 
 pub record EventLaws : Type 0 where
@@ -38,7 +40,9 @@ pub record EventLaws : Type 0 where
   pub mark : MarkGoesOn
   pub image_step : ImageStepGoesOn
   pub log_step : LogStepGoesOn
+  pub cover : CoverGoesOn
   pub receipt : ReceiptIsExact
+  pub cover_receipt : CoverReceiptIsExact
   pub all_taken : AllAreTaken
 
 pub record QueueLaws : Type 0 where
@@ -62,6 +66,7 @@ pub record KeeperLaws : Type 0 where
   pub round : (keeper : ImageProgress) (images : ImageFiles) (image_a image_b : File) → ImagesIn keeper images image_a image_b → (keeper.phase ≡ Idle → ⊥)
       → (round : Round) × (round_in images ≡ Some round) × (round.tick ≡ keeper.tick) × (length round.taken ≡ cells_taken keeper)
   pub left : (keeper : LogProgress) (log_a log_b : File) (place : LogPlace) → LogIn keeper place log_a log_b → IsTrue keeper.starting ↔ (0 < place.left)
+  pub ready : (keeper : LogProgress) (log_a log_b : File) (logs : Logs) (left : ℕ) → LogIn keeper (record { journal = Writing logs; left = left }) log_a log_b → keeper.phase ≡ Ready → is_idle logs
   pub begins : (tick : ℕ) (shut_a shut_b : Bool) (log_a log_b : File) (before_a before_b : Segment) → tick ≤ TICK_MAX
       → Only log_a.inner.content (IsCrashOutcome log_a.inner) → Only log_b.inner.content (IsCrashOutcome log_b.inner) → TellsShut shut_a log_a.inner.content → TellsShut shut_b log_b.inner.content
       → IsSegment log_a.inner.content before_a → IsSegment log_b.inner.content before_b

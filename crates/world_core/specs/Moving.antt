@@ -16,8 +16,9 @@ use Rattle.action_log.specs.declared.answer.LogAnswer.{LogAnswer}
 use Rattle.action_log.specs.declared.answer.LogAnswer.TheVariants as log_answer
 use Rattle.action_log.specs.declared.record.Record.TheVariants as records
 use Rattle.action_log.specs.Progress.{QueueFollows, end_of, work_of, taken}
-use Rattle.action_log.specs.Logs.{LogPlace}
-use Rattle.action_log.specs.LogSteps.{JournalStep}
+use Rattle.action_log.specs.Logs.{Logs, LogPlace}
+use Rattle.action_log.specs.LogSteps.{is_idle, JournalStep}
+use Rattle.action_log.specs.Cover.{covered, uncovered, cover_answer, CoverStep}
 use Rattle.world_core.specs.declared.moves.Fate.{Fate}
 use Rattle.world_core.specs.declared.moves.Fate.TheVariants as fate_
 use Rattle.world_core.specs.declared.moves.Move.{Move}
@@ -86,6 +87,18 @@ pub record StepsLogKeeper (fate : Fate) (old : State) (given : LogAnswer) (new :
   pub fails : FailsBy fate (given ≡ log_answer.Down) old.log_a old.log_b new.log_a new.log_b
   pub lowers : new.log.down ≡ false → 0 < work_of old.log old.queue → work_of new.log new.queue < work_of old.log old.queue
 
+-- what stands before the switch at a tick leaves the queue
+pub record CoversQueue (tick : ℕ) (old : State) (given : LogAnswer) (new : State) : Type 0 where
+  pub answer : given ≡ cover_answer old.log tick old.queue
+  pub rest : new ≡ record old { queue = new.queue }
+  pub left : new.queue ≡ uncovered old.log tick old.queue
+  pub front : old.queue ≡ covered old.log tick old.queue ++ new.queue
+  pub follows : QueueFollows old.log new.queue
+  pub end : end_of old.log new.queue ≡ end_of old.log old.queue
+  pub step : (logs : Logs) → (old.log.phase ≡ Ready → is_idle logs) → CoverStep logs old.queue tick given new.queue
+  pub rests : (given ≡ log_answer.Idle) ⊎ (given ≡ log_answer.Down) → new.queue ≡ old.queue
+  pub lowers : (given ≡ log_answer.Idle) ⊎ ((given ≡ log_answer.Down) ⊎ (work_of new.log new.queue < work_of old.log old.queue))
+
 -- the log's part of a start waits for the image
 abbrev pub Waits : State → Type 0
 Waits state = (state.log.starting && is_in_round state.images.phase) ≡ true
@@ -97,6 +110,7 @@ Does move.End old (answer.Ended tick) new = EndsTick old new
 Does move.Mark old (answer.Started tick) new = BeginsRound old new
 Does (move.Image fate) old (answer.Image given) new = StepsImageKeeper fate old given new
 Does (move.Log fate) old (answer.Log given) new = (Waits old × (given ≡ log_answer.Idle) × (new ≡ old)) ⊎ StepsLogKeeper fate old given new
+Does (move.Cover tick) old (answer.Log given) new = CoversQueue tick old given new
 Does (move.Crash left) old (answer.Recovered tick from) new =
     StandsOn old.cells left.image_a.items left.image_b.items left.log_a.items left.log_b.items (answer.Recovered tick from) new
 Does (move.Crash left) old answer.Blank new = StandsOn old.cells left.image_a.items left.image_b.items left.log_a.items left.log_b.items answer.Blank new

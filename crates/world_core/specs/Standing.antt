@@ -2,7 +2,7 @@
 use Rattle.std.specs.Prelude.{ℕ, ◌+◌, ◌-◌, List, [], ◌∷◌, ◌++◌, length, Bool, true, false, not, nat_eq, nat_lt, nat_le, ◌&&◌, Option, Some, None, is_some, Result, Ok, Err, slice_index, if◌then◌else◌}
 use Rattle.world_actions.specs.declared.action.Action.{Action}
 use Rattle.world_actions.specs.declared.refusal.Refusal.{Refusal}
-use Rattle.world_actions.specs.declared.refusal.Refusal.TheVariants.{BadCell, QueueFull, OpenTick, Busy, NothingNew, ImageDown, LogDown, Starting}
+use Rattle.world_actions.specs.declared.refusal.Refusal.TheVariants.{BadCell, QueueFull, OpenTick, Busy, NothingNew, ImageDown, LogDown, Starting, Uncovered}
 use Rattle.world_actions.specs.Effect.{is_outside}
 use Rattle.action_log.specs.declared.record.Record.{Record}
 use Rattle.action_log.specs.declared.record.Record.TheVariants as record_
@@ -103,6 +103,14 @@ mark_refusal is_starting is_log_down is_image_down is_round_open ended newest qu
     if nat_le queue_most queued then Some QueueFull else
     None
 
+-- why no tick can be covered, if so
+abbrev pub cover_refusal : (is_starting is_log_down : Bool) → (newest tick : ℕ) → Option Refusal
+cover_refusal is_starting is_log_down newest tick =
+    if is_starting then Some Starting else
+    if is_log_down then Some LogDown else
+    if nat_lt newest tick then Some Uncovered else
+    None
+
 -- an answer, unless this refusal holds
 abbrev pub unless_refused : Option Refusal → Answer → Answer
 unless_refused None given = given
@@ -126,3 +134,6 @@ tick_refusal_at standing ended = tick_refusal (is_starting standing) standing.is
 abbrev pub mark_refusal_at : Standing → (ended queued : ℕ) → (running : List Action) → Option Refusal
 mark_refusal_at standing ended queued running =
     mark_refusal (is_starting standing) standing.is_log_down standing.is_image_down (is_round_open standing) ended standing.newest queued running
+
+abbrev pub cover_refusal_at : Standing → (tick : ℕ) → Option Refusal
+cover_refusal_at standing tick = cover_refusal (is_starting standing) standing.is_log_down standing.newest tick

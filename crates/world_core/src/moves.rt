@@ -27,6 +27,8 @@ pub enum Move {
     Image(Fate),
     /// A step of the log keeper: at most one call of a device.
     Log(Fate),
+    /// The records before the switch at this tick leave the queue: an image that was opened has their ticks.
+    Cover(u64),
     /// A crash that leaves these bytes of the four files, and the restart.
     Crash(Remains),
 }
@@ -85,7 +87,7 @@ pub enum Answer {
     Started(u64),
     /// What came of a step of the image keeper.
     Image(ImageAnswer),
-    /// What came of a step of the log keeper.
+    /// What came of a step of the log keeper, or of a cover.
     Log(LogAnswer),
     /// The world after this tick stands, built from the image of that one.
     Recovered { tick: u64, from: u64 },

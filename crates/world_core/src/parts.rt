@@ -1,7 +1,7 @@
 ghost use Rattle.std.specs.Prelude.{◌≡◌, ◌&&◌, ◌<◌, false, nat_le, length, IfNone};
 ghost use Rattle.world_ticks.specs.declared.tick.TheConstants.{TICK_MAX};
 ghost use Rattle.action_log.specs.declared.format.TheConstants.{SEGMENT_TICKS};
-ghost use Rattle.world_core.specs.Standing.{tick_refusal, mark_refusal, queue_most};
+ghost use Rattle.world_core.specs.Standing.{tick_refusal, mark_refusal, cover_refusal, queue_most};
 ghost use Rattle.world_core.specs.State.{is_down, is_in_round, newest_tick};
 
 use action_log::{LogKeeper, Record, tick_refusal};
@@ -114,6 +114,22 @@ impl<C: Capture> Parts<C> {
         }
     }
 
+    /// Why no tick can be covered, if so.
+    pub fn cover_refusal(&self, tick: u64) -> Option<Refusal>
+        ensures { result ≡ cover_refusal self.now.log.starting self.now.log.down
+            (newest_tick self.now.images.newest) tick }
+    {
+        if self.log.starting() {
+            Some(Refusal::Starting)
+        } else if self.log.is_down() {
+            Some(Refusal::LogDown)
+        } else if tick > self.newest_tick() {
+            Some(Refusal::Uncovered)
+        } else {
+            None
+        }
+    }
+
     /// Whether as many records wait as may.
     pub fn queue_is_full(&self) -> bool
         ensures full { result ≡ nat_le queue_most (length self.now.queue) }
@@ -149,7 +165,8 @@ impl<C: Capture> Parts<C> {
         self.images.has_open_round()
     }
 
-    fn newest_tick(&self) -> u64
+    /// The tick of the newest image, 0 before the first.
+    pub fn newest_tick(&self) -> u64
         ensures { result ≡ newest_tick self.now.images.newest }
     {
         match self.images.newest() {

@@ -64,6 +64,14 @@ impl<C: Capture> Core<C> {
         self.parts.starting()
     }
 
+    /// The tick of the newest image, 0 before the first.
+    pub fn newest_tick(&self) -> u64
+        ensures { (past : Past) → IsCoreAt past self.now → result ≡ past.standing.newest }
+    {
+        keeper_laws();
+        self.parts.newest_tick()
+    }
+
     /// Makes one move. What moves and answers tell of ticks, images and keepers stays true of the core;
     /// the answer is exact, and the state is the one that it names.
     pub fn step(&mut self, asked: Move) -> Answer
@@ -82,6 +90,7 @@ impl<C: Capture> Core<C> {
             Move::Mark => self.mark(),
             Move::Image(fate) => Answer::Image(self.image(fate)),
             Move::Log(fate) => Answer::Log(self.log(fate)),
+            Move::Cover(tick) => self.cover(tick),
             Move::Crash(left) => self.crash(left),
         }
     }
@@ -183,6 +192,25 @@ impl<C: Capture> Core<C> {
             return LogAnswer::Idle;
         }
         self.parts.move_log(fate)
+    }
+
+    // What the image of the tick has needs no logging.
+    fn cover(&mut self, tick: u64) -> Answer
+        ensures keeps { (past : Past) → IsCoreAt past self.old
+            → IsCoreAt (past_after past (Move.Cover tick) result) self.new }
+        ensures exact { (past : Past) → IsCoreAt past self.old
+            → IsExact past self.old (Move.Cover tick) result }
+        ensures does { Does (Move.Cover tick) self.old result self.new }
+        ensures progress { Progresses (Move.Cover tick) result self.old self.new }
+        ensures cells { self.new.cells ≡ self.old.cells }
+        ensures refused { (refusal : _) → result ≡ Answer.Refused refusal → self.new ≡ self.old }
+    {
+        event_laws();
+        keeper_laws();
+        if let Some(refusal) = self.parts.cover_refusal(tick) {
+            return Answer::Refused(refusal);
+        }
+        Answer::Log(self.parts.cover(tick))
     }
 
     // What recovery finds in what the crash left begins the next start.

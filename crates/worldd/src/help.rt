@@ -18,6 +18,8 @@ Each line of the script gets one line of answer:
   image*, log*         steps until the keeper is idle or down: `image down` or
                        `log down`, else the last `image open NUMBER` or
                        `acked NUMBER`, else `idle`
+  cover                drops the ticks that wait for the log and that the newest
+                       image has: `acked NUMBER`, or `idle` where none waits so
   fail image, fail log the same, and each call of a device fails
   crash lose           a crash that leaves the durable bytes of each file, and the
                        restart: `recovered NUMBER from NUMBER`, or `blank`

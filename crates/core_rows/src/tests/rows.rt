@@ -1,4 +1,4 @@
-use super::{IMAGE, IMAGE_FAILS, LOG, Line, SET, ones, told_by};
+use super::{IMAGE, IMAGE_FAILS, LOG, LOG_FAILS, Line, SET, ones, told_by};
 use crate::asked::Asked;
 use crate::told::Told;
 use capture_core::{Capture, PlainCopy};
@@ -408,6 +408,54 @@ fn switches_use_segments_again(rt: HostRuntime) -> Result<(), Fail> {
             Part::Lines(&SWITCHES),
             Part::Lines(&[(1, LOG, Told::LogIdle)]),
             Part::Crash(Leaving::Lose, Told::Recovered { tick: 3, from: 3 }),
+            Part::Lines(&[(1, GET, Told::Word(3))]),
+        ],
+    )?;
+    Ok(())
+}
+
+// What an open image has leaves the queue: in a start nothing, then up to the first switch, and up to the next.
+#[test]
+fn open_images_cover_ticks(rt: HostRuntime) -> Result<(), Fail> {
+    let before = [(1, Asked::Cover(0), Told::Refused(Refusal::Starting))];
+    let first = [
+        (1, Asked::Cover(0), Told::LogIdle),
+        (1, Asked::Cover(1), Told::Refused(Refusal::Uncovered)),
+        (1, MARK, Told::Started(1)),
+        (7, IMAGE, Told::ImageWorking),
+        (1, Asked::Cover(1), Told::Refused(Refusal::Uncovered)),
+        (1, IMAGE, Told::ImageOpened(1)),
+    ];
+    let covers = [
+        (1, Asked::Cover(1), Told::LogAcked(1)),
+        (1, Asked::Cover(1), Told::LogIdle),
+        (1, Asked::Cover(2), Told::LogAcked(2)),
+        (1, LOG, Told::LogWorking),
+        (1, Asked::Cover(2), Told::LogIdle),
+        (3, LOG, Told::LogWorking),
+        (1, LOG, Told::LogIdle),
+    ];
+    let logged = [(3, LOG, Told::LogWorking), (1, LOG, Told::LogAcked(3))];
+    let down = [
+        (1, Asked::End, Told::Ended(4)),
+        (1, LOG_FAILS, Told::LogDown),
+        (1, Asked::Cover(2), Told::Refused(Refusal::LogDown)),
+    ];
+    check_all(
+        &rt,
+        1,
+        &[
+            Part::Lines(&before),
+            Part::Lines(&START),
+            Part::Lines(&tick(1)),
+            Part::Lines(&first),
+            Part::Lines(&tick(2)),
+            Part::Lines(&round(2)),
+            Part::Lines(&covers),
+            Part::Lines(&tick(3)),
+            Part::Lines(&logged),
+            Part::Lines(&down),
+            Part::Crash(Leaving::Lose, Told::Recovered { tick: 3, from: 2 }),
             Part::Lines(&[(1, GET, Told::Word(3))]),
         ],
     )?;

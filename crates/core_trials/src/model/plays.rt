@@ -44,8 +44,15 @@ impl PlainModel {
         let ended = self.ended();
         self.images.begin(ended);
         self.since = 0;
-        self.log.queue_switch()?;
+        self.log.queue_switch(ended)?;
         expect(Told::Started(ended), given)
+    }
+
+    pub fn follow_cover(&mut self, tick: u64, given: Told) -> Result<(), Wrong> {
+        match self.cover_refusal(tick) {
+            Some(refusal) => expect(Told::Refused(refusal), given),
+            None => self.log.cover(tick, given),
+        }
     }
 
     fn act(&mut self, action: Action) -> Result<(), Refusal> {
@@ -77,6 +84,18 @@ impl PlainModel {
         match self.tick_refusal() {
             None if self.log.is_full() => Some(Refusal::QueueFull),
             refusal => refusal,
+        }
+    }
+
+    fn cover_refusal(&self, tick: u64) -> Option<Refusal> {
+        if self.is_starting() {
+            Some(Refusal::Starting)
+        } else if self.log.is_down() {
+            Some(Refusal::LogDown)
+        } else if tick > self.newest() {
+            Some(Refusal::Uncovered)
+        } else {
+            None
         }
     }
 

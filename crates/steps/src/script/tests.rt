@@ -203,7 +203,7 @@ const METHODS: [&[u8]; 5] = [
 // Scripts whose text is the same for every store: what follows the method's name.
 #[test]
 fn stores_answer_the_same(rt: HostRuntime) -> Result<(), Fail> {
-    let scripts: [(&[u8], &[u8]); 15] = [
+    let scripts: [(&[u8], &[u8]); 18] = [
         // Marks are refused in their order: an open tick, an open round, nothing new.
         (
             b"1\nmark\nset 0 1\nmark\nend\nmark\nmark\n",
@@ -248,6 +248,20 @@ fn stores_answer_the_same(rt: HostRuntime) -> Result<(), Fail> {
         (
             b"1\nset 0 1\nend\nmark\nimage*\nset 0 2\nend\nmark\nimage*\nset 0 3\nend\nmark\nimage*\nlog*\ncrash lose\nget 0\n",
             b"ready 0\n+\ntick 1\nmark 1\nimage open 1\n+\ntick 2\nmark 2\nimage open 2\n+\ntick 3\nmark 3\nimage open 3\nacked 3\nrecovered 3 from 3\n= 3\n",
+        ),
+        // What an open image has leaves the queue: a tick, and older switches with it; numbers go on behind.
+        (
+            b"1\nset 0 1\nend\nmark\ncover\nimage*\ncover\nlog*\nset 0 2\nend\nlog*\ncrash lose\nget 0\n",
+            b"ready 0\n+\ntick 1\nmark 1\nidle\nimage open 1\nacked 1\nidle\n+\ntick 2\nacked 2\nrecovered 2 from 1\n= 2\n",
+        ),
+        (
+            b"1\nset 0 1\nend\nmark\nimage*\nset 0 2\nend\nmark\nimage*\nset 0 3\nend\nmark\nimage*\ncover\nlog*\ncrash lose\nget 0\n",
+            b"ready 0\n+\ntick 1\nmark 1\nimage open 1\n+\ntick 2\nmark 2\nimage open 2\n+\ntick 3\nmark 3\nimage open 3\nacked 3\nidle\nrecovered 3 from 3\n= 3\n",
+        ),
+        // While a group is in work nothing is covered, and nothing once the log is down.
+        (
+            b"1\nset 0 1\nend\nlog\nmark\nimage*\ncover\nlog*\nend\nfail log\ncover\n",
+            b"ready 0\n+\ntick 1\nworking\nmark 1\nimage open 1\nidle\nacked 1\ntick 2\nlog down\n- 12\n",
         ),
         // The image keeper is down, and the log goes on.
         (

@@ -3,7 +3,7 @@ ghost use Rattle.image_files.specs.Images.{ImageFiles};
 ghost use Rattle.action_log.specs.Logs.{LogPlace};
 ghost use Rattle.action_log.specs.Progress.{QueueFollows};
 ghost use Rattle.world_core.specs.State.{HasImages, HasLog};
-ghost use Rattle.world_core.specs.Moving.{calls_before_failure, StepsImageKeeper, StepsLogKeeper};
+ghost use Rattle.world_core.specs.Moving.{calls_before_failure, StepsImageKeeper, StepsLogKeeper, CoversQueue};
 
 use crate::moves::Fate;
 use crate::parts::Parts;
@@ -26,6 +26,14 @@ impl<C: Capture> Parts<C> {
         self.image_a.disarm();
         self.image_b.disarm();
         answer
+    }
+
+    /// Takes from the queue what the image of the tick has.
+    pub fn cover(&mut self, tick: u64) -> LogAnswer
+        requires { QueueFollows self.old.log self.old.queue }
+        ensures { CoversQueue tick self.old result self.new }
+    {
+        self.log.cover(&mut self.queue, tick)
     }
 
     /// A step of the log keeper, whose call of a device fails where that is asked.

@@ -9,6 +9,7 @@ returns c = record {
   idle = c.images_stay.ensures.idle;
   round = c.images_stay.ensures.round;
   left = λ keeper a b place stands. (c.log_outcomes.ensures.left keeper a b place stands).0;
+  ready = λ keeper a b logs left stands is. (let r = c.log_outcomes.ensures.ready keeper a b logs left stands is in (r.0, r.1));
   begins = λ tick shut_a shut_b a b before_a before_b few only_a only_b tells_a tells_b.
       c.log_outcomes.ensures.begins tick shut_a shut_b a b before_a before_b few only_a only_b tells_a.yes tells_a.no tells_b.yes tells_b.no;
 }
