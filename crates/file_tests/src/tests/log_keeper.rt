@@ -63,7 +63,7 @@ fn queue_switch(
     tick: u64,
 )
     requires follows { QueueFollows keeper.now queue.old.items }
-    requires last { tick ≡ (end_of keeper.now queue.old.items).base + (end_of keeper.now queue.old.items).count }
+    requires last { (end_of keeper.now queue.old.items).base + (end_of keeper.now queue.old.items).count ≤ tick }
     requires most { tick ≤ TICK_MAX }
     ensures follows { QueueFollows keeper.now queue.new.items }
     ensures end { end_of keeper.now queue.new.items ≡ record { base = tick; count = 0 } }
@@ -181,5 +181,33 @@ fn writes_ticks_in_groups(rt: HostRuntime) -> Result<(), Fail> {
     let (steps, answer) = run(&mut keeper, &mut queue, &mut a, &mut b);
     assert_eq!(rt; steps, 3);
     assert!(rt; matches!(answer, LogAnswer::Acked(receipt) if receipt.tick() == 33));
+    Ok(())
+}
+
+// A cover takes what stands before the switch: a tick, nothing, and an older switch alone.
+#[test]
+fn covers_what_stands_before_a_switch(rt: HostRuntime) -> Result<(), Fail> {
+    let alloc = rt.alloc();
+    let (mut keeper, mut a, mut b) = begin(alloc)?;
+    let mut queue = HeapCircularBuffer::with_capacity(alloc, 8)?;
+    assert!(rt; keeper.cover(&mut queue, 0) == LogAnswer::Idle);
+    let (_, answer) = run(&mut keeper, &mut queue, &mut a, &mut b);
+    assert!(rt; answer == LogAnswer::Idle);
+    queue_switch(&rt, &keeper, &mut queue, 1);
+    queue_switch(&rt, &keeper, &mut queue, 3);
+    assert!(rt; keeper.cover(&mut queue, 2) == LogAnswer::Idle);
+    assert!(rt; keeper.cover(&mut queue, 3) == LogAnswer::Working);
+    assert_eq!(rt; keeper.work(&queue), 6);
+    let action = Action::Set { cell: 0, value: 5 };
+    queue_tick(&rt, alloc, &keeper, &mut queue, action)?;
+    queue_switch(&rt, &keeper, &mut queue, 4);
+    let answer = keeper.cover(&mut queue, 4);
+    assert!(rt; matches!(answer, LogAnswer::Acked(receipt) if receipt.tick() == 4));
+    assert_eq!(rt; keeper.work(&queue), 6);
+    // The segment begins at the covered tick.
+    let (steps, answer) = run(&mut keeper, &mut queue, &mut a, &mut b);
+    assert_eq!(rt; steps, 4);
+    assert!(rt; answer == LogAnswer::Idle);
+    assert_eq!(rt; b.durable(), [1, 4, 0, 0, 0, 0, 0, 0, 0, 0].as_slice());
     Ok(())
 }
