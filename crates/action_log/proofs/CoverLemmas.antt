@@ -1,22 +1,21 @@
 -- The records that a cover takes, and what it leaves.
-use Rattle.std.proofs.Common.{◌≡◌, ◌⊎◌, inl, inr, ℕ, zero, suc, ◌+◌, ◌<◌, ◌≤◌, Bool, true, false, List, [], ◌∷◌, ◌++◌, length, take, drop, refl, sym, ap, subst, ◌∙◌, arith, zero-add}
+use Rattle.std.proofs.Common.{◌≡◌, ◌⊎◌, inl, inr, ℕ, zero, suc, ◌+◌, ◌<◌, ◌≤◌, Bool, true, false, List, [], ◌∷◌, ◌++◌, length, take, drop, refl, sym, ap, subst, ◌∙◌, arith}
 use Rattle.std.specs.Prelude.{slice_get, Option, Some, None, unwrap_or, option_map, if◌then◌else◌, nat_eq}
 use Rattle.std.proofs.lemmas.Bool.{cases_lt}
 use Rattle.std.proofs.lemmas.Bool.Decides.{eqb_tells}
 use Rattle.std.proofs.lemmas.List.{take-append-drop, length-take}
-use Rattle.world_ticks.specs.declared.tick.TheConstants.{TICK_MAX}
 use Rattle.action_log.specs.declared.answer.LogAnswer.{LogAnswer}
 use Rattle.action_log.specs.declared.answer.LogAnswer.TheVariants as answer
 use Rattle.action_log.specs.declared.record.Record.{Record}
 use Rattle.action_log.specs.declared.record.Record.TheVariants as records
 use Rattle.action_log.specs.declared.phase.Phase.{Phase}
-use Rattle.action_log.specs.declared.phase.Phase.TheVariants.{Retiring, RetiringSync, Ready, BodySync, Gate, GateSync, Closing, ClosingSync, Header, HeaderSync, Opening, OpeningSync}
+use Rattle.action_log.specs.declared.phase.Phase.TheVariants.{Ready}
 use Rattle.action_log.specs.declared.progress.Progress.{Progress}
 use Rattle.action_log.specs.Progress.{work_of, QueueFollowsIn, QueueFollows, end_in, end_of}
-use Rattle.action_log.specs.Queue.{queue_work, QueueFits, QueueEnd, queue_end}
+use Rattle.action_log.specs.Queue.{queue_work, QueueFits, queue_end}
 use Rattle.action_log.specs.Logs.{Logs}
 use Rattle.action_log.specs.LogSteps.{is_idle}
-use Rattle.action_log.specs.Cover.{is_switch, switch_place, before_switch, is_tick, has_tick, answer_of, Covers, CoverStep}
+use Rattle.action_log.specs.Cover.{is_switch, switch_place, before_switch, is_tick, has_tick, answer_of, CoverStep}
 use Rattle.action_log.proofs.QueueLemmas.{queue_work-append}
 
 -- ---- the place of the switch

@@ -1,20 +1,20 @@
 -- A cover keeps what is true of a core, and is answered exactly.
-use Rattle.std.proofs.Common.{◌≡◌, ℕ, ◌+◌, ◌<◌, ◌≤◌, inl, inr, Bool, true, false, nat_lt, if◌then◌else◌, List, [], ◌∷◌, ◌++◌, length, map, Option, Some, None, refl, sym, ap, subst, ◌∙◌, arith, append_assoc, lt-ltb}
+use Rattle.std.proofs.Common.{◌≡◌, ℕ, ◌+◌, ◌≤◌, inl, inr, Bool, true, false, nat_lt, if◌then◌else◌, List, [], ◌∷◌, ◌++◌, length, map, Option, Some, None, refl, sym, ap, subst, ◌∙◌, arith, append_assoc, lt-ltb}
 use Rattle.std.proofs.lemmas.List.{map-append}
 use Rattle.std.proofs.lemmas.Bool.{cases_lt}
 use Rattle.world_actions.specs.declared.action.Action.{Action}
 use Rattle.world_actions.specs.declared.refusal.Refusal.{Refusal}
 use Rattle.world_actions.specs.declared.refusal.Refusal.TheVariants.{Starting, LogDown, Uncovered}
-use Rattle.image_files.specs.Images.{Images, ImageFiles, NoneYet, Newest, newest_in}
+use Rattle.image_files.specs.Images.{ImageFiles, NoneYet, Newest, newest_in}
 use Rattle.action_log.specs.declared.phase.Phase.TheVariants.{Ready}
 use Rattle.action_log.specs.declared.answer.LogAnswer.{LogAnswer}
 use Rattle.action_log.specs.declared.answer.LogAnswer.TheVariants as given_
 use Rattle.action_log.specs.declared.record.Record.{Record}
-use Rattle.action_log.specs.Logs.{Logs, Journal, InStart, Writing, LogPlace}
+use Rattle.action_log.specs.Logs.{Logs, Journal, InStart, Writing}
 use Rattle.action_log.specs.LogSteps.{is_idle}
 use Rattle.action_log.specs.Cover.{has_tick, covered, cover_answer, answer_of, CoverStep}
 use Rattle.recovery.specs.Events.{ticks_in, ReceiptIs}
-use Rattle.restart.specs.InStep.{InStep, HasPhase}
+use Rattle.restart.specs.InStep.{InStep}
 use Rattle.world_core.specs.declared.moves.Move.TheVariants as move
 use Rattle.world_core.specs.declared.moves.Answer.{Answer}
 use Rattle.world_core.specs.declared.moves.Answer.TheVariants as answer
@@ -24,7 +24,7 @@ use Rattle.world_core.specs.State.{State, HasLog, newest_tick}
 use Rattle.world_core.specs.Laws.{EventLaws, KeeperLaws}
 use Rattle.world_core.specs.Exact.{IsCoverAnswer, Progresses}
 use Rattle.world_core.specs.Moving.{CoversQueue}
-use Rattle.world_core.specs.Facts.{IsCoreAt, IsAtRest}
+use Rattle.world_core.specs.Facts.{IsCoreAt}
 use Rattle.world_core.proofs.Exact.{starting_is}
 use Rattle.world_core.proofs.Logging.{counts}
 

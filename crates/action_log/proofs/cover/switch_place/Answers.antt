@@ -1,6 +1,6 @@
 use Rattle.std.proofs.Common.{◌≡◌, ℕ, ◌+◌, suc, take, ap, sym, subst, ◌∙◌, arith, rules}
-use Rattle.std.specs.Prelude.{None, Some, slice_get}
-use Rattle.action_log.specs.Cover.{is_switch, switch_place}
+use Rattle.std.specs.Prelude.{None}
+use Rattle.action_log.specs.Cover.{switch_place}
 use Rattle.action_log.proofs.CoverLemmas.{place_found, place_push, none_push}
 use Rattle.action_log.proofs.cover.switch_place.Goals as goal
 use Rattle.action_log.proofs.cover.switch_place.Goals.{in-Some+else-is_switch, in-None-1}

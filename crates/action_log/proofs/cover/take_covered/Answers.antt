@@ -1,5 +1,4 @@
-use Rattle.std.proofs.Common.{rules, length, arith}
-use Rattle.action_log.specs.Cover.{before_switch}
+use Rattle.std.proofs.Common.{rules}
 use Rattle.action_log.proofs.CoverLemmas.{before_switch_most}
 use Rattle.action_log.proofs.cover.take_covered.Goals as goal
 

@@ -1,4 +1,4 @@
-use Rattle.std.proofs.Common.{rules, ◌≡◌, ◌⊎◌, ◌<◌, List, length, take, drop, inl, inr, sym, subst, ap, ◌∙◌}
+use Rattle.std.proofs.Common.{rules, ◌≡◌, ◌⊎◌, ◌<◌, List, take, inl, inr, sym, subst, ◌∙◌}
 use Rattle.action_log.specs.declared.answer.LogAnswer.{LogAnswer}
 use Rattle.action_log.specs.declared.answer.LogAnswer.TheVariants.{Idle, Down}
 use Rattle.action_log.specs.declared.record.Record.{Record}

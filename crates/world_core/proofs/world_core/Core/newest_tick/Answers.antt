@@ -1,4 +1,4 @@
-use Rattle.std.proofs.Common.{sym, subst, ap, ◌∙◌}
+use Rattle.std.proofs.Common.{ap, ◌∙◌}
 use Rattle.world_core.specs.State.{State, newest_tick}
 use Rattle.world_core.proofs.Covering.{newest_stands}
 use Rattle.world_core.proofs.world_core.Core.newest_tick.Goals as goal
