@@ -1,7 +1,9 @@
 //! Tests of sessions over a port, and of workers that run in threads, in files of a model: a round that is open while
-//! ticks are answered, and each call of a file failing in turn.
+//! ticks are answered, ticks that an image has before the log, and each call of a file failing in turn.
 #![tactic(auto)]
 
+#[cfg(test)]
+mod covers;
 #[cfg(test)]
 mod failing;
 #[cfg(test)]

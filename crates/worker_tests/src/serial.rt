@@ -1,13 +1,14 @@
 //! Workers that take their turns in one thread.
 ghost use Rattle.std.specs.Prelude.{IfOk};
 ghost use Rattle.workers.specs.Logging.{IsAtRest};
+ghost use Rattle.worker_threads.specs.Begun.{IsWhole};
 
 use crate::held::Held;
 use crate::worlds::{new_files, open_files, stands_in};
-use crossbeam_channel::{Sender, bounded};
-use disk_model::ModelFile;
+use crossbeam_channel::{Receiver, Sender, bounded};
+use disk_model::{Disk, ModelFile};
 use sessions::{Batch, Request};
-use shared_capture::{Method, Pong, Zig};
+use shared_capture::{Method, Pong, Zig, cover_pair};
 use std::alloc::Global;
 use std::process::Abort;
 use std::sync::atomic::{AtomicBool, AtomicU64, Ordering};
@@ -20,37 +21,51 @@ use world_actions::{Action, Refusal};
 
 /// The workers of a world.
 #[derive(Drop)]
-struct Serial<M: Method> {
-    mutator: Mutator<M, Open>,
-    log_writer: LogWriter<ModelFile, Open>,
-    checkpointer: Checkpointer<M, ModelFile, Held>,
+pub struct Serial<M: Method, D: Disk + Drop> {
+    pub mutator: Mutator<M, Open>,
+    pub log_writer: LogWriter<D, Open>,
+    pub checkpointer: Checkpointer<M, D, Held>,
 }
 
-// The workers of a new world of two cells, an image of which is due after each tick.
-fn begin<M: Seats>(
+/// The workers of this world, an image of which is due after each tick.
+pub fn begin<M: Method, D: Disk + Drop>(
     rt: &impl Wait,
     alloc: Global,
-    answered: Arc<AtomicU64, Global>,
-) -> Result<Serial<M>, Fail>
+    opened: Opened<M, D>,
+    held: Held,
+) -> Result<Serial<M, D>, Fail>
+    requires { IsWhole D.honest D.content opened.front opened.back opened.images opened.log opened.ended }
     ensures { IfOk result (λ world. IsAtRest world.log_writer) }
 {
     let (bell, rung) = bounded(alloc, 1)?;
     let is_down = Arc::new(alloc, AtomicBool::new(false))?;
     let told_down = is_down.clone()?;
+    let (out, told) = cover_pair(alloc)?;
     let Opened {
         front,
         back,
         images,
         log,
         ended,
-    } = open_files::<M, ModelFile>(alloc, new_files(alloc, 2)?)?;
+    } = opened;
     let (to, from) = open(rt, alloc, ended)?;
-    let log_writer = LogWriter::new(alloc, Open, from, log, is_down, ended)?;
+    let log_writer = LogWriter::new(alloc, Open, from, told, log, is_down, ended)?;
     Ok(Serial {
         mutator: Mutator::new(Open, alloc, front, to, ended, 1, bell, told_down),
         log_writer,
-        checkpointer: Checkpointer::new(Held::until(answered), back, images, rung),
+        checkpointer: Checkpointer::new(held, back, out, images, rung),
     })
+}
+
+/// Runs a batch, whose answer comes later.
+pub fn send<M: Method>(
+    rt: &impl Wait,
+    alloc: Global,
+    mutator: &mut Mutator<M, Open>,
+) -> Result<Receiver<Reply>, Fail> {
+    let (to, from) = bounded(alloc, 1)?;
+    mutator.turn(rt, ask_for(alloc, to)?)?;
+    Ok(from)
 }
 
 fn ask_for(alloc: Global, to: Sender<Reply>) -> Result<Ask, Refusal> {
@@ -64,21 +79,25 @@ fn ask_for(alloc: Global, to: Sender<Reply>) -> Result<Ask, Refusal> {
 fn answer<M: Method>(
     rt: &(impl Wait + Abort),
     alloc: Global,
-    world: &mut Serial<M>,
+    world: &mut Serial<M, ModelFile>,
     text: &[u8],
 ) -> Result<(), Fail>
     requires rest { IsAtRest world.old.log_writer }
     ensures rest { IsAtRest world.new.log_writer }
 {
-    let (to, from) = bounded(alloc, 1)?;
-    world.mutator.turn(rt, ask_for(alloc, to)?)?;
+    let from = send(rt, alloc, &mut world.mutator)?;
     assert!(rt; !world.log_writer.is_over());
     world.log_writer.turn(rt);
+    is_posted(rt, &from, text);
+    Ok(())
+}
+
+/// The answer is a post of this text.
+pub fn is_posted(rt: &(impl Wait + Abort), from: &Receiver<Reply>, text: &[u8]) {
     match from.recv(rt) {
         Ok(Reply::Post(post)) => assert_eq!(rt; post.into_text().as_slice(), text),
         _ => panic!(rt; "no post"),
     }
-    Ok(())
 }
 
 // The round stays open, and play goes on.
@@ -93,14 +112,15 @@ fn is_stuck<M: Method>(
 
 fn try_serial_round<M: Seats>(rt: &(impl Wait + Abort), alloc: Global) -> Result<(), Fail> {
     let answered = Arc::new(alloc, AtomicU64::new(0))?;
-    let mut world = begin::<M>(rt, alloc, answered.clone()?)?;
+    let opened = open_files::<M, ModelFile>(alloc, new_files(alloc, 2)?)?;
+    let mut world = begin(rt, alloc, opened, Held::until(answered.clone()?))?;
     play_round(rt, alloc, &mut world, &answered)
 }
 
 fn play_round<M: Method>(
     rt: &(impl Wait + Abort),
     alloc: Global,
-    world: &mut Serial<M>,
+    world: &mut Serial<M, ModelFile>,
     answered: &AtomicU64,
 ) -> Result<(), Fail>
     requires { IsAtRest world.old.log_writer }

@@ -6,6 +6,8 @@ use denote.Param.Send.{IsSend, view_send, recorded_send, struct_send, sendable}
 use Rattle.std.proofs.Crossing.{crosses}
 use Rattle.shared_capture.specs.contracts.back.Back as Back
 use Rattle.shared_capture.specs.contracts.front.Front as Front
+use Rattle.shared_capture.specs.contracts.cover.CoverOut as CoverOut
+use Rattle.shared_capture.specs.contracts.cover.CoverIn as CoverIn
 use Rattle.shared_capture.specs.declared.method.Method as method
 use Rattle.disk_model.specs.declared.disk.Disk as disk
 use Rattle.workers.specs.declared.gate.Gate as gate
@@ -29,11 +31,11 @@ mutator_sends M G m h gates front to =
     (gates, (search (sendable, crosses) depth 60 fits 20000, (front, (to, (search (sendable, crosses) depth 60 fits 20000, (search (sendable, crosses) depth 60 fits 20000, (search (sendable, crosses) depth 60 fits 20000, (search (sendable, crosses) depth 60 fits 20000, (search (sendable, crosses) depth 60 fits 20000, (search (sendable, crosses) depth 60 fits 20000, (search (sendable, crosses) depth 60 fits 20000, tt)))))))))))))
 
 pub checkpointer_sends : (M D G : RattleType) (m : method.Ghosts M.Denot) (d : disk.Ghosts D.Denot) (h : gate.Ghosts G.Denot)
-    → IsSend D → IsSend G → IsSend (Back.the_row M m) → IsSend (Checkpointer.the_row M D G m d h)
-checkpointer_sends M D G m d h disks gates back =
+    → IsSend D → IsSend G → IsSend (Back.the_row M m) → IsSend CoverOut.the_row → IsSend (Checkpointer.the_row M D G m d h)
+checkpointer_sends M D G m d h disks gates back covers =
     let T = Checkpointer.TheInside.the_type M D G m d h in
     view_send (Checkpointer.TheInside.the_row M D G m d h) _ _ _ _ (recorded_send (Struct (shape T)) T.D T.to T.to_one (struct_send (shape T)
-    (gates, (back, (search (sendable, crosses) depth 60 fits 20000, (search (sendable, crosses) depth 60 fits 20000, (search (sendable, crosses) depth 60 fits 20000, (search (sendable, crosses) depth 60 fits 20000, tt))))))))
+    (gates, (back, (covers, (search (sendable, crosses) depth 60 fits 20000, (search (sendable, crosses) depth 60 fits 20000, (search (sendable, crosses) depth 60 fits 20000, (search (sendable, crosses) depth 60 fits 20000, tt)))))))))
 
 pub answers_send : IsSend (Ring.the_row Waiting.the_row Heap.the_row ghosts) → IsSend Answers.the_row
 answers_send waiting =
@@ -42,10 +44,10 @@ answers_send waiting =
     (waiting, (search (sendable, crosses) depth 60 fits 20000, tt))))
 
 pub log_writer_sends : (D G : RattleType) (d : disk.Ghosts D.Denot) (h : gate.Ghosts G.Denot)
-    → IsSend D → IsSend G → IsSend ItemReceiver.the_row → IsSend (Ring.the_row Record.the_row Heap.the_row ghosts) → IsSend (Ring.the_row Waiting.the_row Heap.the_row ghosts)
+    → IsSend D → IsSend G → IsSend ItemReceiver.the_row → IsSend CoverIn.the_row → IsSend (Ring.the_row Record.the_row Heap.the_row ghosts) → IsSend (Ring.the_row Waiting.the_row Heap.the_row ghosts)
     → IsSend (LogWriter.the_row D G d h)
-log_writer_sends D G d h disks gates from ring waiting =
+log_writer_sends D G d h disks gates from covers ring waiting =
     let T = LogWriter.TheInside.the_type D G d h in
     let answers = answers_send waiting in
     view_send (LogWriter.TheInside.the_row D G d h) _ _ _ _ (recorded_send (Struct (shape T)) T.D T.to T.to_one (struct_send (shape T)
-    (gates, (from, (search (sendable, crosses) depth 60 fits 20000, (ring, (answers, (search (sendable, crosses) depth 60 fits 20000, (search (sendable, crosses) depth 60 fits 20000, (search (sendable, crosses) depth 60 fits 20000, (search (sendable, crosses) depth 60 fits 20000, (search (sendable, crosses) depth 60 fits 20000, tt))))))))))))
+    (gates, (from, (covers, (search (sendable, crosses) depth 60 fits 20000, (ring, (answers, (search (sendable, crosses) depth 60 fits 20000, (search (sendable, crosses) depth 60 fits 20000, (search (sendable, crosses) depth 60 fits 20000, (search (sendable, crosses) depth 60 fits 20000, (search (sendable, crosses) depth 60 fits 20000, tt)))))))))))))

@@ -14,13 +14,15 @@ pub record KeepsFront (old new : Playing) : Type 0 where
   pub opening : new.opening ≡ old.opening
   pub every : new.every ≡ old.every
 
--- the checkpointer stays at its back, and knows the keeper and the files that it began with
+-- the checkpointer stays at its back and at its word, and knows the keeper and the files that it began with
 pub record KeepsBack {D : Type 0} (old new : Imaging D) : Type 0 where
   pub pair : new.back.pair ≡ old.back.pair
   pub cells : new.back.cells ≡ old.back.cells
+  pub word : new.covers.pair ≡ old.covers.pair
   pub opening : new.opening ≡ old.opening
 
--- the log writer stays at its end of the channel, and knows the keeper and the files that it began with
+-- the log writer stays at its end of the channel and at its word, and knows the keeper and the files that it began with
 pub record KeepsLog {D : Type 0} (old new : Logging D) : Type 0 where
   pub end : new.from.end ≡ old.from.end
+  pub word : new.covers.pair ≡ old.covers.pair
   pub opening : new.opening ≡ old.opening

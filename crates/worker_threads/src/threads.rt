@@ -1,5 +1,5 @@
 //! The workers of a world started and stopped, and what they leave.
-ghost use Rattle.std.specs.Prelude.{◌≡◌, IfOk};
+ghost use Rattle.std.specs.Prelude.{◌≡◌, [], IfOk};
 ghost use Rattle.std.specs.Thread.{IsSend};
 ghost use Rattle.workers.specs.Logging.{IsAtRest};
 ghost use Rattle.workers.specs.Channel.{AreOneChannel};
@@ -15,7 +15,7 @@ use action_log::Record;
 use circular_buffer::HeapCircularBuffer;
 use crossbeam_channel::{Receiver, Sender, bounded};
 use disk_model::Disk;
-use shared_capture::{Back, Front, Method};
+use shared_capture::{Back, CoverIn, CoverOut, Front, Method, cover_pair};
 use std::alloc::{AllocError, Global};
 use std::marker::Model;
 use std::snapshot::Snapshot;
@@ -53,6 +53,7 @@ pub struct Ends<M: Method, D: Disk + Drop, G: Gate + Drop> {
     pub log_writer: LogWriter<D, G>,
     ghost pair: { mutator.front.pair ≡ checkpointer.back.pair },
     ghost channel: { AreOneChannel log_writer.from.end mutator.to.end },
+    ghost word: { log_writer.covers.pair ≡ checkpointer.covers.pair },
 }
 
 type Players<M, D, G> = (
@@ -109,10 +110,12 @@ fn make<R: Wait, M: Method, D: Disk + Drop, G: Gate + Drop>(
         (record { mutator = made.mutator; checkpointer = made.checkpointer; log_writer = made.log_writer })) }
     ensures pair { IfOk result (λ made. made.mutator.front.pair ≡ made.checkpointer.back.pair) }
     ensures channel { IfOk result (λ made. AreOneChannel made.log_writer.from.end made.mutator.to.end) }
+    ensures word { IfOk result (λ made. made.log_writer.covers.pair ≡ made.checkpointer.covers.pair) }
     ensures rest { IfOk result (λ made. IsAtRest made.log_writer) }
 {
     let signals = Signals::new(alloc)?;
     let (to, from) = open(rt, alloc, opened.ended)?;
+    let (out, told) = cover_word(alloc)?;
     let Opened {
         front,
         back,
@@ -132,13 +135,23 @@ fn make<R: Wait, M: Method, D: Disk + Drop, G: Gate + Drop>(
         told_down,
     } = signals;
     let mutator = Mutator::new(mutator, alloc, front, to, ended, every, bell, told_down);
-    let checkpointer = Checkpointer::new(checkpointer, back, images, rung);
-    let log_writer = LogWriter::new(alloc, log_writer, from, log, is_down, ended)?;
+    let checkpointer = Checkpointer::new(checkpointer, back, out, images, rung);
+    let log_writer = LogWriter::new(alloc, log_writer, from, told, log, is_down, ended)?;
     Ok(Made {
         mutator,
         checkpointer,
         log_writer,
     })
+}
+
+// The two seats of the word that tells the newest open image.
+fn cover_word(alloc: Global) -> Result<(CoverOut, CoverIn), AllocError>
+    ensures { IfOk result (λ pair. (pair.0.pair ≡ pair.1.pair) × (pair.0.ticks ≡ []) × (pair.1.ticks ≡ [])) }
+{
+    match cover_pair(alloc) {
+        Ok(pair) => Ok(pair),
+        Err(_) => Err(AllocError),
+    }
 }
 
 // Starts the threads. Where one can't be made the others end, since the channels between them close.
@@ -158,6 +171,7 @@ fn start_threads<
 ) -> Result<Workers<M, D, G>, AllocError>
     requires pair { mutator.front.pair ≡ checkpointer.back.pair }
     requires channel { AreOneChannel log_writer.from.end mutator.to.end }
+    requires word { log_writer.covers.pair ≡ checkpointer.covers.pair }
     requires rest { IsAtRest log_writer }
     ensures { IfOk result (λ workers. workers ≡ record { mutator = mutator; checkpointer = checkpointer; log_writer = log_writer }) }
 {
@@ -239,6 +253,7 @@ fn start_checkpointer<
     ensures { IfOk result (λ handle. handle.promise.0.value ≡ checkpointer) }
 {
     crosses::<Back<M>>();
+    crosses::<CoverOut>();
     let same = SameCheckpointer(Snapshot::of(&checkpointer));
     spawn(rt, same, watch, checkpointer)
 }
@@ -257,6 +272,7 @@ fn start_log_writer<
     ensures { IfOk result (λ handle. handle.promise.0.value ≡ log_writer) }
 {
     crosses::<ItemReceiver>();
+    crosses::<CoverIn>();
     crosses::<HeapCircularBuffer<Record>>();
     crosses::<HeapCircularBuffer<Waiting>>();
     let same = SameLogWriter(Snapshot::of(&log_writer));

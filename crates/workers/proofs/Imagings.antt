@@ -1,6 +1,6 @@
 -- A step of the checkpointer's round keeps keeper, files and back in step.
 use Rattle.std.proofs.Common.{arith, ◌≡◌, ◌↔◌, ◌⊎◌, inl, inr, ℕ, suc, ◌+◌, ◌<◌, Bool, true, false, IsTrue, List, [], ◌∷◌, ◌++◌, length, drop, Option, Some, None, All, refl, sym, ap, subst, ◌∙◌, length-append}
-use Rattle.std.specs.Prelude.{⊤, get_or, if◌then◌else◌}
+use Rattle.std.specs.Prelude.{⊤, get_or, MatchOption, if◌then◌else◌}
 use Rattle.std.proofs.lemmas.List.Elements.{All-push}
 use Rattle.file_format.specs.declared.slot.Slot.{Slot}
 use Rattle.capture_core.specs.declared.taker.Taken.{Taken}
@@ -8,7 +8,6 @@ use Rattle.image_files.specs.declared.phase.Phase.{Phase}
 use Rattle.image_files.specs.declared.phase.Phase.TheVariants.{Idle, Closing, Header, Down}
 use Rattle.image_files.specs.declared.answer.ImageAnswer.{ImageAnswer}
 use Rattle.image_files.specs.declared.answer.ImageAnswer.TheVariants as answer
-use Rattle.world_ticks.specs.declared.tick.TheConstants.{TICK_MAX}
 use Rattle.image_files.specs.Images.{Round, ImageFiles, NoneYet, Newest, StepsImages, round_in, with_cell, with_round, with_taken, with_opened}
 use Rattle.image_files.specs.Progress.{Progress, target_of, cells_taken, left_of, moves_left, begun_keeper, opened_keeper}
 use Rattle.image_files.specs.Steps.{IfOpened, OnWorking, HasCause}
@@ -17,6 +16,7 @@ use Rattle.shared_capture.specs.declared.view.Snapshot.{Snapshot}
 use Rattle.shared_capture.specs.States.{BackState, TookBack, SameDone, FoundRound}
 use Rattle.workers.specs.declared.checkpointer.round.ImageWriter.{ImageWriter}
 use Rattle.workers.specs.Imaging.{round_of, with_work, images_after, newest_after, HasRound, AreInStep, SamePair, IsInWork, RoundRuns, IsDone, ImagesStand, FollowsRounds, WriterFits, TellsFaults, Imaging, IsCheckpointer, Turned}
+use Rattle.workers.specs.Publishing.{IsNoneDue, ArePublished}
 
 -- ---- the words of a round
 
@@ -56,7 +56,7 @@ work_opened now (Newest images) round is = (let same : round_of now (Newest imag
 
 -- ---- one more round
 
-newest_more : (newest : Option (Slot × ℕ)) (done : List Snapshot) (s : Snapshot) → newest_after newest (done ++ s ∷ []) ≡ Some (target_of (newest_after newest done), s.tick)
+pub newest_more : (newest : Option (Slot × ℕ)) (done : List Snapshot) (s : Snapshot) → newest_after newest (done ++ s ∷ []) ≡ Some (target_of (newest_after newest done), s.tick)
 newest_more newest [] s = refl
 newest_more newest (t ∷ done) s = newest_more (Some (target_of newest, t.tick)) done s
 
@@ -87,7 +87,7 @@ not_opened answer.Down P Q not q = q
 pub is_busy : (keeper : Progress) → 0 < left_of keeper → HasRound keeper
 is_busy keeper some is = let none : left_of keeper ≡ 0 = ap (λ (p : Phase). moves_left p keeper) is in omega (arith, some, none)
 
-stays_busy : (given : ImageAnswer) (keeper next : Progress) → NotOpened given → ((given ≡ answer.Idle) ↔ (keeper.phase ≡ Idle)) → ((given ≡ answer.Down) ↔ (next.phase ≡ Down))
+pub stays_busy : (given : ImageAnswer) (keeper next : Progress) → NotOpened given → ((given ≡ answer.Idle) ↔ (keeper.phase ≡ Idle)) → ((given ≡ answer.Down) ↔ (next.phase ≡ Down))
     → OnWorking given (next.phase ≡ Idle → ⊥) → HasRound keeper → HasRound next
 stays_busy answer.Idle keeper next not idle down on busy = absurd (busy (idle.0 refl))
 stays_busy answer.Working keeper next not idle down on busy = on
@@ -291,11 +291,12 @@ module _ {D : Type 0} (file : D → List ℕ) (leaves : D → List ℕ → Type 
   }
 
   pub checkpointer_goes_on : (next : Imaging D) (found : BackState) → AreInStep next.images.keeper next.back → (IsTrue honest → WriterFits file next.images) → FollowsRounds file leaves honest next.opening next.images next.back
-      → RoundRuns found next.images.keeper next.back → (next.over ≡ false → next.images.keeper.phase ≡ Idle) → IsCheckpointer honest file leaves next
-  checkpointer_goes_on next found step fits follows runs rests = record {
+      → RoundRuns found next.images.keeper next.back → (next.over ≡ false → next.images.keeper.phase ≡ Idle) → ArePublished next.images.keeper.newest next.back.done next.covers → IsCheckpointer honest file leaves next
+  checkpointer_goes_on next found step fits follows runs rests published = record {
     step = step;
     fits = fits;
     follows = follows;
+    published = published;
     rest = λ on. (rests on, (runs.done (rests on)).4);
   }
 
@@ -303,6 +304,17 @@ pub turned_round : {D : Type 0} (old next : Imaging D) (tick : ℕ) (found : Bac
     → (next.over ≡ false → next.images.keeper.phase ≡ Idle) → (next.over ≡ true → HasRound next.images.keeper) → Turned old next
 turned_round {D} old next tick found same is runs rests busy = inr (tick, (is.0, runs.same.2 ∙ is.4, by_over next.over refl))
   where
-    by_over : (over : Bool) → next.over ≡ over → ((next.over ≡ false) × IsDone old.back tick next.back) ⊎ ((next.over ≡ true) × IsInWork old.back tick next.back × ((TICK_MAX < tick) ⊎ HasRound next.images.keeper))
+    by_over : (over : Bool) → next.over ≡ over → ((next.over ≡ false) × IsDone old.back tick next.back) ⊎ ((next.over ≡ true) × IsInWork old.back tick next.back × (IsNoneDue old.images.keeper.newest tick ⊎ HasRound next.images.keeper))
     by_over false on = (let d = runs.done (rests on) in inl (on, (d.0, d.1 ∙ is.2, d.2 ∙ same.1, d.3 ∙ ap (λ (l : List Snapshot). l ++ d.0 ∷ []) same.2, d.4)))
     by_over true on = (let w = runs.in_work (busy on) in inr (on, (w.0, w.1 ∙ is.2, w.2 ∙ same.2), inr (busy on)))
+
+-- what a turn answers of the round that it found
+pub answers_round : (given : Option ℕ) (over : Bool) (tick : ℕ) (keeper : Progress) (old found new : BackState) → SameDone old found → FoundRound old tick found → RoundRuns found keeper new
+    → (over ≡ false → keeper.phase ≡ Idle) → (over ≡ true → HasRound keeper) → ((over ≡ true) × (given ≡ None)) ⊎ ((over ≡ false) × (given ≡ Some tick))
+    → MatchOption given (new.done ≡ old.done) (λ t. IsDone old t new)
+answers_round given over tick keeper old found new same is runs rests busy (inl stays) =
+    subst (λ (o : Option ℕ). MatchOption o (new.done ≡ old.done) (λ t. IsDone old t new)) (sym stays.1) ((runs.in_work (busy stays.0)).2 ∙ same.2)
+answers_round given over tick keeper old found new same is runs rests busy (inr ended) =
+    let d = runs.done (rests ended.0) in
+    subst (λ (o : Option ℕ). MatchOption o (new.done ≡ old.done) (λ t. IsDone old t new)) (sym ended.1)
+    (d.0, d.1 ∙ is.2, d.2 ∙ same.1, d.3 ∙ ap (λ (l : List Snapshot). l ++ d.0 ∷ []) same.2, d.4)

@@ -1,5 +1,5 @@
 -- The log writer's invariant goes on with what it does.
-use Rattle.std.proofs.Common.{arith, ◌≡◌, ◌⊎◌, ℕ, ◌+◌, ◌≤◌, Bool, true, false, IsTrue, List, [], ◌∷◌, ◌++◌, length, length-append, append-nil, refl, sym, ap, ◌∙◌, subst, None}
+use Rattle.std.proofs.Common.{arith, ◌≡◌, ◌⊎◌, inl, ℕ, ◌+◌, ◌≤◌, Bool, true, false, IsTrue, List, [], ◌∷◌, ◌++◌, length, length-append, append-nil, refl, sym, ap, ◌∙◌, subst, None}
 use Rattle.std.proofs.lemmas.List.{append_assoc}
 use Rattle.world_ticks.specs.declared.tick.TheConstants.{TICK_MAX}
 use Rattle.circular_buffer.specs.Buffer.{Buffer}
@@ -10,10 +10,9 @@ use Rattle.action_log.specs.declared.answer.LogAnswer.TheVariants as answer
 use Rattle.action_log.specs.declared.progress.Progress.{Progress}
 use Rattle.action_log.specs.Queue.{QueueEnd}
 use Rattle.action_log.specs.Progress.{QueueFollows, QueueFollowsIn, end_of, end_in, work_of, rest_in, switch_in}
-use Rattle.action_log.specs.Logs.{Logs, LogPlace}
-use Rattle.action_log.specs.LogSteps.{JournalStep}
+use Rattle.action_log.specs.Logs.{Logs}
 use Rattle.action_log.specs.Files.{FitsFiles}
-use Rattle.action_log.specs.Stands.{Stands}
+use Rattle.shared_capture.specs.CoverWord.{CoverState}
 use Rattle.workers.specs.declared.item.Item.{Item}
 use Rattle.workers.specs.declared.item.Item.TheVariants.{Start, Tick, Switch, End}
 use Rattle.workers.specs.declared.post.Waiting.{Waiting}
@@ -21,9 +20,10 @@ use Rattle.workers.specs.declared.log_writer.Log.{Log}
 use Rattle.workers.specs.Items.{Goes, end_after, items_end, record_of, records_of}
 use Rattle.workers.specs.Channel.{Popping}
 use Rattle.workers.specs.Answering.{Answering, AreNext, answers_of, all_answers_of}
+use Rattle.workers.specs.Covering.{LeavesOut, loaded}
 use Rattle.workers.specs.Logging.{Logging, IsLogging, Writes, told_of, is_end, has_end, is_over, Took, HasAcked, LogStands, IsReady, writer_at}
 use Rattle.workers.proofs.Numbers.{end_more}
-use Rattle.workers.proofs.Tellings.{writes_step, writes_more, writes_lost}
+use Rattle.workers.proofs.Tellings.{LogAdvances, writes_on, writes_more, writes_lost}
 
 pub records_more : (items : List Item) (x : Item) → records_of (items ++ x ∷ []) ≡ records_of items ++ record_of x
 records_more [] x = append-nil (record_of x)
@@ -61,19 +61,18 @@ module _ {D : Type 0} (file : D → List ℕ) (leaves : D → List ℕ → Type 
         posted = λ u. ap (λ (a : Answering). a.posted) answers_is ∙ (is.posted u ∙ sym (ap (λ (a : Answering). a.answered) answers_is));
         durable = subst (λ (a : Answering). a.posted ≤ w.acked) (sym answers_is) is.durable;
         writes = λ h logs stands.
-            (subst (λ (r : List Record). Writes file leaves w.log ring.items w.acked w.down (told_of logs) r) (sym (ap records_of popped ∙ records_more w.from.items item))
-            (subst (λ (b : Buffer Record). Writes file leaves w.log b.items w.acked w.down (told_of logs) (records_of w.from.items ++ record_of item)) (sym ring_is)
-            (writes_more file leaves w.log w.ring.items (record_of item) w.acked w.down (told_of logs) (records_of w.from.items) up (is.writes h logs stands))));
+            (subst (λ (r : List Record). Writes file leaves w.log ring.items w.covers.ticks w.acked w.down (told_of logs) r) (sym (ap records_of popped ∙ records_more w.from.items item))
+            (subst (λ (b : Buffer Record). Writes file leaves w.log b.items w.covers.ticks w.acked w.down (told_of logs) (records_of w.from.items ++ record_of item)) (sym ring_is)
+            (writes_more file leaves w.log w.ring.items (record_of item) w.covers.ticks w.acked w.down (told_of logs) (records_of w.from.items) up (is.writes h logs stands))));
       }
 
-  pub stepped : (log : Log D) (ring : Buffer Record) (answers : Answering) (given : LogAnswer) (acked : ℕ) → log.keeper.starting ≡ false → (IsTrue honest → FitsFiles log.keeper (file log.a) (file log.b))
+  pub advanced : (covers : CoverState) (tick : ℕ) (log : Log D) (ring : Buffer Record) (answers : Answering) (given : LogAnswer) (acked : ℕ) → log.keeper.starting ≡ false → (IsTrue honest → FitsFiles log.keeper (file log.a) (file log.b))
       → QueueFollows log.keeper ring.items → end_of log.keeper ring.items ≡ end_of w.log.keeper w.ring.items → ring.capacity ≡ w.ring.capacity
       → answers.room ≡ w.answers.room → answers.answered + length answers.waiting ≡ w.answers.answered + length w.answers.waiting → (w.answers.posted ≡ w.answers.answered → answers.posted ≡ answers.answered) → answers.posted ≤ acked
       → (acked ≡ w.acked) ⊎ (given ≡ answer.Acked acked)
-      → (IsTrue honest → (place : LogPlace) → Stands w.log.keeper (file w.log.a) (file w.log.b) (leaves w.log.a) (leaves w.log.b) place
-      → (next : LogPlace) × Stands log.keeper (file log.a) (file log.b) (leaves log.a) (leaves log.b) next × JournalStep place w.ring.items given next ring.items)
-      → IsLogging file leaves honest (record w { log = log; ring = ring; answers = answers; acked = acked })
-  stepped log ring answers given acked started fits follows end capacity room count posted durable which journal = record {
+      → covers ≡ loaded w.covers tick → (IsTrue honest → LogAdvances file leaves tick w.log log w.ring.items ring.items given)
+      → IsLogging file leaves honest (record w { covers = covers; log = log; ring = ring; answers = answers; acked = acked })
+  advanced covers tick log ring answers given acked started fits follows end capacity room count posted durable which told advances = record {
     started = started;
     fits = fits;
     follows = follows;
@@ -84,7 +83,8 @@ module _ {D : Type 0} (file : D → List ℕ) (leaves : D → List ℕ → Type 
     most = is.most;
     posted = λ up. posted (is.posted up);
     durable = durable;
-    writes = λ h logs stands. writes_step file leaves w.log log w.ring.items ring.items given w.acked acked w.down (told_of logs) (records_of w.from.items) is.follows which (journal h) (is.writes h logs stands);
+    writes = λ h logs stands. subst (λ (c : CoverState). Writes file leaves log ring.items c.ticks acked w.down (told_of logs) (records_of w.from.items)) (sym told)
+        (writes_on file leaves w.log log w.ring.items ring.items tick w.covers.ticks given w.acked acked w.down (told_of logs) (records_of w.from.items) is.follows which (advances h) (is.writes h logs stands));
   }
 
   -- an item is popped and lost
@@ -107,8 +107,8 @@ module _ {D : Type 0} (file : D → List ℕ) (leaves : D → List ℕ → Type 
         posted = λ up. absurd (let e : true ≡ false = sym down ∙ up in cc);
         durable = subst (λ k. k ≤ w.acked) (sym posted) is.durable;
         writes = λ h logs stands.
-            (subst (λ (r : List Record). Writes file leaves w.log w.ring.items w.acked w.down (told_of logs) r) (sym (ap records_of popped ∙ records_more w.from.items item))
-            (writes_lost file leaves w.log w.ring.items (record_of item) w.acked w.down (told_of logs) (records_of w.from.items) down (is.writes h logs stands)));
+            (subst (λ (r : List Record). Writes file leaves w.log w.ring.items w.covers.ticks w.acked w.down (told_of logs) r) (sym (ap records_of popped ∙ records_more w.from.items item))
+            (writes_lost file leaves w.log w.ring.items (record_of item) w.covers.ticks w.acked w.down (told_of logs) (records_of w.from.items) down (is.writes h logs stands)));
       }
 
 -- the answer of an item is the next one
@@ -200,9 +200,9 @@ module _ {D : Type 0} (file : D → List ℕ) (leaves : D → List ℕ → Type 
     switched = λ number is. absurd (let none : logs.switch ≡ None = ap (λ (l : Logs). l.switch) stands.0.is ∙ ap (λ p. switch_in p log.keeper.next_base) ready.phase in cc);
   }
 
-  begins : (from : Popping) (log : Log D) (tick : ℕ) → from.items ≡ Start tick ∷ [] → tick ≤ TICK_MAX → IsReady log.keeper tick → (IsTrue honest → FitsFiles log.keeper (file log.a) (file log.b))
-      → IsLogging file leaves honest (writer_at from log tick)
-  begins from log tick opened most ready fits =
+  begins : (from : Popping) (covers : CoverState) (log : Log D) (tick : ℕ) → from.items ≡ Start tick ∷ [] → tick ≤ TICK_MAX → IsReady log.keeper tick → (IsTrue honest → FitsFiles log.keeper (file log.a) (file log.b))
+      → IsLogging file leaves honest (writer_at from covers log tick)
+  begins from covers log tick opened most ready fits =
       let k = log.keeper in
       let last : items_end from.items ≡ record { base = tick; count = 0 } = ap items_end opened in record {
         started = ready.started;
@@ -221,17 +221,17 @@ module _ {D : Type 0} (file : D → List ℕ) (leaves : D → List ℕ → Type 
           given = [];
           lost = [];
           told = refl;
-          order = sym (ap records_of opened);
+          order = subst (λ (all : List Record). LeavesOut covers.ticks all []) (sym (ap records_of opened)) refl;
           none_lost = λ up. refl;
-          has_acked = has_first log tick logs ready stands;
+          acknowledged = inl (has_first log tick logs ready stands);
         };
       }
 
-  pub begins_of : (from : Popping) (log opening : Log D) (ring : Buffer Record) (answers : Answering) (tick : ℕ) → from.items ≡ Start tick ∷ [] → tick ≤ TICK_MAX → IsReady log.keeper tick → (IsTrue honest → FitsFiles log.keeper (file log.a) (file log.b))
-      → ring ≡ (writer_at from log tick).ring → answers ≡ (writer_at from log tick).answers → opening ≡ log → IsLogging file leaves honest (record (writer_at from log tick) { ring = ring; answers = answers; opening = opening })
-  begins_of from log opening ring answers tick opened most ready fits ring_is answers_is opening_is =
-      subst (λ (x : Buffer Record × Answering × Log D). IsLogging file leaves honest (record (writer_at from log tick) { ring = x.0; answers = x.1; opening = x.2 }))
-      (λ i. (sym ring_is i, sym answers_is i, sym opening_is i)) (begins from log tick opened most ready fits)
+  pub begins_of : (from : Popping) (covers : CoverState) (log opening : Log D) (ring : Buffer Record) (answers : Answering) (tick : ℕ) → from.items ≡ Start tick ∷ [] → tick ≤ TICK_MAX → IsReady log.keeper tick → (IsTrue honest → FitsFiles log.keeper (file log.a) (file log.b))
+      → ring ≡ (writer_at from covers log tick).ring → answers ≡ (writer_at from covers log tick).answers → opening ≡ log → IsLogging file leaves honest (record (writer_at from covers log tick) { ring = ring; answers = answers; opening = opening })
+  begins_of from covers log opening ring answers tick opened most ready fits ring_is answers_is opening_is =
+      subst (λ (x : Buffer Record × Answering × Log D). IsLogging file leaves honest (record (writer_at from covers log tick) { ring = x.0; answers = x.1; opening = x.2 }))
+      (λ i. (sym ring_is i, sym answers_is i, sym opening_is i)) (begins from covers log tick opened most ready fits)
 
 pub ready_rests : (keeper : Progress) (tick : ℕ) → IsReady keeper tick → work_of keeper [] ≡ 0
 ready_rests keeper tick ready = ap (λ p. rest_in p keeper.other_shut + 0) ready.phase

@@ -1,6 +1,8 @@
 -- What the files of the log tell goes on with each step of its keeper.
 use Rattle.std.proofs.Common.{arith, ◌≡◌, ◌⊎◌, inl, inr, ℕ, ◌+◌, ◌≤◌, Bool, true, false, IsTrue, List, [], ◌∷◌, ◌++◌, length, length-append, append-nil, refl, sym, ap, ◌∙◌, subst, None}
+use Rattle.std.specs.Prelude.{Contains}
 use Rattle.std.proofs.lemmas.List.{append_assoc}
+use Rattle.std.proofs.lemmas.List.Elements.{Contains-push}
 use Rattle.action_log.specs.declared.record.Record.{Record}
 use Rattle.action_log.specs.declared.record.Record.TheVariants as records
 use Rattle.action_log.specs.declared.answer.LogAnswer.{LogAnswer}
@@ -11,11 +13,14 @@ use Rattle.action_log.specs.declared.progress.Progress.{Progress}
 use Rattle.action_log.specs.Segment.{Tick, joined}
 use Rattle.action_log.specs.Queue.{StandBefore}
 use Rattle.action_log.specs.Progress.{is_of_start, switch_in, QueueFollowsIn, QueueFollows}
-use Rattle.action_log.specs.Logs.{Logs, Writing, LogPlace}
-use Rattle.action_log.specs.LogSteps.{is_idle, TakesGroup, TakesSwitch, GoesOn, EndsSwitch, Acknowledges, LogsStep, JournalStep}
-use Rattle.action_log.specs.Stands.{Stands, StandsAfterStart}
+use Rattle.action_log.specs.Logs.{Logs}
+use Rattle.action_log.specs.LogSteps.{is_idle, TakesGroup, TakesSwitch, GoesOn, EndsSwitch, Acknowledges, LogsStep}
+use Rattle.action_log.specs.Stands.{StandsAfterStart}
 use Rattle.workers.specs.declared.log_writer.Log.{Log}
-use Rattle.workers.specs.Logging.{Told, after_record, after_records, told_in, told_of, HasAcked, Writes}
+use Rattle.action_log.specs.Cover.{Covers, CoverStep}
+use Rattle.workers.specs.Covering.{LeavesOut, IsCovered, Advances}
+use Rattle.workers.specs.Logging.{Told, after_record, after_records, told_in, told_of, HasAcked, LogStands, Writes}
+use Rattle.workers.proofs.Coverings.{leaves_more, leaves_later, covered_later, cover_leaves}
 
 pub after_append : (told : Told) (xs ys : List Record) → after_records told (xs ++ ys) ≡ after_records (after_records told xs) ys
 after_append told [] ys = refl
@@ -127,56 +132,129 @@ switch_fits keeper a b leaves_a leaves_b logs queue s follows number left front 
     (sym (ap (λ (l : Logs). l.switch) s.is) ∙ idle.1) (subst (QueueFollows keeper) front follows) in
     omega (arith, most, ap (λ (l : Logs). l.base) s.is, ap (λ (l : Logs). length l.kept) s.is, s.holds.fits.count, length-append (joined s.written.groups) s.written.pending)
 
+-- ---- covered ticks
+
+-- what is acknowledged is written, or covered
+abbrev Acknowledged : List ℕ → ℕ → Logs → Type 0
+Acknowledged covers acked logs = HasAcked acked logs ⊎ IsCovered covers acked
+
+-- the records that a cover takes stood in front, and its receipt is of the tick that was told
+cover_takes : (covers : List ℕ) (tick : ℕ) (all given lost : List Record) (logs : Logs) (queue left : List Record) (taken : List Record) → Covers logs queue tick taken left → LeavesOut covers all (given ++ (queue ++ lost)) → Contains covers tick
+    → LeavesOut covers all (given ++ (left ++ lost))
+cover_takes covers tick all given lost logs queue left taken c order at =
+    let front : queue ≡ taken ++ records.Switch tick ∷ c.behind = c.in_front ∙ ap (λ (l : List Record). taken ++ l) c.next in
+    subst (λ (l : List Record). LeavesOut covers all (given ++ (l ++ lost))) (sym c.next)
+    (cover_leaves covers tick all given taken c.behind lost at (subst (λ (l : List Record). LeavesOut covers all (given ++ (l ++ lost))) front order))
+
+cover_order : (covers : List ℕ) (tick : ℕ) (all given lost : List Record) (logs : Logs) (queue left : List Record) (answered : LogAnswer) → CoverStep logs queue tick answered left → LeavesOut covers all (given ++ (queue ++ lost)) → Contains covers tick
+    → LeavesOut covers all (given ++ (left ++ lost))
+cover_order covers tick all given lost logs queue left answer.Idle same order at = subst (λ (l : List Record). LeavesOut covers all (given ++ (l ++ lost))) (sym same) order
+cover_order covers tick all given lost logs queue left answer.Working c order at = cover_takes covers tick all given lost logs queue left c.0 c.1 order at
+cover_order covers tick all given lost logs queue left (answer.Acked number) c order at = cover_takes covers tick all given lost logs queue left c.0 c.1 order at
+cover_order covers tick all given lost logs queue left answer.Down same order at = subst (λ (l : List Record). LeavesOut covers all (given ++ (l ++ lost))) (sym same) order
+
+step_order : (covers : List ℕ) (all given taken queue left lost : List Record) → queue ≡ taken ++ left → LeavesOut covers all (given ++ (queue ++ lost)) → LeavesOut covers all ((given ++ taken) ++ (left ++ lost))
+step_order covers all given taken queue left lost front order =
+    let same : given ++ (queue ++ lost) ≡ (given ++ taken) ++ (left ++ lost) =
+    ap (λ (l : List Record). given ++ l) (ap (λ (l : List Record). l ++ lost) front ∙ append_assoc taken left lost) ∙ sym (append_assoc given taken (left ++ lost)) in
+    subst (LeavesOut covers all) same order
+
 -- ---- what is written
 
 module _ {D : Type 0} (file : D → List ℕ) (leaves : D → List ℕ → Type 0) where
-  pub writes_step : (log after : Log D) (ring left : List Record) (given : LogAnswer) (acked acked' : ℕ) (down : Bool) (first : Told) (all : List Record) → QueueFollows log.keeper ring
-      → (acked' ≡ acked) ⊎ (given ≡ answer.Acked acked')
-      → ((place : LogPlace) → Stands log.keeper (file log.a) (file log.b) (leaves log.a) (leaves log.b) place
-      → (next : LogPlace) × Stands after.keeper (file after.a) (file after.b) (leaves after.a) (leaves after.b) next × JournalStep place ring given next left)
-      → Writes file leaves log ring acked down first all → Writes file leaves after left acked' down first all
-  writes_step log after ring left given acked acked' down first all follows which journal w =
-      let step = journal (record { journal = Writing w.logs; left = 0 }) w.stands in
-      let logs : Logs = step.2.0 in
-      let taken = step_told w.logs ring given logs left step.2.2 in
-      let fits = switch_fits log.keeper (file log.a) (file log.b) (leaves log.a) (leaves log.b) w.logs ring w.stands.0 follows in
+  -- what an advance by this tick does to what keeper and files stand for
+  abbrev pub LogAdvances : (tick : ℕ) → (log after : Log D) → (ring left : List Record) → LogAnswer → Type 0
+  LogAdvances tick log after ring left given = (logs : Logs) → LogStands file leaves log logs → (next : Logs) × LogStands file leaves after next × Advances tick logs ring given next left
+
+  stepped_acked : (log : Log D) (logs next : Logs) (ring left : List Record) (given : LogAnswer) (covers : List ℕ) (acked acked' : ℕ) → QueueFollows log.keeper ring → LogStands file leaves log logs
+      → (acked' ≡ acked) ⊎ (given ≡ answer.Acked acked') → LogsStep logs ring given next left → Acknowledged covers acked logs → Acknowledged covers acked' next
+  stepped_acked log logs next ring left given covers acked acked' follows stands (inr now) step was = inl (now_acked acked' logs ring next left (subst (λ (g : LogAnswer). LogsStep logs ring g next left) now step))
+  stepped_acked log logs next ring left given covers acked acked' follows stands (inl same) step (inl has) =
+      let fits = switch_fits log.keeper (file log.a) (file log.b) (leaves log.a) (leaves log.b) logs ring stands.0 follows in
+      inl (subst (λ k. HasAcked k next) (sym same) (step_acked acked logs ring given next left fits step has))
+  stepped_acked log logs next ring left given covers acked acked' follows stands (inl same) step (inr is) = inr (subst (IsCovered covers) (sym same) is)
+
+  covered_acked : (tick : ℕ) (logs next : Logs) (ring left : List Record) (given : LogAnswer) (covers : List ℕ) (acked acked' : ℕ) → Contains covers tick → next ≡ logs
+      → (acked' ≡ acked) ⊎ (given ≡ answer.Acked acked') → CoverStep logs ring tick given left → Acknowledged covers acked logs → Acknowledged covers acked' next
+  covered_acked tick logs next ring left given covers acked acked' at stays (inl same) step was = subst (λ (l : Logs). Acknowledged covers acked' l) (sym stays) (subst (λ k. Acknowledged covers k logs) (sym same) was)
+  covered_acked tick logs next ring left given covers acked acked' at stays (inr now) step was =
+      let c = subst (λ (g : LogAnswer). CoverStep logs ring tick g left) now step in
+      inr (tick, at, omega (arith, c.3))
+
+  -- more is told of open images
+  abbrev written_later : (log : Log D) (ring : List Record) (covers later : List ℕ) (acked : ℕ) (down : Bool) (first : Told) (all : List Record) → Writes file leaves log ring covers acked down first all → Writes file leaves log ring (covers ++ later) acked down first all
+  written_later log ring covers later acked down first all w = record {
+    logs = w.logs;
+    stands = w.stands;
+    given = w.given;
+    lost = w.lost;
+    told = w.told;
+    order = leaves_later covers later all (w.given ++ (ring ++ w.lost)) w.order;
+    none_lost = w.none_lost;
+    acknowledged = elim w.acknowledged [ inl has ↦ inl has | inr is ↦ inr (covered_later covers later acked is) ];
+  }
+
+  advanced : (log after : Log D) (ring left : List Record) (tick : ℕ) (covers : List ℕ) (given : LogAnswer) (acked acked' : ℕ) (down : Bool) (first : Told) (all : List Record) → QueueFollows log.keeper ring → Contains covers tick
+      → (acked' ≡ acked) ⊎ (given ≡ answer.Acked acked') → (w : Writes file leaves log ring covers acked down first all) → (next : Logs) → LogStands file leaves after next → Advances tick w.logs ring given next left
+      → Writes file leaves after left covers acked' down first all
+  advanced log after ring left tick covers given acked acked' down first all follows at which w next stands (inl step) =
+      let taken = step_told w.logs ring given next left step in
       record {
-        logs = logs;
-        stands = subst (Stands after.keeper (file after.a) (file after.b) (leaves after.a) (leaves after.b)) step.2.1 step.1;
+        logs = next;
+        stands = stands;
         given = w.given ++ taken.0;
         lost = w.lost;
         told = taken.2 ∙ (ap (λ (t : Told). after_records t taken.0) w.told ∙ sym (after_append first w.given taken.0));
-        order = append_assoc w.given taken.0 (left ++ w.lost) ∙ (ap (λ (l : List Record). w.given ++ l) (sym (append_assoc taken.0 left w.lost) ∙ ap (λ (l : List Record). l ++ w.lost) (sym taken.1)) ∙ w.order);
+        order = step_order covers all w.given taken.0 ring left w.lost taken.1 w.order;
         none_lost = w.none_lost;
-        has_acked = elim which [
-          | inl same ↦ subst (λ k. HasAcked k logs) (sym same) (step_acked acked w.logs ring given logs left fits step.2.2 w.has_acked)
-          | inr now ↦ now_acked acked' w.logs ring logs left (subst (λ (g : LogAnswer). LogsStep w.logs ring g logs left) now step.2.2)
-        ];
+        acknowledged = stepped_acked log w.logs next ring left given covers acked acked' follows w.stands which step w.acknowledged;
       }
+  advanced log after ring left tick covers given acked acked' down first all follows at which w next stands (inr cover) = record {
+    logs = next;
+    stands = stands;
+    given = w.given;
+    lost = w.lost;
+    told = ap told_of cover.0 ∙ w.told;
+    order = cover_order covers tick all w.given w.lost w.logs ring left given cover.1 w.order at;
+    none_lost = w.none_lost;
+    acknowledged = covered_acked tick w.logs next ring left given covers acked acked' at cover.0 which cover.1 w.acknowledged;
+  }
+
+  pub writes_on : (log after : Log D) (ring left : List Record) (tick : ℕ) (covers : List ℕ) (given : LogAnswer) (acked acked' : ℕ) (down : Bool) (first : Told) (all : List Record) → QueueFollows log.keeper ring
+      → (acked' ≡ acked) ⊎ (given ≡ answer.Acked acked') → LogAdvances tick log after ring left given
+      → Writes file leaves log ring covers acked down first all → Writes file leaves after left (covers ++ tick ∷ []) acked' down first all
+  writes_on log after ring left tick covers given acked acked' down first all follows which advances w =
+      let told = written_later log ring covers (tick ∷ []) acked down first all w in
+      let on = advances w.logs w.stands in
+      advanced log after ring left tick (covers ++ tick ∷ []) given acked acked' down first all follows (Contains-push covers tick) which told on.0 on.1 on.2
 
   -- one more record is queued
-  pub writes_more : (log : Log D) (ring more : List Record) (acked : ℕ) (down : Bool) (first : Told) (all : List Record) → down ≡ false → Writes file leaves log ring acked down first all → Writes file leaves log (ring ++ more) acked down first (all ++ more)
-  writes_more log ring more acked down first all up w = record {
+  pub writes_more : (log : Log D) (ring more : List Record) (covers : List ℕ) (acked : ℕ) (down : Bool) (first : Told) (all : List Record) → down ≡ false → Writes file leaves log ring covers acked down first all → Writes file leaves log (ring ++ more) covers acked down first (all ++ more)
+  writes_more log ring more covers acked down first all up w = record {
     logs = w.logs;
     stands = w.stands;
     given = w.given;
     lost = [];
     told = w.told;
-    order = (let old : w.given ++ ring ≡ all = ap (λ (l : List Record). w.given ++ l) (sym (append-nil ring) ∙ ap (λ (l : List Record). ring ++ l) (sym (w.none_lost up))) ∙ w.order in
-        ap (λ (l : List Record). w.given ++ l) (append-nil (ring ++ more)) ∙ (sym (append_assoc w.given ring more) ∙ ap (λ (l : List Record). l ++ more) old));
+    order = (let plain : (w.given ++ (ring ++ w.lost)) ++ more ≡ w.given ++ ((ring ++ more) ++ []) =
+        ap (λ (l : List Record). (w.given ++ l) ++ more) (ap (λ (l : List Record). ring ++ l) (w.none_lost up) ∙ append-nil ring)
+        ∙ (append_assoc w.given ring more ∙ ap (λ (l : List Record). w.given ++ l) (sym (append-nil (ring ++ more)))) in
+        subst (LeavesOut covers (all ++ more)) plain (leaves_more covers all (w.given ++ (ring ++ w.lost)) more w.order));
     none_lost = λ _. refl;
-    has_acked = w.has_acked;
+    acknowledged = w.acknowledged;
   }
 
   -- one more record is lost
-  pub writes_lost : (log : Log D) (ring more : List Record) (acked : ℕ) (down : Bool) (first : Told) (all : List Record) → down ≡ true → Writes file leaves log ring acked down first all → Writes file leaves log ring acked down first (all ++ more)
-  writes_lost log ring more acked down first all is_down w = record {
+  pub writes_lost : (log : Log D) (ring more : List Record) (covers : List ℕ) (acked : ℕ) (down : Bool) (first : Told) (all : List Record) → down ≡ true → Writes file leaves log ring covers acked down first all → Writes file leaves log ring covers acked down first (all ++ more)
+  writes_lost log ring more covers acked down first all is_down w = record {
     logs = w.logs;
     stands = w.stands;
     given = w.given;
     lost = w.lost ++ more;
     told = w.told;
-    order = ap (λ (l : List Record). w.given ++ l) (sym (append_assoc ring w.lost more)) ∙ (sym (append_assoc w.given (ring ++ w.lost) more) ∙ ap (λ (l : List Record). l ++ more) w.order);
+    order = (let plain : (w.given ++ (ring ++ w.lost)) ++ more ≡ w.given ++ (ring ++ (w.lost ++ more)) =
+        append_assoc w.given (ring ++ w.lost) more ∙ ap (λ (l : List Record). w.given ++ l) (append_assoc ring w.lost more) in
+        subst (LeavesOut covers (all ++ more)) plain (leaves_more covers all (w.given ++ (ring ++ w.lost)) more w.order));
     none_lost = λ up. absurd (let e : true ≡ false = sym is_down ∙ up in cc);
-    has_acked = w.has_acked;
+    acknowledged = w.acknowledged;
   }

@@ -1,6 +1,5 @@
 -- The checkpointer as contracts see it: its images are those of the rounds that its back has done.
 use Rattle.std.specs.Prelude.{◌≡◌, ◌≢◌, ◌⊎◌, ℕ, ◌<◌, Bool, true, false, IsTrue, All, List, [], ◌∷◌, ◌++◌, length, Option, Some}
-use Rattle.world_ticks.specs.declared.tick.TheConstants.{TICK_MAX}
 use Rattle.disk_model.specs.Disk.{FaultsBy}
 use Rattle.file_format.specs.declared.slot.Slot.{Slot}
 use Rattle.image_files.specs.declared.phase.Phase.TheVariants.{Idle, Down}
@@ -11,7 +10,9 @@ use Rattle.image_files.specs.Taken.{filled_words}
 use Rattle.restart.specs.Rounds.{words_of}
 use Rattle.shared_capture.specs.declared.view.Snapshot.{Snapshot}
 use Rattle.shared_capture.specs.States.{BackState, SameDone}
+use Rattle.shared_capture.specs.CoverWord.{CoverState}
 use Rattle.workers.specs.declared.checkpointer.round.ImageWriter.{ImageWriter}
+use Rattle.workers.specs.Publishing.{IsNoneDue, told, ArePublished}
 
 -- ---- the images of rounds
 
@@ -64,6 +65,11 @@ IsDone old tick new =
 abbrev pub IsInWork : BackState → (tick : ℕ) → BackState → Type 0
 IsInWork old tick new = (new.working ≡ true) × (new.now.tick ≡ tick) × (new.done ≡ old.done)
 
+-- a round's tick is published once the keeper has no round any more, and not before
+pub record Publishes (tick : ℕ) (keeper : Progress) (old new : CoverState) : Type 0 where
+  pub in_work : HasRound keeper → new ≡ old
+  pub done : keeper.phase ≡ Idle → new ≡ told old tick
+
 -- a round goes on as long as the keeper has one, and is done once the keeper has none
 pub record RoundRuns (old : BackState) (keeper : Progress) (new : BackState) : Type 0 where
   pub same : SamePair old new
@@ -100,10 +106,11 @@ pub record TellsFaults {D : Type 0} (faults : D → ℕ) (old new : ImageWriter 
 
 -- ---- the checkpointer
 
--- the back that it takes from, its keeper and files as they are and as they were at its opening, and whether it does no
--- more
+-- the back that it takes from, what it published, its keeper and files as they are and as they were at its opening, and
+-- whether it does no more
 pub record Imaging (D : Type 0) : Type 0 where
   pub back : BackState
+  pub covers : CoverState
   pub images : ImageWriter D
   pub opening : ImageWriter D
   pub over : Bool
@@ -112,11 +119,13 @@ pub record Imaging (D : Type 0) : Type 0 where
 abbrev pub IsAtRest : Progress → BackState → Type 0
 IsAtRest keeper back = (keeper.phase ≡ Idle) × (back.working ≡ false)
 
--- keeper, files and back are in step, and between two turns no round is in work
+-- keeper, files and back are in step, the images of the rounds that are done are published, and between two turns no
+-- round is in work
 pub record IsCheckpointer {D : Type 0} (honest : Bool) (file : D → List ℕ) (leaves : D → List ℕ → Type 0) (c : Imaging D) : Type 0 where
   pub step : AreInStep c.images.keeper c.back
   pub fits : IsTrue honest → WriterFits file c.images
   pub follows : FollowsRounds file leaves honest c.opening c.images c.back
+  pub published : ArePublished c.images.keeper.newest c.back.done c.covers
   pub rest : c.over ≡ false → IsAtRest c.images.keeper c.back
 
 -- the phase was loaded and no round was open: nothing else changed
@@ -125,12 +134,12 @@ Waited old new =
     (new.images ≡ old.images) × SameDone old.back new.back × (new.back.working ≡ false) × (new.back.loads ≡ old.back.loads ++ 0 ∷ [])
 
 -- the open round of this tick was found: it is done, or it stays open and nothing more is done; its
--- image was begun, unless there is no such tick
+-- image was begun, unless none is made of this tick
 abbrev pub Found : {D : Type 0} → Imaging D → (tick : ℕ) → Imaging D → Type 0
 Found old tick new =
     (tick ≢ 0) × (new.back.loads ≡ old.back.loads ++ tick ∷ [])
     × (((new.over ≡ false) × IsDone old.back tick new.back)
-    ⊎ ((new.over ≡ true) × IsInWork old.back tick new.back × ((TICK_MAX < tick) ⊎ HasRound new.images.keeper)))
+    ⊎ ((new.over ≡ true) × IsInWork old.back tick new.back × (IsNoneDue old.images.keeper.newest tick ⊎ HasRound new.images.keeper)))
 
 -- what a turn did
 abbrev pub Turned : {D : Type 0} → Imaging D → Imaging D → Type 0

@@ -6,5 +6,7 @@ pub mod Channel
 pub mod Worlds
 pub mod Mutating
 pub mod Answering
+pub mod Covering
 pub mod Logging
+pub mod Publishing
 pub mod Imaging

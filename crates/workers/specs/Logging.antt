@@ -1,5 +1,5 @@
 -- The log writer as contracts see it.
-use Rattle.std.specs.Prelude.{◌≡◌, ℕ, ◌+◌, ◌≤◌, Bool, true, false, IsTrue, List, [], ◌∷◌, ◌++◌, length, Option, Some, None}
+use Rattle.std.specs.Prelude.{◌≡◌, ◌⊎◌, ℕ, ◌+◌, ◌≤◌, Bool, true, false, IsTrue, List, [], ◌∷◌, ◌++◌, length, Option, Some, None}
 use Rattle.world_ticks.specs.declared.tick.TheConstants.{TICK_MAX}
 use Rattle.circular_buffer.specs.Buffer.{Buffer}
 use Rattle.action_log.specs.declared.record.Record.{Record}
@@ -11,6 +11,7 @@ use Rattle.action_log.specs.Progress.{QueueFollows, end_of, work_of}
 use Rattle.action_log.specs.Logs.{Logs, Writing}
 use Rattle.action_log.specs.Files.{FitsFiles}
 use Rattle.action_log.specs.Stands.{Stands}
+use Rattle.shared_capture.specs.CoverWord.{CoverState}
 use Rattle.workers.specs.declared.item.Item.{Item}
 use Rattle.workers.specs.declared.item.Item.TheVariants as items
 use Rattle.workers.specs.declared.log_writer.Log.{Log}
@@ -18,6 +19,7 @@ use Rattle.workers.specs.declared.log_writer.TheConstants.{RING_ITEMS}
 use Rattle.workers.specs.Items.{items_end, records_of}
 use Rattle.workers.specs.Channel.{Popping}
 use Rattle.workers.specs.Answering.{Answering, all_answers_of}
+use Rattle.workers.specs.Covering.{LeavesOut, IsCovered}
 
 -- whether an item is the last one
 abbrev pub is_end : Item → Bool
@@ -68,6 +70,7 @@ pub record HasAcked (acked : ℕ) (logs : Logs) : Type 0 where
 
 pub record Logging (D : Type 0) : Type 0 where
   pub from : Popping
+  pub covers : CoverState
   pub log : Log D
   pub ring : Buffer Record
   pub answers : Answering
@@ -84,9 +87,10 @@ pub record IsReady (keeper : Progress) (tick : ℕ) : Type 0 where
   pub count : keeper.count ≡ 0
 
 -- how it begins
-abbrev pub writer_at : {D : Type 0} → Popping → Log D → (tick : ℕ) → Logging D
-writer_at from log tick = record {
+abbrev pub writer_at : {D : Type 0} → Popping → CoverState → Log D → (tick : ℕ) → Logging D
+writer_at from covers log tick = record {
   from = from;
+  covers = covers;
   log = log;
   ring = record { items = []; capacity = RING_ITEMS };
   answers = record { waiting = []; room = RING_ITEMS; answered = tick; posted = tick };
@@ -111,17 +115,18 @@ module _ {D : Type 0} (file : D → List ℕ) (leaves : D → List ℕ → Type 
   abbrev pub LogStands : Log D → Logs → Type 0
   LogStands log logs = Stands log.keeper (file log.a) (file log.b) (leaves log.a) (leaves log.b) (record { journal = Writing logs; left = 0 })
 
-  -- The files tell what was told at first, and behind it the first of these records; those that follow are queued, and
-  -- once the log is down there may be others that are lost.
-  pub record Writes (log : Log D) (ring : List Record) (acked : ℕ) (down : Bool) (first : Told) (all : List Record) : Type 0 where
+  -- The files tell what was told at first, and behind it the first of these records, but for those left out for a switch
+  -- at one of these ticks; those that follow are queued, and once the log is down there may be others that are lost. What
+  -- is acknowledged is written, or one of these ticks isn't below it.
+  pub record Writes (log : Log D) (ring : List Record) (covers : List ℕ) (acked : ℕ) (down : Bool) (first : Told) (all : List Record) : Type 0 where
     pub logs : Logs
     pub stands : LogStands log logs
     pub given : List Record
     pub lost : List Record
     pub told : told_of logs ≡ after_records first given
-    pub order : given ++ (ring ++ lost) ≡ all
+    pub order : LeavesOut covers all (given ++ (ring ++ lost))
     pub none_lost : down ≡ false → lost ≡ []
-    pub has_acked : HasAcked acked logs
+    pub acknowledged : HasAcked acked logs ⊎ IsCovered covers acked
 
   pub record IsLogging (honest : Bool) (w : Logging D) : Type 0 where
     pub started : w.log.keeper.starting ≡ false
@@ -134,7 +139,7 @@ module _ {D : Type 0} (file : D → List ℕ) (leaves : D → List ℕ → Type 
     pub most : (items_end w.from.items).base + (items_end w.from.items).count ≤ TICK_MAX
     pub posted : w.down ≡ false → w.answers.posted ≡ w.answers.answered
     pub durable : w.answers.posted ≤ w.acked
-    pub writes : IsTrue honest → (logs : Logs) → LogStands w.opening logs → Writes w.log w.ring.items w.acked w.down (told_of logs) (records_of w.from.items)
+    pub writes : IsTrue honest → (logs : Logs) → LogStands w.opening logs → Writes w.log w.ring.items w.covers.ticks w.acked w.down (told_of logs) (records_of w.from.items)
 
 -- these items were popped, their records are queued, and their answers wait
 pub record Took {D : Type 0} (old new : Logging D) (more : List Item) : Type 0 where

@@ -1,14 +1,16 @@
 //! The worker that writes the images.
-ghost use Rattle.std.specs.Prelude.{◌≡◌, ◌↔◌, false, [], IsTrue, MatchOption};
+ghost use Rattle.std.specs.Prelude.{◌≡◌, ◌↔◌, ◌<◌, ◌≤◌, true, false, [], IsTrue, MatchOption};
+ghost use Rattle.world_ticks.specs.declared.tick.TheConstants.{TICK_MAX};
 ghost use Rattle.image_files.specs.declared.phase.Phase.TheVariants.{Down};
 ghost use Rattle.workers.specs.Imaging.{IsAtRest, IsDone, TellsFaults, Turned, WriterFits};
+ghost use Rattle.workers.specs.Publishing.{newest_tick, IsNoneDue};
 
 use crate::checkpointer::round::run_round;
 use crate::gate::Gate;
 use crossbeam_channel::Receiver;
 use disk_model::Disk;
-use image_files::images_stay;
-use shared_capture::{Back, Method};
+use image_files::{ImageKeeper, images_stay};
+use shared_capture::{Back, CoverOut, Method};
 use std::marker::Model;
 use std::snapshot::Snapshot;
 use std::sync::Wait;
@@ -23,6 +25,8 @@ pub use round::ImageWriter;
 pub struct Checkpointer<M: Method, D: Disk + Drop, G: Gate + Drop> {
     gate: G,
     back: Back<M>,
+    /// Told the tick of each image that is open.
+    covers: CoverOut,
     images: ImageWriter<D>,
     opening: Snapshot<ImageWriter<D>>,
     bell: Receiver<()>,
@@ -34,25 +38,33 @@ impl<M: Method, D: Disk + Drop, G: Gate + Drop> Model for Checkpointer<M, D, G> 
 
     ghost Value = { Imaging D };
 
-    ghost view = { λ c. record { back = c.back; images = c.images; opening = c.opening.value; over = c.over } };
+    ghost view = { λ c. record { back = c.back; covers = c.covers; images = c.images; opening = c.opening.value; over = c.over } };
 
     ghost invariant = { λ c. IsCheckpointer D.honest D.content D.may_leave
-        (record { back = c.back; images = c.images; opening = c.opening.value; over = c.over }) };
+        (record { back = c.back; covers = c.covers; images = c.images; opening = c.opening.value; over = c.over }) };
 }
 
 impl<M: Method, D: Disk + Drop, G: Gate + Drop> Checkpointer<M, D, G> {
     /// Begins after a start, with no round in work. The bell is rung after each mark.
-    pub fn new(gate: G, back: Back<M>, images: ImageWriter<D>, bell: Receiver<()>) -> Self
+    pub fn new(
+        gate: G,
+        back: Back<M>,
+        covers: CoverOut,
+        images: ImageWriter<D>,
+        bell: Receiver<()>,
+    ) -> Self
         requires cells { images.keeper.cells ≡ back.cells }
         requires rest { IsAtRest images.keeper back }
         requires done { back.done ≡ [] }
+        requires none { covers.ticks ≡ [] }
         requires fits { IsTrue D.honest → WriterFits D.content images }
-        ensures { result ≡ record { back = back; images = images; opening = images; over = false } }
+        ensures { result ≡ record { back = back; covers = covers; images = images; opening = images; over = false } }
     {
         let opening = Snapshot::of(&images);
         Checkpointer {
             gate,
             back,
+            covers,
             images,
             opening,
             bell,
@@ -81,11 +93,11 @@ impl<M: Method, D: Disk + Drop, G: Gate + Drop> Checkpointer<M, D, G> {
         &self.images
     }
 
-    /// Writes the image of the open round and answers its tick, or waits for the bell where none is open. A round
-    /// whose image can't be written stays open, so that no other is begun.
+    /// Writes the image of the open round, publishes its tick and answers it, or waits for the bell where none is open. A
+    /// round whose image can't be written stays open, so that no other is begun.
     pub fn turn<R: Wait>(&mut self, rt: &R) -> Option<u64>
         requires { self.old.over ≡ false }
-        ensures same { (self.new.back.pair ≡ self.old.back.pair) × (self.new.back.cells ≡ self.old.back.cells) × (self.new.opening ≡ self.old.opening) }
+        ensures same { (self.new.back.pair ≡ self.old.back.pair) × (self.new.back.cells ≡ self.old.back.cells) × (self.new.covers.pair ≡ self.old.covers.pair) × (self.new.opening ≡ self.old.opening) }
         ensures turned { Turned self.old self.new }
         ensures opened { MatchOption result (self.new.back.done ≡ self.old.back.done) (λ tick. IsDone self.old.back tick self.new.back) }
         ensures faults { TellsFaults D.faults self.old.images self.new.images }
@@ -95,12 +107,38 @@ impl<M: Method, D: Disk + Drop, G: Gate + Drop> Checkpointer<M, D, G> {
             self.over = self.bell.recv(rt).is_err();
             return None;
         };
-        if tick > TICK_MAX {
+        if !is_due(&self.images.keeper, tick) {
             self.over = true;
             return None;
         }
         self.images.keeper.begin(tick);
-        self.over = run_round(rt, &mut self.gate, &mut self.back, &mut self.images);
+        self.over = run_round(
+            rt,
+            &mut self.gate,
+            &mut self.back,
+            &mut self.covers,
+            &mut self.images,
+            tick,
+        );
         if self.over { None } else { Some(tick) }
+    }
+}
+
+// Whether an image is to be made of a round of this tick. Ticks of rounds are there and rise, but what was loaded doesn't
+// tell it.
+fn is_due(images: &ImageKeeper, tick: u64) -> bool
+    ensures due { result ≡ true → (tick ≤ TICK_MAX) × (newest_tick images.now.newest < tick) }
+    ensures not_due { result ≡ false → IsNoneDue images.now.newest tick }
+{
+    tick <= TICK_MAX && tick > newest_tick(images)
+}
+
+// The tick of the newest image, or 0 where there is none.
+fn newest_tick(images: &ImageKeeper) -> u64
+    ensures { result ≡ newest_tick images.now.newest }
+{
+    match images.newest() {
+        Some((_, tick)) => tick,
+        None => 0,
     }
 }

@@ -1,23 +1,29 @@
 //! The worker that writes the log.
+mod advance;
 mod answers;
 mod keep;
 
-ghost use Rattle.std.specs.Prelude.{◌≡◌, ◌⊎◌, ◌+◌, ◌<◌, ◌≤◌, ◌++◌, ◌∷◌, [], true, false, List, length, IfOk, IsTrue};
+ghost use Rattle.std.specs.Prelude.{◌≡◌, ◌≢◌, ◌⊎◌, ◌+◌, ◌<◌, ◌≤◌, ◌++◌, ◌∷◌, [], ℕ, true, false, List, length, IfOk, IsTrue};
 ghost use Rattle.world_ticks.specs.declared.tick.TheConstants.{TICK_MAX};
+ghost use Rattle.action_log.specs.declared.answer.LogAnswer.TheVariants.{Idle};
+ghost use Rattle.action_log.specs.Cover.{uncovered, cover_answer};
 ghost use Rattle.action_log.specs.Files.{FitsFiles};
 ghost use Rattle.action_log.specs.Progress.{work_of};
 ghost use Rattle.workers.specs.declared.item.Item.{Item as Popped};
 ghost use Rattle.workers.specs.declared.item.Item.TheVariants.{Start};
 ghost use Rattle.workers.specs.Answering.{AreLater};
+ghost use Rattle.workers.specs.Covering.{loaded, LoadsOn};
 ghost use Rattle.workers.specs.Logging.{is_end, has_end, is_over, refused, writer_at, Took, IsReady, IsAtRest, IsPosted, IsLogging};
 
 use crate::ends::ItemReceiver;
 use crate::gate::{Gate, Place, passes};
-use action_log::{GROUP_TICKS, LogAnswer, LogKeeper, Record};
+use action_log::{LogAnswer, LogKeeper, Record};
+use advance::advance;
 use answers::Answers;
 use circular_buffer::HeapCircularBuffer;
 use disk_model::Disk;
 use keep::{keep, lose};
+use shared_capture::CoverIn;
 use std::alloc::{AllocError, Global};
 use std::marker::Model;
 use std::snapshot::Snapshot;
@@ -35,11 +41,14 @@ pub struct Log<D: Disk + Drop> {
     pub b: D,
 }
 
-/// Writes what it pops to the log, and answers what is durable. It begins after the start of the log.
+/// Writes what it pops to the log, but for what an open image has, and answers what is durable. It begins after the start
+/// of the log.
 #[derive(Drop)]
 pub struct LogWriter<D: Disk + Drop, G: Gate + Drop> {
     gate: G,
     from: ItemReceiver,
+    /// Tells the tick of the newest open image.
+    covers: CoverIn,
     log: Log<D>,
     ring: HeapCircularBuffer<Record>,
     answers: Answers,
@@ -55,18 +64,19 @@ impl<D: Disk + Drop, G: Gate + Drop> Model for LogWriter<D, G> {
 
     ghost Value = { Logging D };
 
-    ghost view = { λ w. record { from = w.from; log = w.log; ring = w.ring; answers = w.answers; opening = w.opening.value; acked = w.acked; down = w.down; over = w.over } };
+    ghost view = { λ w. record { from = w.from; covers = w.covers; log = w.log; ring = w.ring; answers = w.answers; opening = w.opening.value; acked = w.acked; down = w.down; over = w.over } };
 
-    ghost invariant = { λ w. IsLogging D.content D.may_leave D.honest (record { from = w.from; log = w.log; ring = w.ring; answers = w.answers; opening = w.opening.value; acked = w.acked; down = w.down; over = w.over }) };
+    ghost invariant = { λ w. IsLogging D.content D.may_leave D.honest (record { from = w.from; covers = w.covers; log = w.log; ring = w.ring; answers = w.answers; opening = w.opening.value; acked = w.acked; down = w.down; over = w.over }) };
 }
 
 impl<D: Disk + Drop, G: Gate + Drop> LogWriter<D, G> {
-    /// A log writer for a log that begins after this tick. Its keeper has just made the start, and the channel was just
-    /// opened.
+    /// A log writer for a log that begins after this tick. Its keeper has just made the start, the channel was just
+    /// opened, and no image is told yet.
     pub fn new(
         alloc: Global,
         gate: G,
         from: ItemReceiver,
+        covers: CoverIn,
         log: Log<D>,
         log_is_down: Arc<AtomicBool, Global>,
         tick: u64,
@@ -75,7 +85,7 @@ impl<D: Disk + Drop, G: Gate + Drop> LogWriter<D, G> {
         requires most { tick ≤ TICK_MAX }
         requires ready { IsReady log.keeper tick }
         requires fits { IsTrue D.honest → FitsFiles log.keeper (D.content log.a) (D.content log.b) }
-        ensures begun { IfOk result (λ w. w ≡ writer_at from log tick) }
+        ensures begun { IfOk result (λ w. w ≡ writer_at from covers log tick) }
         ensures rest { IfOk result (λ w. IsAtRest w) }
     {
         let ring = HeapCircularBuffer::with_capacity(alloc, RING_ITEMS)?;
@@ -84,6 +94,7 @@ impl<D: Disk + Drop, G: Gate + Drop> LogWriter<D, G> {
         Ok(LogWriter {
             gate,
             from,
+            covers,
             log,
             ring,
             answers,
@@ -163,21 +174,21 @@ impl<D: Disk + Drop, G: Gate + Drop> LogWriter<D, G> {
         }
     }
 
-    // Pops what is there and keeps it, up to a group of records.
+    // Pops what is there and keeps it, as long as there is room.
     fn gather<R: Wait>(&mut self, rt: &R)
         requires up { self.old.down ≡ false }
         requires goes_on { self.old.over ≡ false }
         requires few { length self.old.answers.waiting ≤ length self.old.ring.items }
         ensures { (more : List Popped) × Took self.old self.new more × (self.new.over ≡ has_end more) }
     {
-        while !self.over && self.ring.len() < GROUP_TICKS {
+        while !self.over && self.ring.len() < RING_ITEMS {
             if !self.try_take(rt) {
                 return;
             }
         }
     }
 
-    // Pops an item, waiting for one, and what is there behind it, up to a group of records.
+    // Pops an item, waiting for one, and what is there behind it, as long as there is room.
     fn fill<R: Wait>(&mut self, rt: &R)
         requires up { self.old.down ≡ false }
         requires goes_on { self.old.over ≡ false }
@@ -191,11 +202,16 @@ impl<D: Disk + Drop, G: Gate + Drop> LogWriter<D, G> {
         self.gather(rt);
     }
 
-    // The next step of the log, if the gate lets it be made, and the answers of what it made durable.
+    // The log goes on by a step, if the gate lets it be made, or leaves out what the newest open image has; what that made
+    // durable is answered.
     fn step<R: Wait>(&mut self, rt: &R)
         requires up { self.old.down ≡ false }
         ensures same { self.new
-            ≡ record self.old { log = self.new.log; ring = self.new.ring; answers = self.new.answers; acked = self.new.acked; down = self.new.down } }
+            ≡ record self.old { covers = self.new.covers; log = self.new.log; ring = self.new.ring; answers = self.new.answers; acked = self.new.acked; down = self.new.down } }
+        ensures loads { LoadsOn self.old.covers self.new.covers }
+        ensures covers { self.new.down ≡ false → (tick : ℕ) × (self.new.covers ≡ loaded self.old.covers tick)
+            × (cover_answer self.old.log.keeper tick self.old.ring.items ≢ Idle → (self.new.log ≡ self.old.log)
+            × (self.new.ring.items ≡ uncovered self.old.log.keeper tick self.old.ring.items)) }
         ensures acked { self.old.acked ≤ self.new.acked }
         ensures posts { (self.new.acked ≡ self.old.acked) ⊎ AreLater self.new.acked self.new.answers.waiting }
         ensures lowers { self.new.down ≡ false → 0 < work_of self.old.log.keeper self.old.ring.items
@@ -206,11 +222,8 @@ impl<D: Disk + Drop, G: Gate + Drop> LogWriter<D, G> {
             self.fall(rt);
             return;
         }
-        match self
-            .log
-            .keeper
-            .step(&mut self.ring, &mut self.log.a, &mut self.log.b)
-        {
+        let tick = self.covers.latest();
+        match advance(&mut self.log, &mut self.ring, tick) {
             LogAnswer::Down => self.fall(rt),
             LogAnswer::Acked(receipt) => {
                 self.answers.post_all(rt, receipt);
@@ -225,7 +238,8 @@ impl<D: Disk + Drop, G: Gate + Drop> LogWriter<D, G> {
     fn write_all<R: Wait>(&mut self, rt: &R)
         requires up { self.old.down ≡ false }
         ensures same { self.new
-            ≡ record self.old { log = self.new.log; ring = self.new.ring; answers = self.new.answers; acked = self.new.acked; down = self.new.down } }
+            ≡ record self.old { covers = self.new.covers; log = self.new.log; ring = self.new.ring; answers = self.new.answers; acked = self.new.acked; down = self.new.down } }
+        ensures loads { LoadsOn self.old.covers self.new.covers }
         ensures acked { self.old.acked ≤ self.new.acked }
         ensures rest { IsAtRest self.new }
         ensures posted { self.new.down ≡ false → IsPosted self.new }
@@ -256,14 +270,15 @@ impl<D: Disk + Drop, G: Gate + Drop> LogWriter<D, G> {
         }
     }
 
-    /// Pops an item, waiting for one, and what is there behind it, up to a group; writes all that to the log, and answers
-    /// what is durable. Once the log is down it pops an item and refuses it.
+    /// Pops an item, waiting for one, and what is there behind it, as long as there is room; writes all that to the log,
+    /// but for what an open image has, and answers what is durable. Once the log is down it pops an item and refuses it.
     pub fn turn<R: Wait>(&mut self, rt: &R)
         requires goes_on { self.old.over ≡ false }
         requires rest { IsAtRest self.old }
         ensures rest { IsAtRest self.new }
         ensures popped { (more : List Popped) × (self.new.from.items ≡ self.old.from.items ++ more) × (self.new.over ≡ is_over more) }
         ensures same { (self.new.from.end ≡ self.old.from.end) × (self.new.opening ≡ self.old.opening) }
+        ensures loads { LoadsOn self.old.covers self.new.covers }
         ensures down { self.old.down ≡ true → self.new ≡ record self.old { from = self.new.from; answers = self.new.answers; over = self.new.over } }
         ensures posted { self.new.down ≡ false → IsPosted self.new }
         ensures acked { self.old.acked ≤ self.new.acked }

@@ -3,12 +3,13 @@ ghost use Rattle.std.specs.Prelude.{◌≡◌, ◌⊎◌, ◌<◌, IsTrue, false
 ghost use Rattle.image_files.specs.declared.phase.Phase.TheVariants.{Idle};
 ghost use Rattle.image_files.specs.Progress.{left_of};
 ghost use Rattle.workers.specs.declared.checkpointer.round.ImageWriter.{ImageWriter as Writer};
-ghost use Rattle.workers.specs.Imaging.{HasRound, AreInStep, FollowsRounds, RoundRuns, TellsFaults, WriterFits};
+ghost use Rattle.workers.specs.Imaging.{HasRound, AreInStep, FollowsRounds, Publishes, RoundRuns, TellsFaults, WriterFits};
+ghost use Rattle.workers.specs.Publishing.{IsNext};
 
 use crate::gate::{Gate, Place, passes};
 use disk_model::Disk;
 use image_files::{ImageAnswer, ImageKeeper};
-use shared_capture::{Back, Method};
+use shared_capture::{Back, CoverOut, Method};
 use std::sync::Wait;
 
 /// The keeper of the images, and its two files.
@@ -19,9 +20,15 @@ pub struct ImageWriter<D: Disk> {
     pub image_b: D,
 }
 
-// A step of the round in work. Where it opens the image the back ends the round.
-fn step<M: Method, D: Disk>(back: &mut Back<M>, images: &mut ImageWriter<D>)
+// A step of the round in work. Where it opens the image its tick is published, and the back ends the round.
+fn step<M: Method, D: Disk>(
+    back: &mut Back<M>,
+    covers: &mut CoverOut,
+    images: &mut ImageWriter<D>,
+    tick: u64,
+)
     requires step { AreInStep images.old.keeper back.old }
+    requires next { IsNext covers.old tick }
     requires fits { IsTrue D.honest → WriterFits D.content images.old }
     requires left { 0 < left_of images.old.keeper }
     ensures step { AreInStep images.new.keeper back.new }
@@ -29,6 +36,7 @@ fn step<M: Method, D: Disk>(back: &mut Back<M>, images: &mut ImageWriter<D>)
     ensures faults { TellsFaults D.faults images.old images.new }
     ensures less { left_of images.new.keeper < left_of images.old.keeper }
     ensures runs { RoundRuns back.old images.new.keeper back.new }
+    ensures publishes { Publishes tick images.new.keeper covers.old covers.new }
     ensures follows { (opening : Writer D) → FollowsRounds D.content D.may_leave D.honest opening images.old back.old
         → FollowsRounds D.content D.may_leave D.honest opening images.new back.new }
 {
@@ -38,6 +46,7 @@ fn step<M: Method, D: Disk>(back: &mut Back<M>, images: &mut ImageWriter<D>)
     else {
         return;
     };
+    covers.publish(tick);
     back.finish();
 }
 
@@ -46,14 +55,18 @@ pub(crate) fn run_round<M: Method, D: Disk, G: Gate, R: Wait>(
     rt: &R,
     gate: &mut G,
     back: &mut Back<M>,
+    covers: &mut CoverOut,
     images: &mut ImageWriter<D>,
+    tick: u64,
 ) -> bool
     requires step { AreInStep images.old.keeper back.old }
+    requires next { IsNext covers.old tick }
     requires fits { IsTrue D.honest → WriterFits D.content images.old }
     requires left { 0 < left_of images.old.keeper }
     ensures step { AreInStep images.new.keeper back.new }
     ensures fits { IsTrue D.honest → WriterFits D.content images.new }
     ensures runs { RoundRuns back.old images.new.keeper back.new }
+    ensures publishes { Publishes tick images.new.keeper covers.old covers.new }
     ensures faults { TellsFaults D.faults images.old images.new }
     ensures ends { (result ≡ false → images.new.keeper.phase ≡ Idle) × (result ≡ true → HasRound images.new.keeper) }
     ensures follows { (opening : Writer D) → FollowsRounds D.content D.may_leave D.honest opening images.old back.old
@@ -63,7 +76,7 @@ pub(crate) fn run_round<M: Method, D: Disk, G: Gate, R: Wait>(
         if !passes(rt, gate, Place::Device) {
             return true;
         }
-        step(back, images);
+        step(back, covers, images, tick);
     }
     images.keeper.is_down()
 }

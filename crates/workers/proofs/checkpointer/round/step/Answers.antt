@@ -1,4 +1,5 @@
-use Rattle.workers.proofs.Imagings.{faults_step, is_busy, step_on, runs_on, less_left, follows_on, follows_opened}
+use Rattle.workers.proofs.Publishings.{publishes_none}
+use Rattle.workers.proofs.Imagings.{faults_step, is_busy, stays_busy, step_on, runs_on, less_left, follows_on, follows_opened}
 use Rattle.workers.proofs.checkpointer.round.step.Goals as goal
 
 pub returns-in_default : goal.returns-in_default
@@ -17,6 +18,7 @@ returns-in_default g c =
       faults = faults_step g.D.Disk.faults given old (record { keeper = new; image_a = c.step_files.new.image_a; image_b = c.step_files.new.image_b }) c.requires.left e.down e.cause;
       less = less_left given old.keeper new back next not e.idle e.down e.working c.requires.left c.requires.step;
       runs = runs_on given old.keeper new back next not e.taken e.idle e.down e.goes_on busy c.requires.step;
+      publishes = publishes_none c.args.tick new c.args.covers.now (stays_busy given old.keeper new not e.idle e.down e.goes_on busy);
       follows = λ opening f. follows_on g.D.Disk.content g.D.Disk.may_leave g.D.Disk.honest given opening old
           (record { keeper = new; image_a = c.step_files.new.image_a; image_b = c.step_files.new.image_b }) back next not e.taken e.ended e.idle e.down e.goes_on busy e.stands f;
     }

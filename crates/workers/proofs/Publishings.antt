@@ -1,0 +1,51 @@
+-- The ticks that are published go on with the rounds that are done.
+use Rattle.std.proofs.Common.{arith, ◌≡◌, ◌⊎◌, inl, inr, ℕ, ◌+◌, ◌<◌, ◌≤◌, Bool, true, false, List, [], ◌∷◌, ◌++◌, Option, Some, None, get_or, refl, sym, ap, subst, ◌∙◌}
+use Rattle.std.specs.Prelude.{All, map, slice_get}
+use Rattle.std.proofs.lemmas.List.{map-append}
+use Rattle.std.proofs.lemmas.List.Elements.{All-nil, All-push, All-weaker}
+use Rattle.std.proofs.lemmas.Option.{slice_get_within, get_or_from_slice_get}
+use Rattle.file_format.specs.declared.slot.Slot.{Slot}
+use Rattle.image_files.specs.declared.phase.Phase.TheVariants.{Idle}
+use Rattle.image_files.specs.Progress.{Progress, target_of}
+use Rattle.shared_capture.specs.declared.view.Snapshot.{Snapshot}
+use Rattle.shared_capture.specs.CoverWord.{CoverState}
+use Rattle.shared_capture.specs.States.{BackState}
+use Rattle.workers.specs.Imaging.{newest_after, HasRound, RoundRuns, Publishes}
+use Rattle.workers.specs.Publishing.{newest_tick, IsNext, told, ArePublished}
+use Rattle.workers.proofs.Imagings.{newest_more}
+
+-- the same rounds are done
+published_same : (newest : Option (Slot × ℕ)) (done done' : List Snapshot) (covers : CoverState) → done' ≡ done → ArePublished newest done covers → ArePublished newest done' covers
+published_same newest done done' covers same p = subst (λ (d : List Snapshot). ArePublished newest d covers) (sym same) p
+
+-- nothing is published in a round
+pub publishes_none : (tick : ℕ) (keeper : Progress) (covers : CoverState) → HasRound keeper → Publishes tick keeper covers covers
+publishes_none tick keeper covers busy = record { in_work = λ _. refl; done = λ over. absurd (busy over) }
+
+done_next : (tick : ℕ) (newest opened newest' : Option (Slot × ℕ)) (done done' : List Snapshot) (covers covers' : CoverState) → ArePublished newest done covers → newest_tick newest < tick
+    → newest' ≡ newest_after opened done' → (s : Snapshot) → s.tick ≡ tick → done' ≡ done ++ s ∷ [] → covers' ≡ told covers tick → ArePublished newest' done' covers'
+done_next tick newest opened newest' done done' covers covers' p newer last s of_it more is =
+    let ticks : covers'.ticks ≡ covers.ticks ++ tick ∷ [] = ap (λ (c : CoverState). c.ticks) is in
+    let newest_is : newest_tick newest' ≡ tick = ap newest_tick (last ∙ (ap (newest_after opened) more ∙ newest_more opened done s)) ∙ of_it in
+    let few : All (λ (t : ℕ). t ≤ newest_tick newest') covers.ticks =
+    All-weaker (λ (t : ℕ). t ≤ newest_tick newest) (λ (t : ℕ). t ≤ newest_tick newest') (λ t h. omega (arith, h, newer, newest_is)) covers.ticks p.older in
+    record {
+      are = ticks ∙ (ap (λ (l : List ℕ). l ++ tick ∷ []) p.are ∙ (ap (λ (n : ℕ). map (λ (x : Snapshot). x.tick) done ++ n ∷ []) (sym of_it)
+          ∙ (sym (map-append (λ (x : Snapshot). x.tick) done (s ∷ [])) ∙ ap (map (λ (x : Snapshot). x.tick)) (sym more))));
+      older = subst (All (λ (t : ℕ). t ≤ newest_tick newest')) (sym ticks) (All-push (λ (t : ℕ). t ≤ newest_tick newest') covers.ticks tick few (omega (arith, newest_is)));
+    }
+
+-- after a round all that is done is published, and nothing else
+pub published_on : (over : Bool) (tick : ℕ) (newest opened : Option (Slot × ℕ)) (keeper : Progress) (old found new : BackState) (covers covers' : CoverState) → ArePublished newest old.done covers → newest_tick newest < tick
+    → newest ≡ newest_after opened old.done → keeper.newest ≡ newest_after opened new.done → found.done ≡ old.done → found.now.tick ≡ tick → RoundRuns found keeper new → Publishes tick keeper covers covers'
+    → (over ≡ false → keeper.phase ≡ Idle) → (over ≡ true → HasRound keeper) → ArePublished keeper.newest new.done covers'
+published_on false tick newest opened keeper old found new covers covers' p newer was is same at runs publishes rests busy =
+    let idle = rests refl in
+    let d = runs.done idle in
+    done_next tick newest opened keeper.newest old.done new.done covers covers' p newer is d.0 (d.1 ∙ at) (d.3 ∙ ap (λ (l : List Snapshot). l ++ d.0 ∷ []) same) (publishes.done idle)
+published_on true tick newest opened keeper old found new covers covers' p newer was is same at runs publishes rests busy =
+    let on = busy refl in
+    let done : new.done ≡ old.done = (runs.in_work on).2 ∙ same in
+    let kept : keeper.newest ≡ newest = is ∙ (ap (newest_after opened) done ∙ sym was) in
+    subst (λ (n : Option (Slot × ℕ)). ArePublished n new.done covers') (sym kept)
+    (subst (λ (c : CoverState). ArePublished newest new.done c) (sym (publishes.in_work on)) (published_same newest old.done new.done covers done p))

@@ -1,0 +1,17 @@
+use Rattle.std.proofs.Common.{inl, refl, ap, sym, ◌∙◌, subst}
+use Rattle.circular_buffer.specs.Buffer.{Buffer}
+use Rattle.action_log.specs.declared.record.Record.{Record}
+use Rattle.action_log.specs.Logs.{LogPlace, Writing}
+use Rattle.action_log.specs.LogSteps.{LogsStep}
+use Rattle.action_log.specs.Stands.{Stands}
+use Rattle.workers.proofs.log_writer.advance.advance.Goals as goal
+
+pub returns-in-Idle-clause-advances : goal.returns-in-Idle-clause-advances
+returns-in-Idle-clause-advances g c = λ honest logs stands.
+    let D = g.D.Disk in
+    let went = c.step.ensures.journal honest (record { journal = Writing logs; left = 0 }) stands in
+    let next = went.2.0 in (
+      next,
+      subst (λ (p : LogPlace). Stands c.step.new.self (D.content c.step.new.a) (D.content c.step.new.b) (D.may_leave c.step.new.a) (D.may_leave c.step.new.b) p) went.2.1 went.1,
+      inl (subst (λ (b : Buffer Record). LogsStep logs b.items c.step.result next c.step.new.queue.items) (c.in-Idle.ensures.rests (inl refl)) went.2.2),
+    )

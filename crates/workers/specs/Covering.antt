@@ -1,0 +1,37 @@
+-- What the log writer leaves out of the log: records whose ticks an open image has.
+use Rattle.std.specs.Prelude.{◌≡◌, ◌⊎◌, ℕ, ◌≤◌, List, [], ◌∷◌, ◌++◌, Contains}
+use Rattle.action_log.specs.declared.record.Record.{Record}
+use Rattle.action_log.specs.declared.record.Record.TheVariants as records
+use Rattle.action_log.specs.declared.answer.LogAnswer.{LogAnswer}
+use Rattle.action_log.specs.Logs.{Logs}
+use Rattle.action_log.specs.LogSteps.{LogsStep}
+use Rattle.action_log.specs.Cover.{CoverStep}
+use Rattle.shared_capture.specs.CoverWord.{CoverState}
+
+-- a switch at one of these ticks comes first
+abbrev pub BeginsAt : List ℕ → List Record → Type 0
+BeginsAt ticks [] = ⊥
+BeginsAt ticks (records.Tick tick ∷ queue) = ⊥
+BeginsAt ticks (records.Switch tick ∷ queue) = Contains ticks tick
+
+-- these are all records, in order, but that one may be left out where a switch at one of these ticks is the next that isn't
+abbrev pub LeavesOut : List ℕ → (all logged : List Record) → Type 0
+LeavesOut ticks [] logged = logged ≡ []
+LeavesOut ticks (first ∷ all) logged =
+    ((rest : List Record) × (logged ≡ first ∷ rest) × LeavesOut ticks all rest) ⊎ (BeginsAt ticks logged × LeavesOut ticks all logged)
+
+-- one of these ticks isn't below this one
+abbrev pub IsCovered : List ℕ → ℕ → Type 0
+IsCovered ticks number = (tick : ℕ) × Contains ticks tick × (number ≤ tick)
+
+-- the log goes on by a step of its keeper, or by a cover of this tick
+abbrev pub Advances : ℕ → Logs → List Record → LogAnswer → Logs → List Record → Type 0
+Advances tick logs queue given next left = LogsStep logs queue given next left ⊎ ((next ≡ logs) × CoverStep logs queue tick given left)
+
+-- the word of open images was loaded, and told this tick
+abbrev pub loaded : CoverState → ℕ → CoverState
+loaded covers tick = record covers { ticks = covers.ticks ++ tick ∷ [] }
+
+-- it was loaded some times more, or not
+abbrev pub LoadsOn : CoverState → CoverState → Type 0
+LoadsOn old new = (more : List ℕ) × (new ≡ record old { ticks = old.ticks ++ more })
