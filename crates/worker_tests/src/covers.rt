@@ -4,10 +4,10 @@ ghost use Rattle.workers.specs.Logging.{IsAtRest};
 
 use crate::held::Held;
 use crate::serial::{Serial, begin, is_posted, send};
-use crate::worlds::{found_in, new_files, open_files};
+use crate::worlds::{found_in, fused_files, open_files};
 use action_log::{LogState, read_log};
 use crossbeam_channel::Receiver;
-use disk_model::{FourFiles, Fused, ModelFile};
+use disk_model::{Fused, ModelFile};
 use shared_capture::{Method, Pong, Zig};
 use std::alloc::Global;
 use std::process::Abort;
@@ -21,22 +21,6 @@ type File = Fused<ModelFile>;
 
 /// How many calls of the second segment's file are made: four for the switch, and four for the tick behind it.
 const CALLS: u64 = 8;
-
-// The files of a new world of two cells.
-fn fused_files(alloc: Global) -> Result<FourFiles<File>, Fail> {
-    let FourFiles {
-        image_a,
-        image_b,
-        log_a,
-        log_b,
-    } = new_files(alloc, 2)?;
-    Ok(FourFiles {
-        image_a: Fused::new(image_a),
-        image_b: Fused::new(image_b),
-        log_a: Fused::new(log_a),
-        log_b: Fused::new(log_b),
-    })
-}
 
 // The open round is of this tick, and its image is opened.
 fn write_image<M: Method>(
@@ -120,7 +104,10 @@ fn check_files<M: Method>(
     let acked = if whole { 3 } else { 2 };
     assert_eq!(rt; world.log_writer.acked(), acked);
     assert_eq!(rt; world.log_writer.is_down(), !whole);
-    assert_eq!(rt; found_in(alloc, image_a, image_b, log_a, log_b)?, (acked, 2, acked));
+    assert_eq!(rt;
+        found_in(alloc, image_a, image_b, log_a, log_b)?,
+        (acked, 2, acked)
+    );
     check_segment(rt, alloc, log_a, 0, 0)?;
     if whole {
         check_segment(rt, alloc, log_b, 2, 1)?;

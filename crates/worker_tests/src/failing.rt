@@ -1,7 +1,7 @@
 //! Workers in threads, of which a file fails at one of its calls.
 ghost use Rattle.std.specs.Prelude.{◌≤◌};
 
-use crate::worlds::{Teller, Told, found_in, new_files, open_files};
+use crate::worlds::{Teller, Told, found_in, fused_files, open_files};
 use crossbeam_channel::{Receiver, Sender, unbounded};
 use disk_model::{FourFiles, Fused, ModelFile};
 use line_service::serve_lines;
@@ -44,18 +44,7 @@ type BrokenFile = Fused<ModelFile>;
 fn broken_files(alloc: Global, broken: Broken, call: u64) -> Result<FourFiles<BrokenFile>, Fail>
     requires { 1 ≤ call }
 {
-    let FourFiles {
-        image_a,
-        image_b,
-        log_a,
-        log_b,
-    } = new_files(alloc, 2)?;
-    let mut files = FourFiles {
-        image_a: Fused::new(image_a),
-        image_b: Fused::new(image_b),
-        log_a: Fused::new(log_a),
-        log_b: Fused::new(log_b),
-    };
+    let mut files = fused_files(alloc)?;
     match broken {
         Broken::ImageB => files.image_b.arm(call),
         Broken::LogA => files.log_a.arm(call),

@@ -3,7 +3,7 @@ ghost use Rattle.world_actions.specs.declared.world.TheConstants.{CELLS};
 ghost use Rattle.worker_threads.specs.Begun.{IsWhole};
 
 use crossbeam_channel::Sender;
-use disk_model::{Disk, FourFiles, ModelFile};
+use disk_model::{Disk, FourFiles, Fused, ModelFile};
 use recovery::recover;
 use served::fresh_files;
 use std::alloc::{AllocError, Global};
@@ -89,6 +89,22 @@ pub fn new_files(alloc: Global, cells: u32) -> Result<FourFiles<ModelFile>, Fail
         Ok(files) => Ok(files),
         Err((_, refusal)) => Err(Fail::from(refusal)),
     }
+}
+
+/// The files of a new world of two cells, each of which may be let fail.
+pub fn fused_files(alloc: Global) -> Result<FourFiles<Fused<ModelFile>>, Fail> {
+    let FourFiles {
+        image_a,
+        image_b,
+        log_a,
+        log_b,
+    } = new_files(alloc, 2)?;
+    Ok(FourFiles {
+        image_a: Fused::new(image_a),
+        image_b: Fused::new(image_b),
+        log_a: Fused::new(log_a),
+        log_b: Fused::new(log_b),
+    })
 }
 
 /// The world in these files, for its workers.
