@@ -39,7 +39,7 @@ CELLS = 70
 # Cells for marks and for a count; the clients' own are 1 to CLIENTS, and those between are played with.
 FIRST_MARK, COUNT, LAST_MARK = 0, CLIENTS + 1, CELLS - 1
 PLAYED = range(COUNT + 1, LAST_MARK)
-BAD_LINES = "foo", "", "get", "set 06 1", "move 6 7", "add 6 +1", "end ", f"get {6:080}"
+BAD_LINES = "foo", "", "get", "set 06 1", "move 6 7", "swap 6", "cap 6 -1", "add 6 +1", "end ", f"get {6:080}"
 # So many lines fill a tick, though some are refused.
 LONG_LINES = 600
 LOAD_SECONDS = 0.005, 0.150
@@ -62,20 +62,28 @@ class Wrong(Exception):
 
 def changes(words: list[int], action: Request) -> dict[int, int] | int:
     """The words that an action changes, or the code of its refusal."""
-    kind, *cells, amount = action
+    kind, *numbers = action
+    count = 2 if kind in ("move", "swap") else 1
+    cells, amount = numbers[:count], sum(numbers[count:])
     if any(cell >= len(words) for cell in cells):
         return BAD_CELL
     if abs(amount) > LIMIT:
         return BAD_VALUE
-    if kind == "set":
-        return {cells[0]: amount}
-    if kind == "add":
-        changed = {cells[0]: words[cells[0]] + amount}
-    elif cells[0] == cells[1]:
+    if len(set(cells)) < count:
         return SAME_CELL
-    else:
-        changed = {cells[0]: words[cells[0]] - amount, cells[1]: words[cells[1]] + amount}
-    return changed if all(0 <= word <= LIMIT for word in changed.values()) else OUT_OF_RANGE
+    held = [words[cell] for cell in cells]
+    match kind:
+        case "set":
+            left = [amount]
+        case "add":
+            left = [held[0] + amount]
+        case "cap":
+            left = [min(held[0], amount)]
+        case "swap":
+            left = [held[1], held[0]]
+        case _:
+            left = [held[0] - amount, held[1] + amount]
+    return dict(zip(cells, left)) if all(0 <= word <= LIMIT for word in left) else OUT_OF_RANGE
 
 
 def answer(words: list[int], batch: Batch, number: int) -> str:
@@ -106,13 +114,17 @@ def random_request(chance: random.Random) -> Request:
     """A line on the cells that are played with, some of which are to be refused."""
     cell = chance.choice(PLAYED) if chance.random() < 0.97 else CELLS
     amount = chance.randrange(1000) if chance.random() < 0.95 else chance.choice((LIMIT, LIMIT + 1))
-    match chance.choice(("set", "add", "add", "move", "move", "move", "get", "bad")):
+    match chance.choice(("set", "add", "add", "move", "move", "move", "swap", "swap", "cap", "get", "bad")):
         case "set":
             return "set", cell, amount
         case "add":
             return "add", cell, chance.choice((1, -1)) * amount
         case "move":
             return "move", cell, chance.choice(PLAYED), amount
+        case "swap":
+            return "swap", cell, chance.choice(PLAYED)
+        case "cap":
+            return "cap", cell, amount
         case "get":
             return "get", cell
         case _:

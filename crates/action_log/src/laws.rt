@@ -18,7 +18,8 @@ ghost use Rattle.action_log.specs.Stands.{Stands};
 use disk_model::Disk;
 use file_format::numbers_read_back;
 
-/// Laws: no spelling of an action, a tick or a group begins another one's, and each list of bytes reads in one way.
+/// Laws: no spelling of an action, a tick or a group of a format begins another one's of the same format, and each list
+/// of bytes reads in one way.
 pub fn segments_read_once()
     ensures apart { LawOfSpellings }
     ensures once { ReadsOnce }

@@ -1,15 +1,14 @@
-ghost use Rattle.std.specs.Prelude.{◌≡◌, ◌⊎◌, ◌≤◌, ℕ, List, length, Some, Err, IfSome, IfOk, IfErr};
+ghost use Rattle.std.specs.Prelude.{◌≡◌, ◌⊎◌, ℕ, List, length, Some, Err, IfSome, IfOk, IfErr};
 ghost use Rattle.world_actions.specs.declared.action.Action.{Action};
-ghost use Rattle.action_log.specs.declared.format.TheConstants.{HEADER_BYTES};
 ghost use Rattle.action_log.specs.Segment.{MalformedSegment, IsSegment, IsOpenSegment, HasTicks};
-ghost use Rattle.action_log.specs.Reading.{read_base, IsJudged};
+ghost use Rattle.action_log.specs.Reading.{IsJudged};
 ghost use Rattle.action_log.specs.LogState.{segment_in};
 
 mod ticks;
 
 use self::ticks::{Counts, count_all, read_ticks};
-use crate::format::{BASE_PLACE, FIRST_GROUP, HEADER_BYTES, SEGMENT_TICKS};
-use file_format::{OPEN_GATE, numbers_read_back, u64_at};
+use crate::format::{FIRST_GROUP, HEADER_BYTES, SEGMENT_TICKS};
+use file_format::{Format, OPEN_GATE, marked_at, numbers_read_back};
 use std::alloc::Global;
 use world_actions::Refusal;
 use world_ticks::{TICK_MAX, Tick};
@@ -23,8 +22,8 @@ pub enum LogState {
     Open { base: u64, ticks: Vec<Tick> },
 }
 
-/// Reads a segment, as recovery does. It refuses `BadLog` exactly where it is malformed, and `NoMemory` only
-/// where it has a tick: it is judged, and its ticks are counted, before memory is asked for them.
+/// Reads a segment of either format, as recovery does. It refuses `BadLog` exactly where it is malformed, and
+/// `NoMemory` only where it has a tick: it is judged, and its ticks are counted, before memory is asked for them.
 pub fn read_log(alloc: Global, bytes: &[u8]) -> Result<LogState, Refusal>
     ensures reads { IfOk result (λ state. IsSegment bytes.now (segment_in state)) }
     ensures refuses { IfErr result (λ refusal. (refusal ≡ Refusal.NoMemory) ⊎ ((refusal ≡ Refusal.BadLog)
@@ -34,12 +33,16 @@ pub fn read_log(alloc: Global, bytes: &[u8]) -> Result<LogState, Refusal>
     match judge(bytes) {
         Judged::Closed => Ok(LogState::Closed),
         Judged::Malformed => Err(Refusal::BadLog),
-        Judged::Open { base, counts } => {
+        Judged::Open {
+            format,
+            base,
+            counts,
+        } => {
             if counts.ticks == 0 {
                 let ticks = Vec::new(alloc);
                 return Ok(LogState::Open { base, ticks });
             }
-            let ticks = read_ticks(alloc, &bytes[FIRST_GROUP..], counts.ticks)?;
+            let ticks = read_ticks(alloc, format, &bytes[FIRST_GROUP..], counts.ticks)?;
             Ok(LogState::Open { base, ticks })
         }
     }
@@ -65,7 +68,11 @@ pub fn count_groups(bytes: &[u8]) -> Option<usize>
 enum Judged {
     Closed,
     Malformed,
-    Open { base: u64, counts: Counts },
+    Open {
+        format: Format,
+        base: u64,
+        counts: Counts,
+    },
 }
 
 // Judges a segment, and counts its groups and ticks.
@@ -76,21 +83,19 @@ fn judge(bytes: &[u8]) -> Judged
     if bytes.len() < HEADER_BYTES || bytes[0] != OPEN_GATE {
         return Judged::Closed;
     }
-    let base = base_of(bytes);
+    let Some((format, base)) = marked_at(bytes) else {
+        return Judged::Malformed;
+    };
     if base > TICK_MAX {
         return Judged::Malformed;
     }
     let most = SEGMENT_TICKS.min((TICK_MAX - base) as usize);
-    match count_all(&bytes[FIRST_GROUP..], most) {
-        Some(counts) => Judged::Open { base, counts },
+    match count_all(format, &bytes[FIRST_GROUP..], most) {
+        Some(counts) => Judged::Open {
+            format,
+            base,
+            counts,
+        },
         None => Judged::Malformed,
     }
-}
-
-// The base of bytes that are no shorter than a header.
-fn base_of(bytes: &[u8]) -> u64
-    requires { HEADER_BYTES ≤ length bytes.now }
-    ensures { result ≡ read_base bytes.now }
-{
-    u64_at(bytes, BASE_PLACE)
 }

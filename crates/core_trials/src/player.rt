@@ -61,7 +61,7 @@ impl Player {
     }
 
     fn action(&self, random: &mut Random) -> Action {
-        match random.below(3) {
+        match random.below(5) {
             0 => Action::Set {
                 cell: self.cell(random),
                 value: amount(random),
@@ -70,10 +70,18 @@ impl Player {
                 cell: self.cell(random),
                 by: difference(random),
             },
-            _ => Action::Transfer {
+            2 => Action::Transfer {
                 from: self.cell(random),
                 to: self.cell(random),
                 amount: amount(random),
+            },
+            3 => Action::Swap {
+                a: self.cell(random),
+                b: self.cell(random),
+            },
+            _ => Action::Cap {
+                cell: self.cell(random),
+                value: amount(random),
             },
         }
     }

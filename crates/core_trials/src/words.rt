@@ -36,6 +36,8 @@ impl Words {
             Action::Set { cell, value } => self.set(cell, value),
             Action::Add { cell, by } => self.add(cell, by),
             Action::Transfer { from, to, amount } => self.transfer(from, to, amount),
+            Action::Swap { a, b } => self.swap(a, b),
+            Action::Cap { cell, value } => self.cap(cell, value),
         }
     }
 
@@ -77,6 +79,28 @@ impl Words {
         let more = raised(target, amount)?;
         self.put(from, less);
         self.put(to, more);
+        Ok(())
+    }
+
+    fn swap(&mut self, a: u32, b: u32) -> Result<(), Refusal> {
+        let one = self.get(a)?;
+        let other = self.get(b)?;
+        if a == b {
+            return Err(Refusal::SameCell);
+        }
+        self.put(a, other);
+        self.put(b, one);
+        Ok(())
+    }
+
+    fn cap(&mut self, cell: u32, value: u64) -> Result<(), Refusal> {
+        let word = self.get(cell)?;
+        if value > LIMIT {
+            return Err(Refusal::BadValue);
+        }
+        if word > value {
+            self.put(cell, value);
+        }
         Ok(())
     }
 

@@ -1,6 +1,9 @@
 use crate::files::Files;
-use std::alloc::{AllocError, Global};
+use std::alloc::AllocError;
 use trial_kit::Random;
+
+/// Where the mark of a file's format stands.
+const MARK_PLACE: usize = 8;
 
 /// Changes of files that look random, and are the same in each run.
 #[derive(Drop)]
@@ -16,40 +19,36 @@ impl Damage {
         }
     }
 
-    /// A copy of four files with one change to four.
-    pub fn damaged(&mut self, alloc: Global, files: &Files) -> Result<Files, AllocError> {
-        let mut copy = Files {
-            image_a: Vec::from_slice(alloc, &files.image_a)?,
-            image_b: Vec::from_slice(alloc, &files.image_b)?,
-            log_a: Vec::from_slice(alloc, &files.log_a)?,
-            log_b: Vec::from_slice(alloc, &files.log_b)?,
-        };
+    /// Four files with one change to four.
+    pub fn damage(&mut self, files: &mut Files) -> Result<(), AllocError> {
         for _ in 0..=self.random.below(4) {
             let file = match self.random.below(4) {
-                0 => &mut copy.image_a,
-                1 => &mut copy.image_b,
-                2 => &mut copy.log_a,
-                _ => &mut copy.log_b,
+                0 => &mut files.image_a,
+                1 => &mut files.image_b,
+                2 => &mut files.log_a,
+                _ => &mut files.log_b,
             };
             self.change(file)?;
         }
-        Ok(copy)
+        Ok(())
     }
 
-    // Changes a byte of a file, takes some off its end, or puts one there.
+    // Changes a byte of a file or the mark of its format, takes some off its end, or puts a byte there.
     fn change(&mut self, file: &mut Vec<u8>) -> Result<(), AllocError> {
         let len = file.len() as u64;
-        match self.random.below(8) {
+        match self.random.below(9) {
             0 => file.truncate(self.random.below(len) as usize),
             1..4 => {
                 let byte = self.byte();
                 file.push(byte)?;
             }
+            4 => {
+                let mark = (self.random.below(4) as u8) << 4;
+                put(file, MARK_PLACE, mark);
+            }
             _ => {
                 let byte = self.byte();
-                if let Some(old) = file.get_mut(self.random.below(len) as usize) {
-                    *old = byte;
-                }
+                put(file, self.random.below(len) as usize, byte);
             }
         }
         Ok(())
@@ -62,5 +61,12 @@ impl Damage {
         } else {
             self.random.below(256) as u8
         }
+    }
+}
+
+// Puts a byte in the place of another one, if there is one.
+fn put(file: &mut [u8], place: usize, byte: u8) {
+    if let Some(old) = file.get_mut(place) {
+        *old = byte;
     }
 }

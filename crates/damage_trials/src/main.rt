@@ -1,7 +1,7 @@
 //! The program `damage_trials`: has recovery judge 20,000 damaged copies of four good files, each begun
-//! anew and with one change to four, and judges each answer by what the definition of recovery says of how
-//! the four byte lists read. It tells how many answers were right and how often each kind came, and fails
-//! where one was wrong, or where a kind never came.
+//! anew, in each mix of the two formats in turn, and with one change to four, and judges each answer by what
+//! the definition of recovery says of how the four byte lists read. It tells how many answers were right and
+//! how often each kind came, and fails where one was wrong, or where a kind never came.
 #![tactic(auto)]
 
 ghost use Rattle.std.specs.Prelude.{◌≡◌, ◌+◌, ◌^◌, ◌<◌, OnOk, IfOk};
@@ -14,7 +14,7 @@ mod tally;
 mod wanted;
 
 use damage::Damage;
-use files::{Files, good_files};
+use files::{Files, Formats, MIXES, good_files};
 use recovery::recover;
 use std::alloc::Global;
 use std::io;
@@ -46,11 +46,12 @@ fn run<R: Print + AllocGlobal>(rt: &R) -> io::Result<bool> {
 fn try_copies(alloc: Global) -> Result<Tally, Refusal>
     ensures { IfOk result (λ tally. judged tally ≡ COPIES) }
 {
-    let files = good_files(alloc)?;
     let mut damage = Damage::new();
     let mut tally = Tally::new();
-    for _ in 0..COPIES {
-        try_copy(alloc, &damage.damaged(alloc, &files)?, &mut tally)?;
+    for number in 0..COPIES {
+        let mut files = good_files(alloc, Formats::mix(number % MIXES))?;
+        damage.damage(&mut files)?;
+        try_copy(alloc, &files, &mut tally)?;
     }
     Ok(tally)
 }
@@ -74,7 +75,7 @@ fn try_copy(alloc: Global, copy: &Files, tally: &mut Tally) -> Result<(), Refusa
 // Tells what was seen, and whether that passes.
 fn tell<R: Print>(rt: &R, tally: &Tally) -> io::Result<bool> {
     println!(rt;
-        "{COPIES} damaged copies: {} answered right, {} wrong",
+        "{COPIES} damaged copies, {MIXES} mixes of formats: {} answered right, {} wrong",
         tally.right, tally.wrong
     )?;
     tally.wanted.tell(rt, &NAMES)?;

@@ -22,8 +22,8 @@ pub fn replay_on(world: &mut Recovered, log: &LogState) -> bool {
     true
 }
 
-// Does an action, or None where it is refused: a cell isn't there, a transfer's cells are one, or a word
-// would leave its range. An amount or a difference out of range takes any word there.
+// Does an action, or None where it is refused: a cell isn't there, two cells are one, a cap is out of range,
+// or a word would leave its range. An amount or a difference out of range takes any word there.
 fn change(words: &mut [u64], action: Action) -> Option<()> {
     match action {
         Action::Set { cell, value } => put(words, cell, value),
@@ -39,6 +39,22 @@ fn change(words: &mut [u64], action: Action) -> Option<()> {
             let more = word_at(words, to)?.checked_add(amount)?;
             put(words, from, less)?;
             put(words, to, more)
+        }
+        Action::Swap { a, b } => {
+            if a == b {
+                return None;
+            }
+            let one = word_at(words, a)?;
+            let other = word_at(words, b)?;
+            put(words, a, other)?;
+            put(words, b, one)
+        }
+        Action::Cap { cell, value } => {
+            if value > LIMIT {
+                return None;
+            }
+            let word = word_at(words, cell)?;
+            put(words, cell, word.min(value))
         }
     }
 }

@@ -1,3 +1,4 @@
 pub mod Gate
 pub mod Number
 pub mod Slot
+pub mod Format

@@ -5,19 +5,21 @@ use Rattle.std.specs.List.{list_all}
 use Rattle.disk_model.specs.Disk.{Torn, Follows, Within, Only, overwritten}
 use Rattle.disk_model.proofs.TornLemmas.{torn_opening}
 use Rattle.file_format.specs.Gate.{HasShutGate}
+use Rattle.file_format.specs.declared.format.Format.TheVariants.{Second}
+use Rattle.file_format.specs.Format.{marked_of, unmarked}
 use Rattle.file_format.specs.Number.{number_of, number_bytes}
 use Rattle.file_format.proofs.NumberLemmas.{length-number_bytes}
 use Rattle.capture_core.specs.declared.taker.Taken.{Taken}
 use Rattle.image_files.specs.declared.phase.Phase.{Phase}
 use Rattle.image_files.specs.declared.phase.Phase.TheVariants.{Header, Taking, Opening, OpeningSync, Down}
-use Rattle.image_files.specs.Image.{Image, image_of, header_bytes, cells_in, tick_in, number_at, words_from, is_word}
+use Rattle.image_files.specs.Image.{Image, image_of, header_bytes, cells_of, cells_in, tick_in, number_at, words_from, is_word}
 use Rattle.image_files.specs.Taken.{filled_words}
 use Rattle.image_files.specs.Images.{IsTarget}
 use Rattle.image_files.specs.Progress.{Progress, IsInOrder, PhaseFits, done, newest_words, opened_keeper}
 use Rattle.image_files.specs.Keeper.{HasBody, Fits, TargetFits, TargetEndures, Endures}
 use Rattle.image_files.specs.Steps.{IsOpenedImage}
 use Rattle.image_files.proofs.WordLemmas.{number_written, length-words_from}
-use Rattle.image_files.proofs.SpellingLemmas.{whole_reads, open_file}
+use Rattle.image_files.proofs.SpellingLemmas.{cells_found, marked_fits, whole_reads, open_file}
 use Rattle.image_files.proofs.GateLemmas.{shut_reads_closed}
 
 -- ---- files that are alike behind a place
@@ -44,7 +46,7 @@ module _ (xs ys : List ℕ) (same : drop 1 xs ≡ drop 1 ys) where
   pub body_behind : (keeper : Progress) → length xs ≡ length ys → HasBody keeper ys → HasBody keeper xs
   body_behind keeper long body = record {
     room = omega (arith, body.room);
-    cells = number_behind 1 (omega arith) ∙ body.cells;
+    cells = ap (λ (m : ℕ). cells_of (unmarked m)) (number_behind 1 (omega arith)) ∙ body.cells;
     tick = number_behind 9 (omega arith) ∙ body.tick;
     words = subst (λ (l : List ℕ). IsTrue (list_all is_word l)) (sym (words_behind 17 keeper.written (omega arith))) body.words;
   }
@@ -61,21 +63,22 @@ in_phase keeper order is = subst (λ (p : Phase). PhaseFits p keeper) is order.b
 
 -- ---- the header
 
-pub header_fits : (old bytes : List ℕ) (cells tick : ℕ) → 1 ≤ length old → cells < 256 ^ 8 → tick < 256 ^ 8 → HasShutGate old → bytes ≡ header_bytes cells tick
-    → HasShutGate (overwritten old 1 bytes) × (cells_in (overwritten old 1 bytes) ≡ cells) × (tick_in (overwritten old 1 bytes) ≡ tick) × (17 ≤ length (overwritten old 1 bytes))
-header_fits old bytes cells tick long small_cells small_tick shut is =
+pub header_fits : (old bytes : List ℕ) (cells tick : ℕ) → 1 ≤ length old → 1 ≤ cells → cells ≤ 1048576 → tick < 256 ^ 8 → HasShutGate old → bytes ≡ header_bytes Second cells tick
+    → HasShutGate (overwritten old 1 bytes) × (cells_in (overwritten old 1 bytes) ≡ Some cells) × (tick_in (overwritten old 1 bytes) ≡ tick) × (17 ≤ length (overwritten old 1 bytes))
+header_fits old bytes cells tick long some most small_tick shut is =
+    let marked = marked_of Second cells in
     let file = overwritten old 1 bytes in
     let rest = drop (1 + length bytes) old in
     let front : length (take 1 old) ≡ 1 = omega (arith, length-take 1 old) in
-    let size : length bytes ≡ 16 = ap length is ∙ omega (arith, length-append (number_bytes 8 cells) (number_bytes 8 tick), length-number_bytes 8 cells, length-number_bytes 8 tick) in
+    let size : length bytes ≡ 16 = ap length is ∙ omega (arith, length-append (number_bytes 8 marked) (number_bytes 8 tick), length-number_bytes 8 marked, length-number_bytes 8 tick) in
     let long_file : length file ≡ 1 + 16 + length rest = omega (arith, length-append (take 1 old ++ bytes) rest, length-append (take 1 old) bytes, front, size) in
-    let first : file ≡ take 1 old ++ (number_bytes 8 cells ++ (number_bytes 8 tick ++ rest)) =
-    append_assoc (take 1 old) bytes rest ∙ ap (λ (b : List ℕ). take 1 old ++ (b ++ rest)) is ∙ ap (λ (l : List ℕ). take 1 old ++ l) (append_assoc (number_bytes 8 cells) (number_bytes 8 tick) rest) in
-    let second : file ≡ (take 1 old ++ number_bytes 8 cells) ++ (number_bytes 8 tick ++ rest) = first ∙ sym (append_assoc (take 1 old) (number_bytes 8 cells) (number_bytes 8 tick ++ rest)) in
+    let first : file ≡ take 1 old ++ (number_bytes 8 marked ++ (number_bytes 8 tick ++ rest)) =
+    append_assoc (take 1 old) bytes rest ∙ ap (λ (b : List ℕ). take 1 old ++ (b ++ rest)) is ∙ ap (λ (l : List ℕ). take 1 old ++ l) (append_assoc (number_bytes 8 marked) (number_bytes 8 tick) rest) in
+    let second : file ≡ (take 1 old ++ number_bytes 8 marked) ++ (number_bytes 8 tick ++ rest) = first ∙ sym (append_assoc (take 1 old) (number_bytes 8 marked) (number_bytes 8 tick ++ rest)) in
     let gate : get_or file 0 0 ≡ get_or old 0 0 = first_kept old (bytes ++ rest) (append_assoc (take 1 old) bytes rest) long in (
       (omega (arith, long_file), λ is_open. shut.1 (sym gate ∙ is_open)),
-      ap cells_in first ∙ number_written (take 1 old) (number_bytes 8 tick ++ rest) 1 cells front small_cells,
-      ap tick_in second ∙ number_written (take 1 old ++ number_bytes 8 cells) rest 9 tick (omega (arith, length-append (take 1 old) (number_bytes 8 cells), front, length-number_bytes 8 cells)) small_tick,
+      cells_found Second (number_at file 1) cells (ap (λ (l : List ℕ). number_at l 1) first ∙ number_written (take 1 old) (number_bytes 8 tick ++ rest) 1 marked front (marked_fits Second cells most)) some most,
+      ap tick_in second ∙ number_written (take 1 old ++ number_bytes 8 marked) rest 9 tick (omega (arith, length-append (take 1 old) (number_bytes 8 marked), front, length-number_bytes 8 marked)) small_tick,
       omega (arith, long_file),
     )
   where
@@ -84,13 +87,13 @@ header_fits old bytes cells tick long small_cells small_tick shut is =
     first_kept (x ∷ l) m same le = ap (λ (k : List ℕ). get_or k 0 0) same
 
 pub header_written : (keeper : Progress) (old new newest bytes : List ℕ) → keeper.phase ≡ Header → HasShutGate old
-    → new ≡ overwritten old 1 bytes → bytes ≡ header_bytes keeper.cells keeper.tick → Fits keeper old newest → Fits (record keeper { phase = Taking }) new newest
+    → new ≡ overwritten old 1 bytes → bytes ≡ header_bytes Second keeper.cells keeper.tick → Fits keeper old newest → Fits (record keeper { phase = Taking }) new newest
 header_written keeper old new newest bytes phase shut is bytes_are fits =
     let order = fits.in_order in
     let first : PhaseFits Header keeper = in_phase keeper order phase in
     let none : keeper.written ≡ 0 = first.0 in
     let taking : PhaseFits Taking keeper = omega (arith, order.some, none, ap length first.1) in
-    let parts = header_fits old bytes keeper.cells keeper.tick (omega (arith, shut.0)) (omega (arith, order.most)) (omega (arith, order.ticks)) shut bytes_are in
+    let parts = header_fits old bytes keeper.cells keeper.tick (omega (arith, shut.0)) order.some order.most (omega (arith, order.ticks)) shut bytes_are in
     record {
       in_order = record { some = order.some; most = order.most; ticks = order.ticks; within = order.within; by_phase = taking };
       image = fits.image;
@@ -123,8 +126,8 @@ pub body_reads : (keeper : Progress) (file : List ℕ) → IsInOrder keeper → 
 body_reads keeper file order gate body all =
     let words = words_from file 17 keeper.written in
     let count : length words ≡ keeper.written = length-words_from file 17 keeper.written in
-    whole_reads file keeper.tick words gate (body.cells ∙ sym all ∙ sym count) body.tick (ap (words_from file 17) count)
-    (omega (arith, body.room, count)) (omega (arith, order.some, count, all)) (omega (arith, order.most, count, all)) order.ticks body.words
+    whole_reads file keeper.tick words gate (body.cells ∙ ap (λ (n : ℕ). Some n) (sym all ∙ sym count)) body.tick (ap (words_from file 17) count)
+    (omega (arith, body.room, count)) order.ticks body.words
 
 module _ (keeper : Progress) (old newest : List ℕ) (phase : keeper.phase ≡ Opening) (fits : Fits keeper old newest) where
   body : HasBody keeper old

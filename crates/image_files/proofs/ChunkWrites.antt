@@ -8,12 +8,13 @@ use Rattle.std.specs.Prelude.{is_some}
 use Rattle.std.specs.List.{list_all, flat_map}
 use Rattle.disk_model.specs.Disk.{Torn, Follows, overwritten}
 use Rattle.file_format.specs.Gate.{HasShutGate}
+use Rattle.file_format.specs.Format.{unmarked}
 use Rattle.file_format.specs.Number.{number_bytes}
 use Rattle.capture_core.specs.declared.taker.Taken.{Taken}
 use Rattle.capture_core.specs.declared.taker.Taken.TheVariants.{Word, Same}
 use Rattle.image_files.specs.declared.phase.Phase.{Phase}
 use Rattle.image_files.specs.declared.phase.Phase.TheVariants.{Taking, Writing, BodySync, Down}
-use Rattle.image_files.specs.Image.{Image, number_at, words_from, is_word}
+use Rattle.image_files.specs.Image.{Image, cells_of, number_at, words_from, is_word}
 use Rattle.image_files.specs.Taken.{filled_words, has_same}
 use Rattle.image_files.specs.Progress.{Progress, PhaseFits, IsInOrder, newest_words, done}
 use Rattle.image_files.specs.Calls.{after_chunk, with_chunk_written}
@@ -122,7 +123,7 @@ module _ (keeper : Progress) (old newest : List ℕ) (phase : keeper.phase ≡ W
   body_after : (next : Phase) → HasBody (after next) new
   body_after next = record {
     room = omega (arith, long);
-    cells = number_before new old at 1 kept (omega arith) (omega (arith, long)) (omega (arith, body.room)) ∙ body.cells;
+    cells = ap (λ (m : ℕ). cells_of (unmarked m)) (number_before new old at 1 kept (omega arith) (omega (arith, long)) (omega (arith, body.room))) ∙ body.cells;
     tick = number_before new old at 9 kept (omega arith) (omega (arith, long)) (omega (arith, body.room)) ∙ body.tick;
     words = ap (list_all is_word) words_after ∙ list_all-append is_word (words_from old 17 keeper.written) words ∙ rw (body.words, fits.chunk) refl;
   }

@@ -6,6 +6,7 @@ use Rattle.file_format.specs.Gate.{HasShutGate}
 use Rattle.file_format.specs.declared.slot.Slot.{Slot}
 use Rattle.file_format.specs.declared.slot.Slot.TheVariants.{A, B}
 use Rattle.file_format.specs.Slot.{other_slot, of_slot, in_slot, beside_slot}
+use Rattle.image_files.specs.declared.format.TheConstants.{CELLS_MAX}
 use Rattle.image_files.specs.declared.phase.Phase.{Phase}
 use Rattle.image_files.specs.declared.phase.Phase.TheVariants.{Idle, Closing, ClosingSync, Header, Taking, Reading, Writing, BodySync, Opening, OpeningSync, Down}
 use Rattle.image_files.specs.Image.{Image, image_of, words_from}
@@ -86,7 +87,7 @@ module _ (keeper : Progress) (image_a image_b : List ℕ) (outcomes_a outcomes_b
 
 -- ---- a keeper just made
 
-module _ (cells : ℕ) (some : 1 ≤ cells) (most : cells ≤ 65536) where
+module _ (cells : ℕ) (some : 1 ≤ cells) (most : cells ≤ CELLS_MAX) where
   abbrev fresh : Option (Slot × ℕ) → (target_shut newest_shut : Bool) → Progress
   fresh newest target_shut newest_shut = record { cells = cells; newest = newest; target_shut = target_shut; newest_shut = newest_shut; phase = Idle; tick = 0; written = 0; chunk = [] }
 

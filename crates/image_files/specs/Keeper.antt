@@ -16,7 +16,7 @@ use Rattle.image_files.specs.Progress.{Progress, IsInOrder, done, round_so_far}
 -- the header, and the words written so far
 pub record HasBody (keeper : Progress) (file : List ℕ) : Type 0 where
   pub room : HEADER_BYTES + WORD_BYTES * keeper.written ≤ length file
-  pub cells : cells_in file ≡ keeper.cells
+  pub cells : cells_in file ≡ Some keeper.cells
   pub tick : tick_in file ≡ keeper.tick
   pub words : IsTrue (list_all is_word (words_from file HEADER_BYTES keeper.written))
 

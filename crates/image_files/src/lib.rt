@@ -1,7 +1,8 @@
 //! Images of a world in files.
 //!
-//! An image file has a gate, the number of cells, a tick, and the words of that tick. `read_image`
-//! reads any bytes: a file is closed, or is open and has one tick's words, or is damaged.
+//! An image file has a gate, the number of cells with the mark of the file's format, a tick, and the words
+//! of that tick. `read_image` reads any bytes in either format: a file is closed, or is open and has one
+//! tick's words, or is damaged. Images are written in the second format.
 //!
 //! `ImageKeeper` writes the image of each round into one of two files while the other keeps the newest
 //! one. It closes its target, writes the words behind the closed gate, makes them durable, and opens the
@@ -21,7 +22,9 @@ mod reader;
 pub use answer::ImageAnswer;
 pub use chunk::CHUNK_CELLS;
 pub use file_format::{Slot, is_shut};
-pub use format::{CELLS_MAX, CELLS_PLACE, HEADER_BYTES, TICK_PLACE, WORD_BYTES, images_read_back};
+pub use format::{
+    CELLS_MAX, FIRST_CELLS_MAX, HEADER_BYTES, TICK_PLACE, WORD_BYTES, images_read_back,
+};
 pub use keeper::ImageKeeper;
 pub use laws::images_stay;
 pub use phase::Phase;

@@ -1,8 +1,9 @@
 ghost use Rattle.std.specs.Prelude.{◌≡◌, ◌+◌, ◌*◌, ◌≤◌, length, IfOk, IfErr};
 ghost use Rattle.std.specs.List.{list_all};
+ghost use Rattle.image_files.specs.declared.format.TheConstants.{CELLS_MAX};
 ghost use Rattle.image_files.specs.Image.{image_of, is_whole, is_word, words_from};
 
-use crate::format::{CELLS_MAX, HEADER_BYTES, WORD_BYTES, decode_header};
+use crate::format::{HEADER_BYTES, WORD_BYTES, decode_cells, decode_tick};
 use file_format::{OPEN_GATE, u64_at};
 use std::alloc::Global;
 use world_actions::{LIMIT, Refusal};
@@ -20,7 +21,7 @@ pub enum ImageState {
 ghost use Rattle.image_files.specs.Reading.{ReadsAs};
 
 /// Reads a file of any bytes. It refuses `BadImage`, and `NoMemory` only for an image that is whole:
-/// the file is judged before memory is asked for its words.
+/// the file is judged before memory is asked for its words. Both formats are read.
 #[tactic(auto, unfolding(crate::specs::Image::image_of))]
 pub fn read_image(alloc: Global, bytes: &[u8]) -> Result<ImageState, Refusal>
     ensures { ReadsAs result (image_of bytes.now) }
@@ -28,7 +29,10 @@ pub fn read_image(alloc: Global, bytes: &[u8]) -> Result<ImageState, Refusal>
     if bytes.len() < HEADER_BYTES || bytes[0] != OPEN_GATE {
         return Ok(ImageState::Closed);
     }
-    let (cells, tick) = decode_header(bytes);
+    let Some(cells) = decode_cells(bytes) else {
+        return Err(Refusal::BadImage);
+    };
+    let tick = decode_tick(bytes);
     if !is_whole(bytes, cells, tick) {
         return Err(Refusal::BadImage);
     }
@@ -36,11 +40,12 @@ pub fn read_image(alloc: Global, bytes: &[u8]) -> Result<ImageState, Refusal>
     Ok(ImageState::Open { tick, words })
 }
 
-// Whether an open file with this header is of the format.
+// Whether an open file with this header has a tick, and a word for each cell.
 fn is_whole(bytes: &[u8], cells: u64, tick: u64) -> bool
+    requires { cells ≤ CELLS_MAX }
     ensures { result ≡ is_whole bytes.now cells tick }
 {
-    if cells == 0 || cells > CELLS_MAX || tick > TICK_MAX {
+    if tick > TICK_MAX {
         return false;
     }
     let cells = cells as usize;

@@ -6,9 +6,12 @@ use Rattle.std.proofs.lemmas.List.Elements.{All-from_get_or}
 use Rattle.std.proofs.lemmas.List.{get_or-take, length-take}
 use Rattle.line_grammar.specs.Word.{HasNoSpace}
 
--- equal texts start with the same byte
+-- equal texts have the same first byte, and the same second one
 pub same_first : {xs ys : List ℕ} → xs ≡ ys → slice_index xs 0 ≡ slice_index ys 0
 same_first is = ap (λ (bytes : List ℕ). slice_index bytes 0) is
+
+pub same_second : {xs ys : List ℕ} → xs ≡ ys → slice_index xs 1 ≡ slice_index ys 1
+same_second is = ap (λ (bytes : List ℕ). slice_index bytes 1) is
 
 -- the first byte is no space, nor is a later one
 HasNoSpace-head : (b : ℕ) (bs : List ℕ) → HasNoSpace (b ∷ bs) → b ≢ 32
@@ -52,6 +55,19 @@ pub same_cell : (m n : ℕ) (r s : List ℕ) → m < 2 ^ 32 → n < 2 ^ 32 → d
 same_cell m n r s fits other_fits is =
     let parts = same_split (decimal m) (decimal n) r s (HasNoSpace-decimal m (omega arith)) (HasNoSpace-decimal n (omega arith)) is in
     (decimal_injective m n (omega arith) (omega arith) parts.0, parts.1)
+
+-- a cell and a number are the same in both readings
+pub same_cell_number : (m n r s : ℕ) → m < 2 ^ 32 → n < 2 ^ 32 → r < 2 ^ 64 → s < 2 ^ 64
+    → decimal m ++ (32 ∷ decimal r) ≡ decimal n ++ (32 ∷ decimal s) → (m ≡ n) × (r ≡ s)
+same_cell_number m n r s fits other_fits r_fits s_fits is =
+    let cells = same_cell m n (decimal r) (decimal s) fits other_fits is in
+    (cells.0, decimal_injective r s r_fits s_fits cells.1)
+
+-- words that go on in one way after their cell go on in no other
+pub none_rest : (words : List ℕ) (m : ℕ) (rest other : List ℕ) → m < 2 ^ 32 → words ≡ decimal m ++ (32 ∷ rest) → rest ≢ other
+    → (cell : ℕ) → cell < 2 ^ 32 → words ≢ decimal cell ++ (32 ∷ other)
+none_rest words m rest other fits split differs cell cell_fits is =
+    differs (same_cell m cell rest other fits cell_fits (sym split ∙ is)).1
 
 -- a word that is no cell starts no text of a cell and a space
 pub none_cell_word : (words word rest : List ℕ) → words ≡ word ++ (32 ∷ rest) → HasNoSpace word

@@ -33,6 +33,12 @@ pub fn read_command(line: &[u8]) -> Option<Command>
     if let Some(words) = after(line, b"move ") {
         return read_move(words);
     }
+    if let Some(words) = after(line, b"swap ") {
+        return read_swap(words);
+    }
+    if let Some(words) = after(line, b"cap ") {
+        return read_cap(words);
+    }
     if let Some(words) = after(line, b"get ") {
         return read_get(words);
     }
@@ -66,6 +72,22 @@ fn read_move(words: &[u8]) -> Option<Command>
     let (to, amount) = read_cell_word(rest)?;
     let amount = read_number(amount)?;
     Some(Command::Act(Action::Transfer { from, to, amount }))
+}
+
+fn read_swap(words: &[u8]) -> Option<Command>
+    ensures { Means (codes "swap " ++ words.now) result }
+{
+    let (a, b) = read_cell_word(words)?;
+    let b = read_cell(b)?;
+    Some(Command::Act(Action::Swap { a, b }))
+}
+
+fn read_cap(words: &[u8]) -> Option<Command>
+    ensures { Means (codes "cap " ++ words.now) result }
+{
+    let (cell, value) = read_cell_word(words)?;
+    let value = read_number(value)?;
+    Some(Command::Act(Action::Cap { cell, value }))
 }
 
 fn read_get(words: &[u8]) -> Option<Command>
@@ -117,6 +139,22 @@ mod tests {
                     amount: 300,
                 }),
             ),
+            ("swap 0 1", Command::Act(Action::Swap { a: 0, b: 1 })),
+            (
+                "swap 4294967295 0",
+                Command::Act(Action::Swap {
+                    a: 4_294_967_295,
+                    b: 0,
+                }),
+            ),
+            ("cap 1 3", Command::Act(Action::Cap { cell: 1, value: 3 })),
+            (
+                "cap 0 18446744073709551615",
+                Command::Act(Action::Cap {
+                    cell: 0,
+                    value: 18_446_744_073_709_551_615,
+                }),
+            ),
             ("get 4294967295", Command::Get(4_294_967_295)),
             ("end", Command::End),
         ];
@@ -140,6 +178,15 @@ mod tests {
             "add 0 9223372036854775808",
             "move 0 1",
             "move 0 1 2 3",
+            "swap 0",
+            "swap 0 1 2",
+            "swap 0 4294967296",
+            "swap  0 1",
+            "cap 0",
+            "cap 0 -1",
+            "cap 0 18446744073709551616",
+            "cap 0 1 2",
+            "capped 0 1",
             "get 4294967296",
             "end\r",
             "end\0",

@@ -168,8 +168,8 @@ impl Free for BadFiles {
     }
 
     fn call(self, alloc: Global) -> Option<u64> {
-        let huge = [1, 0, 0, 0, 0x40, 0, 0, 0, 0, 0, 0, 0, 0, 0, 0, 0, 0];
-        let largest = [1, 0, 0, 1, 0, 0, 0, 0, 0, 0, 0, 0, 0, 0, 0, 0, 0];
+        let huge = [1, 0, 0, 0, 0x40, 0, 0, 0, 0x20, 0, 0, 0, 0, 0, 0, 0, 0];
+        let largest = [1, 0, 0, 0x10, 0, 0, 0, 0, 0x20, 0, 0, 0, 0, 0, 0, 0, 0];
         let cut_off = [1, 0, 0, 0, 0, 0, 0, 0, 0, 1, 32, 0];
         let are_bad = read_image(alloc, &huge).err() == Some(Refusal::BadImage)
             && read_image(alloc, &largest).err() == Some(Refusal::BadImage)

@@ -262,6 +262,45 @@ fn play_in<C: Capture>(
     Ok(served.into_files())
 }
 
+// A segment of tick 1, which sets cell 0 to 5, and one of tick 2, which adds 2, in format 1.
+const TICK_1: &[u8] = &[
+    1, 0, 0, 0, 0, 0, 0, 0, 0, 1, 1, 0, 1, 0, 1, 0, 0, 0, 0, 5, 0, 0, 0, 0, 0, 0, 0, 0,
+];
+
+const TICK_2: &[u8] = &[
+    1, 1, 0, 0, 0, 0, 0, 0, 0, 1, 1, 0, 1, 0, 2, 0, 0, 0, 0, 2, 0, 0, 0, 0, 0, 0, 0, 0,
+];
+
+// Files of format 1 are left behind by the start, but for an image, which stays as it is.
+fn try_upgrade<C: Capture>(rt: &impl Abort, alloc: Global) -> Result<(), Fail> {
+    let files = files_of(alloc, [IMAGE, NONE, TICK_1, TICK_2])?;
+    let served = open::<C>(alloc, files, 64)?;
+    assert_eq!(rt; served.recovered(), (2, 0));
+    let files = served.into_files();
+    assert_eq!(rt; files.image_a.durable(), IMAGE);
+    assert_eq!(rt;
+        files.image_b.durable(),
+        [
+            1, 1, 0, 0, 0, 0, 0, 0, 0x20, 2, 0, 0, 0, 0, 0, 0, 0, 7, 0, 0, 0, 0, 0, 0, 0
+        ]
+        .as_slice()
+    );
+    let log = [1, 2, 0, 0, 0, 0, 0, 0, 0x20, 0];
+    assert!(rt; files.log_a.durable().starts_with(&log));
+    assert!(rt; files.log_b.durable().starts_with(&[0]));
+
+    let (input, text) = (b"cap 0 4\nget 0\nend\n", b"tick 3: + =4\n");
+    play_in::<C>(rt, alloc, files, (2, 2), input, text, 3)?;
+    Ok(())
+}
+
+#[test]
+fn goes_on_from_the_first_format(rt: HostRuntime) -> Result<(), Fail> {
+    try_upgrade::<PlainCopy>(&rt, rt.alloc())?;
+    try_upgrade::<Zigzag>(&rt, rt.alloc())?;
+    try_upgrade::<PingPong>(&rt, rt.alloc())
+}
+
 #[test]
 fn opens_again(rt: HostRuntime) -> Result<(), Fail> {
     let alloc = rt.alloc();

@@ -5,7 +5,7 @@ use Rattle.std.proofs.lemmas.Bool.Decides.{nat_tests}
 use Rattle.std.proofs.lemmas.Fmt.{decimal_injective, length-decimal-le}
 use Rattle.std.proofs.lemmas.List.{length-append}
 use Rattle.world_actions.specs.declared.world.TheConstants.{CELLS}
-use Rattle.world_actions.specs.declared.action.Action.TheVariants.{Set, Add, Transfer}
+use Rattle.world_actions.specs.declared.action.Action.TheVariants.{Set, Add, Transfer, Swap, Cap}
 use Rattle.line_grammar.specs.declared.command.Command.{Command}
 use Rattle.line_grammar.specs.declared.command.Command.TheVariants as command
 use Rattle.line_grammar.specs.declared.command.TheConstants.{LINE_BYTES}
@@ -44,7 +44,7 @@ text_kind text =
     if slice_index text 0 == 105 then (if length text == 5 then 3 else 4) else
     if slice_index text 0 == 108 then (if length text == 3 then 5 else 6) else
     if slice_index text 0 == 102 then (if length text == 8 then 6 else 4) else
-    if slice_index text 0 == 99 then (if slice_index text 1 == 111 then 9 else 7) else
+    if slice_index text 0 == 99 then (if slice_index text 1 == 111 then 9 else (if slice_index text 1 == 114 then 7 else 0)) else
     if slice_index text 0 == 109 then (if slice_index text 1 == 97 then 8 else 0) else
     0
 
@@ -53,6 +53,8 @@ unfolding text_kind kind_of
 text_kind-line_spelling (line.Command (command.Act (Set cell value))) = refl
 text_kind-line_spelling (line.Command (command.Act (Add cell by))) = refl
 text_kind-line_spelling (line.Command (command.Act (Transfer from to amount))) = refl
+text_kind-line_spelling (line.Command (command.Act (Swap a b))) = refl
+text_kind-line_spelling (line.Command (command.Act (Cap cell value))) = refl
 text_kind-line_spelling (line.Command (command.Get cell)) = refl
 text_kind-line_spelling (line.Command command.End) = refl
 text_kind-line_spelling (line.Open method cells) = refl

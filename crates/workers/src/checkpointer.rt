@@ -124,8 +124,8 @@ impl<M: Method, D: Disk + Drop, G: Gate + Drop> Checkpointer<M, D, G> {
     }
 }
 
-// Whether an image is to be made of a round of this tick. Ticks of rounds are there and rise, but what was loaded doesn't
-// tell it.
+// Whether an image is to be made of a round of this tick: there is such a tick, and the newest image is older. So it is
+// of each round that the front opens, which no load of the phase tells by itself.
 fn is_due(images: &ImageKeeper, tick: u64) -> bool
     ensures due { result ≡ true → (tick ≤ TICK_MAX) × (newest_tick images.now.newest < tick) }
     ensures not_due { result ≡ false → IsNoneDue images.now.newest tick }

@@ -1,7 +1,7 @@
 -- What an action does to a list of words, or why it is refused.
-use Rattle.std.specs.Prelude.{◌≡◌, ℕ, List, [], ◌∷◌, length, Bool, Option, Some, None, Result, Ok, Err, ℤ, pos, ◌+ℤ◌, neg_ℤ, ◌+◌, ◌-◌, ◌||◌, not, int_lt, nat_lt, nat_eq, unsigned_abs, slice_index, slice_set, if◌then◌else◌}
+use Rattle.std.specs.Prelude.{◌≡◌, ℕ, List, [], ◌∷◌, length, Bool, Option, Some, None, Result, Ok, Err, ℤ, pos, ◌+ℤ◌, neg_ℤ, ◌+◌, ◌-◌, min, ◌||◌, not, int_lt, nat_lt, nat_eq, unsigned_abs, slice_index, slice_set, if◌then◌else◌}
 use Rattle.world_actions.specs.declared.action.Action.{Action}
-use Rattle.world_actions.specs.declared.action.Action.TheVariants.{Set, Add, Transfer}
+use Rattle.world_actions.specs.declared.action.Action.TheVariants.{Set, Add, Transfer, Swap, Cap}
 use Rattle.world_actions.specs.declared.action.Change.{Change}
 use Rattle.world_actions.specs.declared.refusal.Refusal.{Refusal}
 use Rattle.world_actions.specs.declared.refusal.Refusal.TheVariants.{BadCell, BadValue, OutOfRange, SameCell}
@@ -35,6 +35,15 @@ refusal_of world (Transfer from to amount) =
     if nat_lt (slice_index world from) amount then Some OutOfRange else
     if nat_lt LIMIT (slice_index world to + amount) then Some OutOfRange else
     None
+refusal_of world (Swap a b) =
+    if is_outside world a then Some BadCell else
+    if is_outside world b then Some BadCell else
+    if nat_eq a b then Some SameCell else
+    None
+refusal_of world (Cap cell value) =
+    if is_outside world cell then Some BadCell else
+    if nat_lt LIMIT value then Some BadValue else
+    None
 
 -- a word that is put into a cell
 pub record Write : Type 0 where
@@ -51,6 +60,12 @@ writes_of world (Transfer from to amount) =
     record { cell = from; word = slice_index world from - amount }
     ∷ record { cell = to; word = slice_index world to + amount }
     ∷ []
+writes_of world (Swap a b) =
+    record { cell = a; word = slice_index world b }
+    ∷ record { cell = b; word = slice_index world a }
+    ∷ []
+writes_of world (Cap cell value) =
+    record { cell = cell; word = min (slice_index world cell) value } ∷ []
 
 -- the world after these writes
 abbrev pub written : List ℕ → List Write → List ℕ

@@ -10,6 +10,10 @@ pub enum Action {
     Add { cell: u32, by: i64 },
     /// Takes an amount from one cell and adds it to another.
     Transfer { from: u32, to: u32, amount: u64 },
+    /// Exchanges the words of two cells.
+    Swap { a: u32, b: u32 },
+    /// Lowers a cell's word to a value where it is greater.
+    Cap { cell: u32, value: u64 },
 }
 
 /// The new words of the cells that an accepted action names.
@@ -31,8 +35,11 @@ impl Action {
         ensures second { result.1 ≡ second_cell self.now }
     {
         match *self {
-            Action::Set { cell, .. } | Action::Add { cell, .. } => (cell, cell),
+            Action::Set { cell, .. } | Action::Add { cell, .. } | Action::Cap { cell, .. } => {
+                (cell, cell)
+            }
             Action::Transfer { from, to, .. } => (from, to),
+            Action::Swap { a, b } => (a, b),
         }
     }
 }
@@ -104,6 +111,30 @@ pub fn check(a: &Action, len: usize, first: u64, second: u64) -> Result<Change, 
                 second: Some(second + amount),
             })
         }
+        Action::Swap { a, b } => {
+            if a as usize >= len || b as usize >= len {
+                return Err(Refusal::BadCell);
+            }
+            if a == b {
+                return Err(Refusal::SameCell);
+            }
+            Ok(Change {
+                first: second,
+                second: Some(first),
+            })
+        }
+        Action::Cap { cell, value } => {
+            if cell as usize >= len {
+                return Err(Refusal::BadCell);
+            }
+            if value > LIMIT {
+                return Err(Refusal::BadValue);
+            }
+            Ok(Change {
+                first: first.min(value),
+                second: None,
+            })
+        }
     }
 }
 
@@ -123,6 +154,14 @@ mod tests {
         Action::Transfer { from, to, amount }
     }
 
+    fn swap(a: u32, b: u32) -> Action {
+        Action::Swap { a, b }
+    }
+
+    fn cap(cell: u32, value: u64) -> Action {
+        Action::Cap { cell, value }
+    }
+
     fn change(first: u64, second: Option<u64>) -> Result<Change, Refusal> {
         Ok(Change { first, second })
     }
@@ -132,6 +171,8 @@ mod tests {
         assert_eq!(rt; set(3, 9).cells(), (3, 3));
         assert_eq!(rt; add(4, -9).cells(), (4, 4));
         assert_eq!(rt; transfer(5, 6, 9).cells(), (5, 6));
+        assert_eq!(rt; swap(7, 8).cells(), (7, 8));
+        assert_eq!(rt; cap(9, 1).cells(), (9, 9));
     }
 
     #[test]
@@ -146,6 +187,11 @@ mod tests {
             (add(0, -1), 0, Err(Refusal::OutOfRange)),
             (add(0, i64::MIN), greatest, Err(Refusal::BadValue)),
             (transfer(0, 0, greatest + 1), 5, Err(Refusal::BadValue)),
+            (cap(0, 3), 5, change(3, None)),
+            (cap(0, 5), 3, change(3, None)),
+            (cap(0, greatest), 3, change(3, None)),
+            (cap(0, greatest + 1), 3, Err(Refusal::BadValue)),
+            (cap(1, greatest + 1), 3, Err(Refusal::BadCell)),
         ] {
             assert!(rt; word <= LIMIT);
             assert_eq!(rt; check(&action, 1, word, word), want, "{action:?}");
@@ -167,6 +213,11 @@ mod tests {
             (transfer(0, 1, 0), 0, 0, change(0, Some(0))),
             (transfer(1, 0, 30), 100, 7, change(70, Some(37))),
             (transfer(0, 1, 1), 1, LIMIT, Err(Refusal::OutOfRange)),
+            (swap(0, 1), 5, 7, change(7, Some(5))),
+            (swap(1, 0), 0, LIMIT, change(LIMIT, Some(0))),
+            (swap(0, 0), 5, 5, Err(Refusal::SameCell)),
+            (swap(2, 2), 0, 0, Err(Refusal::BadCell)),
+            (swap(0, 2), 5, 0, Err(Refusal::BadCell)),
         ] {
             assert!(rt; first <= LIMIT && second <= LIMIT);
             assert_eq!(rt; check(&action, 2, first, second), want, "{action:?}");

@@ -13,8 +13,8 @@ pub enum Refusal {
     /// The action would leave a word below 0 or above `LIMIT`.
     #[error("the action would leave a word below 0 or above 999999999999999999")]
     OutOfRange,
-    /// A transfer's two cells are one.
-    #[error("a transfer needs two different cells")]
+    /// The two cells of a transfer or a swap are one.
+    #[error("a move or a swap needs two different cells")]
     SameCell,
     /// The running tick has as many actions as a tick may have.
     #[error("the running tick has 256 actions: end it first")]
@@ -43,10 +43,10 @@ pub enum Refusal {
     /// Recovery found neither an open image nor a bad file.
     #[error("there is no image to recover from")]
     NoImage,
-    /// An image whose gate is open isn't of the format.
+    /// An image whose gate is open is of neither format.
     #[error("an image file is damaged")]
     BadImage,
-    /// A segment whose gate is open isn't of the format, or an action of a log is refused.
+    /// A segment whose gate is open is of neither format, or an action of a log is refused.
     #[error("a log file is damaged")]
     BadLog,
     /// A line isn't of the grammar.
@@ -163,7 +163,10 @@ mod tests {
                 Refusal::OutOfRange,
                 "the action would leave a word below 0 or above 999999999999999999",
             ),
-            (Refusal::SameCell, "a transfer needs two different cells"),
+            (
+                Refusal::SameCell,
+                "a move or a swap needs two different cells",
+            ),
             (
                 Refusal::TickFull,
                 "the running tick has 256 actions: end it first",

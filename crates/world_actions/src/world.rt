@@ -7,7 +7,7 @@ ghost use Rattle.world_actions.specs.Effect.{effect};
 pub const LIMIT: u64 = 999_999_999_999_999_999;
 
 /// The greatest number of cells of a world; the least is 1.
-pub const CELLS: u32 = 65_536;
+pub const CELLS: u32 = 1_048_576;
 
 /// A law: an accepted action leaves a world, of as many cells.
 pub fn effect_keeps_world()

@@ -27,11 +27,11 @@ pub enum Fault {
     NoMemory,
     /// No image is open, and no file is damaged.
     NoImage,
-    /// Images are open and not of the format.
+    /// Images are open and of neither format.
     Images(Damaged),
-    /// The images are right; segments are open and not of the format.
+    /// The images are right; segments are open and of neither format.
     Segments(Damaged),
-    /// All files are of the format, and an action of the log is refused.
+    /// All files are of a format, and an action of the log is refused.
     Replay,
 }
 
@@ -136,14 +136,14 @@ fn fault_of_log(alloc: Global, files: &FourFiles<Vec<u8>>) -> Fault
     }
 }
 
-// Whether an image is open and not of the format. An image that wants memory is of the format.
+// Whether an image is open and of neither format. An image that wants memory is of one.
 fn is_bad_image(alloc: Global, bytes: &[u8]) -> bool
     ensures { result ≡ is_bad_image (image_of bytes.now) }
 {
     matches!(read_image(alloc, bytes), Err(Refusal::BadImage))
 }
 
-// Whether a segment is open and not of the format, as far as there is memory to tell.
+// Whether a segment is open and of neither format, as far as there is memory to tell.
 fn is_bad_segment(alloc: Global, bytes: &[u8]) -> Result<bool, Refusal>
     ensures told { IfOk result (λ is_bad. IsTrue is_bad ↔ IsSegment bytes.now MalformedSegment) }
     ensures memory { IfErr result (λ refusal. refusal ≡ Refusal.NoMemory) }

@@ -2,34 +2,37 @@ ghost use Rattle.std.specs.Prelude.{◌≡◌, Err, IfOk, IfErr};
 ghost use Rattle.image_files.specs.Image.{image_of};
 ghost use Rattle.image_files.specs.Reading.{IsOpenImage};
 ghost use Rattle.action_log.specs.Segment.{HasTicks};
-ghost use Rattle.world_folder.specs.Told.{image_told, IsToldOf};
+ghost use Rattle.world_folder.specs.Told.{IsImageTold, IsLogTold, format_number};
 
 use crate::counted::Counted;
 use action_log::{LogState, count_groups, read_log};
+use file_format::{Format, format_of};
 use image_files::{ImageState, read_image};
 use std::alloc::Global;
 use std::fmt;
 use world_actions::Refusal;
 
-/// The number of the format that an open gate stands for.
-const FORMAT: u8 = 1;
-
 /// What is told of an image file.
 #[derive(Clone, Copy, Debug, PartialEq, Eq)]
 pub enum ImageTold {
     Closed,
-    /// It is open, and not of the format.
+    /// It is open, and of neither format.
     Damaged,
-    Open { cells: usize, tick: u64 },
+    Open {
+        format: Format,
+        cells: usize,
+        tick: u64,
+    },
 }
 
 /// What is told of a log file.
 #[derive(Clone, Copy, Debug, PartialEq, Eq)]
 pub enum LogTold {
     Closed,
-    /// It is open, and not of the format.
+    /// It is open, and of neither format.
     Damaged,
     Open {
+        format: Format,
         base: u64,
         groups: usize,
         ticks: usize,
@@ -38,13 +41,14 @@ pub enum LogTold {
 
 /// Tells of an image file; it takes memory as `read_image` does.
 pub fn tell_image(alloc: Global, bytes: &[u8]) -> Result<ImageTold, Refusal>
-    ensures told { IfOk result (λ told. told ≡ image_told (image_of bytes.now)) }
+    ensures told { IfOk result (IsImageTold bytes.now) }
     ensures refused { IfErr result (λ refusal. refusal ≡ Refusal.NoMemory) }
     ensures memory { result ≡ Err Refusal.NoMemory → IsOpenImage (image_of bytes.now) }
 {
     match read_image(alloc, bytes) {
         Ok(ImageState::Closed) => Ok(ImageTold::Closed),
         Ok(ImageState::Open { tick, words }) => Ok(ImageTold::Open {
+            format: format_of(bytes).unwrap(),
             cells: words.len(),
             tick,
         }),
@@ -55,19 +59,33 @@ pub fn tell_image(alloc: Global, bytes: &[u8]) -> Result<ImageTold, Refusal>
 
 /// Tells of a log file; it takes memory as `read_log` does.
 pub fn tell_log(alloc: Global, bytes: &[u8]) -> Result<LogTold, Refusal>
-    ensures told { IfOk result (IsToldOf bytes.now) }
+    ensures told { IfOk result (IsLogTold bytes.now) }
     ensures refused { IfErr result (λ refusal. refusal ≡ Refusal.NoMemory) }
     ensures memory { result ≡ Err Refusal.NoMemory → HasTicks bytes.now }
 {
     match read_log(alloc, bytes) {
         Ok(LogState::Closed) => Ok(LogTold::Closed),
-        Ok(LogState::Open { base, ticks }) => Ok(LogTold::Open {
-            base,
-            groups: count_groups(bytes).unwrap(),
-            ticks: ticks.len(),
-        }),
+        Ok(LogState::Open { base, ticks }) => {
+            let format = format_of(bytes).unwrap();
+            Ok(LogTold::Open {
+                format,
+                base,
+                groups: count_groups(bytes).unwrap(),
+                ticks: ticks.len(),
+            })
+        }
         Err(Refusal::BadLog) => Ok(LogTold::Damaged),
         Err(refusal) => Err(refusal),
+    }
+}
+
+// The number by which people know a format.
+fn number_of(format: Format) -> u8
+    ensures { result ≡ format_number format }
+{
+    match format {
+        Format::First => 1,
+        Format::Second => 2,
     }
 }
 
@@ -76,12 +94,17 @@ impl fmt::Display for ImageTold {
         match self {
             ImageTold::Closed => f.write_str("closed"),
             ImageTold::Damaged => f.write_str("damaged"),
-            ImageTold::Open { cells, tick } => {
+            ImageTold::Open {
+                format,
+                cells,
+                tick,
+            } => {
+                let format = number_of(*format);
                 let cells = Counted {
                     count: *cells,
                     noun: "cell",
                 };
-                write!(f, "open, format {FORMAT}, {cells}, tick {tick}")
+                write!(f, "open, format {format}, {cells}, tick {tick}")
             }
         }
     }
@@ -93,10 +116,12 @@ impl fmt::Display for LogTold {
             LogTold::Closed => f.write_str("closed"),
             LogTold::Damaged => f.write_str("damaged"),
             LogTold::Open {
+                format,
                 base,
                 groups,
                 ticks,
             } => {
+                let format = number_of(*format);
                 let groups = Counted {
                     count: *groups,
                     noun: "group",
@@ -105,7 +130,7 @@ impl fmt::Display for LogTold {
                     count: *ticks,
                     noun: "tick",
                 };
-                write!(f, "open, format {FORMAT}, base {base}, {groups}, {ticks}")
+                write!(f, "open, format {format}, base {base}, {groups}, {ticks}")
             }
         }
     }

@@ -74,7 +74,7 @@ fn cells_argument<'a>(alloc: Global) -> Arg<'a> {
         .long(CELLS)
         .value_name("N")
         .required(true)
-        .value_parser(value_parser!(u32).range(1..=65_536))
+        .value_parser(value_parser!(u32).range(1..=i64::from(world_actions::CELLS)))
         .help("The number of cells")
 }
 

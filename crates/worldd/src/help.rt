@@ -1,12 +1,14 @@
 /// What `worldd steps --help` says of the lines.
 pub const STEPS_HELP: &str = "\
 Each line of the script gets one line of answer:
-  open METHOD N        opens a world of N cells, 1 to 65536, all 0: `ready 0`
+  open METHOD N        opens a world of N cells, 1 to 1048576, all 0: `ready 0`
                        METHOD is plain, zigzag, pingpong, or one of the last two
                        over two seats: zigzag-shared, pingpong-shared
   set CELL VALUE       puts a value into a cell: `+`
   add CELL DIFFERENCE  adds a difference to a cell, less than 0 or not: `+`
   move FROM TO AMOUNT  takes an amount from a cell and adds it to another: `+`
+  swap CELL CELL       exchanges the words of two cells: `+`
+  cap CELL VALUE       lowers a cell's word to a value where it is greater: `+`
   get CELL             `= VALUE`
   end                  ends the running tick: `tick NUMBER`
   mark                 opens a round of the words as they are: `mark NUMBER`
@@ -55,10 +57,11 @@ pub const INSPECT_HELP: &str = "\
 It reads image.a, image.b, log.a and log.b, writes nothing and locks nothing, and prints
 a line for each, in this order:
   NAME: closed, 9 bytes
-  NAME: open, format 1, 2 cells, tick 7, 33 bytes           the world after tick 7
-  NAME: open, format 1, base 7, 1 group, 2 ticks, 43 bytes  ticks 8 and 9
-  NAME: damaged, 9 bytes                                    open, and not of the format
+  NAME: open, format 2, 2 cells, tick 7, 33 bytes           the world after tick 7
+  NAME: open, format 2, base 7, 1 group, 2 ticks, 43 bytes  ticks 8 and 9
+  NAME: damaged, 9 bytes                                    open, and of neither format
   NAME: unreadable: REASON
+Files of format 1 are of an earlier release, and are read too; format 2 is written.
 Then it prints `recovered N from T in NAME`: the world after tick N stands in them, built
 from the image of tick T. Where none stands it ends as `recover` does.";
 
@@ -68,8 +71,8 @@ It recovers the world in the folder, and listens on 127.0.0.1 until K connection
 come and gone, each in a thread of its own. It makes no file. METHOD is zigzag or
 pingpong, E from 1 to 65536, P from 0 to 65535, K from 1 to 100000.
 A client writes lines, and `end` closes a batch, which is answered once it is durable:
-  set, add, move, get   as in `steps`; a client's batch has 1024 lines at most
-  end                   `tick NUMBER: + =5 -3`, a word for each line, or `fault CODE`
+  set, add, move, swap, cap, get  as in `steps`; a batch has 1024 lines at most
+  end  `tick NUMBER: + =5 -3`, a word for each line, or `fault CODE`
 It prints, each line at once:
   recovered N from T        the world after tick N stood there, built from the image of T
   listening PORT            clients may come

@@ -249,11 +249,11 @@ fn wrong_command_lines_end_with_two(rt: HostRuntime) -> Result<(), Fail> {
         ),
         (
             &["worldd", "create", "--dir", "world", "--cells", "0"],
-            "error: invalid value '0' for '--cells <N>': 0 is not in 1..=65536\n\nFor more information, try '--help'.\n",
+            "error: invalid value '0' for '--cells <N>': 0 is not in 1..=1048576\n\nFor more information, try '--help'.\n",
         ),
         (
-            &["worldd", "create", "--dir", "world", "--cells", "65537"],
-            "error: invalid value '65537' for '--cells <N>': 65537 is not in 1..=65536\n\nFor more information, try '--help'.\n",
+            &["worldd", "create", "--dir", "world", "--cells", "1048577"],
+            "error: invalid value '1048577' for '--cells <N>': 1048577 is not in 1..=1048576\n\nFor more information, try '--help'.\n",
         ),
         (
             &["worldd", "create", "--dir", "world", "--cells", "two"],

@@ -1,4 +1,5 @@
 ghost use Rattle.std.specs.Prelude.{◌≡◌, ◌-◌, ◌≤◌, ℕ, List, true, false, length, vec_capacity, IsTrue, OnOk, OnErr, if◌then◌else◌, is_ok, [], ◌∷◌};
+ghost use Rattle.world_ticks.specs.declared.tick.TheConstants.{TICK_MAX};
 ghost use Rattle.file_format.specs.declared.gate.TheConstants.{OPEN_GATE, CLOSED_GATE};
 ghost use Rattle.disk_model.specs.Disk.{Only, counted, Write, Sync};
 ghost use Rattle.action_log.specs.declared.format.TheConstants.{BASE_PLACE, HEADER_BYTES};
@@ -106,6 +107,7 @@ impl Progress {
     ) -> Result<(), Refusal>
         requires buffer { HEADER_BYTES - BASE_PLACE ≤ vec_capacity buffer.old }
         requires room { IsTrue D.honest → 1 ≤ length (D.content other.old) }
+        requires numbered { self.old.next_base ≤ TICK_MAX }
         requires phase { self.old.phase ≡ Header }
         requires up { self.old.down ≡ false }
         ensures ok { OnOk result (self.new ≡ record self.old { phase = HeaderSync }) }
@@ -218,6 +220,7 @@ impl Progress {
         other: &mut D,
     ) -> Result<(), Refusal>
         requires buffer { HEADER_BYTES - BASE_PLACE ≤ vec_capacity buffer.old }
+        requires numbered { tick ≤ TICK_MAX }
         requires after_start { self.old.starting ≡ false }
         requires phase { self.old.phase ≡ Ready }
         requires up { self.old.down ≡ false }

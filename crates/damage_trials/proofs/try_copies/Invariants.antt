@@ -3,5 +3,5 @@ use Rattle.damage_trials.specs.Tally.{judged}
 use Rattle.damage_trials.proofs.try_copies.Given as goal
 
 -- each copy so far was judged
-abbrev pub invariant-loop : goal.invariant-loop
-invariant-loop l = judged l.tally ≡ l.counter
+abbrev pub invariant-loop-number : goal.invariant-loop-number
+invariant-loop-number l = judged l.tally ≡ l.number

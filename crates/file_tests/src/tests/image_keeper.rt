@@ -9,8 +9,11 @@ use disk_model::{Disk, Fused, ModelFile};
 use image_files::{ImageAnswer, ImageKeeper, ImageState, Slot, read_image};
 use std::alloc::Global;
 use std::test::Fail;
-use world_actions::{LIMIT, Refusal};
+use world_actions::{CELLS, LIMIT, Refusal};
 use world_ticks::Cells;
+
+// More steps than any round here has.
+const MOST_STEPS: u32 = 2_000_000;
 
 // Hands out the newest image's words.
 #[derive(Drop)]
@@ -43,13 +46,13 @@ fn run<T: Taker, D: Disk>(
     ensures idle { IfOpened result.1 (keeper.new.phase ≡ Idle) ⊤ }
 {
     keeper.begin(tick);
-    for working in 0..100_000 {
+    for working in 0..MOST_STEPS {
         match keeper.step_files(from, image_a, image_b) {
             ImageAnswer::Working => {}
             answer => return (working, answer),
         }
     }
-    (100_000, ImageAnswer::Working)
+    (MOST_STEPS, ImageAnswer::Working)
 }
 
 #[test]
@@ -66,8 +69,8 @@ fn opens_images_in_turn(rt: HostRuntime) -> Result<(), Fail> {
     assert_eq!(rt; keeper.left(), 0);
     assert_eq!(rt; keeper.newest(), Some((Slot::A, 3)));
     let image = [
-        1, 2, 0, 0, 0, 0, 0, 0, 0, 3, 0, 0, 0, 0, 0, 0, 0, 5, 0, 0, 0, 0, 0, 0, 0, 7, 0, 0, 0, 0,
-        0, 0, 0,
+        1, 2, 0, 0, 0, 0, 0, 0, 0x20, 3, 0, 0, 0, 0, 0, 0, 0, 5, 0, 0, 0, 0, 0, 0, 0, 7, 0, 0, 0,
+        0, 0, 0, 0,
     ];
     assert_eq!(rt; image_a.durable(), image.as_slice());
 
@@ -75,8 +78,8 @@ fn opens_images_in_turn(rt: HostRuntime) -> Result<(), Fail> {
     let second = run(&mut keeper, 4, &mut AllSame, &mut image_a, &mut image_b);
     assert_eq!(rt; second, (9, ImageAnswer::Opened(4)));
     let image = [
-        1, 2, 0, 0, 0, 0, 0, 0, 0, 4, 0, 0, 0, 0, 0, 0, 0, 5, 0, 0, 0, 0, 0, 0, 0, 7, 0, 0, 0, 0,
-        0, 0, 0,
+        1, 2, 0, 0, 0, 0, 0, 0, 0x20, 4, 0, 0, 0, 0, 0, 0, 0, 5, 0, 0, 0, 0, 0, 0, 0, 7, 0, 0, 0,
+        0, 0, 0, 0,
     ];
     assert_eq!(rt; image_b.durable(), image.as_slice());
     Ok(())
@@ -112,21 +115,21 @@ fn opens_largest_images(rt: HostRuntime) -> Result<(), Fail> {
     let alloc = rt.alloc();
     let mut image_a = ModelFile::new(alloc, Vec::new(alloc))?;
     let mut image_b = ModelFile::new(alloc, Vec::new(alloc))?;
-    let mut keeper = ImageKeeper::new(alloc, 65_536, None, [false, false])?;
-    let mut store = marked_store(alloc, 65_536)?;
+    let mut keeper = ImageKeeper::new(alloc, CELLS, None, [false, false])?;
+    let mut store = marked_store(alloc, CELLS as usize)?;
 
     let first = run(&mut keeper, 3, &mut store, &mut image_a, &mut image_b);
-    assert_eq!(rt; first, (66_565, ImageAnswer::Opened(3)));
+    assert_eq!(rt; first, (1_064_965, ImageAnswer::Opened(3)));
     let second = run(&mut keeper, 4, &mut AllSame, &mut image_a, &mut image_b);
-    assert_eq!(rt; second, (67_589, ImageAnswer::Opened(4)));
+    assert_eq!(rt; second, (1_081_349, ImageAnswer::Opened(4)));
     for (file, at) in [(&image_a, 3), (&image_b, 4)] {
-        assert_eq!(rt; file.durable().len(), 524_305);
+        assert_eq!(rt; file.durable().len(), 8_388_625);
         match read_image(alloc, file.durable())? {
             ImageState::Open { tick, words } => {
                 assert_eq!(rt; tick, at);
-                assert_eq!(rt; words.len(), 65_536);
+                assert_eq!(rt; words.len(), 1_048_576);
                 for (cell, word) in words.iter().enumerate() {
-                    let want = if cell == 65_535 { 5 } else { LIMIT };
+                    let want = if cell == 1_048_575 { 5 } else { LIMIT };
                     assert_eq!(rt; *word, want, "cell {cell}");
                 }
             }

@@ -141,7 +141,7 @@ fn writes_ticks_and_switches(rt: HostRuntime) -> Result<(), Fail> {
     assert_eq!(rt;
         a.durable(),
         [
-            1, 0, 0, 0, 0, 0, 0, 0, 0, 1, 1, 0, 1, 0, 1, 0, 0, 0, 0, 5, 0, 0, 0, 0, 0, 0, 0, 0,
+            1, 0, 0, 0, 0, 0, 0, 0, 0x20, 1, 1, 0, 1, 0, 1, 0, 0, 0, 0, 5, 0, 0, 0, 0, 0, 0, 0, 0,
         ]
         .as_slice()
     );
@@ -152,7 +152,7 @@ fn writes_ticks_and_switches(rt: HostRuntime) -> Result<(), Fail> {
     assert_eq!(rt;
         b.durable(),
         [
-            1, 1, 0, 0, 0, 0, 0, 0, 0, 1, 1, 0, 1, 0, 2, 0, 0, 0, 0, 2, 0, 0, 0, 0, 0, 0, 0, 0,
+            1, 1, 0, 0, 0, 0, 0, 0, 0x20, 1, 1, 0, 1, 0, 2, 0, 0, 0, 0, 2, 0, 0, 0, 0, 0, 0, 0, 0,
         ]
         .as_slice()
     );
@@ -208,6 +208,6 @@ fn covers_what_stands_before_a_switch(rt: HostRuntime) -> Result<(), Fail> {
     let (steps, answer) = run(&mut keeper, &mut queue, &mut a, &mut b);
     assert_eq!(rt; steps, 4);
     assert!(rt; answer == LogAnswer::Idle);
-    assert_eq!(rt; b.durable(), [1, 4, 0, 0, 0, 0, 0, 0, 0, 0].as_slice());
+    assert_eq!(rt; b.durable(), [1, 4, 0, 0, 0, 0, 0, 0, 0x20, 0].as_slice());
     Ok(())
 }

@@ -35,16 +35,23 @@ fn assert_reads(rt: &impl Abort, alloc: Global, bytes: &[u8], base: u64, want: &
 #[test]
 fn reads_one_tick_cut_anywhere(rt: HostRuntime) -> Result<(), Fail> {
     let alloc = rt.alloc();
-    let bytes: &[u8] = &ONE_TICK;
+    let mut bytes = ONE_TICK;
     let tick = [Action::Set { cell: 0, value: 5 }];
-    assert_reads(&rt, alloc, bytes, 0, &[&tick]);
-    for k in 0..29 {
-        let want = match k {
-            0..=9 => 200,
-            10..=26 => 15,
-            _ => 1,
-        };
-        assert_eq!(rt; outcome(alloc, &bytes[..k]), want, "{k} bytes");
+    for mark in [0x00, 0x20] {
+        bytes[8] = mark;
+        assert_reads(&rt, alloc, &bytes, 0, &[&tick]);
+        for k in 0..29 {
+            let want = match k {
+                0..=9 => 200,
+                10..=26 => 15,
+                _ => 1,
+            };
+            assert_eq!(rt; outcome(alloc, &bytes[..k]), want, "{k} bytes, mark {mark}");
+        }
+    }
+    for mark in [0x10, 0x1f, 0x2e, 0x30, 0xff] {
+        bytes[8] = mark;
+        assert_eq!(rt; outcome(alloc, &bytes), 15, "mark {mark}");
     }
     Ok(())
 }
@@ -69,6 +76,27 @@ fn reads_each_action(rt: HostRuntime) -> Result<(), Fail> {
     };
     let add = Action::Add { cell: 0, by: -6 };
     assert_reads(&rt, alloc, &bytes, 7, &[&[transfer, add], &[], &[]]);
+    Ok(())
+}
+
+#[test]
+fn reads_each_action_of_the_second_format(rt: HostRuntime) -> Result<(), Fail> {
+    let alloc = rt.alloc();
+    let mut bytes = [
+        1, 7, 0, 0, 0, 0, 0, 0, 0x20, // base 7
+        1, 1, 0, // a group of a tick
+        3, 0, // three actions: swap 1 2, cap 0 9, set 3 4
+        4, 1, 0, 0, 0, 2, 0, 0, 0, //
+        5, 0, 0, 0, 0, 9, 0, 0, 0, 0, 0, 0, 0, //
+        1, 3, 0, 0, 0, 4, 0, 0, 0, 0, 0, 0, 0, //
+        0, // a closed gate
+    ];
+    let swap = Action::Swap { a: 1, b: 2 };
+    let cap = Action::Cap { cell: 0, value: 9 };
+    let set = Action::Set { cell: 3, value: 4 };
+    assert_reads(&rt, alloc, &bytes, 7, &[&[swap, cap, set]]);
+    bytes[8] = 0;
+    assert_eq!(rt; outcome(alloc, &bytes), 15);
     Ok(())
 }
 
@@ -138,11 +166,18 @@ fn refuses_counts_and_kinds(rt: HostRuntime) -> Result<(), Fail> {
         }
         assert_eq!(rt; outcome(alloc, &bytes), want, "256 actions and {more}");
     }
-    // kinds 0 to 4, with as many bytes as the longest action has
-    for (kind, want) in [(0, 15), (1, 1), (2, 1), (3, 1), (4, 15)] {
-        let mut bytes = [1, 0, 0, 0, 0, 0, 0, 0, 0, 1, 1, 0, 1, 0, kind].to_vec(alloc)?;
-        bytes.resize(15 + 16, 0)?;
-        assert_eq!(rt; outcome(alloc, &bytes), want, "kind {kind}");
+    // kinds 0 to 6 in each format, with as many bytes as the longest action has
+    for (mark, kinds) in [
+        (0x00, [15, 1, 1, 1, 15, 15, 15]),
+        (0x20, [15, 1, 1, 1, 1, 1, 15]),
+    ] {
+        for (kind, want) in kinds.iter().enumerate() {
+            let mut bytes = [1, 0, 0, 0, 0, 0, 0, 0, mark, 1, 1, 0, 1, 0, kind as u8].to_vec(
+                alloc,
+            )?;
+            bytes.resize(15 + 16, 0)?;
+            assert_eq!(rt; outcome(alloc, &bytes), *want, "kind {kind}, mark {mark}");
+        }
     }
     Ok(())
 }

@@ -3,6 +3,8 @@ ghost use Rattle.image_files.specs.Image.{header_bytes};
 ghost use Rattle.image_files.specs.Taken.{filled_words};
 ghost use Rattle.std.specs.List.{flat_map};
 ghost use Rattle.file_format.specs.Number.{number_bytes};
+ghost use Rattle.file_format.specs.declared.format.TheConstants.{MARK_PLACE};
+ghost use Rattle.file_format.specs.declared.format.Format.{Format};
 ghost use Rattle.disk_model.specs.Disk.{counted, Read, Write, Sync};
 ghost use Rattle.file_format.specs.Gate.{HasShutGate};
 ghost use Rattle.capture_core.specs.declared.taker.Taken.{Taken};
@@ -15,10 +17,11 @@ ghost use Rattle.image_files.specs.Calls.{with_chunk_written, read_cells, TookCe
 
 use super::ImageKeeper;
 use crate::chunk::{CHUNK_CELLS, any_same, encode, fill};
-use crate::format::{CELLS_PLACE, HEADER_BYTES, WORD_BYTES, encode_header};
+use crate::format::{HEADER_BYTES, WORD_BYTES, encode_header};
 use crate::phase::Phase;
 use capture_core::{Taken, Taker};
 use disk_model::Disk;
+use file_format::MARK_PLACE;
 use world_actions::Refusal;
 
 // The header and the words of the target, behind its closed gate.
@@ -34,11 +37,11 @@ impl ImageKeeper {
         ensures lowers { OnOk result (left_of self.new < left_of self.old) }
         ensures faults { D.faults target.new ≡ counted (D.faults target.old) result }
         ensures called { D.called target.old
-            (Write CELLS_PLACE (header_bytes self.old.cells self.old.tick))
+            (Write MARK_PLACE (header_bytes Format.Second self.old.cells self.old.tick))
             (is_ok result) target.new }
     {
         encode_header(&mut self.buffer, self.cells as u64, self.tick);
-        if let Err(refusal) = target.write_at(CELLS_PLACE as u64, &self.buffer[..2 * WORD_BYTES]) {
+        if let Err(refusal) = target.write_at(MARK_PLACE as u64, &self.buffer[..2 * WORD_BYTES]) {
             self.go_down();
             return Err(refusal);
         }

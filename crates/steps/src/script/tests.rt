@@ -117,7 +117,7 @@ fn run(rt: &HostRuntime, input: &[u8], most: usize) -> (Result<(), Refusal>, Pag
 
 #[test]
 fn scripts_have_their_text(rt: HostRuntime) {
-    let scripts: [(&[u8], &[u8]); 13] = [
+    let scripts: [(&[u8], &[u8]); 15] = [
         (b"", b""),
         (TRANSFERS, TRANSFERS_TEXT),
         (
@@ -128,9 +128,17 @@ fn scripts_have_their_text(rt: HostRuntime) {
             b"open plain 2\nmove 0 0 1\nmove 0 1 1\nmove 0 2 1\nset 2 1000000000000000000\nfoo\n",
             b"ready 0\n- 4\n- 3\n- 1\n- 1\n- 16\n",
         ),
+        (
+            b"open plain 2\nset 0 5\nswap 0 0\nswap 0 1\ncap 1 3\ncap 1 1000000000000000000\nworld\n",
+            b"ready 0\n+\n- 4\n+\n+\n- 2\n0 3\n",
+        ),
+        (
+            b"open plain 2\nset 0 5\ncap 0 6\nswap 1 2\nswap 2 2\ncap 2 3\nswap 1 0\ncap 0 0\nswap 0\ncap 0 -1\nswap  0 1\nworld\n",
+            b"ready 0\n+\n+\n- 1\n- 1\n- 1\n+\n+\n- 16\n- 16\n- 16\n0 5\n",
+        ),
         // Before the first world that is opened, every other line is a bad one.
         (
-            b"get 0\nend\nworld\nopen plain 0\nopen plain 65537\nopen plain 1\nend",
+            b"get 0\nend\nworld\nopen plain 0\nopen plain 1048577\nopen plain 1\nend",
             b"- 16\n- 16\n- 16\n- 16\n- 16\nready 0\ntick 1\n",
         ),
         (
@@ -160,7 +168,7 @@ fn scripts_have_their_text(rt: HostRuntime) {
             b"ready 0\n= 0\n- 16\n- 16\n= 0\n",
         ),
         (
-            b"open plain 65536\nget 65535\nget 65536",
+            b"open plain 1048576\nget 1048575\nget 1048576",
             b"ready 0\n= 0\n- 1\n",
         ),
         (b"\n", b"- 16\n"),

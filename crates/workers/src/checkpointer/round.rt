@@ -4,7 +4,7 @@ ghost use Rattle.image_files.specs.declared.phase.Phase.TheVariants.{Idle};
 ghost use Rattle.image_files.specs.Progress.{left_of};
 ghost use Rattle.workers.specs.declared.checkpointer.round.ImageWriter.{ImageWriter as Writer};
 ghost use Rattle.workers.specs.Imaging.{HasRound, AreInStep, FollowsRounds, Publishes, RoundRuns, TellsFaults, WriterFits};
-ghost use Rattle.workers.specs.Publishing.{IsNext};
+ghost use Rattle.workers.specs.Publishing.{IsNext, told};
 
 use crate::gate::{Gate, Place, passes};
 use disk_model::Disk;
@@ -46,8 +46,18 @@ fn step<M: Method, D: Disk>(
     else {
         return;
     };
-    covers.publish(tick);
+    publish(back, covers, tick);
     back.finish();
+}
+
+// Publishes the tick of an image that is open, while the back still has its round: who sees that the round has ended
+// finds the tick published.
+fn publish<M: Method>(_back: &Back<M>, covers: &mut CoverOut, tick: u64)
+    requires in_work { _back.now.working ≡ true }
+    requires next { IsNext covers.old tick }
+    ensures { covers.new ≡ told covers.old tick }
+{
+    covers.publish(tick);
 }
 
 // Steps the round in work to its end, and answers whether it stays open: a call of a device failed, or the gate is stuck.

@@ -8,7 +8,7 @@ use std::test::Fail;
 const NAMES: [&str; 4] = ["image.a", "image.b", "log.a", "log.b"];
 
 // An open segment of base 0 with no group.
-const NEW_LOG: [u8; 10] = [1, 0, 0, 0, 0, 0, 0, 0, 0, 0];
+const NEW_LOG: [u8; 10] = [1, 0, 0, 0, 0, 0, 0, 0, 0x20, 0];
 
 const HOLDS_A_WORLD: &str = "a file already holds a world: choose an empty folder";
 
@@ -92,16 +92,16 @@ fn a_world_of_the_most_cells_is_made(rt: HostRuntime) -> Result<(), Fail> {
     let name = folder.as_str();
     let created = run(
         &rt,
-        &["worldd", "create", "--dir", name, "--cells", "65536"],
+        &["worldd", "create", "--dir", name, "--cells", "1048576"],
     )?;
-    assert_eq!(rt; created.output.as_str(), "created 65536\n");
+    assert_eq!(rt; created.output.as_str(), "created 1048576\n");
     assert!(rt; created.status == ExitCode::SUCCESS);
     let inspected = run(&rt, &["worldd", "inspect", "--dir", name])?;
     assert_eq!(rt;
         inspected.output.as_str(),
-        "image.a: open, format 1, 65536 cells, tick 0, 524305 bytes\n\
+        "image.a: open, format 2, 1048576 cells, tick 0, 8388625 bytes\n\
          image.b: closed, 0 bytes\n\
-         log.a: open, format 1, base 0, 0 groups, 0 ticks, 10 bytes\n\
+         log.a: open, format 2, base 0, 0 groups, 0 ticks, 10 bytes\n\
          log.b: closed, 1 byte\n\
          recovered 0 from 0 in image.a\n"
     );
@@ -245,7 +245,7 @@ fn a_wrong_number_of_cells_makes_no_file(rt: HostRuntime) -> Result<(), Fail> {
     let lines: [&[&str]; 4] = [
         &["worldd", "create", "--dir", name],
         &["worldd", "create", "--dir", name, "--cells", "0"],
-        &["worldd", "create", "--dir", name, "--cells", "65537"],
+        &["worldd", "create", "--dir", name, "--cells", "1048577"],
         &["worldd", "create", "--dir", name, "--cells", "4294967296"],
     ];
     for line in lines {

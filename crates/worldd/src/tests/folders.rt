@@ -5,39 +5,42 @@ use std::process::{Abort, ExitCode, Termination};
 use std::test::Fail;
 use std::{env, fs, process};
 
-// An image of the words 0 and 0 at tick 0.
+// An image of the words 0 and 0 at tick 0, in format 2.
 pub const NEW_IMAGE: [u8; 33] = [
-    1, 2, 0, 0, 0, 0, 0, 0, 0, 0, 0, 0, 0, 0, 0, 0, 0, 0, 0, 0, 0, 0, 0, 0, 0, 0, 0, 0, 0, 0, 0, 0,
-    0,
+    1, 2, 0, 0, 0, 0, 0, 0, 0x20, 0, 0, 0, 0, 0, 0, 0, 0, 0, 0, 0, 0, 0, 0, 0, 0, 0, 0, 0, 0, 0, 0,
+    0, 0,
 ];
 
-// Images of the words 5 and 7 at tick 3, and of 5 and 9 at tick 2.
+// Images of the words 5 and 7 at tick 3, in format 1, and of 5 and 9 at tick 2, in format 2.
 const IMAGE_OF_3: [u8; 33] = [
     1, 2, 0, 0, 0, 0, 0, 0, 0, 3, 0, 0, 0, 0, 0, 0, 0, 5, 0, 0, 0, 0, 0, 0, 0, 7, 0, 0, 0, 0, 0, 0,
     0,
 ];
 
 const IMAGE_OF_2: [u8; 33] = [
-    1, 2, 0, 0, 0, 0, 0, 0, 0, 2, 0, 0, 0, 0, 0, 0, 0, 5, 0, 0, 0, 0, 0, 0, 0, 9, 0, 0, 0, 0, 0, 0,
-    0,
+    1, 2, 0, 0, 0, 0, 0, 0, 0x20, 2, 0, 0, 0, 0, 0, 0, 0, 5, 0, 0, 0, 0, 0, 0, 0, 9, 0, 0, 0, 0, 0,
+    0, 0,
 ];
 
-// A segment of tick 3, which adds -2 to cell 1, and one of tick 4, which moves 2 from cell 0 to cell 1.
+// A segment of tick 3, which adds -2 to cell 1, in format 1, and one of tick 4, which moves 2 from cell 0 to
+// cell 1, in format 2.
 const LOG_OF_3: [u8; 28] = [
     1, 2, 0, 0, 0, 0, 0, 0, 0, 1, 1, 0, 1, 0, 2, 1, 0, 0, 0, 254, 255, 255, 255, 255, 255, 255,
     255, 0,
 ];
 
 const LOG_OF_4: [u8; 32] = [
-    1, 3, 0, 0, 0, 0, 0, 0, 0, 1, 1, 0, 1, 0, 3, 0, 0, 0, 0, 1, 0, 0, 0, 2, 0, 0, 0, 0, 0, 0, 0, 0,
+    1, 3, 0, 0, 0, 0, 0, 0, 0x20, 1, 1, 0, 1, 0, 3, 0, 0, 0, 0, 1, 0, 0, 0, 2, 0, 0, 0, 0, 0, 0, 0,
+    0,
 ];
 
-// A segment with a group of tick 1 and one of ticks 2 and 3, with no actions, and a closed one behind them.
+// A segment with a group of tick 1 and one of ticks 2 and 3, with no actions, and a closed one behind them,
+// in format 1.
 const LOG_OF_GROUPS: [u8; 22] = [
     1, 0, 0, 0, 0, 0, 0, 0, 0, 1, 1, 0, 0, 0, 1, 2, 0, 0, 0, 0, 0, 0,
 ];
 
-// A segment with no group.
+// A segment with no group, in format 1.
 const NEW_LOG: [u8; 10] = [1, 3, 0, 0, 0, 0, 0, 0, 0, 0];
 
 // An open gate and no header that it could have.
@@ -132,9 +135,9 @@ fn a_world_is_told(rt: HostRuntime) -> Result<(), Fail> {
         &run_both(&rt, &folder)?,
         "recovered 4 from 3\n",
         "image.a: open, format 1, 2 cells, tick 3, 33 bytes\n\
-         image.b: open, format 1, 2 cells, tick 2, 33 bytes\n\
+         image.b: open, format 2, 2 cells, tick 2, 33 bytes\n\
          log.a: open, format 1, base 2, 1 group, 1 tick, 28 bytes\n\
-         log.b: open, format 1, base 3, 1 group, 1 tick, 32 bytes\n\
+         log.b: open, format 2, base 3, 1 group, 1 tick, 32 bytes\n\
          recovered 4 from 3 in image.a\n",
     );
     let name = folder.as_str();
@@ -155,7 +158,7 @@ fn a_world_of_other_files_is_told(rt: HostRuntime) -> Result<(), Fail> {
         &run_both(&rt, &folder)?,
         "recovered 0 from 0\n",
         "image.a: closed, 0 bytes\n\
-         image.b: open, format 1, 2 cells, tick 0, 33 bytes\n\
+         image.b: open, format 2, 2 cells, tick 0, 33 bytes\n\
          log.a: closed, 0 bytes\n\
          log.b: closed, 1 byte\n\
          recovered 0 from 0 in image.b\n",
@@ -172,7 +175,7 @@ fn groups_and_ticks_are_told(rt: HostRuntime) -> Result<(), Fail> {
         &rt,
         &run_both(&rt, &folder)?,
         "recovered 3 from 0\n",
-        "image.a: open, format 1, 2 cells, tick 0, 33 bytes\n\
+        "image.a: open, format 2, 2 cells, tick 0, 33 bytes\n\
          image.b: closed, 0 bytes\n\
          log.a: open, format 1, base 0, 2 groups, 3 ticks, 22 bytes\n\
          log.b: open, format 1, base 3, 0 groups, 0 ticks, 10 bytes\n\
@@ -198,7 +201,7 @@ fn what_is_missing_is_named(rt: HostRuntime) -> Result<(), Fail> {
     fs::remove_file(&rt, folder.join(rt.alloc(), "log.b")?.as_path())?;
     let one = format!(in rt.alloc(); "fault 18\nworldd: {name}/log.b: {NO_FILE}\n")?;
     let lines = format!(in rt.alloc();
-        "image.a: open, format 1, 2 cells, tick 0, 33 bytes\nimage.b: closed, 0 bytes\n\
+        "image.a: open, format 2, 2 cells, tick 0, 33 bytes\nimage.b: closed, 0 bytes\n\
          log.a: closed, 0 bytes\nlog.b: unreadable: {NO_FILE}\n"
     )?;
     check_fault(&rt, &run_both(&rt, &folder)?, one.as_str(), lines.as_str());
@@ -208,7 +211,7 @@ fn what_is_missing_is_named(rt: HostRuntime) -> Result<(), Fail> {
         &rt,
         &run_both(&rt, &folder)?,
         other.as_str(),
-        "image.a: open, format 1, 2 cells, tick 0, 33 bytes\nimage.b: closed, 0 bytes\n\
+        "image.a: open, format 2, 2 cells, tick 0, 33 bytes\nimage.b: closed, 0 bytes\n\
          log.a: closed, 0 bytes\nlog.b: unreadable: not a regular file\n",
     );
     fs::remove_dir_all(&rt, folder.as_path())?;
@@ -233,7 +236,7 @@ fn what_is_damaged_is_named(rt: HostRuntime) -> Result<(), Fail> {
             &NEW_IMAGE,
             none,
             none,
-            "image.a: damaged, 20 bytes\nimage.b: open, format 1, 2 cells, tick 0, 33 bytes\nlog.a: closed, 0 bytes\nlog.b: closed, 0 bytes\n",
+            "image.a: damaged, 20 bytes\nimage.b: open, format 2, 2 cells, tick 0, 33 bytes\nlog.a: closed, 0 bytes\nlog.b: closed, 0 bytes\n",
             "fault 14\nworldd: an image file is damaged: image.a\n",
         ),
         (
@@ -241,7 +244,7 @@ fn what_is_damaged_is_named(rt: HostRuntime) -> Result<(), Fail> {
             none,
             none,
             &GARBAGE,
-            "image.a: open, format 1, 2 cells, tick 0, 33 bytes\nimage.b: closed, 0 bytes\nlog.a: closed, 0 bytes\nlog.b: damaged, 20 bytes\n",
+            "image.a: open, format 2, 2 cells, tick 0, 33 bytes\nimage.b: closed, 0 bytes\nlog.a: closed, 0 bytes\nlog.b: damaged, 20 bytes\n",
             "fault 15\nworldd: a log file is damaged: log.b\n",
         ),
         (

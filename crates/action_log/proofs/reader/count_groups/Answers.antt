@@ -14,11 +14,11 @@ returns-in-Open-clause-open c =
     let laws = c.numbers_read_back.ensures in
     let numbers : Numbers = record { read = laws.read; spelled = laws.spelled; fits = laws.fits; len = laws.length } in
     let judged = c.in-Open.ensures in
-    (c.in-Open.base, joined judged.0, judged.2, sym judged.3 ∙ as_many_groups numbers c.args.bytes.now judged.0 judged.1 c.in-Open.base (joined judged.0) judged.2)
+    (c.in-Open.base, joined judged.0, judged.2, sym judged.3 ∙ as_many_groups numbers c.in-Open.format c.in-Open.base c.args.bytes.now judged.0 judged.5 judged.1 c.in-Open.base (joined judged.0) judged.2)
 
 pub returns-in-Open-clause-each : goal.returns-in-Open-clause-each
 returns-in-Open-clause-each c =
     let laws = c.numbers_read_back.ensures in
     let numbers : Numbers = record { read = laws.read; spelled = laws.spelled; fits = laws.fits; len = laws.length } in
     let judged = c.in-Open.ensures in
-    λ base ticks segment. ap (λ (n : ℕ). Some n) (sym judged.3 ∙ as_many_groups numbers c.args.bytes.now judged.0 judged.1 base ticks segment)
+    λ base ticks segment. ap (λ (n : ℕ). Some n) (sym judged.3 ∙ as_many_groups numbers c.in-Open.format c.in-Open.base c.args.bytes.now judged.0 judged.5 judged.1 base ticks segment)

@@ -20,6 +20,6 @@ returns-in_ok-ticks-in-Open-clause-reads c =
     let bytes = c.args.bytes.now in
     let judged = c.in-Open.ensures in
     let ticks = actions_in c.in_ok-ticks-in-Open.ticks.items in
-    let behind : ticks_of (drop FIRST_GROUP bytes) ≡ Some ticks = ap ticks_of (sym (from_place FIRST_GROUP bytes)) ∙ c.in_ok-ticks-in-Open.ensures in
-    let same : joined judged.0 ≡ ticks = (let both = sym (ticks_by (drop FIRST_GROUP bytes) (Some judged.0) judged.1) ∙ behind in cc) in
+    let behind : ticks_of c.in-Open.format (drop FIRST_GROUP bytes) ≡ Some ticks = ap (ticks_of c.in-Open.format) (sym (from_place FIRST_GROUP bytes)) ∙ c.in_ok-ticks-in-Open.ensures in
+    let same : joined judged.0 ≡ ticks = (let both = sym (ticks_by c.in-Open.format (drop FIRST_GROUP bytes) (Some judged.0) judged.1) ∙ behind in cc) in
     subst (λ (read : List Tick). IsSegment bytes (OpenSegment c.in-Open.base read)) same judged.2

@@ -5,6 +5,7 @@ use Rattle.world_actions.specs.declared.refusal.Refusal.TheVariants.{BadLog, NoM
 use Rattle.action_log.specs.declared.reader.LogState.{LogState}
 use Rattle.action_log.specs.Segment.{MalformedSegment, IsSegment, IsOpenSegment}
 use Rattle.action_log.specs.LogState.{segment_in, actions_in}
+use Rattle.world_folder.proofs.FormatLemmas.{segment_format}
 use Rattle.world_folder.proofs.told.tell_log.Goals as goal
 
 -- a refusal of BadLog isn't for want of memory
@@ -12,6 +13,13 @@ malformed : (bytes : List ℕ) (refusal : Refusal) → refusal ≡ BadLog
     → (refusal ≡ NoMemory) ⊎ ((refusal ≡ BadLog) × IsSegment bytes MalformedSegment) → IsSegment bytes MalformedSegment
 malformed bytes refusal is (inl memory) = absurd cc
 malformed bytes refusal is (inr refused) = refused.1
+
+pub unwrap-format-requires : goal.unwrap-format-requires
+unwrap-format-requires c =
+    let segment : IsOpenSegment c.args.bytes.now c.in-Ok-Open.base (actions_in c.in-Ok-Open.ticks.items) =
+    subst (λ (state : LogState). IsSegment c.args.bytes.now (segment_in state)) c.in-Ok-Open.field-0-is c.in-Ok-Open.ensures.reads in
+    let found = segment_format c.args.bytes.now c.in-Ok-Open.base (actions_in c.in-Ok-Open.ticks.items) segment in
+    search rules
 
 pub unwrap-requires : goal.unwrap-requires
 unwrap-requires c =
@@ -26,9 +34,11 @@ returns-in-Ok-Open-clause-told c =
     let segment : IsOpenSegment c.args.bytes.now c.in-Ok-Open.base listed =
     subst (λ (state : LogState). IsSegment c.args.bytes.now (segment_in state)) c.in-Ok-Open.field-0-is c.in-Ok-Open.ensures.reads in
     let found = c.count_groups.ensures.each c.in-Ok-Open.base listed segment in
+    let marked = segment_format c.args.bytes.now c.in-Ok-Open.base listed segment in
+    let format : c.unwrap-format.result ≡ segment.format = search rules in
     let groups : c.unwrap.result ≡ length segment.groups = search rules in
     let ticks : c.len.result ≡ length listed = search (length-map, rules) in
-    (listed, segment, groups, ticks)
+    (listed, segment, format, groups, ticks)
 
 pub returns-in-Err-BadLog-clause-told : goal.returns-in-Err-BadLog-clause-told
 returns-in-Err-BadLog-clause-told c = malformed c.args.bytes.now c.in-Err-BadLog.field-0 c.in-Err-BadLog.field-0-is c.in-Err-BadLog.ensures.refuses

@@ -4,4 +4,4 @@ use Rattle.action_log.proofs.reader.ticks.behind_tick.Given as goal
 
 -- so many actions are read
 abbrev pub invariant-loop : goal.invariant-loop
-invariant-loop l = IsCountedTo action_at l.count l.counter l.initial.rest l.rest
+invariant-loop l = IsCountedTo (action_at l.format) l.count l.counter l.initial.rest l.rest

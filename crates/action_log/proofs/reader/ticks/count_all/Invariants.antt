@@ -7,7 +7,7 @@ abbrev pub invariant-loop-group : goal.invariant-loop-group
 invariant-loop-group l = record {
   short : l.groups + length l.rest ≤ length l.bytes;
   few : l.ticks ≤ l.most;
-  so_far : IsReadOver l.bytes l.groups l.ticks l.rest;
+  so_far : IsReadOver l.format l.bytes l.groups l.ticks l.rest;
 }
 
 abbrev pub decreases-loop-group : goal.decreases-loop-group

@@ -9,14 +9,14 @@ use Rattle.action_log.proofs.ReadingLemmas.{onto_all, several_next, several_none
 use Rattle.action_log.proofs.reader.ticks.read_group.Goals as goal
 
 pub returns-in_default : goal.returns-in_default
-returns-in_default c = inr (refl, c.in_default.ensures.none)
+returns-in_default c = inr (refl, c.in_default.ensures.none c.args.format)
 
 pub returns-in_err-tick : goal.returns-in_err-tick
 returns-in_err-tick c =
     let p = err_from_is_err_and c.from_residual-in_err-tick.result c.from_residual-in_err-tick.ensures.1 in
     rw (p.1, p.2) (elim c.in_err-tick.ensures [
       | inl memory ↦ inl memory
-      | inr bad ↦ inr (bad.0, c.in-Some.ensures.some ∙ c.loop.invariant.all ∙ several_none tick_at (actions_in c.loop.ticks.items) (c.in-Some.count - c.loop.counter) c.loop.rest.now (omega (arith, c.loop-test.true)) bad.1)
+      | inr bad ↦ inr (bad.0, c.in-Some.ensures.some c.args.format ∙ c.loop.invariant.all ∙ several_none (tick_at c.args.format) (actions_in c.loop.ticks.items) (c.in-Some.count - c.loop.counter) c.loop.rest.now (omega (arith, c.loop-test.true)) bad.1)
     ])
 
 pub loop-preserved : goal.loop-preserved
@@ -26,10 +26,10 @@ loop-preserved c =
       done = omega (arith, ap length c.push_reserved.ensures.items, length-append c.loop.ticks.items (c.in_ok-tick.tick ∷ []), invariant.done);
       room = omega (arith, invariant.room, c.push_reserved.ensures.capacity);
       all = invariant.all
-          ∙ several_next tick_at (actions_in c.loop.ticks.items) (c.in-Some.count - c.loop.counter) left c.loop.rest.now c.in_ok-tick.next.now c.in_ok-tick.tick.list (omega (arith, c.loop-test.true)) c.in_ok-tick.ensures
-          ∙ ap (λ (l : List Tick). onto_all l (several_at tick_at left c.in_ok-tick.next.now)) (sym (map-append (λ (t : Actions). t.list) c.loop.ticks.items (c.in_ok-tick.tick ∷ [])) ∙ ap actions_in (sym c.push_reserved.ensures.items));
+          ∙ several_next (tick_at c.args.format) (actions_in c.loop.ticks.items) (c.in-Some.count - c.loop.counter) left c.loop.rest.now c.in_ok-tick.next.now c.in_ok-tick.tick.list (omega (arith, c.loop-test.true)) c.in_ok-tick.ensures
+          ∙ ap (λ (l : List Tick). onto_all l (several_at (tick_at c.args.format) left c.in_ok-tick.next.now)) (sym (map-append (λ (t : Actions). t.list) c.loop.ticks.items (c.in_ok-tick.tick ∷ [])) ∙ ap actions_in (sym c.push_reserved.ensures.items));
     }
 
 pub returns : goal.returns
 returns c =
-    c.in-Some.ensures.some ∙ c.loop.invariant.all ∙ several_all tick_at (actions_in c.loop.ticks.items) (c.in-Some.count - c.loop.counter) c.loop.rest.now (omega (arith, c.loop-test.false))
+    c.in-Some.ensures.some c.args.format ∙ c.loop.invariant.all ∙ several_all (tick_at c.args.format) (actions_in c.loop.ticks.items) (c.in-Some.count - c.loop.counter) c.loop.rest.now (omega (arith, c.loop-test.false))

@@ -9,5 +9,5 @@ abbrev pub invariant-loop : goal.invariant-loop
 invariant-loop l = record {
   done : length l.ticks.items ≡ l.counter;
   room : l.count ≤ vec_capacity l.ticks;
-  all : several_at tick_at l.count l.initial.rest ≡ onto_all (actions_in l.ticks.items) (several_at tick_at (l.count - l.counter) l.rest);
+  all : several_at (tick_at l.format) l.count l.initial.rest ≡ onto_all (actions_in l.ticks.items) (several_at (tick_at l.format) (l.count - l.counter) l.rest);
 }

@@ -8,5 +8,5 @@ abbrev pub invariant-loop : goal.invariant-loop
 invariant-loop l = record {
   done : length l.tick.list ≡ l.counter;
   room : l.count - l.counter ≤ l.tick.room;
-  all : several_at action_at l.count l.initial.rest ≡ onto_all l.tick.list (several_at action_at (l.count - l.counter) l.rest);
+  all : several_at (action_at l.format) l.count l.initial.rest ≡ onto_all l.tick.list (several_at (action_at l.format) (l.count - l.counter) l.rest);
 }

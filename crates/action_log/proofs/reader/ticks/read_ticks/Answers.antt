@@ -11,8 +11,8 @@ use Rattle.action_log.proofs.reader.ticks.read_ticks.Goals as goal
 
 pub loop-group-init : goal.loop-group-init
 loop-group-init c =
-    subst (λ (l : List Actions). IsReadAs c.args.bytes.now (actions_in l) c.args.bytes.now) (sym c.in_ok-ticks.ensures.items)
-    (record { done = []; ticks_are = refl; so_far = read_to_start c.args.bytes.now (λ i. Fits-lt-pow (c.type_inv.bytes i)) })
+    subst (λ (l : List Actions). IsReadAs c.args.format c.args.bytes.now (actions_in l) c.args.bytes.now) (sym c.in_ok-ticks.ensures.items)
+    (record { done = []; ticks_are = refl; so_far = read_to_start c.args.format c.args.bytes.now (λ i. Fits-lt-pow (c.type_inv.bytes i)) })
 
 pub returns-in_err-more : goal.returns-in_err-more
 returns-in_err-more c =
@@ -20,7 +20,7 @@ returns-in_err-more c =
     let read = c.loop-group.invariant in
     rw (p.1, p.2) (elim c.in_err-more.ensures [
       | inl memory ↦ inl memory
-      | inr bad ↦ inr (bad.0, ticks_by c.args.bytes.now None (read_to_bad c.args.bytes.now read.done c.loop-group.rest.now c.in-Some.group.now read.so_far c.in-Some.ensures.gate bad.1))
+      | inr bad ↦ inr (bad.0, ticks_by c.args.format c.args.bytes.now None (read_to_bad c.args.format c.args.bytes.now read.done c.loop-group.rest.now c.in-Some.group.now read.so_far c.in-Some.ensures.gate bad.1))
     ])
 
 pub loop-group-smaller : goal.loop-group-smaller
@@ -28,7 +28,7 @@ loop-group-smaller c =
     let laws = c.numbers_read_back.ensures in
     let numbers : Numbers = record { read = laws.read; spelled = laws.spelled; fits = laws.fits; len = laws.length } in
     let read = c.loop-group.invariant in
-    (read_to_next numbers c.args.bytes.now read.done c.loop-group.rest.now c.in-Some.group.now (actions_in c.in_ok-more.more.items) c.in_ok-more.next.now read.so_far c.in-Some.ensures.gate c.in_ok-more.ensures).1
+    (read_to_next numbers c.args.format c.args.bytes.now read.done c.loop-group.rest.now c.in-Some.group.now (actions_in c.in_ok-more.more.items) c.in_ok-more.next.now read.so_far c.in-Some.ensures.gate c.in_ok-more.ensures).1
 
 pub loop-group-preserved : goal.loop-group-preserved
 loop-group-preserved c =
@@ -41,11 +41,11 @@ loop-group-preserved c =
       ticks_are =
           ap actions_in c.in_ok-append.ensures.items ∙ map-append (λ (t : Actions). t.list) c.loop-group.ticks.items c.in_ok-more.more.items
           ∙ ap (λ (l : List Tick). l ++ group) read.ticks_are ∙ sym (joined_with read.done group);
-      so_far = (read_to_next numbers c.args.bytes.now read.done c.loop-group.rest.now c.in-Some.group.now group c.in_ok-more.next.now read.so_far c.in-Some.ensures.gate c.in_ok-more.ensures).0;
+      so_far = (read_to_next numbers c.args.format c.args.bytes.now read.done c.loop-group.rest.now c.in-Some.group.now group c.in_ok-more.next.now read.so_far c.in-Some.ensures.gate c.in_ok-more.ensures).0;
     }
 
 pub returns : goal.returns
 returns c =
     let read = c.loop-group.invariant in
-    ticks_by c.args.bytes.now (Some read.done) (read_to_end c.args.bytes.now read.done c.loop-group.rest.now read.so_far c.in_default.ensures.ends)
+    ticks_by c.args.format c.args.bytes.now (Some read.done) (read_to_end c.args.format c.args.bytes.now read.done c.loop-group.rest.now read.so_far c.in_default.ensures.ends)
     ∙ ap (λ (l : List Tick). Some l) (sym read.ticks_are)

@@ -1,0 +1,97 @@
+ghost use Rattle.std.specs.Prelude.{◌≡◌, ◌<◌, ◌≤◌, ◌+◌, ℕ, List, length, Some};
+ghost use Rattle.file_format.specs.declared.format.Format.{Format};
+ghost use Rattle.file_format.specs.Format.{marked_of, marked_in, unmarked, format_in};
+
+use crate::number::u64_at;
+
+/// A format of image and log files. Which one a file has is marked in the number behind its gate: the
+/// number of cells of an image, the base of a log segment.
+#[derive(Clone, Copy, Debug, PartialEq, Eq)]
+pub enum Format {
+    /// Three kinds of actions, up to 65,536 cells, and no mark. It is read, and written no more.
+    First,
+    /// Five kinds of actions, up to 1,048,576 cells. All that is written is of it.
+    Second,
+}
+
+/// Where the marked number stands, behind the gate.
+pub const MARK_PLACE: usize = 1;
+
+/// The bytes of gate and marked number.
+pub const MARK_END: usize = 9;
+
+/// The numbers that may be marked are below this one, which is 2 to the power of 60.
+pub const NUMBERS: u64 = 1_152_921_504_606_846_976;
+
+/// What the mark of the second format adds to a number, 2 to the power of 61: byte 8 of the file is from
+/// 20 to 2f in hexadecimal then, and from 00 to 0f in the first format.
+pub const SECOND_MARK: u64 = 2_305_843_009_213_693_952;
+
+/// The format and the number behind the gate of a file. Nothing where the mark is of neither format.
+pub fn marked_at(bytes: &[u8]) -> Option<(Format, u64)>
+    requires { MARK_END ≤ length bytes.now }
+    ensures { result ≡ marked_in bytes.now }
+{
+    let marked = u64_at(bytes, MARK_PLACE);
+    if marked < NUMBERS {
+        return Some((Format::First, marked));
+    }
+    if marked < SECOND_MARK || marked >= SECOND_MARK + NUMBERS {
+        return None;
+    }
+    Some((Format::Second, marked - SECOND_MARK))
+}
+
+/// A number with the mark of the second format.
+pub fn marked(number: u64) -> u64
+    requires { number < NUMBERS }
+    ensures { result ≡ marked_of Format.Second number }
+{
+    SECOND_MARK + number
+}
+
+/// The format of a file of any bytes, open or not. Nothing where it is too short for a mark, or the mark is
+/// of neither format.
+pub fn format_of(bytes: &[u8]) -> Option<Format>
+    ensures { result ≡ format_in bytes.now }
+{
+    if bytes.len() < MARK_END {
+        return None;
+    }
+    let (format, _) = marked_at(bytes)?;
+    Some(format)
+}
+
+/// Laws: a marked number is read back with its format, and each number that is read has one mark.
+pub fn marks_read_back()
+    ensures read { (format : Format) (number : ℕ) → number < NUMBERS
+        → unmarked (marked_of format number) ≡ Some (format, number) }
+    ensures spelled { (marked : ℕ) (format : Format) (number : ℕ)
+        → unmarked marked ≡ Some (format, number)
+        → (marked ≡ marked_of format number) × (number < NUMBERS) }
+{}
+
+#[cfg(test)]
+mod tests {
+    use super::*;
+
+    #[test]
+    fn byte_8_tells_the_format(rt: HostRuntime) {
+        let mut file = [1, 2, 0, 0, 0, 0, 0, 0, 0, 7];
+        assert_eq!(rt; marked_at(&file), Some((Format::First, 2)));
+        for mark in 0..=255 {
+            file[8] = mark;
+            let format = match mark >> 4 {
+                0 => Some(Format::First),
+                2 => Some(Format::Second),
+                _ => None,
+            };
+            assert_eq!(rt; format_of(&file), format, "{mark}");
+        }
+        file[8] = 0x20;
+        assert_eq!(rt; marked_at(&file), Some((Format::Second, 2)));
+        assert_eq!(rt; u64_at(&file, MARK_PLACE), marked(2));
+        assert_eq!(rt; format_of(&file[..8]), None);
+        assert_eq!(rt; format_of(&file[..9]), Some(Format::Second));
+    }
+}
