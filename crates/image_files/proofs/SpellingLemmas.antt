@@ -9,7 +9,7 @@ use Rattle.std.specs.List.{list_all, flat_map}
 use Rattle.world_actions.specs.World.{IsWord, IsWorld}
 use Rattle.file_format.specs.declared.format.Format.{Format}
 use Rattle.file_format.specs.declared.format.Format.TheVariants.{First, Second}
-use Rattle.file_format.specs.Format.{marked_of, marked_in, unmarked}
+use Rattle.file_format.specs.Format.{marked_of, unmarked}
 use Rattle.file_format.proofs.FormatLemmas.{unmarked-marked_of, marked_of-unmarked}
 use Rattle.file_format.specs.Number.{IsBytes, number_of, number_bytes}
 use Rattle.file_format.proofs.NumberLemmas.{length-number_bytes}
