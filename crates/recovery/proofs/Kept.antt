@@ -109,7 +109,7 @@ mark_is_made cells ticks acknowledged images next logs queue k none above is =
 -- ---- a step of the image keeper
 
 -- the round in work has another word, and the same tick
-with_words : (cells : ℕ) (ticks : List (List Action)) (acknowledged : ℕ) (images : Images) (logs : Logs) (queue : List Record) (round : Round) (taken : List ℕ)
+pub with_words : (cells : ℕ) (ticks : List (List Action)) (acknowledged : ℕ) (images : Images) (logs : Logs) (queue : List Record) (round : Round) (taken : List ℕ)
     → IsKept cells ticks acknowledged images logs queue → images.round ≡ Some round → IsRoundOf cells ticks images.tick (Some (record round { taken = taken }))
     → IsKept cells ticks acknowledged (record images { round = Some (record round { taken = taken }) }) logs queue
 with_words cells ticks acknowledged images logs queue round taken k some of =
@@ -128,7 +128,7 @@ with_words cells ticks acknowledged images logs queue round taken k some of =
       has = k.has;
     }
 
-opened_keeps : (cells : ℕ) (ticks : List (List Action)) (acknowledged : ℕ) (images : Images) (logs : Logs) (queue : List Record) (round : Round)
+pub opened_keeps : (cells : ℕ) (ticks : List (List Action)) (acknowledged : ℕ) (images : Images) (logs : Logs) (queue : List Record) (round : Round)
     → IsKept cells ticks acknowledged images logs queue → images.round ≡ Some round → length round.taken ≡ cells
     → IsKept cells ticks (max acknowledged round.tick) (with_round_opened images round) logs queue
 opened_keeps cells ticks acknowledged images logs queue round k some whole =

@@ -7,4 +7,5 @@ pub mod Events
 pub mod Steps
 pub mod Restart
 pub mod Kept
+pub mod WholeEvents
 pub mod Started

@@ -22,7 +22,7 @@ idle_count : (logs : Logs) → logs.pending ≡ [] → logs.base + length (logs.
 idle_count logs none = ap (λ l. logs.base + length (logs.kept ++ l)) none ∙ ap (λ l. logs.base + length l) (append-nil logs.kept)
 
 -- fewer are acknowledged
-keeps_fewer : (cells : ℕ) (ticks : List (List Action)) (acknowledged fewer : ℕ) (images : Images) (logs : Logs) (queue : List Record) → fewer ≤ acknowledged → IsKept cells ticks acknowledged images logs queue → IsKept cells ticks fewer images logs queue
+pub keeps_fewer : (cells : ℕ) (ticks : List (List Action)) (acknowledged fewer : ℕ) (images : Images) (logs : Logs) (queue : List Record) → fewer ≤ acknowledged → IsKept cells ticks acknowledged images logs queue → IsKept cells ticks fewer images logs queue
 keeps_fewer cells ticks acknowledged fewer images logs queue le k =
     let f = k.logs_follow in
     record {
@@ -53,7 +53,7 @@ module _ (cells : ℕ) (ticks : List (List Action)) (acknowledged : ℕ) (images
   idle_rising : (queue : List Record) (k : IsKept cells ticks acknowledged images logs queue) → is_idle logs → RiseFrom logs.base (switches_in queue)
   idle_rising queue k idle = subst (λ o. RiseFrom logs.base (coming o (switches_in queue))) idle.1 k.follow_marks.rising
 
-  keeps_group : (group : List (List Action)) (queue left : List Record) → StandBefore group queue left → 1 ≤ length group → IsKept cells ticks acknowledged images logs queue → is_idle logs → IsKept cells ticks acknowledged images (with_group logs group) left
+  pub keeps_group : (group : List (List Action)) (queue left : List Record) → StandBefore group queue left → 1 ≤ length group → IsKept cells ticks acknowledged images logs queue → is_idle logs → IsKept cells ticks acknowledged images (with_group logs group) left
   keeps_group group queue left stand some k idle =
       let f = k.logs_follow in
       let m = k.follow_marks in
@@ -88,7 +88,7 @@ module _ (cells : ℕ) (ticks : List (List Action)) (acknowledged : ℕ) (images
   switch_reaches mark taken newest queue e none (inl h) = inl (sym (idle_count logs none) ∙ h ∙ sym e)
   switch_reaches mark taken newest queue e none (inr h) = inr (omega (arith, e, h.1), omega (arith, e, h.2))
 
-  keeps_switch_begun : (mark : ℕ) (left : List Record) → IsKept cells ticks acknowledged images logs (records.Switch mark ∷ left) → is_idle logs → IsKept cells ticks acknowledged images (with_switch logs mark) left
+  pub keeps_switch_begun : (mark : ℕ) (left : List Record) → IsKept cells ticks acknowledged images logs (records.Switch mark ∷ left) → is_idle logs → IsKept cells ticks acknowledged images (with_switch logs mark) left
   keeps_switch_begun mark left k idle =
       let f = k.logs_follow in
       let m = k.follow_marks in
@@ -124,7 +124,7 @@ module _ (cells : ℕ) (ticks : List (List Action)) (acknowledged : ℕ) (images
   switch_kept mark newest (inr r) (inl h) = inl (omega (arith, r.0, h))
   switch_kept mark newest r (inr h) = inr h
 
-  keeps_switched : (mark : ℕ) (queue : List Record) → IsKept cells ticks acknowledged images logs queue → logs.switch ≡ Some mark → IsKept cells ticks acknowledged images (switched_to logs mark) queue
+  pub keeps_switched : (mark : ℕ) (queue : List Record) → IsKept cells ticks acknowledged images logs queue → logs.switch ≡ Some mark → IsKept cells ticks acknowledged images (switched_to logs mark) queue
   keeps_switched mark queue k is =
       let f = k.logs_follow in
       let m = k.follow_marks in

@@ -6,14 +6,15 @@ use Rattle.action_log.specs.declared.record.Record.TheVariants as records
 use Rattle.action_log.specs.declared.answer.LogAnswer.{LogAnswer}
 use Rattle.action_log.specs.declared.answer.LogAnswer.TheVariants as log_answer
 use Rattle.world_ticks.specs.Tick.{Actions}
-use Rattle.action_log.specs.Logs.{Logs, started, Start, InStart, Writing, LogPlace}
-use Rattle.action_log.specs.LogSteps.{LogsStep, StartStep}
+use Rattle.action_log.specs.Logs.{Logs, started, switched_to, Start, InStart, Writing, LogPlace}
+use Rattle.action_log.specs.LogSteps.{is_idle, LogsStep, StartStep}
 use Rattle.action_log.specs.Cover.{CoverStep}
 use Rattle.image_files.specs.declared.answer.ImageAnswer.{ImageAnswer}
 use Rattle.image_files.specs.declared.answer.ImageAnswer.TheVariants as image_answer
-use Rattle.image_files.specs.Images.{Images, FirstImages, ImageFiles, NoneYet, Newest, round_in, with_round, StepsImages}
+use Rattle.image_files.specs.Images.{Round, Images, FirstImages, ImageFiles, NoneYet, Newest, round_in, with_round, with_opened, StepsImages}
 use Rattle.capture_core.specs.declared.taker.Taken.{Taken}
 use Rattle.world_ticks.specs.After.{after_actions, after_ticks}
+use Rattle.recovery.specs.Sound.{IsWorldAt}
 use Rattle.recovery.specs.Start.{IsStarting, IsFirstRound, FirstFollows}
 use Rattle.recovery.specs.Follow.{IsRoundOf, ImagesFollow, LogsFollow, FollowMarks}
 
@@ -138,6 +139,43 @@ CoverReceiptIsExact =
     (cells : ℕ) (ticks : List (List Action)) (acknowledged : ℕ) (images : Images) (logs : Logs) (queue : List Record)
     (tick : ℕ) (answer : LogAnswer) (left : List Record)
     → IsKept cells ticks acknowledged images logs queue → CoverStep logs queue tick answer left → ReceiptIs answer ticks left
+
+-- ---- the same events as whole ones, for who knows only what came of a keeper's steps
+
+-- the words taken of the round in work are these
+abbrev pub RoundIsTaken : Type 0
+RoundIsTaken =
+    (cells : ℕ) (ticks : List (List Action)) (acknowledged : ℕ) (images : Images) (logs : Logs) (queue : List Record) (round : Round) (words : List ℕ)
+    → IsKept cells ticks acknowledged images logs queue → images.round ≡ Some round → (length words ≡ cells → IsWorldAt cells ticks round.tick words)
+    → IsKept cells ticks acknowledged (record images { round = Some (record round { taken = words }) }) logs queue
+
+-- the round in work, whose words are all taken, is opened
+abbrev pub RoundIsOpened : Type 0
+RoundIsOpened =
+    (cells : ℕ) (ticks : List (List Action)) (acknowledged : ℕ) (images next : Images) (logs : Logs) (queue : List Record) (round : Round)
+    → IsKept cells ticks acknowledged images logs queue → images.round ≡ Some round → length round.taken ≡ cells → with_opened round (Newest images) ≡ Newest next
+    → IsKept cells ticks (max acknowledged round.tick) next logs queue
+
+-- with no job in work, the tick that comes first is written in a group of its own
+abbrev pub TickIsWritten : Type 0
+TickIsWritten =
+    (cells : ℕ) (ticks : List (List Action)) (acknowledged : ℕ) (images : Images) (logs : Logs) (tick : Actions) (queue : List Record)
+    → IsKept cells ticks acknowledged images logs (records.Tick tick ∷ queue) → is_idle logs
+    → IsKept cells ticks acknowledged images (record logs { kept = logs.kept ++ tick.list ∷ [] }) queue
+
+-- with no job in work, the switch that comes first is taken
+abbrev pub SwitchIsTaken : Type 0
+SwitchIsTaken =
+    (cells : ℕ) (ticks : List (List Action)) (acknowledged : ℕ) (images : Images) (logs : Logs) (tick : ℕ) (queue : List Record)
+    → IsKept cells ticks acknowledged images logs (records.Switch tick ∷ queue) → is_idle logs
+    → IsKept cells ticks acknowledged images (record logs { switch = Some tick }) queue
+
+-- the switch in work is done
+abbrev pub SwitchIsDone : Type 0
+SwitchIsDone =
+    (cells : ℕ) (ticks : List (List Action)) (acknowledged : ℕ) (images : Images) (logs : Logs) (tick : ℕ) (queue : List Record)
+    → IsKept cells ticks acknowledged images logs queue → logs.switch ≡ Some tick
+    → IsKept cells ticks acknowledged images (switched_to logs tick) queue
 
 -- ---- the events of a start
 

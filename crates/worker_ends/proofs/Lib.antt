@@ -1,0 +1,5 @@
+mod Below
+mod Images
+mod Playing
+mod Written
+mod Meeting

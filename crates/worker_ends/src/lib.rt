@@ -1,0 +1,6 @@
+//! What the ends of a world's three workers say together of its files: a law, on plain data.
+#![tactic(auto)]
+
+mod laws;
+
+pub use laws::ends_are_sound;
