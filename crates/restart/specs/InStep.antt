@@ -12,7 +12,7 @@ use Rattle.action_log.specs.declared.record.Record.{Record}
 use Rattle.action_log.specs.declared.record.Record.TheVariants as records
 use Rattle.action_log.specs.Segment.{Segment, ClosedSegment}
 use Rattle.action_log.specs.Logs.{Logs, Start, Journal, InStart, Writing, LogPlace}
-use Rattle.action_log.specs.LogSteps.{JournalStep}
+use Rattle.action_log.specs.LogSteps.{is_idle, JournalStep}
 use Rattle.action_log.specs.Cover.{CoverStep}
 use Rattle.recovery.specs.Recovery.{Recovery}
 use Rattle.recovery.specs.Sound.{IsSound, IsFresh}
@@ -123,6 +123,19 @@ AllAreAcknowledged =
     (cells : ℕ) (ticks : List (List Action)) (acknowledged : ℕ) (content : Content) (images : ImageFiles) (logs : Logs)
     → logs.pending ≡ [] → InStep cells ticks acknowledged content images (Writing logs) []
     → InStep cells ticks (length ticks) content images (Writing logs) []
+
+-- ---- a world at rest
+
+-- These ticks lead to these words, and the keepers' data follow them. All ticks are in the newest image, no round and no job
+-- is in work, and nothing is queued.
+pub record IsSettled (cells : ℕ) (ticks : List (List Action)) (words : List ℕ) (images : Images) (logs : Logs) : Type 0 where
+  pub acknowledged : ℕ
+  pub kept : IsKept cells ticks acknowledged images logs []
+  pub world : after_ticks cells ticks ≡ Ok words
+  pub none : images.round ≡ None
+  pub tick : images.tick ≡ length ticks
+  pub image : images.words ≡ words
+  pub idle : is_idle logs
 
 -- ---- what it gives
 

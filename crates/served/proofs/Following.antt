@@ -1,6 +1,6 @@
 -- What runs and batches do keeps the world in step with its ticks.
-use Rattle.std.proofs.Common.{◌≡◌, ℕ, Bool, ◌+◌, ◌-◌, ◌<◌, ◌≤◌, ◌⊎◌, inl, inr, List, [], ◌∷◌, ◌++◌, length, true, false, Option, Some, None, Ok, if◌then◌else◌, refl, sym, ap, subst, ◌∙◌, arith}
-use Rattle.std.proofs.lemmas.List.{length-append}
+use Rattle.std.proofs.Common.{◌≡◌, ◌↔◌, ℕ, zero, suc, Bool, IsTrue, ◌+◌, ◌-◌, ◌<◌, ◌≤◌, ◌⊎◌, inl, inr, List, [], ◌∷◌, ◌++◌, length, true, false, Option, Some, None, Ok, if◌then◌else◌, refl, sym, ap, subst, ◌∙◌, arith}
+use Rattle.std.proofs.lemmas.List.{length-append, take_all}
 use Rattle.world_actions.specs.declared.action.Action.{Action}
 use Rattle.world_ticks.specs.declared.tick.TheConstants.{TICK_MAX}
 use Rattle.world_ticks.specs.After.{after_actions, after_ticks}
@@ -26,7 +26,7 @@ use Rattle.action_log.specs.Logs.{Logs, Journal, InStart, Writing, LogPlace}
 use Rattle.action_log.specs.Stands.{Stands as LogStands}
 use Rattle.recovery.specs.Follow.{round_tick, base_in, coming}
 use Rattle.recovery.specs.Events.{IsKept}
-use Rattle.restart.specs.InStep.{HasPhase, InStep, TickGoesOn, MarkGoesOn, AllAreAcknowledged}
+use Rattle.restart.specs.InStep.{HasPhase, InStep, IsSettled, TickGoesOn, MarkGoesOn, AllAreAcknowledged}
 use Rattle.sessions.specs.declared.batch.Request.{Request}
 use Rattle.sessions.specs.Answer.{accepted_of, words_after}
 use Rattle.served.specs.declared.engine.Engine.{Engine}
@@ -142,6 +142,59 @@ begun_by false e = absurd (let h = e in cc)
 -- is in work
 pub begun_works : (tick : ℕ) (keeper : ImageProgress) → (begun_keeper tick keeper).phase ≡ Idle → ⊥
 begun_works tick keeper e = begun_by keeper.target_shut e
+
+-- ---- an engine at rest
+
+-- no step of the start is left
+pub none_left : (starting : Bool) (left : ℕ) → starting ≡ false → (IsTrue starting ↔ (0 < left)) → left ≡ 0
+none_left starting zero over is = refl
+none_left starting (suc left) over is = absurd (let yes : IsTrue starting = is.1 (omega arith) in let e : true ≡ false = sym yes ∙ over in cc)
+
+module _ {C D : Type 0} (content : C → Content) (file : D → List ℕ) (leaves : D → List ℕ → Type 0) (engine : Engine C) (files : FourFiles D) where
+  abbrev HasImages : ImageFiles → Type 0
+  HasImages images = ImagesStand engine.images images (file files.image_a) (file files.image_b) (leaves files.image_a) (leaves files.image_b)
+
+  abbrev HasLog : LogPlace → Type 0
+  HasLog place = LogStands engine.log (file files.log_a) (file files.log_b) (leaves files.log_a) (leaves files.log_b) place
+
+  -- a world at rest stands in it
+  pub record Settles (ticks : List (List Action)) : Type 0 where
+    pub images : Images
+    pub logs : Logs
+    pub settled : IsSettled engine.images.cells ticks (content engine.store).live images logs
+    pub has_images : HasImages (Newest images)
+    pub has_log : HasLog (record { journal = Writing logs; left = 0 })
+    pub ended : engine.ended ≡ length ticks
+
+  pub settles : (ticks : List (List Action)) (acknowledged : ℕ) → (f : Follows content file leaves engine files ticks acknowledged) → engine.log.starting ≡ false → engine.queue.items ≡ [] → engine.log.base ≡ engine.ended
+      → ((place : LogPlace) → HasLog place → place.left ≡ 0)
+      → ((logs : Logs) → HasLog (record { journal = Writing logs; left = 0 }) → (logs.pending ≡ []) × (logs.switch ≡ None) × (logs.base ≡ engine.log.base))
+      → ((images : ImageFiles) → HasImages images → round_in images ≡ None) → Settles ticks
+  settles ticks acknowledged f over none base left ready idle =
+      let cells = engine.images.cells in
+      let now = content engine.store in
+      let in_log = logs_of_place engine.log (file files.log_a) (file files.log_b) (leaves files.log_a) (leaves files.log_b) f.place over f.has_log in
+      let logs : Logs = in_log.0 in
+      let has_log : HasLog (record { journal = Writing logs; left = 0 }) = subst HasLog (λ i. record { journal = in_log.1 i; left = left f.place f.has_log i }) f.has_log in
+      let log = ready logs has_log in
+      let step : InStep cells ticks f.count now f.images (Writing logs) [] =
+      subst (λ q. InStep cells ticks f.count now f.images (Writing logs) q) none (subst (λ j. InStep cells ticks f.count now f.images j engine.queue.items) in_log.1 f.in_step) in
+      let newest = newest_of cells ticks f.count now f.images logs [] step in
+      let images : Images = newest.0 in
+      let has_images : HasImages (Newest images) = subst HasImages newest.1 f.has_images in
+      let kept : IsKept cells ticks f.count images logs [] = subst (λ i. HasPhase cells ticks f.count i (Writing logs) []) newest.1 step.phase in
+      let no_round : images.round ≡ None = idle (Newest images) has_images in
+      let tick : images.tick ≡ length ticks = newest_is_base cells ticks f.count images logs kept no_round log.1 ∙ (log.2 ∙ (base ∙ f.ended)) in
+      let world = kept.images_follow.newest in
+      let same : Ok images.words ≡ Ok now.live = sym world.words_are ∙ (ap (after_ticks cells) (take_all images.tick ticks (omega (arith, tick))) ∙ f.world) in
+      record {
+        images = images;
+        logs = logs;
+        settled = record { acknowledged = f.count; kept = kept; world = f.world; none = no_round; tick = tick; image = cc; idle = (log.0, log.1) };
+        has_images = has_images;
+        has_log = has_log;
+        ended = f.ended;
+      }
 
 -- ---- the engine
 

@@ -1,13 +1,18 @@
 -- A served world taken apart.
 use Rattle.std.specs.Prelude.{◌≡◌, ◌≤◌, ◌⊎◌, ℕ, ◌+◌, Bool, false, IsTrue, List, [], All, length}
 use Rattle.world_actions.specs.World.{IsWord}
+use Rattle.world_actions.specs.declared.action.Action.{Action}
 use Rattle.world_ticks.specs.declared.tick.TheConstants.{TICK_MAX}
 use Rattle.image_files.specs.declared.phase.Phase.TheVariants.{Idle, Down}
-use Rattle.image_files.specs.Files.{FitsFiles as ImagesFit}
+use Rattle.image_files.specs.Images.{Images, Newest}
+use Rattle.image_files.specs.Files.{FitsFiles as ImagesFit, Stands as ImagesStand}
 use Rattle.action_log.specs.declared.phase.Phase.TheVariants.{Ready}
 use Rattle.action_log.specs.declared.progress.Progress.{Progress as LogProgress}
 use Rattle.action_log.specs.Files.{FitsFiles as LogFits}
 use Rattle.action_log.specs.Progress.{QueueFollows}
+use Rattle.action_log.specs.Logs.{Logs, Writing}
+use Rattle.action_log.specs.Stands.{Stands as LogStands}
+use Rattle.restart.specs.InStep.{IsSettled}
 use Rattle.served.specs.declared.parts.Parts.{Parts}
 
 -- the log keeper may take ticks from the ended ones on
@@ -30,3 +35,13 @@ module _ {D : Type 0} (file : D → List ℕ) (honest : Bool) where
     pub log_ready : parts.log.down ≡ false → LogIsReady parts.log parts.ended parts.since
     pub within : parts.since ≤ parts.ended
     pub most : parts.ended ≤ TICK_MAX
+
+module _ {D : Type 0} (file : D → List ℕ) (leaves : D → List ℕ → Type 0) where
+  -- these ticks have ended, and a world at rest after them stands in the parts: both keepers with their files stand for it
+  pub record AreSettled (parts : Parts D) (ticks : List (List Action)) : Type 0 where
+    pub images : Images
+    pub logs : Logs
+    pub settled : IsSettled parts.images.cells ticks parts.words.items images logs
+    pub has_images : ImagesStand parts.images (Newest images) (file parts.files.image_a) (file parts.files.image_b) (leaves parts.files.image_a) (leaves parts.files.image_b)
+    pub has_log : LogStands parts.log (file parts.files.log_a) (file parts.files.log_b) (leaves parts.files.log_a) (leaves parts.files.log_b) (record { journal = Writing logs; left = 0 })
+    pub ended : parts.ended ≡ length ticks

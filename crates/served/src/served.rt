@@ -1,14 +1,17 @@
-ghost use Rattle.std.specs.Prelude.{◌≡◌, [], false, IsTrue, IfOk, IfErr};
-ghost use Rattle.served.specs.Serving.{Runs};
+ghost use Rattle.std.specs.Prelude.{◌≡◌, [], List, false, IsTrue, IfOk, IfErr};
+ghost use Rattle.world_actions.specs.declared.action.Action.{Action};
+ghost use Rattle.served.specs.Serving.{Runs, Serves};
 ghost use Rattle.image_files.specs.declared.phase.Phase.TheVariants.{Idle};
-ghost use Rattle.served.specs.Parts.{AreAtRest};
+ghost use Rattle.served.specs.Parts.{AreAtRest, AreSettled};
 ghost use Rattle.served.specs.Opening.{IsOpened, IsRefused, IsNotOpened};
 
 use crate::engine::Engine;
 use crate::parts::{Parts, words_of};
 use crate::serving::Serving;
+use action_log::log_outcomes;
 use capture_core::Capture;
 use disk_model::{Disk, FourFiles};
+use image_files::images_stay;
 use line_service::World;
 use sessions::Batch;
 use std::alloc::Global;
@@ -78,8 +81,13 @@ impl<C: Capture, D: Disk> Served<C, D> {
         ensures ticks { IfOk result (λ parts. (parts.ended ≡ self.engine.ended) × (parts.since ≡ self.engine.since)) }
         ensures none_queued { IfOk result (λ parts. parts.log.down ≡ false → self.engine.queue.items ≡ []) }
         ensures rest { IfOk result (AreAtRest D.content D.honest) }
+        ensures settled { IfOk result (λ parts. parts.log.down ≡ false → parts.images.phase ≡ Idle → parts.since ≡ 0
+            → (ticks : List (List Action)) → Serves C.content D.content D.may_leave D.honest self ticks
+            → AreSettled D.content D.may_leave parts ticks) }
         ensures refused { IfErr result (λ refused. (refused.0 ≡ self.files) × (refused.1 ≡ Refusal.NoMemory)) }
     {
+        images_stay::<D>();
+        log_outcomes::<D>();
         let Served { serving } = self;
         let Serving {
             mut engine,

@@ -1,5 +1,5 @@
 -- What contracts see of the two seats.
-use Rattle.std.specs.Prelude.{◌≡◌, ◌≢◌, ℕ, ◌+◌, ◌<◌, ◌≤◌, List, [], ◌∷◌, ◌++◌, Option, length, replicate, slice_set, Bool, true, false, MatchOption}
+use Rattle.std.specs.Prelude.{◌≡◌, ◌≢◌, ℕ, ◌+◌, ◌<◌, ◌≤◌, List, [], ◌∷◌, ◌++◌, Option, length, replicate, slice_index, slice_set, Bool, true, false, MatchOption}
 use Rattle.world_actions.specs.Effect.{Write}
 use Rattle.world_actions.specs.declared.refusal.Refusal.{Refusal}
 use Rattle.world_actions.specs.declared.refusal.Refusal.TheVariants.{Busy}
@@ -12,7 +12,7 @@ use Rattle.shared_capture.specs.declared.view.Snapshot.{Snapshot}
 use Rattle.shared_capture.specs.declared.view.FrontView.{FrontView}
 use Rattle.shared_capture.specs.declared.view.BackView.{BackView}
 use Rattle.shared_capture.specs.Methods.{touched_of}
-use Rattle.shared_capture.specs.Rounds.{round, snapshots_as, padded}
+use Rattle.shared_capture.specs.Rounds.{flag_at, round, snapshots_as, padded}
 
 -- ## The front
 
@@ -59,6 +59,15 @@ pub record IsPut (old : FrontState) (write : Write) (new : FrontState) : Type 0 
 abbrev pub accessed_front : FrontState → Access → FrontState → Type 0
 accessed_front old (Read cell) new = new ≡ old
 accessed_front old (Wrote write) new = IsPut old write new
+
+-- each cell counts as touched or not
+abbrev pub HasFlags : FrontState → Type 0
+HasFlags front = length front.touched ≡ length front.live
+
+-- a cell that isn't touched wasn't before, and has the word that it had
+pub record KeepsUntouched (old new : FrontState) : Type 0 where
+  pub flags : HasFlags new
+  pub cells : (i : ℕ) → flag_at new.touched i ≡ false → (flag_at old.touched i ≡ false) × (slice_index new.live i ≡ slice_index old.live i)
 
 -- the rounds of a front after one more, of the tick and of the words as they are
 abbrev pub marked_rounds : FrontState → ℕ → List Round

@@ -13,7 +13,7 @@ ghost use Rattle.shared_capture.specs.Methods.{mark_steps};
 ghost use Rattle.shared_capture.specs.Table.{HasCells};
 ghost use Rattle.shared_capture.specs.Steps.{front_of};
 ghost use Rattle.shared_capture.specs.Seats.{ListsChanges, FitsCells, IsFront, IsFrontOf, SameRest};
-ghost use Rattle.shared_capture.specs.States.{FrontState, front_state, SameRounds, SameWords, accessed_front, marked_rounds, IsRefused};
+ghost use Rattle.shared_capture.specs.States.{FrontState, front_state, HasFlags, KeepsUntouched, SameRounds, SameWords, accessed_front, marked_rounds, IsRefused};
 
 use crate::method::{Kind, Method};
 use crate::steps::{load_phase, store_mark, store_phase, store_value};
@@ -96,6 +96,7 @@ impl<M: Method> Front<M> {
         ensures busy { IfErr result (λ refusal. IsRefused self.old refusal self.new) }
         ensures free { self.old.closed ≡ true → IsOk result }
         ensures steps { self.new.steps ≤ self.old.steps + mark_steps M.KIND (length self.old.live) }
+        ensures flags { HasFlags self.new }
     {
         self.mark_words(tick)
     }
@@ -261,9 +262,11 @@ fn turn_marks<M: Method>(
     }
 }
 
-/// Law: whatever accesses do to a front, they leave its pair, its rounds and the phase words that
-/// it loaded as they were.
+/// Laws: whatever accesses do to a front, they leave its pair, its rounds and the phase words that
+/// it loaded as they were, and the words of the cells that aren't touched.
 pub fn accesses_keep()
-    ensures { (old new : FrontState) (writes : List Write) → Performs accessed_front old writes new
+    ensures rounds { (old new : FrontState) (writes : List Write) → Performs accessed_front old writes new
         → SameRounds old new }
+    ensures untouched { (old new : FrontState) (writes : List Write) → Performs accessed_front old writes new
+        → HasFlags old → KeepsUntouched old new }
 {}

@@ -1,8 +1,15 @@
 -- What opening a world for its workers gives.
-use Rattle.std.specs.Prelude.{◌≡◌, ℕ, List}
+use Rattle.std.specs.Prelude.{◌≡◌, ℕ, List, length, take}
+use Rattle.world_actions.specs.declared.action.Action.{Action}
 use Rattle.disk_model.specs.declared.four_files.FourFiles.{FourFiles}
 use Rattle.recovery.specs.Recovery.{Recovery}
-use Rattle.served.specs.Opening.{RecoversFiles}
+use Rattle.served.specs.Opening.{AreSynced, AreSound, RecoversFiles}
+use Rattle.workers.specs.declared.checkpointer.round.ImageWriter.{ImageWriter}
+use Rattle.workers.specs.declared.log_writer.Log.{Log}
+use Rattle.workers.specs.Mutating.{Playing}
+use Rattle.workers.specs.Imaging.{Imaging}
+use Rattle.workers.specs.Logging.{Logging}
+use Rattle.worker_ends.specs.Ends.{WorldStands, LeaveSound}
 
 -- these words, this tick and the tick of this image are what recovery answers on what the files hold
 pub record IsRecovered {D : Type 0} (file : D → List ℕ) (files : FourFiles D) (live : List ℕ) (ended from : ℕ) : Type 0 where
@@ -11,3 +18,16 @@ pub record IsRecovered {D : Type 0} (file : D → List ℕ) (files : FourFiles D
   pub words : live ≡ recovery.words
   pub tick : ended ≡ recovery.tick
   pub image : from ≡ recovery.from
+
+-- Where the files were sound for some ticks, a world at rest after the recovered ones stands in these words, both keepers and
+-- their files.
+abbrev pub StandsOpened : {D : Type 0} → (file : D → List ℕ) → (leaves : D → List ℕ → Type 0) → FourFiles D → (words : List ℕ) → ImageWriter D → Log D → (ended : ℕ) → Type 0
+StandsOpened file leaves files words writer log ended =
+    (cells : ℕ) (ticks : List (List Action)) (acknowledged : ℕ) → AreSynced file leaves files → AreSound file leaves files cells ticks acknowledged
+    → WorldStands file leaves cells (take ended ticks) words writer log × (ended ≡ length (take ended ticks))
+
+-- Where a world stood in what a server opened, the workers that it leaves make their files sound for the ticks that were there
+-- and all that were played.
+abbrev pub StaysSound : {D : Type 0} → (file : D → List ℕ) → (leaves : D → List ℕ → Type 0) → (words : List ℕ) → ImageWriter D → Log D → (ended : ℕ) → Playing → Imaging D → Logging D → Type 0
+StaysSound file leaves words writer log ended m c w =
+    (cells : ℕ) (ticks : List (List Action)) → WorldStands file leaves cells ticks words writer log → ended ≡ length ticks → LeaveSound file leaves cells ticks m c w

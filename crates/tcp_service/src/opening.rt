@@ -1,11 +1,13 @@
-ghost use Rattle.std.specs.Prelude.{◌≡◌, [], false, All, IsTrue, IfOk, IfErr};
+ghost use Rattle.std.specs.Prelude.{◌≡◌, [], List, false, All, IsTrue, IfOk, IfErr};
 ghost use Rattle.world_actions.specs.World.{IsWord};
+ghost use Rattle.world_actions.specs.declared.action.Action.{Action};
 ghost use Rattle.image_files.specs.declared.phase.Phase.TheVariants.{Idle};
-ghost use Rattle.served.specs.Parts.{AreAtRest};
+ghost use Rattle.served.specs.Parts.{AreAtRest, AreSettled};
 ghost use Rattle.served.specs.Opening.{IsRefused};
 ghost use Rattle.shared_capture.specs.States.{IsStart};
 ghost use Rattle.worker_threads.specs.Begun.{IsWhole};
-ghost use Rattle.tcp_service.specs.Opening.{IsRecovered};
+ghost use Rattle.worker_ends.specs.Ends.{WorldStands};
+ghost use Rattle.tcp_service.specs.Opening.{IsRecovered, StandsOpened};
 
 use capture_core::PlainCopy;
 use disk_model::{Disk, FourFiles};
@@ -47,6 +49,8 @@ pub fn open_world<M: Seats, D: Disk + Drop>(
         IsWhole D.honest D.content made.0.front made.0.back made.0.images made.0.log made.0.ended) }
     ensures recovered { IsTrue D.honest → IfOk result (λ made.
         IsRecovered D.content files made.0.front.live made.0.ended made.1) }
+    ensures stands { IsTrue D.honest → IfOk result (λ made.
+        StandsOpened D.content D.may_leave files made.0.front.live made.0.images made.0.log made.0.ended) }
     ensures refused { IfErr result (λ refused. IsRefused D.content D.honest files refused.1) }
 {
     let served = Served::<PlainCopy, D>::open(alloc, files, 1)?;
@@ -68,6 +72,8 @@ fn seated<M: Seats, D: Disk + Drop>(
         IsWhole D.honest D.content opened.front opened.back opened.images opened.log opened.ended) }
     ensures words { IfOk result (λ opened. opened.front.live ≡ parts.words.items) }
     ensures ended { IfOk result (λ opened. opened.ended ≡ parts.ended) }
+    ensures settled { IfOk result (λ opened. (ticks : List (List Action)) → AreSettled D.content D.may_leave parts ticks
+        → WorldStands D.content D.may_leave parts.images.cells ticks opened.front.live opened.images opened.log) }
     ensures refused { IfErr result (λ refused. (refused.0 ≡ parts.files) × (refused.1 ≡ Refusal.NoMemory)) }
 {
     let Parts {

@@ -1,5 +1,6 @@
-ghost use Rattle.std.specs.Prelude.{◌≡◌, ◌⊎◌, None, IfOk, IfErr, IfSome};
+ghost use Rattle.std.specs.Prelude.{◌≡◌, ◌⊎◌, None, IsTrue, IfOk, IfErr, IfSome};
 ghost use Rattle.worker_threads.specs.Begun.{IsWhole};
+ghost use Rattle.tcp_service.specs.Opening.{StaysSound};
 
 use crate::accept::{Accepted, accept_sessions};
 use crate::door::Door;
@@ -9,7 +10,7 @@ use std::alloc::Global;
 use std::net::TcpListener;
 use std::sync::Wait;
 use std::thread::Threads;
-use worker_threads::{Ends, Gates, Opened, Watch, start, stop};
+use worker_threads::{Ends, Gates, Opened, Watch, ends_meet, start, stop};
 use workers::Gate;
 use world_actions::Refusal;
 
@@ -21,8 +22,9 @@ pub struct Stopped<M: Method, D: Disk + Drop, G: Gate + Drop> {
 }
 
 /// Serves so many connections of a listener by the workers of a world, and stops the workers after the last one,
-/// also where the listener fails. A round is due after every `every` ticks. Where the workers can't be started
-/// no thread is left running, and no connection is accepted.
+/// also where the listener fails. A round is due after every `every` ticks. On disks that keep to the disk model the files are
+/// then sound for all ticks that were played. Where the workers can't be started no thread is left running, and no connection
+/// is accepted.
 pub fn serve_tcp<
     R: Threads + Wait + Copy + Send + 'static,
     M: Method + Send + 'static,
@@ -45,12 +47,16 @@ pub fn serve_tcp<
         (refusal ≡ Refusal.NoMemory) ⊎ (refusal ≡ Refusal.Device))) }
     ensures began { IfOk result (λ stopped. (stopped.ends.mutator.opening ≡ opened.front.live)
         × (stopped.ends.checkpointer.opening ≡ opened.images) × (stopped.ends.log_writer.opening ≡ opened.log)) }
+    ensures sound { IsTrue D.honest → IfOk result (λ stopped.
+        StaysSound D.content D.may_leave opened.front.live opened.images opened.log opened.ended
+        stopped.ends.mutator stopped.ends.checkpointer stopped.ends.log_writer) }
     ensures every { IfOk result (λ stopped. stopped.ends.mutator.every ≡ every) }
     ensures memory { IfErr result (λ refusal. refusal ≡ Refusal.NoMemory) }
 {
     let door = watch.clone()?;
     let (workers, requests) = start(rt, alloc, gates, watch, opened, every)?;
     let accepted = accept_sessions(rt, alloc, listener, clients, requests, door);
-    let ends = stop(rt, workers);
+    let mut ends = stop(rt, workers);
+    ends_meet(&mut ends);
     Ok(Stopped { ends, accepted })
 }

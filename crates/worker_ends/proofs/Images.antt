@@ -7,7 +7,7 @@ use Rattle.image_files.specs.Taken.{word_of, filled_words}
 use Rattle.shared_capture.specs.declared.view.Round.{Round}
 use Rattle.shared_capture.specs.declared.view.Snapshot.{Snapshot}
 use Rattle.shared_capture.specs.Rounds.{flag_at, shown_as, shown, IsTakenOf}
-use Rattle.worker_ends.specs.Played.{IsUnchanged}
+use Rattle.workers.specs.Worlds.{IsUnchanged}
 
 -- ---- what was taken of a round, each cell of it, are its words, where those before it are the newest image's
 

@@ -1,5 +1,8 @@
+mod Parts
 mod Below
 mod Images
 mod Playing
 mod Written
 mod Meeting
+mod Joined
+mod Ended

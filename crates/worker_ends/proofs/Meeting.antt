@@ -16,11 +16,11 @@ use Rattle.shared_capture.specs.declared.view.Snapshot.{Snapshot}
 use Rattle.shared_capture.specs.Rounds.{Agree}
 use Rattle.workers.specs.declared.item.Item.{Item}
 use Rattle.workers.specs.Items.{record_of, records_of}
-use Rattle.workers.specs.Worlds.{begun}
-use Rattle.workers.specs.Logging.{Told, after_records}
+use Rattle.workers.specs.Worlds.{begun, AreUnchanged}
+use Rattle.workers.specs.Logging.{Told, told_in, after_records}
 use Rattle.worker_ends.proofs.Below.{Laws}
-use Rattle.worker_ends.specs.Played.{AreUnchanged, one_or_none, images_with}
-use Rattle.worker_ends.specs.Ends.{IsOpening, IsLate, IsPlayed, IsTaken, IsLogged, told_at}
+use Rattle.restart.specs.InStep.{IsSettled}
+use Rattle.worker_ends.proofs.Parts.{IsPlayed, IsTaken, IsLogged, one_or_none, images_with}
 use Rattle.worker_ends.proofs.Playing.{marked, marked_rounds, AtRest, Played, plays}
 use Rattle.worker_ends.proofs.Written.{SameTold, TakenUp, taken_up, follows_same, marks_same, told_kept, told_idle}
 
@@ -33,18 +33,14 @@ ticks_behind [] more = refl
 ticks_behind (records.Tick tick ∷ queue) more = ap (λ l. tick.list ∷ l) (ticks_behind queue more)
 ticks_behind (records.Switch tick ∷ queue) more = ticks_behind queue more
 
-none_late : (late : List Item) → IsLate late → ticks_in (records_of late) ≡ []
-none_late late (inl none) = ap (λ l. ticks_in (records_of l)) none
-none_late late (inr one) = ap (λ l. ticks_in (records_of l)) one.1
-
-all_ticks : (items late : List Item) → IsLate late → ticks_in (records_of (items ++ late)) ≡ ticks_in (records_of items)
+all_ticks : (items late : List Item) → ticks_in (records_of late) ≡ [] → ticks_in (records_of (items ++ late)) ≡ ticks_in (records_of items)
 all_ticks items late is =
     ap ticks_in (records_behind items late) ∙ ticks_behind (records_of items) (records_of late)
-    ∙ ap (λ l. ticks_in (records_of items) ++ l) (none_late late is) ∙ append-nil (ticks_in (records_of items))
+    ∙ ap (λ l. ticks_in (records_of items) ++ l) is ∙ append-nil (ticks_in (records_of items))
 
 module _ (laws : Laws) (cells : ℕ) (ticks : List (List Action)) (words : List ℕ) (first images : Images) (start logs : Logs) (items : List Item) (rounds : List Round) (done : List Snapshot) (now : Option Snapshot) where
   -- the items are played
-  played : IsOpening cells ticks words first start → (p : IsPlayed words (length ticks) items rounds) → IsTaken cells rounds done now
+  played : IsSettled cells ticks words first start → (p : IsPlayed words (length ticks) items rounds) → IsTaken cells rounds done now
       → Played laws cells start (ticks ++ ticks_in (records_of (items ++ p.late))) p.told.words (records_of (items ++ p.late)) first done now
   played o p t =
       let end : QueueEnd = record { base = length ticks; count = 0 } in
@@ -52,19 +48,19 @@ module _ (laws : Laws) (cells : ℕ) (ticks : List (List Action)) (words : List 
       let are : p.told.rounds ≡ opened = marked_rounds (begun words) (items ++ p.late) p.told p.leads in
       let same : rounds ≡ opened = p.rounds ∙ are in
       let rest : AtRest laws cells start end ticks words first = record { none = o.none; tick = o.tick; words = o.image; count = omega arith } in
-      plays laws cells start (items ++ p.late) end ticks words [] first done now (begun words) p.told (o.acknowledged, o.kept, o.world) rest p.numbered p.spaced p.leads
-      (subst (AreUnchanged words) are p.unchanged) (subst (λ r. Agree r (done ++ one_or_none now)) same t.agree) (ap length (sym same) ∙ t.all) t.whole
+      plays laws cells start (items ++ p.late) end ticks words [] first done now (begun words) p.told (o.acknowledged, o.kept, o.world) rest p.numbered p.leads
+      (subst (AreUnchanged words) same p.unchanged) (subst (λ r. Agree r (done ++ one_or_none now)) same t.agree) (ap length (sym same) ∙ t.all) t.whole
 
   taken_logs : (all : List (List Action)) (popped rest : List Record) (covers : List ℕ) → (acknowledged : ℕ) → IsKept cells all acknowledged images start (popped ++ rest)
-      → (opened : (tick : ℕ) → Contains covers tick → tick ≤ images.tick) → start.pending ≡ [] → start.switch ≡ None → (l : IsLogged (told_at start) popped covers logs)
+      → (opened : (tick : ℕ) → Contains covers tick → tick ≤ images.tick) → start.pending ≡ [] → start.switch ≡ None → (l : IsLogged (told_in start) popped covers logs)
       → TakenUp laws cells all images covers opened start l.given logs.switch
   taken_logs all popped rest covers acknowledged k opened none idle l = taken_up laws cells all images covers opened l.given popped l.more rest start logs.switch (acknowledged, k) (none, idle) l.order
 
   -- the segments are those that were told, with or without the group in work
   same_told : (given : List Record) (a : Logs) → told_kept a ≡ after_records (told_kept start) given → start.pending ≡ [] → a.pending ≡ [] → a.switch ≡ logs.switch
-      → told_at logs ≡ after_records (told_at start) given → IfSome logs.switch (λ _. logs.pending ≡ []) → SameTold a logs
+      → told_in logs ≡ after_records (told_in start) given → IfSome logs.switch (λ _. logs.pending ≡ []) → SameTold a logs
   same_told given a told none none_of_a switch is one_job =
-      let same : told_kept a ≡ told_at logs = told ∙ ap (λ t. after_records t given) (sym (told_idle start none)) ∙ sym is in
+      let same : told_kept a ≡ told_in logs = told ∙ ap (λ t. after_records t given) (sym (told_idle start none)) ∙ sym is in
       record {
         base = ap (λ (t : Told). t.base) same;
         before = ap (λ (t : Told). t.before) same;
@@ -75,9 +71,9 @@ module _ (laws : Laws) (cells : ℕ) (ticks : List (List Action)) (words : List 
       }
 
   pub sound : {image_a image_b log_a log_b : List ℕ → Type 0} → LawOfRecovery image_a image_b log_a log_b → (popped rest : List Record) (covers : List ℕ) (acknowledged : ℕ)
-      → IsOpening cells ticks words first start → IsPlayed words (length ticks) items rounds → IsTaken cells rounds done now
+      → IsSettled cells ticks words first start → IsPlayed words (length ticks) items rounds → IsTaken cells rounds done now
       → images_with (Newest first) done now ≡ Newest images → popped ++ rest ≡ records_of items
-      → ((tick : ℕ) → Contains covers tick → tick ≤ images.tick) → IsLogged (told_at start) popped covers logs
+      → ((tick : ℕ) → Contains covers tick → tick ≤ images.tick) → IsLogged (told_in start) popped covers logs
       → (acknowledged ≤ logs.base + length logs.kept) ⊎ (acknowledged ≤ images.tick)
       → ImagesAre cells images image_a image_b → LogsAre logs log_a log_b
       → IsSound image_a image_b log_a log_b cells (ticks ++ ticks_in (records_of items)) acknowledged
@@ -88,7 +84,7 @@ module _ (laws : Laws) (cells : ℕ) (ticks : List (List Action)) (words : List 
       let all : List (List Action) = ticks ++ ticks_in (records_of items) in
       let kept : IsKept cells (ticks ++ ticks_in (records_of (items ++ p.late))) end.2.0 images start (records_of (items ++ p.late)) =
       subst (λ i. IsKept cells (ticks ++ ticks_in (records_of (items ++ p.late))) end.2.0 i start (records_of (items ++ p.late))) after end.2.1 in
-      let ticks_same : ticks ++ ticks_in (records_of (items ++ p.late)) ≡ all = ap (λ m. ticks ++ m) (all_ticks items p.late p.is_late) in
+      let ticks_same : ticks ++ ticks_in (records_of (items ++ p.late)) ≡ all = ap (λ m. ticks ++ m) (all_ticks items p.late p.no_ticks) in
       let queue_same : records_of (items ++ p.late) ≡ popped ++ (rest ++ late) =
       records_behind items p.late ∙ ap (λ q. q ++ late) (sym order) ∙ append_assoc popped rest late in
       let from : IsKept cells all end.2.0 images start (popped ++ (rest ++ late)) =

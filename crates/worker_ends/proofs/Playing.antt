@@ -27,9 +27,9 @@ use Rattle.workers.specs.declared.item.Item.{Item}
 use Rattle.workers.specs.declared.item.Ended.{Ended}
 use Rattle.workers.specs.declared.item.Item.TheVariants.{Start, Tick, Switch, End}
 use Rattle.workers.specs.Items.{records_of, end_after, GoAll}
-use Rattle.workers.specs.Worlds.{World, Ran, Leads}
+use Rattle.workers.specs.Worlds.{World, Ran, Leads, IsUnchanged, AreUnchanged}
 use Rattle.worker_ends.proofs.Below.{Laws}
-use Rattle.worker_ends.specs.Played.{IsUnchanged, AreUnchanged, AreSpaced, one_or_none, images_with}
+use Rattle.worker_ends.proofs.Parts.{one_or_none, images_with}
 use Rattle.worker_ends.proofs.Images.{filled_is_marked}
 
 -- the rounds that were opened on the way
@@ -185,44 +185,44 @@ module _ (laws : Laws) (cells : ℕ) (logs : Logs) where
 
   -- the rounds that the back has done are opened, and the one that it is at is in work
   pub plays : (items : List Item) (end : QueueEnd) (ticks : List (List Action)) (before : List ℕ) (queue : List Record) (images : Images) (done : List Snapshot) (now : Option Snapshot) (w v : World)
-      → Keeps ticks w.words images queue → AtRest end ticks before images → GoAll end items → AreSpaced end items → (leads : Leads w items v)
+      → Keeps ticks w.words images queue → AtRest end ticks before images → GoAll end items → (leads : Leads w items v)
       → AreUnchanged before (marked w items v leads) → Agree (marked w items v leads) (done ++ one_or_none now) → length (marked w items v leads) ≡ length (done ++ one_or_none now)
       → All (λ (s : Snapshot). length s.taken ≡ cells) done
       → Played (ticks ++ ticks_in (records_of items)) v.words (queue ++ records_of items) images done now
-  plays [] end ticks before queue images [] None w v k rest go spaced leads unchanged agree long whole =
+  plays [] end ticks before queue images [] None w v k rest go leads unchanged agree long whole =
       (images, refl, none_moved ticks queue w.words v.words images (ap (λ (u : World). u.words) (sym leads)) k)
-  plays [] end ticks before queue images [] (Some s) w v k rest go spaced leads unchanged agree long whole = absurd (omega (arith, long))
-  plays [] end ticks before queue images (s ∷ done) now w v k rest go spaced leads unchanged agree long whole = absurd (omega (arith, long))
-  plays (Start number ∷ items) end ticks before queue images done now w v k rest go spaced leads unchanged agree long whole = absurd go.0
-  plays (Tick ended ∷ items) end ticks before queue images done now w v k rest go spaced leads unchanged agree long whole =
+  plays [] end ticks before queue images [] (Some s) w v k rest go leads unchanged agree long whole = absurd (omega (arith, long))
+  plays [] end ticks before queue images (s ∷ done) now w v k rest go leads unchanged agree long whole = absurd (omega (arith, long))
+  plays (Start number ∷ items) end ticks before queue images done now w v k rest go leads unchanged agree long whole = absurd go.0
+  plays (Tick ended ∷ items) end ticks before queue images done now w v k rest go leads unchanged agree long whole =
       let next = ran ticks queue images w leads.0 ended k leads.1 in
       let still : AtRest (end_after end (Tick ended)) (ticks ++ ended.tick.list ∷ []) before images =
       record { none = rest.none; tick = rest.tick; words = rest.words; count = omega (arith, rest.count, length-append ticks (ended.tick.list ∷ [])) } in
-      let more = plays items (end_after end (Tick ended)) (ticks ++ ended.tick.list ∷ []) before (queue ++ records.Tick ended.tick ∷ []) images done now leads.0 v next still go.1 spaced leads.2 unchanged agree long whole in
+      let more = plays items (end_after end (Tick ended)) (ticks ++ ended.tick.list ∷ []) before (queue ++ records.Tick ended.tick ∷ []) images done now leads.0 v next still go.1 leads.2 unchanged agree long whole in
       (more.0, more.1, tick_moved ticks (ticks_in (records_of items)) ended.tick.list queue (records_of items) (records.Tick ended.tick) v.words more.0 more.2)
-  plays (Switch number ∷ items) end ticks before queue images [] None w v k rest go spaced leads unchanged agree long whole = absurd (omega (arith, long))
-  plays (Switch number ∷ items) end ticks before queue images [] (Some s) w v k rest go spaced leads unchanged agree long whole =
+  plays (Switch number ∷ items) end ticks before queue images [] None w v k rest go leads unchanged agree long whole = absurd (omega (arith, long))
+  plays (Switch number ∷ items) end ticks before queue images [] (Some s) w v k rest go leads unchanged agree long whole =
       let r = round number w.words leads.1.1.0 in
       let others = marked leads.0 items v leads.2 in
       let taken : IsTakenOf r s = agree_first r others s [] agree in
-      let begun = begins end ticks before queue images w number s k rest go.0 spaced.0 taken.0 (taken_words ticks queue before images w r s k rest.words refl taken unchanged.0) in
+      let begun = begins end ticks before queue images w number s k rest go.0.0 go.0.1 taken.0 (taken_words ticks queue before images w r s k rest.words refl taken unchanged.0) in
       let next = subst (λ l. Keeps ticks l (begun_by s images) (queue ++ records.Switch number ∷ [])) (sym leads.1.0) begun in
       let more = plays_on items (end_after end (Switch number)) ticks (queue ++ records.Switch number ∷ []) (begun_by s images) leads.0 v next go.1 leads.2 (no_more others (omega (arith, long))) in
       (begun_by s images, refl, switch_moved (ticks ++ ticks_in (records_of items)) queue (records_of items) (records.Switch number) v.words (begun_by s images) more)
-  plays (Switch number ∷ items) end ticks before queue images (s ∷ done) now w v k rest go spaced leads unchanged agree long whole =
+  plays (Switch number ∷ items) end ticks before queue images (s ∷ done) now w v k rest go leads unchanged agree long whole =
       let r = round number w.words leads.1.1.0 in
       let others = marked leads.0 items v leads.2 in
       let P = λ (x : Snapshot). length x.taken ≡ cells in
       let all : length s.taken ≡ cells = All-head P s done whole in
       let taken : IsTakenOf r s = agree_first r others s (done ++ one_or_none now) agree in
       let words = taken_words ticks queue before images w r s k rest.words refl taken unchanged.0 in
-      let begun = begins end ticks before queue images w number s k rest go.0 spaced.0 taken.0 words in
+      let begun = begins end ticks before queue images w number s k rest go.0.0 go.0.1 taken.0 words in
       let opened = opens ticks w.words (queue ++ records.Switch number ∷ []) images s begun all in
       let next = subst (λ l. Keeps ticks l (opened_by s images) (queue ++ records.Switch number ∷ [])) (sym leads.1.0) opened in
       let still : AtRest (end_after end (Switch number)) ticks w.words (opened_by s images) =
-      record { none = refl; tick = taken.0; words = words all; count = omega (arith, rest.count, go.0) } in
-      let more = plays items (end_after end (Switch number)) ticks w.words (queue ++ records.Switch number ∷ []) (opened_by s images) done now leads.0 v next still go.1 spaced.1 leads.2 unchanged.1
+      record { none = refl; tick = taken.0; words = words all; count = omega (arith, rest.count, go.0.0) } in
+      let more = plays items (end_after end (Switch number)) ticks w.words (queue ++ records.Switch number ∷ []) (opened_by s images) done now leads.0 v next still go.1 leads.2 unchanged.1
       (agree_rest r others s (done ++ one_or_none now) agree) (omega (arith, long)) (All-tail P s done whole) in
       (more.0, more.1, switch_moved (ticks ++ ticks_in (records_of items)) queue (records_of items) (records.Switch number) v.words more.0 more.2)
-  plays (End ∷ items) end ticks before queue images done now w v k rest go spaced leads unchanged agree long whole =
-      plays items end ticks before queue images done now leads.0 v (subst (λ (u : World). Keeps ticks u.words images queue) (sym leads.1) k) rest go.1 spaced leads.2 unchanged agree long whole
+  plays (End ∷ items) end ticks before queue images done now w v k rest go leads unchanged agree long whole =
+      plays items end ticks before queue images done now leads.0 v (subst (λ (u : World). Keeps ticks u.words images queue) (sym leads.1) k) rest go.1 leads.2 unchanged agree long whole

@@ -14,9 +14,8 @@ use Rattle.action_log.specs.declared.record.Record.TheVariants as records
 use Rattle.recovery.specs.Follow.{FollowsFrom, Reaches, LeadsTo, LogsFollow, FollowMarks, BeginFrom, RiseFrom, base_in, coming, round_tick}
 use Rattle.recovery.specs.Events.{with_work, IsKept}
 use Rattle.workers.specs.Covering.{BeginsAt, LeavesOut}
-use Rattle.workers.specs.Logging.{Told, after_records}
+use Rattle.workers.specs.Logging.{Told, told_in, after_records}
 use Rattle.worker_ends.proofs.Below.{Laws}
-use Rattle.worker_ends.specs.Ends.{told_at}
 
 -- the first record that isn't left out, and those before it
 record Next (covers : List ℕ) (all : List Record) (first : Record) (logged : List Record) : Type 0 where
@@ -41,7 +40,7 @@ next_of covers (x ∷ all) first logged (inr out) =
 abbrev pub told_kept : Logs → Told
 told_kept logs = record { before = logs.before; base = logs.base; ticks = logs.kept }
 
-pub told_idle : (logs : Logs) → logs.pending ≡ [] → told_at logs ≡ told_kept logs
+pub told_idle : (logs : Logs) → logs.pending ≡ [] → told_in logs ≡ told_kept logs
 told_idle logs none = ap (λ l. record { before = logs.before; base = logs.base; ticks = l }) (ap (λ p. logs.kept ++ p) none ∙ append-nil logs.kept)
 
 module _ (laws : Laws) (cells : ℕ) (ticks : List (List Action)) (images : Images) (covers : List ℕ) (opened : (tick : ℕ) → Contains covers tick → tick ≤ images.tick) where

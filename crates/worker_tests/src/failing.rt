@@ -12,7 +12,7 @@ use std::sync::Wait;
 use std::test::Fail;
 use std::thread::Threads;
 use tcp_service::{Remote, Seats, open_world};
-use worker_threads::{Ends, Gates, Workers, start, stop};
+use worker_threads::{Ends, Gates, Workers, ends_meet, start, stop};
 use workers::{Ask, Open};
 use world_actions::Refusal;
 
@@ -111,7 +111,8 @@ fn play_broken<M: Seats + Send + 'static, R: Threads + Wait + Copy + Send + 'sta
     let (to, heard) = unbounded(alloc)?;
     let (workers, requests) = begin::<M, R>(rt, alloc, files, to, every)?;
     let page = play(rt, alloc, requests);
-    let ends = stop(rt, workers);
+    let mut ends = stop(rt, workers);
+    ends_meet(&mut ends);
     Ok(Left { ends, page, heard })
 }
 

@@ -1,9 +1,12 @@
 //! Tests of sessions over a port, and of workers that run in threads, in files of a model: a round that is open while
-//! ticks are answered, ticks that an image has before the log, and each call of a file failing in turn.
+//! ticks are answered, ticks that an image has before the log, each call of a file failing in turn, and what a crash leaves
+//! once their ends have met.
 #![tactic(auto)]
 
 #[cfg(test)]
 mod covers;
+#[cfg(test)]
+mod ends;
 #[cfg(test)]
 mod failing;
 #[cfg(test)]

@@ -2,7 +2,7 @@
 use Rattle.std.specs.Prelude.{◌≡◌, ◌≤◌, [], ◌∷◌, IsTrue, Bool, false, ℕ, List}
 use Rattle.world_ticks.specs.declared.tick.TheConstants.{TICK_MAX}
 use Rattle.action_log.specs.Files.{FitsFiles}
-use Rattle.shared_capture.specs.States.{FrontState, BackState}
+use Rattle.shared_capture.specs.States.{FrontState, BackState, HasFlags}
 use Rattle.workers.specs.Imaging as images
 use Rattle.workers.specs.Imaging.{Imaging}
 use Rattle.workers.specs.Logging.{Logging, IsReady, writer_at}
@@ -17,6 +17,7 @@ use Rattle.workers.specs.declared.log_writer.Log.{Log}
 pub record IsWhole {D : Type 0} (honest : Bool) (file : D → List ℕ) (front : FrontState) (back : BackState) (writer : ImageWriter D) (log : Log D) (ended : ℕ) : Type 0 where
   pub pair : front.pair ≡ back.pair
   pub rounds : front.rounds ≡ []
+  pub flags : HasFlags front
   pub done : back.done ≡ []
   pub cells : writer.keeper.cells ≡ back.cells
   pub rest : images.IsAtRest writer.keeper back

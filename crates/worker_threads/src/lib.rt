@@ -2,6 +2,7 @@
 //! they leave.
 #![tactic(auto)]
 
+mod meeting;
 mod opened;
 mod promises;
 mod running;
@@ -10,6 +11,7 @@ mod threads;
 mod watch;
 mod work;
 
+pub use meeting::ends_meet;
 pub use opened::{Gates, Opened};
 pub use threads::{Ends, Workers, start, stop};
 pub use watch::Watch;

@@ -3,6 +3,7 @@ ghost use Rattle.std.specs.Prelude.{◌≡◌, [], IfOk};
 ghost use Rattle.std.specs.Thread.{IsSend};
 ghost use Rattle.workers.specs.Logging.{IsAtRest};
 ghost use Rattle.workers.specs.Channel.{AreOneChannel};
+ghost use Rattle.worker_ends.specs.Ends.{acknowledged_by};
 ghost use Rattle.worker_threads.specs.Begun.{IsWhole, IsBegun};
 ghost use Rattle.worker_threads.specs.Kept.{KeepsFront, KeepsBack, KeepsLog};
 
@@ -54,6 +55,19 @@ pub struct Ends<M: Method, D: Disk + Drop, G: Gate + Drop> {
     ghost pair: { mutator.front.pair ≡ checkpointer.back.pair },
     ghost channel: { AreOneChannel log_writer.from.end mutator.to.end },
     ghost word: { log_writer.covers.pair ≡ checkpointer.covers.pair },
+}
+
+impl<M: Method, D: Disk + Drop, G: Gate + Drop> Ends<M, D, G> {
+    /// The greatest tick that is acknowledged: by a receipt of the log, or by an image that was opened.
+    pub fn acked(&self) -> u64
+        ensures { result ≡ acknowledged_by self.now.checkpointer self.now.log_writer }
+    {
+        let logged = self.log_writer.acked();
+        match self.checkpointer.images().keeper.newest() {
+            Some((_, tick)) if tick > logged => tick,
+            _ => logged,
+        }
+    }
 }
 
 type Players<M, D, G> = (

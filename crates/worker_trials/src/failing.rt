@@ -12,7 +12,7 @@ use std::sync::Wait;
 use std::thread::Threads;
 use tcp_service::{Remote, Seats, open_world};
 use trial_tallies::{FAILING_FILES, FailureTally};
-use worker_threads::{Ends, Workers, stop};
+use worker_threads::{Ends, Workers, ends_meet, stop};
 use workers::{Ask, Open};
 use world_actions::Refusal;
 
@@ -76,7 +76,8 @@ fn play<R: Threads + Wait + Copy, M: Seats>(
     failures: &mut FailureTally,
 ) -> Result<bool, Refusal> {
     let answered = run_batches(rt, alloc, requests);
-    let ends = stop(rt, workers);
+    let mut ends = stop(rt, workers);
+    ends_meet(&mut ends);
     judge_end(alloc, &ends, answered, failures)
 }
 

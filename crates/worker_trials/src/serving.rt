@@ -7,7 +7,7 @@ use std::alloc::Global;
 use std::sync::Wait;
 use std::thread::{self, JoinHandle, Threads};
 use tcp_service::{Seats, open_world};
-use worker_threads::{Ends, Workers, stop};
+use worker_threads::{Ends, Workers, ends_meet, stop};
 use workers::{Ask, Open};
 use world_actions::Refusal;
 
@@ -55,7 +55,8 @@ fn let_play<R: Threads + Wait + Copy + Send + 'static, M: Seats>(
 ) -> Result<Served<M>, Refusal> {
     let players = start_players(rt, alloc, requests, clock);
     let answers = join_players(rt, alloc, players);
-    let ends = stop(rt, workers);
+    let mut ends = stop(rt, workers);
+    ends_meet(&mut ends);
     Ok(Served {
         ends,
         answers: answers?,

@@ -1,20 +1,19 @@
 -- What the mutator pushed goes on with what it does.
-use Rattle.std.proofs.Common.{arith, ◌≡◌, ℕ, ◌+◌, ◌<◌, ◌≤◌, Bool, false, List, [], ◌∷◌, ◌++◌, All, refl, sym, ap, ◌∙◌, subst, append-nil}
+use Rattle.std.proofs.Common.{arith, ◌≡◌, inl, inr, ℕ, ◌+◌, ◌<◌, ◌≤◌, Bool, true, false, List, [], ◌∷◌, ◌++◌, All, length, get_or, refl, sym, ap, ◌∙◌, subst, append-nil}
 use Rattle.std.proofs.lemmas.List.Elements.{All-nil, All-push, All-weaker}
 use Rattle.world_ticks.specs.declared.tick.TheConstants.{TICK_MAX}
 use Rattle.action_log.specs.Queue.{QueueEnd}
 use Rattle.sessions.specs.declared.batch.Request.{Request}
 use Rattle.sessions.specs.Answer.{answer, accepted_of, words_after}
 use Rattle.shared_capture.specs.declared.view.Round.{Round}
-use Rattle.shared_capture.specs.States.{FrontState}
 use Rattle.shared_capture.specs.Rounds.{round}
-use Rattle.shared_capture.specs.States.{SameRounds}
+use Rattle.shared_capture.specs.States.{FrontState, HasFlags, KeepsUntouched, SameRounds, marked_rounds}
 use Rattle.workers.specs.declared.item.Item.{Item}
 use Rattle.workers.specs.declared.item.Ended.{Ended}
 use Rattle.workers.specs.declared.item.Item.TheVariants.{Start, Tick, Switch, End}
-use Rattle.workers.specs.Items.{items_end, end_after}
+use Rattle.workers.specs.Items.{Goes, items_end, end_after}
 use Rattle.workers.specs.Channel.{Pushing}
-use Rattle.workers.specs.Worlds.{World, after_item, Leads, begun, world_of, History, Counts}
+use Rattle.workers.specs.Worlds.{World, after_item, Leads, begun, world_of, IsUnchanged, AreUnchanged, IsLate, History, Counts}
 use Rattle.workers.specs.Mutating.{Playing, IsMutator}
 use Rattle.workers.proofs.Numbers.{end_more}
 
@@ -22,15 +21,51 @@ pub leads_snoc : (w : World) (items : List Item) (mid : World) (x : Item) (v : W
 leads_snoc w [] mid x v lead after = (v, subst (λ (u : World). after_item u x v) lead after, refl)
 leads_snoc w (y ∷ ys) mid x v lead after = (lead.0, lead.1, leads_snoc lead.0 ys mid x v lead.2 after)
 
+-- what was pushed leads to the front as it is
+leads_now : (opening : List ℕ) (items : List Item) (down : Bool) (front : FrontState) → History opening items down front → down ≡ false → Leads (begun opening) items (world_of front)
+leads_now opening items down front h up =
+    let all = h.all_told up in
+    subst (λ (l : List Item). Leads (begun opening) l (world_of front)) (ap (λ (l : List Item). items ++ l) all.0 ∙ append-nil items)
+    (subst (Leads (begun opening) (items ++ h.late)) all.1 h.leads)
+
 pub history_more : (opening : List ℕ) (items : List Item) (down : Bool) (x : Item) (front front' : FrontState) → History opening items down front → down ≡ false → after_item (world_of front) x (world_of front') → History opening (items ++ x ∷ []) down front'
 history_more opening items down x front front' h up after = record {
-  told = world_of front';
   late = [];
-  leads = leads_snoc (begun opening) items (world_of front) x (world_of front') (subst (Leads (begun opening) items) (h.all_told up) h.leads) after;
-  rounds = sym (append-nil front'.rounds);
-  late_words = All-nil (λ (r : Round). r.words ≡ front'.live);
-  all_told = λ _. refl;
+  is_late = inl refl;
+  told = world_of front';
+  leads = subst (λ (l : List Item). Leads (begun opening) l (world_of front')) (sym (append-nil (items ++ x ∷ [])))
+      (leads_snoc (begun opening) items (world_of front) x (world_of front') (leads_now opening items down front h up) after);
+  rounds = refl;
+  all_told = λ _. (refl, refl);
 }
+
+-- ---- cells that aren't touched
+
+-- another round is the last one
+last_unchanged : (before : List ℕ) (rounds : List Round) (r s : Round) → AreUnchanged before (rounds ++ r ∷ []) → ((words : List ℕ) → IsUnchanged words r → IsUnchanged words s) → AreUnchanged before (rounds ++ s ∷ [])
+last_unchanged before [] r s are same = (same before are.0, tt)
+last_unchanged before (q ∷ rounds) r s are same = (are.0, last_unchanged q.words rounds r s are.1 same)
+
+-- one more round
+more_unchanged : (before : List ℕ) (rounds : List Round) (r s : Round) → AreUnchanged before (rounds ++ r ∷ []) → IsUnchanged r.words s → AreUnchanged before ((rounds ++ r ∷ []) ++ s ∷ [])
+more_unchanged before [] r s are same = (are.0, (same, tt))
+more_unchanged before (q ∷ rounds) r s are same = (are.0, more_unchanged q.words rounds r s are.1 same)
+
+-- a batch was run
+unchanged_ran : (opening : List ℕ) (old new : FrontState) → new.rounds ≡ old.rounds → KeepsUntouched old new → AreUnchanged opening (marked_rounds old 0) → AreUnchanged opening (marked_rounds new 0)
+unchanged_ran opening old new rounds keeps are =
+    subst (λ (l : List Round). AreUnchanged opening (l ++ round 0 new.live new.touched ∷ [])) (sym rounds)
+    (last_unchanged opening old.rounds (round 0 old.live old.touched) (round 0 new.live new.touched) are (λ words same i no. let kept = keeps.cells i no in kept.1 ∙ same i kept.0))
+
+-- a round was opened
+unchanged_marked : (opening : List ℕ) (old new : FrontState) (tick : ℕ) → new.live ≡ old.live → new.rounds ≡ marked_rounds old tick → AreUnchanged opening (marked_rounds old 0) → AreUnchanged opening (marked_rounds new 0)
+unchanged_marked opening old new tick live rounds are =
+    let this : Round = round tick old.live old.touched in
+    subst (λ (l : List Round). AreUnchanged opening (l ++ round 0 new.live new.touched ∷ [])) (sym rounds)
+    (more_unchanged opening old.rounds this (round 0 new.live new.touched)
+    (last_unchanged opening old.rounds (round 0 old.live old.touched) this are (λ words same. same)) (λ i no. ap (λ (words : List ℕ). get_or words i 0) live))
+
+-- ---- the mutator
 
 abbrev UpTo : ℕ → List Round → Type 0
 UpTo base rounds = All (λ (r : Round). r.tick ≤ base) rounds
@@ -40,62 +75,122 @@ up_to_more base most rounds r le known this = All-push (λ (s : Round). s.tick �
 
 module _ (m : Playing) (front : FrontState) (to : Pushing) (is : IsMutator m) (up : m.down ≡ false) where
   pub ran : (ended : Ended) (requests : List Request) → to.items ≡ m.to.items ++ Tick ended ∷ [] → SameRounds m.front front → ended.tick.list ≡ accepted_of requests m.front.live
-      → ended.answer.text.items ≡ answer requests m.front.live ended.answer.number → front.live ≡ words_after requests m.front.live → m.ended < TICK_MAX
+      → ended.answer.text.items ≡ answer requests m.front.live ended.answer.number → front.live ≡ words_after requests m.front.live → m.ended < TICK_MAX → (HasFlags m.front → KeepsUntouched m.front front)
       → IsMutator (record m { front = front; to = to; ended = m.ended + 1; since = m.since + 1 })
-  ran ended requests pushed same tick text words room =
+  ran ended requests pushed same tick text words room keeps =
       let last : items_end to.items ≡ end_after (items_end m.to.items) (Tick ended) = ap items_end pushed ∙ end_more m.to.items (Tick ended) in
-      let counts = is.counts up in record {
+      let counts = is.counts in record {
         history = subst (λ (l : List Item). History m.opening l m.down front) (sym pushed)
             (history_more m.opening m.to.items m.down (Tick ended) m.front front is.history up (requests, record { tick = tick; text = text; words = words; rounds = same.1 }));
-        counts = λ _. subst (λ (e : QueueEnd). Counts e (m.ended + 1) (m.since + 1)) (sym last) (record { count = ap (λ k. k + 1) counts.count; all = omega (arith, counts.all) });
+        counts = subst (λ (e : QueueEnd). Counts e (m.ended + 1) (m.since + 1)) (sym last) (record { count = ap (λ k. k + 1) counts.count; all = omega (arith, counts.all) });
         rising = λ _. subst (λ (e : QueueEnd). UpTo e.base front.rounds) (sym last) (subst (UpTo (items_end m.to.items).base) (sym same.1) (is.rising up));
         most = omega (arith, room);
+        flags = (keeps is.flags).flags;
+        unchanged = unchanged_ran m.opening m.front front same.1 (keeps is.flags) is.unchanged;
       }
 
-  pub marked : to.items ≡ m.to.items ++ Switch m.ended ∷ [] → front.live ≡ m.front.live → front.rounds ≡ m.front.rounds ++ round m.ended m.front.live m.front.touched ∷ []
+  -- a batch was run, and the push of its tick refused
+  pub lost_tick : SameRounds m.front front → to ≡ m.to → (HasFlags m.front → KeepsUntouched m.front front) → IsMutator (record m { front = front; to = to; down = true })
+  lost_tick same refused keeps =
+      let h = is.history in record {
+        history = record {
+          late = h.late;
+          is_late = subst (λ (t : Pushing). IsLate t.items h.late) (sym refused) h.is_late;
+          told = h.told;
+          leads = subst (λ (t : Pushing). Leads (begun m.opening) (t.items ++ h.late) h.told) (sym refused) h.leads;
+          rounds = same.1 ∙ h.rounds;
+          all_told = λ no. absurd (cc);
+        };
+        counts = subst (λ (t : Pushing). Counts (items_end t.items) m.ended m.since) (sym refused) is.counts;
+        rising = λ no. absurd (cc);
+        most = is.most;
+        flags = (keeps is.flags).flags;
+        unchanged = unchanged_ran m.opening m.front front same.1 (keeps is.flags) is.unchanged;
+      }
+
+  -- a round is due
+  switch_goes : (m.since ≡ 0 → ⊥) → Goes (items_end m.to.items) (Switch m.ended)
+  switch_goes some = let counts = is.counts in (omega (arith, counts.all, counts.count), omega (arith, some, counts.count))
+
+  pub marked : to.items ≡ m.to.items ++ Switch m.ended ∷ [] → front.live ≡ m.front.live → front.rounds ≡ m.front.rounds ++ round m.ended m.front.live m.front.touched ∷ [] → HasFlags front
       → IsMutator (record m { front = front; to = to; since = 0 })
-  marked pushed live rounds =
+  marked pushed live rounds flags =
       let last : items_end to.items ≡ end_after (items_end m.to.items) (Switch m.ended) = ap items_end pushed ∙ end_more m.to.items (Switch m.ended) in
-      let counts = is.counts up in record {
+      let counts = is.counts in record {
         history = subst (λ (l : List Item). History m.opening l m.down front) (sym pushed)
             (history_more m.opening m.to.items m.down (Switch m.ended) m.front front is.history up (live, (m.front.touched, rounds)));
-        counts = λ _. subst (λ (e : QueueEnd). Counts e m.ended 0) (sym last) (record { count = refl; all = omega arith });
+        counts = subst (λ (e : QueueEnd). Counts e m.ended 0) (sym last) (record { count = refl; all = omega arith });
         rising = λ _. subst (λ (e : QueueEnd). UpTo e.base front.rounds) (sym last) (subst (UpTo m.ended) (sym rounds)
             (up_to_more (items_end m.to.items).base m.ended m.front.rounds (round m.ended m.front.live m.front.touched) (omega (arith, counts.all)) (is.rising up) (omega arith)));
         most = is.most;
+        flags = flags;
+        unchanged = unchanged_marked m.opening m.front front m.ended live rounds is.unchanged;
+      }
+
+  -- a round was opened, and the push of its switch refused
+  pub lost_switch : (m.since ≡ 0 → ⊥) → to ≡ m.to → front.live ≡ m.front.live → front.rounds ≡ m.front.rounds ++ round m.ended m.front.live m.front.touched ∷ [] → HasFlags front
+      → IsMutator (record m { front = front; to = to; down = true })
+  lost_switch some refused live rounds flags =
+      let now = leads_now m.opening m.to.items m.down m.front is.history up in record {
+        history = record {
+          late = Switch m.ended ∷ [];
+          is_late = inr (m.ended, refl, subst (λ (t : Pushing). Goes (items_end t.items) (Switch m.ended)) (sym refused) (switch_goes some));
+          told = world_of front;
+          leads = subst (λ (t : Pushing). Leads (begun m.opening) (t.items ++ Switch m.ended ∷ []) (world_of front)) (sym refused)
+              (leads_snoc (begun m.opening) m.to.items (world_of m.front) (Switch m.ended) (world_of front) now (live, (m.front.touched, rounds)));
+          rounds = refl;
+          all_told = λ no. absurd (cc);
+        };
+        counts = subst (λ (t : Pushing). Counts (items_end t.items) m.ended m.since) (sym refused) is.counts;
+        rising = λ no. absurd (cc);
+        most = is.most;
+        flags = flags;
+        unchanged = unchanged_marked m.opening m.front front m.ended live rounds is.unchanged;
       }
 
 -- a mutator of a world whose start has ended
-pub begins : (front : FrontState) (to : Pushing) (opening : List ℕ) (tick every : ℕ) → front.rounds ≡ [] → to.items ≡ Start tick ∷ [] → opening ≡ front.live → tick ≤ TICK_MAX
+pub begins : (front : FrontState) (to : Pushing) (opening : List ℕ) (tick every : ℕ) → front.rounds ≡ [] → to.items ≡ Start tick ∷ [] → opening ≡ front.live → tick ≤ TICK_MAX → HasFlags front
     → IsMutator (record { front = front; to = to; opening = opening; ended = tick; since = 0; every = every; down = false })
-begins front to opening tick every none start words numbered = record {
+begins front to opening tick every none start words numbered flags = record {
   history = record {
-    told = begun opening;
     late = [];
-    leads = subst (λ (l : List Item). Leads (begun opening) l (begun opening)) (sym start) (begun opening, refl, refl);
+    is_late = inl refl;
+    told = begun opening;
+    leads = subst (λ (l : List Item). Leads (begun opening) (l ++ []) (begun opening)) (sym start) (begun opening, refl, refl);
     rounds = none;
-    late_words = All-nil (λ (r : Round). r.words ≡ opening);
-    all_told = λ _. λ i. record { words = words i; rounds = sym none i };
+    all_told = λ _. (refl, λ i. record { words = words i; rounds = sym none i });
   };
-  counts = λ _. subst (λ (l : List Item). Counts (items_end l) tick 0) (sym start) (record { count = refl; all = omega arith });
+  counts = subst (λ (l : List Item). Counts (items_end l) tick 0) (sym start) (record { count = refl; all = omega arith });
   rising = λ _. subst (UpTo (items_end to.items).base) (sym none) (All-nil (λ (r : Round). r.tick ≤ (items_end to.items).base));
   most = numbered;
+  flags = flags;
+  unchanged = subst (λ (l : List Round). AreUnchanged opening (l ++ round 0 front.live front.touched ∷ [])) (sym none) ((λ i no. ap (λ (l : List ℕ). get_or l i 0) (sym words)), tt);
 }
 
 -- the last item, whether the mutator has stopped or not
+leads_end : (w : World) (items late : List Item) (v : World) → Leads w (items ++ late) v → Leads w ((items ++ End ∷ []) ++ late) v
+leads_end w [] late v lead = (w, refl, lead)
+leads_end w (y ∷ items) late v lead = (lead.0, lead.1, leads_end lead.0 items late v lead.2)
+
+late_end : (items more late : List Item) → items_end more ≡ items_end items → IsLate items late → IsLate more late
+late_end items more late same (inl none) = inl none
+late_end items more late same (inr one) = inr (one.0, one.1, subst (λ (e : QueueEnd). Goes e (Switch one.0)) (sym same) one.2)
+
 pub told_end : (m : Playing) (to : Pushing) → IsMutator m → to.items ≡ m.to.items ++ End ∷ [] → IsMutator (record m { to = to })
 told_end m to is pushed =
     let last : items_end to.items ≡ items_end m.to.items = ap items_end pushed ∙ end_more m.to.items End in
     let h = is.history in record {
       history = record {
-        told = h.told;
         late = h.late;
-        leads = subst (λ (l : List Item). Leads (begun m.opening) l h.told) (sym pushed) (leads_snoc (begun m.opening) m.to.items h.told End h.told h.leads refl);
+        is_late = late_end m.to.items to.items h.late last h.is_late;
+        told = h.told;
+        leads = subst (λ (l : List Item). Leads (begun m.opening) (l ++ h.late) h.told) (sym pushed) (leads_end (begun m.opening) m.to.items h.late h.told h.leads);
         rounds = h.rounds;
-        late_words = h.late_words;
         all_told = h.all_told;
       };
-      counts = λ up. subst (λ (e : QueueEnd). Counts e m.ended m.since) (sym last) (is.counts up);
+      counts = subst (λ (e : QueueEnd). Counts e m.ended m.since) (sym last) is.counts;
       rising = λ up. subst (λ (e : QueueEnd). UpTo e.base m.front.rounds) (sym last) (is.rising up);
       most = is.most;
+      flags = is.flags;
+      unchanged = is.unchanged;
     }

@@ -290,10 +290,11 @@ module _ {D : Type 0} (file : D → List ℕ) (leaves : D → List ℕ → Type 
         };
   }
 
-  pub checkpointer_goes_on : (next : Imaging D) (found : BackState) → AreInStep next.images.keeper next.back → (IsTrue honest → WriterFits file next.images) → FollowsRounds file leaves honest next.opening next.images next.back
+  pub checkpointer_goes_on : (next : Imaging D) (found : BackState) → AreInStep next.images.keeper next.back → next.opening.keeper.cells ≡ found.cells → (IsTrue honest → WriterFits file next.images) → FollowsRounds file leaves honest next.opening next.images next.back
       → RoundRuns found next.images.keeper next.back → (next.over ≡ false → next.images.keeper.phase ≡ Idle) → ArePublished next.images.keeper.newest next.back.done next.covers → IsCheckpointer honest file leaves next
-  checkpointer_goes_on next found step fits follows runs rests published = record {
+  checkpointer_goes_on next found step cells fits follows runs rests published = record {
     step = step;
+    cells = cells ∙ sym runs.same.1;
     fits = fits;
     follows = follows;
     published = published;

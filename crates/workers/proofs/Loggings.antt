@@ -1,5 +1,5 @@
 -- The log writer's invariant goes on with what it does.
-use Rattle.std.proofs.Common.{arith, ◌≡◌, ◌⊎◌, inl, ℕ, ◌+◌, ◌≤◌, Bool, true, false, IsTrue, List, [], ◌∷◌, ◌++◌, length, length-append, append-nil, refl, sym, ap, ◌∙◌, subst, None}
+use Rattle.std.proofs.Common.{arith, ◌≡◌, ◌⊎◌, inl, ℕ, ◌+◌, ◌≤◌, Bool, true, false, IsTrue, List, [], ◌∷◌, ◌++◌, length, length-append, append-nil, refl, sym, ap, ◌∙◌, subst, Option, None, IfSome}
 use Rattle.std.proofs.lemmas.List.{append_assoc}
 use Rattle.world_ticks.specs.declared.tick.TheConstants.{TICK_MAX}
 use Rattle.circular_buffer.specs.Buffer.{Buffer}
@@ -12,6 +12,7 @@ use Rattle.action_log.specs.Queue.{QueueEnd}
 use Rattle.action_log.specs.Progress.{QueueFollows, QueueFollowsIn, end_of, end_in, work_of, rest_in, switch_in}
 use Rattle.action_log.specs.Logs.{Logs}
 use Rattle.action_log.specs.Files.{FitsFiles}
+use Rattle.recovery.specs.Events.{with_work}
 use Rattle.shared_capture.specs.CoverWord.{CoverState}
 use Rattle.workers.specs.declared.item.Item.{Item}
 use Rattle.workers.specs.declared.item.Item.TheVariants.{Start, Tick, Switch, End}
@@ -21,7 +22,7 @@ use Rattle.workers.specs.Items.{Goes, end_after, items_end, record_of, records_o
 use Rattle.workers.specs.Channel.{Popping}
 use Rattle.workers.specs.Answering.{Answering, AreNext, answers_of, all_answers_of}
 use Rattle.workers.specs.Covering.{LeavesOut, loaded}
-use Rattle.workers.specs.Logging.{Logging, IsLogging, Writes, told_of, is_end, has_end, is_over, Took, HasAcked, LogStands, IsReady, writer_at}
+use Rattle.workers.specs.Logging.{Logging, IsLogging, Writes, told_in, is_end, has_end, is_over, Took, HasAcked, LogStands, IsReady, writer_at}
 use Rattle.workers.proofs.Numbers.{end_more}
 use Rattle.workers.proofs.Tellings.{LogAdvances, writes_on, writes_more, writes_lost}
 
@@ -32,13 +33,13 @@ records_more (y ∷ items) x = ap (λ (l : List Record). record_of y ++ l) (reco
 numbers_after : (end : QueueEnd) (item : Item) (number : ℕ) (waiting : List Waiting) → Goes end item → number + length waiting ≡ end.base + end.count → number + length (waiting ++ answers_of item) ≡ (end_after end item).base + (end_after end item).count
 numbers_after end (Start n) number waiting goes is = absurd goes
 numbers_after end (Tick ended) number waiting goes is = omega (arith, length-append waiting (ended.answer ∷ []), is)
-numbers_after end (Switch n) number waiting goes is = omega (arith, ap length (append-nil waiting), is, goes)
+numbers_after end (Switch n) number waiting goes is = omega (arith, ap length (append-nil waiting), is, goes.0)
 numbers_after end End number waiting goes is = omega (arith, ap length (append-nil waiting), is)
 
 most_after : (end : QueueEnd) (item : Item) → Goes end item → end.base + end.count ≤ TICK_MAX → (end_after end item).base + (end_after end item).count ≤ TICK_MAX
 most_after end (Start n) goes most = absurd goes
 most_after end (Tick ended) goes most = omega (arith, goes.1)
-most_after end (Switch n) goes most = omega (arith, goes, most)
+most_after end (Switch n) goes most = omega (arith, goes.0, most)
 most_after end End goes most = most
 
 module _ {D : Type 0} (file : D → List ℕ) (leaves : D → List ℕ → Type 0) (honest : Bool) (w : Logging D) (is : IsLogging file leaves honest w) where
@@ -61,9 +62,9 @@ module _ {D : Type 0} (file : D → List ℕ) (leaves : D → List ℕ → Type 
         posted = λ u. ap (λ (a : Answering). a.posted) answers_is ∙ (is.posted u ∙ sym (ap (λ (a : Answering). a.answered) answers_is));
         durable = subst (λ (a : Answering). a.posted ≤ w.acked) (sym answers_is) is.durable;
         writes = λ h logs stands.
-            (subst (λ (r : List Record). Writes file leaves w.log ring.items w.covers.ticks w.acked w.down (told_of logs) r) (sym (ap records_of popped ∙ records_more w.from.items item))
-            (subst (λ (b : Buffer Record). Writes file leaves w.log b.items w.covers.ticks w.acked w.down (told_of logs) (records_of w.from.items ++ record_of item)) (sym ring_is)
-            (writes_more file leaves w.log w.ring.items (record_of item) w.covers.ticks w.acked w.down (told_of logs) (records_of w.from.items) up (is.writes h logs stands))));
+            (subst (λ (r : List Record). Writes file leaves w.log ring.items w.covers.ticks w.acked w.down (told_in logs) r) (sym (ap records_of popped ∙ records_more w.from.items item))
+            (subst (λ (b : Buffer Record). Writes file leaves w.log b.items w.covers.ticks w.acked w.down (told_in logs) (records_of w.from.items ++ record_of item)) (sym ring_is)
+            (writes_more file leaves w.log w.ring.items (record_of item) w.covers.ticks w.acked w.down (told_in logs) (records_of w.from.items) up (is.writes h logs stands))));
       }
 
   pub advanced : (covers : CoverState) (tick : ℕ) (log : Log D) (ring : Buffer Record) (answers : Answering) (given : LogAnswer) (acked : ℕ) → log.keeper.starting ≡ false → (IsTrue honest → FitsFiles log.keeper (file log.a) (file log.b))
@@ -83,8 +84,8 @@ module _ {D : Type 0} (file : D → List ℕ) (leaves : D → List ℕ → Type 
     most = is.most;
     posted = λ up. posted (is.posted up);
     durable = durable;
-    writes = λ h logs stands. subst (λ (c : CoverState). Writes file leaves log ring.items c.ticks acked w.down (told_of logs) (records_of w.from.items)) (sym told)
-        (writes_on file leaves w.log log w.ring.items ring.items tick w.covers.ticks given w.acked acked w.down (told_of logs) (records_of w.from.items) is.follows which (advances h) (is.writes h logs stands));
+    writes = λ h logs stands. subst (λ (c : CoverState). Writes file leaves log ring.items c.ticks acked w.down (told_in logs) (records_of w.from.items)) (sym told)
+        (writes_on file leaves w.log log w.ring.items ring.items tick w.covers.ticks given w.acked acked w.down (told_in logs) (records_of w.from.items) is.follows which (advances h) (is.writes h logs stands));
   }
 
   -- an item is popped and lost
@@ -107,8 +108,8 @@ module _ {D : Type 0} (file : D → List ℕ) (leaves : D → List ℕ → Type 
         posted = λ up. absurd (let e : true ≡ false = sym down ∙ up in cc);
         durable = subst (λ k. k ≤ w.acked) (sym posted) is.durable;
         writes = λ h logs stands.
-            (subst (λ (r : List Record). Writes file leaves w.log w.ring.items w.covers.ticks w.acked w.down (told_of logs) r) (sym (ap records_of popped ∙ records_more w.from.items item))
-            (writes_lost file leaves w.log w.ring.items (record_of item) w.covers.ticks w.acked w.down (told_of logs) (records_of w.from.items) down (is.writes h logs stands)));
+            (subst (λ (r : List Record). Writes file leaves w.log w.ring.items w.covers.ticks w.acked w.down (told_in logs) r) (sym (ap records_of popped ∙ records_more w.from.items item))
+            (writes_lost file leaves w.log w.ring.items (record_of item) w.covers.ticks w.acked w.down (told_in logs) (records_of w.from.items) down (is.writes h logs stands)));
       }
 
 -- the answer of an item is the next one
@@ -194,10 +195,13 @@ no_work keeper (records.Switch n ∷ queue) none = absurd (omega (arith, none))
 -- ---- the beginning
 
 module _ {D : Type 0} (file : D → List ℕ) (leaves : D → List ℕ → Type 0) (honest : Bool) where
+  ready_switch : (log : Log D) (tick : ℕ) (logs : Logs) → IsReady log.keeper tick → LogStands file leaves log logs → logs.switch ≡ None
+  ready_switch log tick logs ready stands = ap (λ (l : Logs). l.switch) stands.0.is ∙ ap (λ p. switch_in p log.keeper.next_base) ready.phase
+
   has_first : (log : Log D) (tick : ℕ) (logs : Logs) → IsReady log.keeper tick → LogStands file leaves log logs → HasAcked tick logs
   has_first log tick logs ready stands = record {
     kept = omega (arith, ap (λ (l : Logs). l.base) stands.0.is, ready.base);
-    switched = λ number is. absurd (let none : logs.switch ≡ None = ap (λ (l : Logs). l.switch) stands.0.is ∙ ap (λ p. switch_in p log.keeper.next_base) ready.phase in cc);
+    switched = λ number is. absurd (let none = ready_switch log tick logs ready stands in cc);
   }
 
   begins : (from : Popping) (covers : CoverState) (log : Log D) (tick : ℕ) → from.items ≡ Start tick ∷ [] → tick ≤ TICK_MAX → IsReady log.keeper tick → (IsTrue honest → FitsFiles log.keeper (file log.a) (file log.b))
@@ -215,13 +219,14 @@ module _ {D : Type 0} (file : D → List ℕ) (leaves : D → List ℕ → Type 
         most = subst (λ (e : QueueEnd). e.base + e.count ≤ TICK_MAX) (sym last) (omega (arith, most));
         posted = λ up. refl;
         durable = omega arith;
-        writes = λ h logs stands. record {
+        writes = λ h logs stands. let none = ready_switch log tick logs ready stands in record {
           logs = logs;
           stands = stands;
           given = [];
           lost = [];
           told = refl;
-          order = subst (λ (all : List Record). LeavesOut covers.ticks all []) (sym (ap records_of opened)) refl;
+          order = subst (λ (all : List Record). LeavesOut covers.ticks all (with_work logs.switch [] ++ [])) (sym (ap records_of opened)) (ap (λ (s : Option ℕ). with_work s [] ++ []) none);
+          one_job = subst (λ (s : Option ℕ). IfSome s (λ _. logs.pending ≡ [])) (sym none) tt;
           none_lost = λ up. refl;
           acknowledged = inl (has_first log tick logs ready stands);
         };

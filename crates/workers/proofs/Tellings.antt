@@ -1,5 +1,5 @@
 -- What the files of the log tell goes on with each step of its keeper.
-use Rattle.std.proofs.Common.{arith, ◌≡◌, ◌⊎◌, inl, inr, ℕ, ◌+◌, ◌≤◌, Bool, true, false, IsTrue, List, [], ◌∷◌, ◌++◌, length, length-append, append-nil, refl, sym, ap, ◌∙◌, subst, None}
+use Rattle.std.proofs.Common.{arith, ◌≡◌, ◌⊎◌, inl, inr, ℕ, ◌+◌, ◌≤◌, Bool, true, false, IsTrue, List, [], ◌∷◌, ◌++◌, length, length-append, append-nil, refl, sym, ap, ◌∙◌, subst, Option, Some, None, IfSome}
 use Rattle.std.specs.Prelude.{Contains}
 use Rattle.std.proofs.lemmas.List.{append_assoc}
 use Rattle.std.proofs.lemmas.List.Elements.{Contains-push}
@@ -10,16 +10,17 @@ use Rattle.action_log.specs.declared.answer.LogAnswer.TheVariants as answer
 use Rattle.action_log.specs.declared.phase.Phase.{Phase}
 use Rattle.action_log.specs.declared.phase.Phase.TheVariants as phases
 use Rattle.action_log.specs.declared.progress.Progress.{Progress}
-use Rattle.action_log.specs.Segment.{Tick, joined}
+use Rattle.action_log.specs.Segment.{Tick, OpenSegment, joined}
 use Rattle.action_log.specs.Queue.{StandBefore}
 use Rattle.action_log.specs.Progress.{is_of_start, switch_in, QueueFollowsIn, QueueFollows}
 use Rattle.action_log.specs.Logs.{Logs}
 use Rattle.action_log.specs.LogSteps.{is_idle, TakesGroup, TakesSwitch, GoesOn, EndsSwitch, Acknowledges, LogsStep}
 use Rattle.action_log.specs.Stands.{StandsAfterStart}
+use Rattle.recovery.specs.Events.{with_work}
 use Rattle.workers.specs.declared.log_writer.Log.{Log}
 use Rattle.action_log.specs.Cover.{Covers, CoverStep}
 use Rattle.workers.specs.Covering.{LeavesOut, IsCovered, Advances}
-use Rattle.workers.specs.Logging.{Told, after_record, after_records, told_in, told_of, HasAcked, LogStands, Writes}
+use Rattle.workers.specs.Logging.{Told, after_record, after_records, told_in, HasOneJob, HasAcked, LogStands, Writes}
 use Rattle.workers.proofs.Coverings.{leaves_more, leaves_later, covered_later, cover_leaves}
 
 pub after_append : (told : Told) (xs ys : List Record) → after_records told (xs ++ ys) ≡ after_records (after_records told xs) ys
@@ -38,49 +39,70 @@ group_told (actions ∷ ticks) (records.Tick first ∷ queue) left told s =
     )
 group_told (actions ∷ ticks) (records.Switch tick ∷ queue) left told s = absurd s
 
--- the records that a step takes are told by it
+-- the records that a step has written are told by it, and one job is in work at most
 abbrev StepTells : Logs → List Record → Logs → List Record → Type 0
-StepTells logs queue next left = (taken : List Record) × (queue ≡ taken ++ left) × (told_of next ≡ after_records (told_of logs) taken)
+StepTells logs queue next left =
+    (written : List Record) × (with_work logs.switch queue ≡ written ++ with_work next.switch left) × (told_in next ≡ after_records (told_in logs) written) × HasOneJob next
 
-idle_told : (logs : Logs) → is_idle logs → told_of logs ≡ record { before = logs.before; base = logs.base; ticks = logs.kept }
-idle_told logs idle = ap (told_in logs) idle.1 ∙ ap (λ (t : List Tick). let told : Told = record { before = logs.before; base = logs.base; ticks = t } in told) (ap (λ (p : List Tick). logs.kept ++ p) idle.0 ∙ append-nil logs.kept)
+same_work : (queue left : List Record) (old new : Option ℕ) → new ≡ old → left ≡ queue → with_work old queue ≡ with_work new left
+same_work queue left old new switch rest = ap (λ (s : Option ℕ). with_work s queue) (sym switch) ∙ ap (λ (q : List Record). with_work new q) (sym rest)
 
-same_told : (logs : Logs) (queue : List Record) (next : Logs) (left : List Record) → next ≡ logs → left ≡ queue → StepTells logs queue next left
-same_told logs queue next left is queue_is = ([], sym queue_is, ap told_of is)
+same_told : (logs : Logs) (queue : List Record) (next : Logs) (left : List Record) → next ≡ logs → left ≡ queue → HasOneJob logs → StepTells logs queue next left
+same_told logs queue next left is rest one = ([], same_work queue left logs.switch next.switch (ap (λ (l : Logs). l.switch) is) rest, ap told_in is, subst HasOneJob (sym is) one)
+
+no_switch_one : (logs : Logs) → logs.switch ≡ None → HasOneJob logs
+no_switch_one logs none = subst (λ (s : Option ℕ). IfSome s (λ _. logs.pending ≡ [])) (sym none) tt
 
 takes_group_told : (logs : Logs) (queue : List Record) (next : Logs) (left : List Record) → TakesGroup logs queue next left → StepTells logs queue next left
 takes_group_told logs queue next left t =
-    let group = group_told t.group queue left (told_of logs) t.in_front in
-    let after : told_of next ≡ record { before = logs.before; base = logs.base; ticks = logs.kept ++ t.group } = ap told_of t.is ∙ ap (told_in (record logs { pending = t.group })) t.idle.1 in
-    (group.0, group.1, after ∙ sym (group.2 ∙ ap (λ (told : Told). record told { ticks = told.ticks ++ t.group }) (idle_told logs t.idle)))
+    let group = group_told t.group queue left (told_in logs) t.in_front in
+    let none : next.switch ≡ None = ap (λ (l : Logs). l.switch) t.is ∙ t.idle.1 in
+    let kept : logs.kept ++ logs.pending ≡ logs.kept = ap (λ (p : List Tick). logs.kept ++ p) t.idle.0 ∙ append-nil logs.kept in (
+      group.0,
+      ap (λ (s : Option ℕ). with_work s queue) t.idle.1 ∙ (group.1 ∙ ap (λ (s : Option ℕ). group.0 ++ with_work s left) (sym none)),
+      ap told_in t.is ∙ sym (group.2 ∙ ap (λ (k : List Tick). let told : Told = record { before = logs.before; base = logs.base; ticks = k ++ t.group } in told) kept),
+      no_switch_one next none,
+    )
 
 takes_switch_told : (logs : Logs) (queue : List Record) (next : Logs) (left : List Record) → TakesSwitch logs queue next left → StepTells logs queue next left
-takes_switch_told logs queue next left t =
-    (records.Switch t.tick ∷ [], t.in_front, ap told_of t.is ∙ sym (ap (λ (told : Told). after_record told (records.Switch t.tick)) (idle_told logs t.idle)))
+takes_switch_told logs queue next left t = (
+  [],
+  ap (λ (s : Option ℕ). with_work s queue) t.idle.1 ∙ (t.in_front ∙ sym (ap (λ (l : Logs). with_work l.switch left) t.is)),
+  ap told_in t.is,
+  subst HasOneJob (sym t.is) t.idle.0,
+)
 
-goes_on_told : (logs : Logs) (queue : List Record) (next : Logs) (left : List Record) → GoesOn logs queue next left → StepTells logs queue next left
-goes_on_told logs queue next left (inl same) = same_told logs queue next left same.0 same.1
-goes_on_told logs queue next left (inr (inl t)) = takes_group_told logs queue next left t
-goes_on_told logs queue next left (inr (inr t)) = takes_switch_told logs queue next left t
+goes_on_told : (logs : Logs) (queue : List Record) (next : Logs) (left : List Record) → GoesOn logs queue next left → HasOneJob logs → StepTells logs queue next left
+goes_on_told logs queue next left (inl same) one = same_told logs queue next left same.0 same.1 one
+goes_on_told logs queue next left (inr (inl t)) one = takes_group_told logs queue next left t
+goes_on_told logs queue next left (inr (inr t)) one = takes_switch_told logs queue next left t
 
-ends_switch_told : (logs : Logs) (queue : List Record) (next : Logs) (left : List Record) → EndsSwitch logs queue next left → StepTells logs queue next left
-ends_switch_told logs queue next left e = ([], sym e.queue_is, ap told_of e.is ∙ sym (ap (told_in logs) e.in_work))
+ends_switch_told : (logs : Logs) (queue : List Record) (next : Logs) (left : List Record) → EndsSwitch logs queue next left → HasOneJob logs → StepTells logs queue next left
+ends_switch_told logs queue next left e one =
+    let none : next.switch ≡ None = ap (λ (l : Logs). l.switch) e.is in
+    let nothing : logs.pending ≡ [] = subst (λ (s : Option ℕ). IfSome s (λ _. logs.pending ≡ [])) e.in_work one in
+    let kept : logs.kept ++ logs.pending ≡ logs.kept = ap (λ (p : List Tick). logs.kept ++ p) nothing ∙ append-nil logs.kept in (
+      records.Switch e.tick ∷ [],
+      ap (λ (s : Option ℕ). with_work s queue) e.in_work ∙ ap (λ (l : List Record). records.Switch e.tick ∷ l) (same_work queue left None next.switch none e.queue_is),
+      ap told_in e.is ∙ sym (ap (λ (k : List Tick). let told : Told = record { before = OpenSegment logs.base k; base = e.tick; ticks = [] } in told) kept),
+      no_switch_one next none,
+    )
 
 acknowledges_told : (logs : Logs) (queue : List Record) (next : Logs) (left : List Record) (tick : ℕ) → Acknowledges logs queue next left tick → StepTells logs queue next left
 acknowledges_told logs queue next left tick a =
-    let kept : Logs = record logs { kept = logs.kept ++ logs.pending; pending = [] } in (
+    let same : next.switch ≡ logs.switch = ap (λ (l : Logs). l.switch) a.is in (
       [],
-      sym a.queue_is,
-      ap told_of a.is ∙ (ap (told_in kept) a.no_switch
-          ∙ (ap (λ (t : List Tick). let told : Told = record { before = logs.before; base = logs.base; ticks = t } in told) (append-nil (logs.kept ++ logs.pending)) ∙ sym (ap (told_in logs) a.no_switch))),
+      same_work queue left logs.switch next.switch same a.queue_is,
+      ap told_in a.is ∙ ap (λ (t : List Tick). let told : Told = record { before = logs.before; base = logs.base; ticks = t } in told) (append-nil (logs.kept ++ logs.pending)),
+      no_switch_one next (same ∙ a.no_switch),
     )
 
-pub step_told : (logs : Logs) (queue : List Record) (given : LogAnswer) (next : Logs) (left : List Record) → LogsStep logs queue given next left → StepTells logs queue next left
-step_told logs queue answer.Idle next left step = same_told logs queue next left step.2 step.3
-step_told logs queue answer.Working next left (inl goes) = goes_on_told logs queue next left goes
-step_told logs queue answer.Working next left (inr ends) = ends_switch_told logs queue next left ends
-step_told logs queue (answer.Acked tick) next left step = acknowledges_told logs queue next left tick step
-step_told logs queue answer.Down next left step = goes_on_told logs queue next left step
+pub step_told : (logs : Logs) (queue : List Record) (given : LogAnswer) (next : Logs) (left : List Record) → LogsStep logs queue given next left → HasOneJob logs → StepTells logs queue next left
+step_told logs queue answer.Idle next left step one = same_told logs queue next left step.2 step.3 one
+step_told logs queue answer.Working next left (inl goes) one = goes_on_told logs queue next left goes one
+step_told logs queue answer.Working next left (inr ends) one = ends_switch_told logs queue next left ends one
+step_told logs queue (answer.Acked tick) next left step one = acknowledges_told logs queue next left tick step
+step_told logs queue answer.Down next left step one = goes_on_told logs queue next left step one
 
 -- ---- acknowledged ticks
 
@@ -146,12 +168,25 @@ cover_takes covers tick all given lost logs queue left taken c order at =
     subst (λ (l : List Record). LeavesOut covers all (given ++ (l ++ lost))) (sym c.next)
     (cover_leaves covers tick all given taken c.behind lost at (subst (λ (l : List Record). LeavesOut covers all (given ++ (l ++ lost))) front order))
 
-cover_order : (covers : List ℕ) (tick : ℕ) (all given lost : List Record) (logs : Logs) (queue left : List Record) (answered : LogAnswer) → CoverStep logs queue tick answered left → LeavesOut covers all (given ++ (queue ++ lost)) → Contains covers tick
-    → LeavesOut covers all (given ++ (left ++ lost))
-cover_order covers tick all given lost logs queue left answer.Idle same order at = subst (λ (l : List Record). LeavesOut covers all (given ++ (l ++ lost))) (sym same) order
-cover_order covers tick all given lost logs queue left answer.Working c order at = cover_takes covers tick all given lost logs queue left c.0 c.1 order at
-cover_order covers tick all given lost logs queue left (answer.Acked number) c order at = cover_takes covers tick all given lost logs queue left c.0 c.1 order at
-cover_order covers tick all given lost logs queue left answer.Down same order at = subst (λ (l : List Record). LeavesOut covers all (given ++ (l ++ lost))) (sym same) order
+-- so they stood behind no switch in work
+cover_works : (covers : List ℕ) (tick : ℕ) (all given lost : List Record) (logs : Logs) (queue left : List Record) (taken : List Record) → Covers logs queue tick taken left
+    → LeavesOut covers all (given ++ (with_work logs.switch queue ++ lost)) → Contains covers tick → LeavesOut covers all (given ++ (with_work logs.switch left ++ lost))
+cover_works covers tick all given lost logs queue left taken c order at =
+    let none = c.idle.1 in
+    subst (λ (s : Option ℕ). LeavesOut covers all (given ++ (with_work s left ++ lost))) (sym none)
+    (cover_takes covers tick all given lost logs queue left taken c (subst (λ (s : Option ℕ). LeavesOut covers all (given ++ (with_work s queue ++ lost))) none order) at)
+
+cover_order : (covers : List ℕ) (tick : ℕ) (all given lost : List Record) (logs : Logs) (queue left : List Record) (answered : LogAnswer) → CoverStep logs queue tick answered left
+    → LeavesOut covers all (given ++ (with_work logs.switch queue ++ lost)) → Contains covers tick → LeavesOut covers all (given ++ (with_work logs.switch left ++ lost))
+cover_order covers tick all given lost logs queue left answer.Idle same order at = subst (λ (l : List Record). LeavesOut covers all (given ++ (with_work logs.switch l ++ lost))) (sym same) order
+cover_order covers tick all given lost logs queue left answer.Working c order at = cover_works covers tick all given lost logs queue left c.0 c.1 order at
+cover_order covers tick all given lost logs queue left (answer.Acked number) c order at = cover_works covers tick all given lost logs queue left c.0 c.1 order at
+cover_order covers tick all given lost logs queue left answer.Down same order at = subst (λ (l : List Record). LeavesOut covers all (given ++ (with_work logs.switch l ++ lost))) (sym same) order
+
+-- records behind the queue are behind the switch in work too
+work_append : (switch : Option ℕ) (queue more : List Record) → with_work switch (queue ++ more) ≡ with_work switch queue ++ more
+work_append None queue more = refl
+work_append (Some tick) queue more = refl
 
 step_order : (covers : List ℕ) (all given taken queue left lost : List Record) → queue ≡ taken ++ left → LeavesOut covers all (given ++ (queue ++ lost)) → LeavesOut covers all ((given ++ taken) ++ (left ++ lost))
 step_order covers all given taken queue left lost front order =
@@ -189,7 +224,8 @@ module _ {D : Type 0} (file : D → List ℕ) (leaves : D → List ℕ → Type 
     given = w.given;
     lost = w.lost;
     told = w.told;
-    order = leaves_later covers later all (w.given ++ (ring ++ w.lost)) w.order;
+    order = leaves_later covers later all (w.given ++ (with_work w.logs.switch ring ++ w.lost)) w.order;
+    one_job = w.one_job;
     none_lost = w.none_lost;
     acknowledged = elim w.acknowledged [ inl has ↦ inl has | inr is ↦ inr (covered_later covers later acked is) ];
   }
@@ -198,14 +234,15 @@ module _ {D : Type 0} (file : D → List ℕ) (leaves : D → List ℕ → Type 
       → (acked' ≡ acked) ⊎ (given ≡ answer.Acked acked') → (w : Writes file leaves log ring covers acked down first all) → (next : Logs) → LogStands file leaves after next → Advances tick w.logs ring given next left
       → Writes file leaves after left covers acked' down first all
   advanced log after ring left tick covers given acked acked' down first all follows at which w next stands (inl step) =
-      let taken = step_told w.logs ring given next left step in
+      let taken = step_told w.logs ring given next left step w.one_job in
       record {
         logs = next;
         stands = stands;
         given = w.given ++ taken.0;
         lost = w.lost;
         told = taken.2 ∙ (ap (λ (t : Told). after_records t taken.0) w.told ∙ sym (after_append first w.given taken.0));
-        order = step_order covers all w.given taken.0 ring left w.lost taken.1 w.order;
+        order = step_order covers all w.given taken.0 (with_work w.logs.switch ring) (with_work next.switch left) w.lost taken.1 w.order;
+        one_job = taken.3;
         none_lost = w.none_lost;
         acknowledged = stepped_acked log w.logs next ring left given covers acked acked' follows w.stands which step w.acknowledged;
       }
@@ -214,8 +251,9 @@ module _ {D : Type 0} (file : D → List ℕ) (leaves : D → List ℕ → Type 
     stands = stands;
     given = w.given;
     lost = w.lost;
-    told = ap told_of cover.0 ∙ w.told;
-    order = cover_order covers tick all w.given w.lost w.logs ring left given cover.1 w.order at;
+    told = ap told_in cover.0 ∙ w.told;
+    order = subst (λ (l : Logs). LeavesOut covers all (w.given ++ (with_work l.switch left ++ w.lost))) (sym cover.0) (cover_order covers tick all w.given w.lost w.logs ring left given cover.1 w.order at);
+    one_job = subst HasOneJob (sym cover.0) w.one_job;
     none_lost = w.none_lost;
     acknowledged = covered_acked tick w.logs next ring left given covers acked acked' at cover.0 which cover.1 w.acknowledged;
   }
@@ -236,10 +274,13 @@ module _ {D : Type 0} (file : D → List ℕ) (leaves : D → List ℕ → Type 
     given = w.given;
     lost = [];
     told = w.told;
-    order = (let plain : (w.given ++ (ring ++ w.lost)) ++ more ≡ w.given ++ ((ring ++ more) ++ []) =
-        ap (λ (l : List Record). (w.given ++ l) ++ more) (ap (λ (l : List Record). ring ++ l) (w.none_lost up) ∙ append-nil ring)
-        ∙ (append_assoc w.given ring more ∙ ap (λ (l : List Record). w.given ++ l) (sym (append-nil (ring ++ more)))) in
-        subst (LeavesOut covers (all ++ more)) plain (leaves_more covers all (w.given ++ (ring ++ w.lost)) more w.order));
+    order = (let work : List Record = with_work w.logs.switch ring in
+        let behind : work ++ more ≡ with_work w.logs.switch (ring ++ more) = sym (work_append w.logs.switch ring more) in
+        let plain : (w.given ++ (work ++ w.lost)) ++ more ≡ w.given ++ (with_work w.logs.switch (ring ++ more) ++ []) =
+        ap (λ (l : List Record). (w.given ++ l) ++ more) (ap (λ (l : List Record). work ++ l) (w.none_lost up) ∙ append-nil work)
+        ∙ (append_assoc w.given work more ∙ ap (λ (l : List Record). w.given ++ l) (behind ∙ sym (append-nil (with_work w.logs.switch (ring ++ more))))) in
+        subst (LeavesOut covers (all ++ more)) plain (leaves_more covers all (w.given ++ (work ++ w.lost)) more w.order));
+    one_job = w.one_job;
     none_lost = λ _. refl;
     acknowledged = w.acknowledged;
   }
@@ -252,9 +293,11 @@ module _ {D : Type 0} (file : D → List ℕ) (leaves : D → List ℕ → Type 
     given = w.given;
     lost = w.lost ++ more;
     told = w.told;
-    order = (let plain : (w.given ++ (ring ++ w.lost)) ++ more ≡ w.given ++ (ring ++ (w.lost ++ more)) =
-        append_assoc w.given (ring ++ w.lost) more ∙ ap (λ (l : List Record). w.given ++ l) (append_assoc ring w.lost more) in
-        subst (LeavesOut covers (all ++ more)) plain (leaves_more covers all (w.given ++ (ring ++ w.lost)) more w.order));
+    order = (let work : List Record = with_work w.logs.switch ring in
+        let plain : (w.given ++ (work ++ w.lost)) ++ more ≡ w.given ++ (work ++ (w.lost ++ more)) =
+        append_assoc w.given (work ++ w.lost) more ∙ ap (λ (l : List Record). w.given ++ l) (append_assoc work w.lost more) in
+        subst (LeavesOut covers (all ++ more)) plain (leaves_more covers all (w.given ++ (work ++ w.lost)) more w.order));
+    one_job = w.one_job;
     none_lost = λ up. absurd (let e : true ≡ false = sym is_down ∙ up in cc);
     acknowledged = w.acknowledged;
   }

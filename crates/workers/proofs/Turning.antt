@@ -1,6 +1,6 @@
 -- What the mutator did, told of it as it was.
 use Rattle.std.proofs.Common.{◌≡◌, ◌+◌, true, [], ◌∷◌, ◌++◌, refl, ap, subst, inl, inr}
-use Rattle.shared_capture.specs.States.{FrontState, SameWords, marked_rounds}
+use Rattle.shared_capture.specs.States.{FrontState, HasFlags, SameWords, marked_rounds}
 use Rattle.workers.specs.declared.item.Ended.{Ended}
 use Rattle.workers.specs.declared.item.Item.TheVariants.{Tick, Switch}
 use Rattle.workers.specs.declared.mutator.Ask.{Ask}
@@ -8,15 +8,15 @@ use Rattle.workers.specs.Channel.{Pushing}
 use Rattle.workers.specs.Mutating.{Playing, MarksIfDue, Runs, PushesTick, LosesTick}
 
 module _ (m old : Playing) (is : m ≡ old) (front : FrontState) (to : Pushing) where
-  pub marks : SameWords m.front front → front.rounds ≡ marked_rounds m.front m.ended → to.end ≡ m.to.end → to.items ≡ m.to.items ++ Switch m.ended ∷ []
+  pub marks : SameWords m.front front → front.rounds ≡ marked_rounds m.front m.ended → HasFlags front → to.end ≡ m.to.end → to.items ≡ m.to.items ++ Switch m.ended ∷ []
       → MarksIfDue old (record m { front = front; to = to; since = 0 })
-  marks same rounds end items = let new : Playing = record m { front = front; to = to; since = 0 } in
-      subst (λ (p : Playing). MarksIfDue p new) is (inr (inr (inl (refl, (same, rounds), end, items))))
+  marks same rounds flags end items = let new : Playing = record m { front = front; to = to; since = 0 } in
+      subst (λ (p : Playing). MarksIfDue p new) is (inr (inr (inl (refl, (same, rounds, flags), end, items))))
 
-  pub loses_switch : SameWords m.front front → front.rounds ≡ marked_rounds m.front m.ended → to ≡ m.to
+  pub loses_switch : SameWords m.front front → front.rounds ≡ marked_rounds m.front m.ended → HasFlags front → to ≡ m.to
       → MarksIfDue old (record m { front = front; to = to; down = true })
-  loses_switch same rounds refused = let new : Playing = record m { front = front; to = to; down = true } in
-      subst (λ (p : Playing). MarksIfDue p new) is (inr (inr (inr (ap (λ (t : Pushing). record m { front = front; to = t; down = true }) refused, (same, rounds)))))
+  loses_switch same rounds flags refused = let new : Playing = record m { front = front; to = to; down = true } in
+      subst (λ (p : Playing). MarksIfDue p new) is (inr (inr (inr (ap (λ (t : Pushing). record m { front = front; to = t; down = true }) refused, (same, rounds, flags)))))
 
   module _ (ask : Ask) (ended : Ended) (runs : Runs m ask ended front) where
     pub pushes_tick : to.end ≡ m.to.end → to.items ≡ m.to.items ++ Tick ended ∷ []

@@ -119,10 +119,11 @@ pub record Imaging (D : Type 0) : Type 0 where
 abbrev pub IsAtRest : Progress → BackState → Type 0
 IsAtRest keeper back = (keeper.phase ≡ Idle) × (back.working ≡ false)
 
--- keeper, files and back are in step, the images of the rounds that are done are published, and between two turns no
--- round is in work
+-- keeper, files and back are in step, and of as many cells as at the opening, the images of the rounds that are done are
+-- published, and between two turns no round is in work
 pub record IsCheckpointer {D : Type 0} (honest : Bool) (file : D → List ℕ) (leaves : D → List ℕ → Type 0) (c : Imaging D) : Type 0 where
   pub step : AreInStep c.images.keeper c.back
+  pub cells : c.opening.keeper.cells ≡ c.back.cells
   pub fits : IsTrue honest → WriterFits file c.images
   pub follows : FollowsRounds file leaves honest c.opening c.images c.back
   pub published : ArePublished c.images.keeper.newest c.back.done c.covers

@@ -1,5 +1,5 @@
 -- The items that go from the mutator to the log writer.
-use Rattle.std.specs.Prelude.{◌≡◌, ◌+◌, ◌<◌, List, [], ◌∷◌, ◌++◌, ⊤}
+use Rattle.std.specs.Prelude.{◌≡◌, ◌+◌, ◌<◌, ◌≤◌, List, [], ◌∷◌, ◌++◌, ⊤}
 use Rattle.world_ticks.specs.declared.tick.TheConstants.{TICK_MAX}
 use Rattle.action_log.specs.declared.format.TheConstants.{SEGMENT_TICKS}
 use Rattle.action_log.specs.declared.record.Record.{Record}
@@ -19,11 +19,11 @@ records_of [] = []
 records_of (item ∷ items) = record_of item ++ records_of items
 
 -- An item may stand behind so many ticks since this base: no segment gets too many ticks, a tick has the next number,
--- and a switch has the number of the last tick.
+-- and a switch has the number of the last tick, with a tick since the last switch or start.
 abbrev pub Goes : QueueEnd → Item → Type 0
 Goes end (Start number) = ⊥
 Goes end (Tick ended) = (end.count < SEGMENT_TICKS) × (end.base + end.count < TICK_MAX) × (ended.answer.number ≡ end.base + end.count + 1)
-Goes end (Switch number) = number ≡ end.base + end.count
+Goes end (Switch number) = (number ≡ end.base + end.count) × (1 ≤ end.count)
 Goes end End = ⊤
 
 abbrev pub end_after : QueueEnd → Item → QueueEnd

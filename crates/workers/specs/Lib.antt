@@ -10,3 +10,4 @@ pub mod Covering
 pub mod Logging
 pub mod Publishing
 pub mod Imaging
+pub mod Meeting

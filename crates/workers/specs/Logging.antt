@@ -1,5 +1,5 @@
 -- The log writer as contracts see it.
-use Rattle.std.specs.Prelude.{◌≡◌, ◌⊎◌, ℕ, ◌+◌, ◌≤◌, Bool, true, false, IsTrue, List, [], ◌∷◌, ◌++◌, length, Option, Some, None}
+use Rattle.std.specs.Prelude.{◌≡◌, ◌⊎◌, ℕ, ◌+◌, ◌≤◌, Bool, true, false, IsTrue, List, [], ◌∷◌, ◌++◌, length, Some, IfSome}
 use Rattle.world_ticks.specs.declared.tick.TheConstants.{TICK_MAX}
 use Rattle.circular_buffer.specs.Buffer.{Buffer}
 use Rattle.action_log.specs.declared.record.Record.{Record}
@@ -11,6 +11,7 @@ use Rattle.action_log.specs.Progress.{QueueFollows, end_of, work_of}
 use Rattle.action_log.specs.Logs.{Logs, Writing}
 use Rattle.action_log.specs.Files.{FitsFiles}
 use Rattle.action_log.specs.Stands.{Stands}
+use Rattle.recovery.specs.Events.{with_work}
 use Rattle.shared_capture.specs.CoverWord.{CoverState}
 use Rattle.workers.specs.declared.item.Item.{Item}
 use Rattle.workers.specs.declared.item.Item.TheVariants as items
@@ -53,13 +54,13 @@ abbrev pub after_records : Told → List Record → Told
 after_records told [] = told
 after_records told (first ∷ queue) = after_records (after_record told first) queue
 
-abbrev pub told_in : Logs → Option ℕ → Told
-told_in logs None = record { before = logs.before; base = logs.base; ticks = logs.kept ++ logs.pending }
-told_in logs (Some number) = record { before = OpenSegment logs.base logs.kept; base = number; ticks = [] }
+-- what the two segments tell, with the group in work and without the switch in work
+abbrev pub told_in : Logs → Told
+told_in logs = record { before = logs.before; base = logs.base; ticks = logs.kept ++ logs.pending }
 
--- what the two segments tell once the job in work is done
-abbrev pub told_of : Logs → Told
-told_of logs = told_in logs logs.switch
+-- a group or a switch is in work, not both
+abbrev pub HasOneJob : Logs → Type 0
+HasOneJob logs = IfSome logs.switch (λ _. logs.pending ≡ [])
 
 -- the ticks up to this one are in the current segment, or below its base, now and after the switch in work
 pub record HasAcked (acked : ℕ) (logs : Logs) : Type 0 where
@@ -116,15 +117,16 @@ module _ {D : Type 0} (file : D → List ℕ) (leaves : D → List ℕ → Type 
   LogStands log logs = Stands log.keeper (file log.a) (file log.b) (leaves log.a) (leaves log.b) (record { journal = Writing logs; left = 0 })
 
   -- The files tell what was told at first, and behind it the first of these records, but for those left out for a switch
-  -- at one of these ticks; those that follow are queued, and once the log is down there may be others that are lost. What
-  -- is acknowledged is written, or one of these ticks isn't below it.
+  -- at one of these ticks; the switch in work comes next, those that follow are queued, and once the log is down there may be
+  -- others that are lost. What is acknowledged is written, or one of these ticks isn't below it.
   pub record Writes (log : Log D) (ring : List Record) (covers : List ℕ) (acked : ℕ) (down : Bool) (first : Told) (all : List Record) : Type 0 where
     pub logs : Logs
     pub stands : LogStands log logs
     pub given : List Record
     pub lost : List Record
-    pub told : told_of logs ≡ after_records first given
-    pub order : LeavesOut covers all (given ++ (ring ++ lost))
+    pub told : told_in logs ≡ after_records first given
+    pub order : LeavesOut covers all (given ++ (with_work logs.switch ring ++ lost))
+    pub one_job : HasOneJob logs
     pub none_lost : down ≡ false → lost ≡ []
     pub acknowledged : HasAcked acked logs ⊎ IsCovered covers acked
 
@@ -139,7 +141,7 @@ module _ {D : Type 0} (file : D → List ℕ) (leaves : D → List ℕ → Type 
     pub most : (items_end w.from.items).base + (items_end w.from.items).count ≤ TICK_MAX
     pub posted : w.down ≡ false → w.answers.posted ≡ w.answers.answered
     pub durable : w.answers.posted ≤ w.acked
-    pub writes : IsTrue honest → (logs : Logs) → LogStands w.opening logs → Writes w.log w.ring.items w.covers.ticks w.acked w.down (told_of logs) (records_of w.from.items)
+    pub writes : IsTrue honest → (logs : Logs) → LogStands w.opening logs → Writes w.log w.ring.items w.covers.ticks w.acked w.down (told_in logs) (records_of w.from.items)
 
 -- these items were popped, their records are queued, and their answers wait
 pub record Took {D : Type 0} (old new : Logging D) (more : List Item) : Type 0 where

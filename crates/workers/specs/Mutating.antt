@@ -5,13 +5,13 @@ use Rattle.world_actions.specs.declared.refusal.Refusal.TheVariants.{NoMemory, L
 use Rattle.world_ticks.specs.declared.tick.TheConstants.{TICK_MAX}
 use Rattle.action_log.specs.Refusals.{tick_refusal}
 use Rattle.shared_capture.specs.declared.view.Round.{Round}
-use Rattle.shared_capture.specs.States.{FrontState, SameWords, marked_rounds, IsRefused}
+use Rattle.shared_capture.specs.States.{FrontState, HasFlags, KeepsUntouched, SameWords, marked_rounds, IsRefused}
 use Rattle.workers.specs.declared.item.Ended.{Ended}
 use Rattle.workers.specs.declared.item.Item.TheVariants.{Tick, Switch, End}
 use Rattle.workers.specs.declared.mutator.Ask.{Ask}
 use Rattle.workers.specs.Items.{items_end}
 use Rattle.workers.specs.Channel.{Pushing}
-use Rattle.workers.specs.Worlds.{History, Counts, RanBatch, world_of}
+use Rattle.workers.specs.Worlds.{AreUnchanged, History, Counts, RanBatch, world_of}
 
 -- its front, its end of the channel, the words that it began with, how many ticks ended, how many of them since the last
 -- switch or start, after how many a round is due, and whether it has stopped
@@ -25,12 +25,14 @@ pub record Playing : Type 0 where
   pub down : Bool
 
 -- What it pushed tells what its front did, its counts are those of what it pushed, and each round is of a tick up to the
--- last switch.
+-- last switch. The cells that aren't touched have the words of the round before, in a round that is marked now, too.
 pub record IsMutator (m : Playing) : Type 0 where
   pub history : History m.opening m.to.items m.down m.front
-  pub counts : m.down ≡ false → Counts (items_end m.to.items) m.ended m.since
+  pub counts : Counts (items_end m.to.items) m.ended m.since
   pub rising : m.down ≡ false → All (λ (r : Round). r.tick ≤ (items_end m.to.items).base) m.front.rounds
   pub most : m.ended ≤ TICK_MAX
+  pub flags : HasFlags m.front
+  pub unchanged : AreUnchanged m.opening (marked_rounds m.front 0)
 
 -- ---- a round
 
@@ -40,7 +42,7 @@ IsEarly m = (m.since ≡ 0) ⊎ (m.since < m.every)
 
 -- the round of the ended ticks was opened
 abbrev pub OpensRound : Playing → FrontState → Type 0
-OpensRound old front = SameWords old.front front × (front.rounds ≡ marked_rounds old.front old.ended)
+OpensRound old front = SameWords old.front front × (front.rounds ≡ marked_rounds old.front old.ended) × HasFlags front
 
 -- a round was open
 abbrev pub FindsRound : Playing → Playing → Type 0
@@ -67,6 +69,7 @@ pub record Runs (old : Playing) (ask : Ask) (ended : Ended) (front : FrontState)
   pub session : ended.answer.to ≡ ask.to
   pub pair : front.pair ≡ old.front.pair
   pub ran : RanBatch ask.batch.list (world_of old.front) ended (world_of front)
+  pub untouched : KeepsUntouched old.front front
 
 -- the tick was pushed
 abbrev pub PushesTick : Playing → Ask → Playing → Type 0

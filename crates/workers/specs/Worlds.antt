@@ -1,14 +1,15 @@
 -- What the mutator did, by what it pushed.
-use Rattle.std.specs.Prelude.{◌≡◌, ℕ, ◌+◌, Bool, false, List, [], ◌∷◌, ◌++◌, All}
+use Rattle.std.specs.Prelude.{◌≡◌, ◌⊎◌, ℕ, ◌+◌, Bool, false, List, [], ◌∷◌, ◌++◌, slice_index, ⊤}
 use Rattle.action_log.specs.Queue.{QueueEnd}
 use Rattle.sessions.specs.declared.batch.Request.{Request}
 use Rattle.sessions.specs.Answer.{answer, accepted_of, words_after}
 use Rattle.shared_capture.specs.declared.view.Round.{Round}
 use Rattle.shared_capture.specs.States.{FrontState}
-use Rattle.shared_capture.specs.Rounds.{round}
+use Rattle.shared_capture.specs.Rounds.{flag_at, round}
 use Rattle.workers.specs.declared.item.Item.{Item}
 use Rattle.workers.specs.declared.item.Ended.{Ended}
 use Rattle.workers.specs.declared.item.Item.TheVariants.{Start, Tick, Switch, End}
+use Rattle.workers.specs.Items.{Goes, items_end}
 
 -- the words of the world, and the rounds opened so far
 pub record World : Type 0 where
@@ -43,14 +44,32 @@ begun words = record { words = words; rounds = [] }
 abbrev pub world_of : FrontState → World
 world_of front = record { words = front.live; rounds = front.rounds }
 
--- The items pushed tell what the front did. Only where a push was refused a round may be told by none, or a tick.
+-- ---- rounds one after another
+
+-- a cell that the round doesn't count as touched has the word that it had before
+abbrev pub IsUnchanged : (before : List ℕ) → Round → Type 0
+IsUnchanged before r = (i : ℕ) → flag_at r.touched i ≡ false → slice_index r.words i ≡ slice_index before i
+
+-- each round's cells that aren't touched have the words of the round before it, and of the first one these
+abbrev pub AreUnchanged : List ℕ → List Round → Type 0
+AreUnchanged before [] = ⊤
+AreUnchanged before (r ∷ rounds) = IsUnchanged before r × AreUnchanged r.words rounds
+
+-- ---- what the front did
+
+-- no round, or one whose switch the channel refused
+abbrev pub IsLate : (items late : List Item) → Type 0
+IsLate items late = (late ≡ []) ⊎ ((number : ℕ) × (late ≡ Switch number ∷ []) × Goes (items_end items) (Switch number))
+
+-- The items pushed tell what the front did, together with the switch of the last round where its push was refused. Only a
+-- tick whose push was refused is told by none.
 pub record History (opening : List ℕ) (items : List Item) (down : Bool) (front : FrontState) : Type 0 where
+  pub late : List Item
+  pub is_late : IsLate items late
   pub told : World
-  pub late : List Round
-  pub leads : Leads (begun opening) items told
-  pub rounds : front.rounds ≡ told.rounds ++ late
-  pub late_words : All (λ (r : Round). r.words ≡ told.words) late
-  pub all_told : down ≡ false → told ≡ world_of front
+  pub leads : Leads (begun opening) (items ++ late) told
+  pub rounds : front.rounds ≡ told.rounds
+  pub all_told : down ≡ false → (late ≡ []) × (told ≡ world_of front)
 
 -- so many ticks ended, and so many of them since the last switch or start
 pub record Counts (end : QueueEnd) (ended since : ℕ) : Type 0 where

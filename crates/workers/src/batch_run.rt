@@ -4,7 +4,7 @@ ghost use Rattle.world_ticks.specs.declared.tick.TheConstants.{TICK_MAX};
 ghost use Rattle.action_log.specs.declared.format.TheConstants.{SEGMENT_TICKS};
 ghost use Rattle.action_log.specs.Refusals.{tick_refusal};
 ghost use Rattle.sessions.specs.Answer.{answer, accepted_of, words_after};
-ghost use Rattle.shared_capture.specs.States.{SameRounds};
+ghost use Rattle.shared_capture.specs.States.{HasFlags, KeepsUntouched, SameRounds};
 
 use action_log::tick_refusal;
 use sessions::{Batch, answer_text};
@@ -27,6 +27,7 @@ pub fn play<M: Method>(
     ensures text { IfOk result (λ played. played.1.items ≡ answer b.now.list front.old.live (ended + 1)) }
     ensures words { OnOk result (front.new.live ≡ words_after b.now.list front.old.live) }
     ensures rounds { SameRounds front.old front.new }
+    ensures untouched { HasFlags front.old → KeepsUntouched front.old front.new }
     ensures room { OnOk result ((down ≡ false) × (ended < TICK_MAX) × (since < SEGMENT_TICKS)) }
     ensures refused { IfErr result (λ reason. (reason ≡ Refusal.NoMemory) ⊎ (tick_refusal down ended since ≡ Some reason)) }
     ensures unchanged { OnErr result (front.new ≡ front.old) }

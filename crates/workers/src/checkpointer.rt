@@ -24,13 +24,13 @@ pub use round::ImageWriter;
 #[derive(Drop)]
 pub struct Checkpointer<M: Method, D: Disk + Drop, G: Gate + Drop> {
     gate: G,
-    back: Back<M>,
+    pub(crate) back: Back<M>,
     /// Told the tick of each image that is open.
-    covers: CoverOut,
+    pub(crate) covers: CoverOut,
     images: ImageWriter<D>,
     opening: Snapshot<ImageWriter<D>>,
     bell: Receiver<()>,
-    over: bool,
+    pub(crate) over: bool,
 }
 
 impl<M: Method, D: Disk + Drop, G: Gate + Drop> Model for Checkpointer<M, D, G> {

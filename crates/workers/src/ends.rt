@@ -151,11 +151,13 @@ fn compare_passes(
     *theirs = end.another::<Part>(mine);
 }
 
-/// Once the two ends are in one thread again, what was popped is known to be a beginning of what was pushed.
+/// Once the two ends are in one thread again, what was popped is known to be a beginning of what was pushed, each where it
+/// may stand.
 pub fn compare(to: &mut ItemSender, from: &mut ItemReceiver)
     requires { AreOneChannel from.old.end to.old.end }
     ensures same { (to.new ≡ to.old) × (from.new ≡ from.old) }
     ensures order { (rest : List Pushed) × (from.new.items ++ rest ≡ to.new.items) }
+    ensures numbered { AreNumbered to.new.items }
 {
     compare_passes(&to.end.end, &mut to.pass, &mut from.pass);
 }

@@ -3,7 +3,7 @@
 //! The mutator runs batches on the front of a pair of seats, and pushes their ticks with their answers, and the
 //! switches of the rounds that it opens, on a channel under a rule. The log writer pops them, writes the log, and
 //! answers each batch once its tick is durable. The checkpointer writes the image of each round from the back,
-//! while play goes on. Nothing is locked.
+//! while play goes on. Nothing is locked. Where they end they meet.
 #![tactic(auto)]
 
 mod batch_run;
@@ -12,6 +12,7 @@ mod ends;
 mod gate;
 mod item;
 mod log_writer;
+mod meeting;
 mod mutator;
 mod plays;
 mod post;
@@ -22,6 +23,7 @@ pub use ends::{ItemReceiver, ItemSender, ReceiveEnd, SendEnd, compare, open};
 pub use gate::{Gate, Open, Pass, Place};
 pub use item::{Ended, Item, View};
 pub use log_writer::{Log, LogWriter};
+pub use meeting::meet_workers;
 pub use mutator::{Ask, Mutator};
 pub use plays::InOrder;
 pub use post::{Post, Reply, Waiting};

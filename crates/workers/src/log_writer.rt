@@ -46,9 +46,9 @@ pub struct Log<D: Disk + Drop> {
 #[derive(Drop)]
 pub struct LogWriter<D: Disk + Drop, G: Gate + Drop> {
     gate: G,
-    from: ItemReceiver,
+    pub(crate) from: ItemReceiver,
     /// Tells the tick of the newest open image.
-    covers: CoverIn,
+    pub(crate) covers: CoverIn,
     log: Log<D>,
     ring: HeapCircularBuffer<Record>,
     answers: Answers,

@@ -1,6 +1,7 @@
 //! The worker that runs the batches.
 ghost use Rattle.std.specs.Prelude.{◌≡◌, ◌++◌, ◌∷◌, [], ◌≤◌, true, false, Err};
 ghost use Rattle.world_ticks.specs.declared.tick.TheConstants.{TICK_MAX};
+ghost use Rattle.shared_capture.specs.States.{HasFlags};
 ghost use Rattle.workers.specs.declared.gate.Place.TheVariants.{Tick};
 ghost use Rattle.workers.specs.declared.item.Item.TheVariants.{Start};
 ghost use Rattle.workers.specs.Gates.{MayStick};
@@ -35,8 +36,8 @@ pub struct Ask {
 pub struct Mutator<M: Method, G: Gate + Drop> {
     gate: G,
     alloc: Global,
-    front: Front<M>,
-    to: ItemSender,
+    pub(crate) front: Front<M>,
+    pub(crate) to: ItemSender,
     opening: Snapshot<Front<M>>,
     /// Rung after each switch.
     bell: Option<Sender<()>>,
@@ -71,6 +72,7 @@ impl<M: Method, G: Gate + Drop> Mutator<M, G> {
         log_is_down: Arc<AtomicBool, Global>,
     ) -> Self
         requires none { front.rounds ≡ [] }
+        requires flags { HasFlags front }
         requires start { to.items ≡ Start tick ∷ [] }
         requires numbered { tick ≤ TICK_MAX }
         ensures { result ≡ record { front = front; to = to; opening = front.live; ended = tick; since = 0; every = every; down = false } }

@@ -172,7 +172,7 @@ fn print_stopped<R: Print, M: Method, D: Disk + Drop, G: Gate + Drop>(
     ensures { IfErr result IsFault }
 {
     let ended = stopped.ends.mutator.ended();
-    let acked = stopped.ends.log_writer.acked();
+    let acked = stopped.ends.acked();
     println!(rt; "stopped tick {ended} acked {acked}")?;
     Ok(())
 }

@@ -1,9 +1,11 @@
+use Rattle.action_log.specs.Logs.{Writing}
 use Rattle.worker_ends.proofs.Below.{Laws}
-use Rattle.worker_ends.proofs.Meeting.{sound}
+use Rattle.worker_ends.proofs.Ended.{FilesAre, ended}
 use Rattle.worker_ends.proofs.laws.ends_are_sound.Goals as goal
 
 pub returns : goal.returns
-returns g c = λ image_a image_b log_a log_b cells ticks words first images start logs items rounds done now popped rest covers acknowledged.
+returns g c = λ m p w.
+    let D = g.D.Disk in
     let laws : Laws = record {
       tick_ends = c.events_keep.ensures.tick_ends;
       mark = c.events_keep.ensures.mark;
@@ -17,4 +19,10 @@ returns g c = λ image_a image_b log_a log_b cells ticks words first images star
       append = c.actions_go_on.ensures.append;
       cells = c.actions_go_on.ensures.cells;
     } in
-    sound laws cells ticks words first images start logs items rounds done now (c.law_of_recovery.ensures image_a image_b log_a log_b) popped rest covers acknowledged
+    let files : FilesAre D.content D.may_leave = record {
+      left = λ writer images stands. c.images_stay.ensures.left writer.keeper images writer.image_a writer.image_b stands;
+      newest = λ writer images stands. c.images_stay.ensures.newest writer.keeper images writer.image_a writer.image_b stands;
+      idle = λ writer images stands rest. c.images_stay.ensures.idle writer.keeper images writer.image_a writer.image_b stands rest;
+      logs = λ log logs stands. c.log_outcomes.ensures.reads log.keeper log.a log.b (record { journal = Writing logs; left = 0 }) stands;
+    } in
+    ended D.content D.may_leave D.honest laws files m p w (c.law_of_recovery.ensures p.images.image_a p.images.image_b w.log.a w.log.b)

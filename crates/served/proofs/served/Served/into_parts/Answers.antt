@@ -1,6 +1,8 @@
-use Rattle.std.proofs.Common.{sym, ap, ◌∙◌, length}
+use Rattle.std.proofs.Common.{◌≡◌, ℕ, sym, ap, ◌∙◌, subst, length, arith}
 use Rattle.served.specs.declared.serving.Serving.{Serving}
-use Rattle.served.proofs.Following.{none_waits, no_work, log_is_ready}
+use Rattle.served.proofs.Following.{none_waits, no_work, log_is_ready, none_left, settles}
+use Rattle.restart.specs.InStep.{IsSettled}
+use Rattle.served.specs.Serving.{Serves}
 use Rattle.served.proofs.served.Served.into_parts.Goals as goal
 
 pub returns-in-Ok-clause-none_queued : goal.returns-in-Ok-clause-none_queued
@@ -23,4 +25,28 @@ returns-in-Ok-clause-rest g c =
       log_ready = log_is_ready engine.log engine.queue.items engine.ended engine.since c.self.invariant.rests log.end log.within;
       within = log.within;
       most = log.most;
+    }
+
+pub returns-in-Ok-clause-settled : goal.returns-in-Ok-clause-settled
+returns-in-Ok-clause-settled g c = λ up idle none ticks serves.
+    let D = g.D.Disk in
+    let serving = c.self.inside.serving in
+    let engine = serving.engine in
+    let files = serving.files in
+    let log = c.self.invariant.log in
+    let rests = no_work engine.log engine.queue.items c.self.invariant.rests up in
+    let ready = log_is_ready engine.log engine.queue.items engine.ended engine.since c.self.invariant.rests log.end log.within up in
+    let base : engine.log.base ≡ engine.ended = (let all = ready.all in omega (arith, all, none)) in
+    let now = subst (λ s. Serves g.C.Capture.content D.content D.may_leave D.honest s ticks) (sym c.self.view_is) serves in
+    let s = settles g.C.Capture.content D.content D.may_leave engine files ticks serving.acked now.follows now.started (none_waits engine.log engine.queue.items rests).1 base
+    (λ place stands. none_left engine.log.starting place.left now.started (c.log_outcomes.ensures.left engine.log files.log_a files.log_b place stands).0)
+    (λ logs stands. c.log_outcomes.ensures.ready engine.log files.log_a files.log_b logs 0 stands ready.ready)
+    (λ images stands. c.images_stay.ensures.idle engine.images images files.image_a files.image_b stands idle) in
+    record {
+      images = s.images;
+      logs = s.logs;
+      settled = subst (λ words. IsSettled engine.images.cells ticks words s.images s.logs) (sym c.in-Ok.ensures.words) s.settled;
+      has_images = s.has_images;
+      has_log = s.has_log;
+      ended = s.ended;
     }

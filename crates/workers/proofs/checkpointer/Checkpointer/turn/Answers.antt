@@ -26,7 +26,7 @@ invariant_of-self-2 g c =
     begins c.self.invariant.follows) in
     checkpointer_goes_on D.content D.may_leave D.honest
     (record { back = round.back; covers = round.covers; images = round.images; opening = opening; over = c.run_round-self-inside.result }) found
-    e.step e.fits follows e.runs e.ends.0
+    e.step (c.self.invariant.cells ∙ sym c.look.ensures.same.1) e.fits follows e.runs e.ends.0
     (published_on c.run_round-self-inside.result c.in-Some.tick old.keeper.newest opening.keeper.newest round.images.keeper c.self.inside.back found round.back c.self.inside.covers round.covers
     c.self.invariant.published (c.is_due.ensures.due (search rules)).1 c.self.invariant.follows.newest follows.newest c.look.ensures.same.2 ((c.in-Some.ensures.found rest.1).0).2 e.runs e.publishes e.ends.0 e.ends.1)
 

@@ -1,0 +1,52 @@
+-- The ends of the workers as plain data.
+use Rattle.std.specs.Prelude.{◌≡◌, ℕ, All, List, [], ◌∷◌, ◌++◌, length, Option, Some, None}
+use Rattle.image_files.specs.Images.{ImageFiles}
+use Rattle.action_log.specs.Logs.{Logs}
+use Rattle.action_log.specs.declared.record.Record.{Record}
+use Rattle.recovery.specs.Events.{ticks_in, with_work}
+use Rattle.shared_capture.specs.declared.view.Round.{Round}
+use Rattle.shared_capture.specs.declared.view.Snapshot.{Snapshot}
+use Rattle.shared_capture.specs.Rounds.{Agree}
+use Rattle.workers.specs.declared.item.Item.{Item}
+use Rattle.workers.specs.Items.{records_of, GoAll}
+use Rattle.workers.specs.Worlds.{World, Leads, begun, AreUnchanged}
+use Rattle.workers.specs.Covering.{LeavesOut}
+use Rattle.workers.specs.Logging.{Told, told_in, after_records, HasOneJob}
+use Rattle.workers.specs.Imaging as imaging
+use Rattle.workers.specs.Imaging.{images_after}
+
+-- a snapshot, where there is one
+abbrev pub one_or_none : Option Snapshot → List Snapshot
+one_or_none None = []
+one_or_none (Some now) = now ∷ []
+
+-- the images once these rounds are done, and this one is in work
+abbrev pub images_with : ImageFiles → List Snapshot → Option Snapshot → ImageFiles
+images_with images done None = images_after images done
+images_with images done (Some now) = imaging.with_work now (images_after images done)
+
+-- after so many ticks the mutator pushed these items, which tell what it played from these words on, and its front has these
+-- rounds
+pub record IsPlayed (words : List ℕ) (ended : ℕ) (items : List Item) (opened : List Round) : Type 0 where
+  pub late : List Item
+  pub no_ticks : ticks_in (records_of late) ≡ []
+  pub numbered : GoAll (record { base = ended; count = 0 }) (items ++ late)
+  pub told : World
+  pub leads : Leads (begun words) (items ++ late) told
+  pub rounds : opened ≡ told.rounds
+  pub unchanged : AreUnchanged words opened
+
+-- of these rounds the back has done all, each cell of them, or all but the last, which it is at
+pub record IsTaken (cells : ℕ) (rounds : List Round) (done : List Snapshot) (now : Option Snapshot) : Type 0 where
+  pub agree : Agree rounds (done ++ one_or_none now)
+  pub all : length rounds ≡ length (done ++ one_or_none now)
+  pub whole : All (λ (s : Snapshot). length s.taken ≡ cells) done
+
+-- the segments tell what was told at first and behind it the first of the records that were popped, but for those left out for
+-- a switch at one of these ticks; the switch in work is the next of them
+pub record IsLogged (first : Told) (popped : List Record) (covers : List ℕ) (logs : Logs) : Type 0 where
+  pub given : List Record
+  pub more : List Record
+  pub told : told_in logs ≡ after_records first given
+  pub order : LeavesOut covers popped (given ++ with_work logs.switch more)
+  pub one_job : HasOneJob logs

@@ -1,0 +1,41 @@
+//! The workers once no thread has them any more.
+ghost use Rattle.std.specs.Prelude.{◌≡◌, true};
+ghost use Rattle.shared_capture.specs.States.{MetBack};
+ghost use Rattle.workers.specs.Channel.{AreOneChannel};
+ghost use Rattle.workers.specs.Mutating.{IsMutator};
+ghost use Rattle.workers.specs.Imaging.{IsCheckpointer};
+ghost use Rattle.workers.specs.Logging.{IsLogging};
+ghost use Rattle.workers.specs.Meeting.{HaveMet};
+
+use crate::checkpointer::Checkpointer;
+use crate::ends::compare;
+use crate::gate::Gate;
+use crate::log_writer::LogWriter;
+use crate::mutator::Mutator;
+use disk_model::Disk;
+use shared_capture::{Method, meet, meet_cover};
+
+/// The ends of a world's workers meet: their seats, their channel and their word. The checkpointer does no more. What is
+/// true of each worker between two turns is told with it, for whom it is only a value.
+pub fn meet_workers<M: Method, D: Disk + Drop, G: Gate + Drop>(
+    mutator: &mut Mutator<M, G>,
+    checkpointer: &mut Checkpointer<M, D, G>,
+    log_writer: &mut LogWriter<D, G>,
+)
+    requires pair { mutator.old.front.pair ≡ checkpointer.old.back.pair }
+    requires channel { AreOneChannel log_writer.old.from.end mutator.old.to.end }
+    requires word { log_writer.old.covers.pair ≡ checkpointer.old.covers.pair }
+    ensures met { HaveMet mutator.new checkpointer.new log_writer.new }
+    ensures mutator { mutator.new ≡ record mutator.old { front = record mutator.old.front { closed = mutator.new.front.closed } } }
+    ensures checkpointer { checkpointer.new ≡ record checkpointer.old { back = checkpointer.new.back; over = true } }
+    ensures back { MetBack checkpointer.old.back checkpointer.new.back }
+    ensures log_writer { log_writer.new ≡ log_writer.old }
+    ensures is_mutator { IsMutator mutator.new }
+    ensures is_checkpointer { IsCheckpointer D.honest D.content D.may_leave checkpointer.new }
+    ensures is_log_writer { IsLogging D.content D.may_leave D.honest log_writer.new }
+{
+    meet(&mut mutator.front, &mut checkpointer.back);
+    checkpointer.over = true;
+    compare(&mut mutator.to, &mut log_writer.from);
+    meet_cover(&mut checkpointer.covers, &mut log_writer.covers);
+}
