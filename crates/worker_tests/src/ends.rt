@@ -1,18 +1,17 @@
 //! Workers that have ended and met: whatever a crash leaves of their files, what was answered is there.
-use crate::worlds::{Teller, found_in, new_files, open_files};
+use crate::worlds::{Teller, Told, found_in, new_files, open_files};
 use crossbeam_channel::{Sender, unbounded};
 use disk_model::{Leaving, ModelFile};
 use line_service::World;
 use sessions::{Batch, Request};
 use shared_capture::{Method, Pong, Zig};
-use std::alloc::Global;
+use std::alloc::{AllocError, Global};
 use std::process::Abort;
 use std::sync::Wait;
 use std::test::Fail;
-use std::thread;
-use std::thread::Threads;
+use std::thread::{self, JoinHandle, Threads};
 use tcp_service::{Remote, Seats};
-use worker_threads::{Ends, Gates, ends_meet, start, stop};
+use worker_threads::{Ends, Gates, Workers, ends_meet, start, stop};
 use workers::{Ask, Gate, Pass, Place};
 use world_actions::{Action, Refusal};
 
@@ -82,56 +81,78 @@ fn play_sessions<R: Threads + Wait + Copy + Send + 'static>(
     rt: &R,
     alloc: Global,
     requests: Sender<Ask>,
-) -> Result<u64, Fail> {
+) -> u64 {
     let mut sessions = Vec::new(alloc);
     for _ in 0..SESSIONS {
-        let requests = requests.clone()?;
-        let here = *rt;
-        let Ok(session) = thread::spawn(rt, move || play(&here, alloc, requests)) else {
-            return Err(Fail::new("no thread"));
-        };
-        sessions.push(session)?;
+        if start_session(rt, alloc, &requests, &mut sessions).is_err() {
+            break;
+        }
     }
     drop(requests);
     let mut answered = 0u64;
     for session in sessions {
         answered = answered.saturating_add(session.join(rt));
     }
-    Ok(answered)
+    answered
 }
 
-// Runs workers in a new world of two cells, of which the checkpointer makes so many steps, and brings their ends together.
-fn run<M: Seats + Send + 'static, R: Threads + Wait + Abort + Copy + Send + 'static>(
+fn start_session<R: Threads + Wait + Copy + Send + 'static>(
+    rt: &R,
+    alloc: Global,
+    requests: &Sender<Ask>,
+    sessions: &mut Vec<JoinHandle<u64>>,
+) -> Result<(), AllocError> {
+    let requests = requests.clone()?;
+    let here = *rt;
+    match thread::spawn(rt, move || play(&here, alloc, requests)) {
+        Ok(session) => Ok(sessions.push(session)?),
+        Err(_) => Err(AllocError),
+    }
+}
+
+// Starts workers in a new world of two cells, of which the checkpointer makes so many steps.
+fn begin<M: Seats + Send + 'static, R: Threads + Wait + Copy + Send + 'static>(
     rt: &R,
     alloc: Global,
     steps: Option<u64>,
-) -> Result<Ends<M, ModelFile, Steps>, Fail> {
+    to: Sender<Told>,
+) -> Result<(Workers<M, ModelFile, Steps>, Sender<Ask>), Fail> {
+    let opened = open_files::<M, ModelFile>(alloc, new_files(alloc, 2)?)?;
     let gates = Gates {
         mutator: Steps { left: None },
         checkpointer: Steps { left: steps },
         log_writer: Steps { left: None },
     };
-    let opened = open_files::<M, ModelFile>(alloc, new_files(alloc, 2)?)?;
+    let begun = start(rt, alloc, gates, Teller { rt: *rt, to }, opened, EVERY)?;
+    Ok(begun)
+}
+
+// Runs such workers, and brings their ends together.
+fn run<M: Seats + Send + 'static, R: Threads + Wait + Abort + Copy + Send + 'static>(
+    rt: &R,
+    alloc: Global,
+    steps: Option<u64>,
+) -> Result<Ends<M, ModelFile, Steps>, Fail> {
     let (to, _heard) = unbounded(alloc)?;
-    let (workers, requests) = start(rt, alloc, gates, Teller { rt: *rt, to }, opened, EVERY)?;
+    let (workers, requests) = begin::<M, R>(rt, alloc, steps, to)?;
     let answered = play_sessions(rt, alloc, requests);
     let mut ends = stop(rt, workers);
     ends_meet(&mut ends);
-    assert_eq!(rt; answered?, TICKS, "each tick is answered");
+    assert_eq!(rt; answered, TICKS, "each tick is answered");
     Ok(ends)
 }
 
-// Whatever a crash leaves, the last tick that was answered is there.
+// Whatever a crash leaves, the last tick that was answered is there. It tells whether no image was opened.
 fn check_ends<M: Method>(
     rt: &impl Abort,
     alloc: Global,
     ends: &Ends<M, ModelFile, Steps>,
-) -> Result<(), Fail> {
+) -> Result<bool, Fail> {
     assert_eq!(rt; (ends.mutator.ended(), ends.acked()), (TICKS, TICKS));
     for leaving in [Leaving::Lose, Leaving::Keep, Leaving::Fill(1)] {
         assert_eq!(rt; found_after(alloc, ends, leaving)?, (TICKS, TICKS));
     }
-    Ok(())
+    Ok(newest(ends) == Some(0))
 }
 
 // What recovery finds after a crash that leaves so: the tick, and the word of the first cell.
@@ -141,12 +162,21 @@ fn found_after<M: Method>(
     leaving: Leaving,
 ) -> Result<(u64, u64), Fail> {
     let (images, log) = (ends.checkpointer.images(), ends.log_writer.log());
-    let image_a = images.image_a.left_by(alloc, leaving)?;
-    let image_b = images.image_b.left_by(alloc, leaving)?;
-    let log_a = log.a.left_by(alloc, leaving)?;
-    let log_b = log.b.left_by(alloc, leaving)?;
+    let (image_a, image_b) = left_of(alloc, &images.image_a, &images.image_b, leaving)?;
+    let (log_a, log_b) = left_of(alloc, &log.a, &log.b, leaving)?;
     let (tick, _, word) = found_in(alloc, &image_a, &image_b, &log_a, &log_b)?;
     Ok((tick, word))
+}
+
+// What such a crash leaves of two files.
+fn left_of(
+    alloc: Global,
+    a: &ModelFile,
+    b: &ModelFile,
+    leaving: Leaving,
+) -> Result<(Vec<u8>, Vec<u8>), Fail> {
+    let left = a.left_by(alloc, leaving)?;
+    Ok((left, b.left_by(alloc, leaving)?))
 }
 
 // The tick of the newest image.
@@ -155,19 +185,27 @@ fn newest<M: Method>(ends: &Ends<M, ModelFile, Steps>) -> Option<u64> {
     Some(tick)
 }
 
+// Runs workers of which the checkpointer makes so many steps, and looks at what they leave. It tells whether no image was
+// opened.
+fn try_steps<M: Seats + Send + 'static, R: Threads + Wait + Abort + Copy + Send + 'static>(
+    rt: &R,
+    alloc: Global,
+    steps: Option<u64>,
+) -> Result<bool, Fail> {
+    let ends = run::<M, R>(rt, alloc, steps)?;
+    check_ends(rt, alloc, &ends)
+}
+
 // With every round to its end, and with one left open after each of its steps.
 fn try_ends<M: Seats + Send + 'static, R: Threads + Wait + Abort + Copy + Send + 'static>(
     rt: &R,
     alloc: Global,
 ) -> Result<(), Fail> {
-    let ends = run::<M, R>(rt, alloc, None)?;
-    check_ends(rt, alloc, &ends)?;
-    assert!(rt; newest(&ends) > Some(0), "an image was opened");
+    assert!(rt; !try_steps::<M, R>(rt, alloc, None)?, "an image was opened");
     let mut left_open = 0u32;
     for steps in 0..STEPS {
-        let ends = run::<M, R>(rt, alloc, Some(steps))?;
-        check_ends(rt, alloc, &ends)?;
-        left_open = left_open.saturating_add(u32::from(newest(&ends) == Some(0)));
+        let is_open = try_steps::<M, R>(rt, alloc, Some(steps))?;
+        left_open = left_open.saturating_add(u32::from(is_open));
     }
     assert!(rt;
         left_open > 0 && u64::from(left_open) < STEPS,
