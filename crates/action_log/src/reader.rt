@@ -8,10 +8,11 @@ mod ticks;
 
 use self::ticks::{Counts, count_all, read_ticks};
 use crate::format::{FIRST_GROUP, HEADER_BYTES, SEGMENT_TICKS};
+use crate::tick_list::TickList;
 use file_format::{Format, OPEN_GATE, marked_at, numbers_read_back};
 use std::alloc::Global;
 use world_actions::Refusal;
-use world_ticks::{TICK_MAX, Tick};
+use world_ticks::TICK_MAX;
 
 /// How a segment reads.
 #[derive(Drop)]
@@ -19,7 +20,7 @@ pub enum LogState {
     /// It is closed, and holds nothing.
     Closed,
     /// It is open: its ticks in order, the first of which is the one after `base`.
-    Open { base: u64, ticks: Vec<Tick> },
+    Open { base: u64, ticks: TickList },
 }
 
 /// Reads a segment of either format, as recovery does. It refuses `BadLog` exactly where it is malformed, and
@@ -39,10 +40,10 @@ pub fn read_log(alloc: Global, bytes: &[u8]) -> Result<LogState, Refusal>
             counts,
         } => {
             if counts.ticks == 0 {
-                let ticks = Vec::new(alloc);
+                let ticks = TickList::new(alloc);
                 return Ok(LogState::Open { base, ticks });
             }
-            let ticks = read_ticks(alloc, format, &bytes[FIRST_GROUP..], counts.ticks)?;
+            let ticks = read_ticks(alloc, format, &bytes[FIRST_GROUP..], counts)?;
             Ok(LogState::Open { base, ticks })
         }
     }

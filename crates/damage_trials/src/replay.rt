@@ -11,14 +11,12 @@ pub fn replay_on(world: &mut Recovered, log: &LogState) -> bool {
     if *base != world.tick {
         return true;
     }
-    for tick in ticks {
-        for action in tick.actions() {
-            if change(&mut world.words, *action).is_none() {
-                return false;
-            }
+    for action in ticks.actions() {
+        if change(&mut world.words, *action).is_none() {
+            return false;
         }
-        world.tick = world.tick.saturating_add(1);
     }
+    world.tick = world.tick.saturating_add(ticks.len() as u64);
     true
 }
 

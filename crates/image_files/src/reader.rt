@@ -1,7 +1,7 @@
-ghost use Rattle.std.specs.Prelude.{◌≡◌, ◌+◌, ◌*◌, ◌≤◌, length, IfOk, IfErr};
+ghost use Rattle.std.specs.Prelude.{◌≡◌, ◌+◌, ◌*◌, ◌≤◌, ◌⊎◌, [], true, false, nat_le, length, vec_capacity, IsTrue, IfOk, IfErr};
 ghost use Rattle.std.specs.List.{list_all};
 ghost use Rattle.image_files.specs.declared.format.TheConstants.{CELLS_MAX};
-ghost use Rattle.image_files.specs.Image.{image_of, is_whole, is_word, words_from};
+ghost use Rattle.image_files.specs.Image.{image_of, is_word, words_from};
 
 use crate::format::{HEADER_BYTES, WORD_BYTES, decode_cells, decode_tick};
 use file_format::{OPEN_GATE, u64_at};
@@ -20,8 +20,8 @@ pub enum ImageState {
 
 ghost use Rattle.image_files.specs.Reading.{ReadsAs};
 
-/// Reads a file of any bytes. It refuses `BadImage`, and `NoMemory` only for an image that is whole:
-/// the file is judged before memory is asked for its words. Both formats are read.
+/// Reads a file of any bytes. It refuses `BadImage`, and `NoMemory` only for an image that is whole. Memory is asked for
+/// no more words than the file has bytes for, and each word is judged as it is read. Both formats are read.
 #[tactic(auto, unfolding(crate::specs::Image::image_of))]
 pub fn read_image(alloc: Global, bytes: &[u8]) -> Result<ImageState, Refusal>
     ensures { ReadsAs result (image_of bytes.now) }
@@ -33,23 +33,60 @@ pub fn read_image(alloc: Global, bytes: &[u8]) -> Result<ImageState, Refusal>
         return Err(Refusal::BadImage);
     };
     let tick = decode_tick(bytes);
-    if !is_whole(bytes, cells, tick) {
+    if tick > TICK_MAX || !has_words(bytes, cells as usize) {
         return Err(Refusal::BadImage);
     }
-    let words = words(alloc, bytes, cells as usize)?;
+    let words = read_words(alloc, bytes, cells as usize)?;
     Ok(ImageState::Open { tick, words })
 }
 
-// Whether an open file with this header has a tick, and a word for each cell.
-fn is_whole(bytes: &[u8], cells: u64, tick: u64) -> bool
+// Whether a file is long enough for a word of each cell.
+fn has_words(bytes: &[u8], cells: usize) -> bool
     requires { cells ≤ CELLS_MAX }
-    ensures { result ≡ is_whole bytes.now cells tick }
+    ensures { result ≡ nat_le (HEADER_BYTES + WORD_BYTES * cells) (length bytes.now) }
 {
-    if tick > TICK_MAX {
-        return false;
+    HEADER_BYTES + WORD_BYTES * cells <= bytes.len()
+}
+
+// The words of a file that has so many. Where there is no memory for them they are judged alone.
+fn read_words(alloc: Global, bytes: &[u8], cells: usize) -> Result<Vec<u64>, Refusal>
+    requires { HEADER_BYTES + WORD_BYTES * cells ≤ length bytes.now }
+    ensures read { IfOk result (λ words. (words.items ≡ words_from bytes.now HEADER_BYTES cells)
+        × (list_all is_word (words_from bytes.now HEADER_BYTES cells) ≡ true)) }
+    ensures refused { IfErr result (λ refusal. ((refusal ≡ Refusal.NoMemory)
+        × (list_all is_word (words_from bytes.now HEADER_BYTES cells) ≡ true)) ⊎ ((refusal ≡ Refusal.BadImage)
+        × (list_all is_word (words_from bytes.now HEADER_BYTES cells) ≡ false))) }
+{
+    match Vec::with_capacity(alloc, cells) {
+        Ok(mut words) => {
+            if push_words(&mut words, bytes, cells) {
+                Ok(words)
+            } else {
+                Err(Refusal::BadImage)
+            }
+        }
+        Err(_) if are_words(bytes, cells) => Err(Refusal::NoMemory),
+        Err(_) => Err(Refusal::BadImage),
     }
-    let cells = cells as usize;
-    bytes.len() >= HEADER_BYTES + WORD_BYTES * cells && are_words(bytes, cells)
+}
+
+// Puts the words of a file into a list that has room for them, up to the first that may not stand in a cell. Whether
+// there is none.
+fn push_words(words: &mut Vec<u64>, bytes: &[u8], cells: usize) -> bool
+    requires long { HEADER_BYTES + WORD_BYTES * cells ≤ length bytes.now }
+    requires none { words.old.items ≡ [] }
+    requires room { cells ≤ vec_capacity words.old }
+    ensures judged { result ≡ list_all is_word (words_from bytes.now HEADER_BYTES cells) }
+    ensures put { IsTrue result → words.new.items ≡ words_from bytes.now HEADER_BYTES cells }
+{
+    for i in 0..cells {
+        let word = u64_at(bytes, HEADER_BYTES + WORD_BYTES * i);
+        if !is_word(word) {
+            return false;
+        }
+        words.push_reserved(word);
+    }
+    true
 }
 
 fn are_words(bytes: &[u8], cells: usize) -> bool
@@ -68,16 +105,4 @@ fn is_word(word: u64) -> bool
     ensures { result ≡ is_word word }
 {
     word <= LIMIT
-}
-
-fn words(alloc: Global, bytes: &[u8], cells: usize) -> Result<Vec<u64>, Refusal>
-    requires { HEADER_BYTES + WORD_BYTES * cells ≤ length bytes.now }
-    ensures ok { IfOk result (λ words. words.items ≡ words_from bytes.now HEADER_BYTES cells) }
-    ensures err { IfErr result (λ refusal. refusal ≡ Refusal.NoMemory) }
-{
-    let mut words = Vec::with_capacity(alloc, cells)?;
-    for i in 0..cells {
-        words.push(u64_at(bytes, HEADER_BYTES + WORD_BYTES * i))?;
-    }
-    Ok(words)
 }

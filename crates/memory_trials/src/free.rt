@@ -122,7 +122,7 @@ impl Free for RoomyTick {
         let action = Action::Set { cell: 0, value: 5 };
         check(&action, 2, 3, 0).ok()?;
         act(&mut words, &mut tick, action).ok()?;
-        replay(&mut words, &tick).ok()?;
+        replay(&mut words, tick.actions()).ok()?;
         Some(Tick::new(alloc).actions().len() as u64)
     }
 }

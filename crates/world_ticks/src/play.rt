@@ -37,16 +37,16 @@ pub fn act<C: Cells>(c: &mut C, t: &mut Tick, a: Action) -> Result<(), Refusal>
     Ok(())
 }
 
-/// Does the actions of a tick in order, up to the first that is refused: then it answers `BadLog`,
-/// and those before it stay done. It takes no memory.
-pub fn replay<C: Cells>(c: &mut C, t: &Tick) -> Result<(), Refusal>
-    ensures done { OnOk result (after_actions (C.words c.old) t.now.list ≡ Ok (C.words c.new)) }
+/// Does actions in order, up to the first that is refused: then it answers `BadLog`, and those before
+/// it stay done. It takes no memory.
+pub fn replay<C: Cells>(c: &mut C, actions: &[Action]) -> Result<(), Refusal>
+    ensures done { OnOk result (after_actions (C.words c.old) actions.now ≡ Ok (C.words c.new)) }
     ensures refused { IfErr result (λ refusal. (refusal ≡ Refusal.BadLog)
-        × IsErr (after_actions (C.words c.old) t.now.list)
-        × StopsAt (C.words c.old) t.now.list (C.words c.new)) }
-    ensures writes { Performs C.accessed c.old (accepted_writes (C.words c.old) t.now.list) c.new }
+        × IsErr (after_actions (C.words c.old) actions.now)
+        × StopsAt (C.words c.old) actions.now (C.words c.new)) }
+    ensures writes { Performs C.accessed c.old (accepted_writes (C.words c.old) actions.now) c.new }
 {
-    for a in t.actions() {
+    for a in actions {
         match decided(c, a) {
             Ok(change) => put(c, a, change),
             Err(_) => return Err(Refusal::BadLog),
@@ -153,14 +153,14 @@ mod tests {
             to: 1,
             amount: 2,
         });
-        replay(&mut memory, &tick)?;
+        replay(&mut memory, tick.actions())?;
         assert_eq!(rt; memory.as_slice(), [3, 2].as_slice());
         tick.push_reserved(Action::Transfer {
             from: 0,
             to: 1,
             amount: 4,
         });
-        assert_eq!(rt; replay(&mut memory, &tick), Err(Refusal::BadLog));
+        assert_eq!(rt; replay(&mut memory, tick.actions()), Err(Refusal::BadLog));
         assert_eq!(rt; memory.as_slice(), [3, 4].as_slice());
         Ok(())
     }

@@ -1,18 +1,20 @@
 #![tactic(auto, unfolding(crate::specs::Reading::number_at, crate::specs::Reading::two_at, crate::specs::Reading::fields_at, crate::specs::Reading::action_at))]
 
-ghost use Rattle.std.specs.Prelude.{◌≡◌, ◌≤◌, ◌<◌, ◌∷◌, List, length, Some, None, IfSome, IfNone};
+ghost use Rattle.std.specs.Prelude.{◌≡◌, ◌≤◌, ◌<◌, ◌*◌, [], ◌∷◌, List, length, Some, None, IfSome, IfNone, IfOk, IfErr, OnOk};
 ghost use Rattle.world_actions.specs.declared.action.Action.{Action};
 ghost use Rattle.file_format.specs.declared.format.Format.{Format};
 ghost use Rattle.world_ticks.specs.declared.tick.TheConstants.{TICK_ACTIONS};
+ghost use Rattle.action_log.specs.declared.format.TheConstants.{GROUP_TICKS, SEGMENT_TICKS};
 ghost use Rattle.action_log.specs.Segment.{EndsGroups, joined};
-ghost use Rattle.action_log.specs.Reading.{number_at, fields_at, action_at, several_at, tick_at, group_at, groups_of, ticks_of, found_in, Answers, AnswersAll};
-ghost use Rattle.action_log.specs.LogState.{actions_in};
+ghost use Rattle.action_log.specs.Reading.{number_at, fields_at, action_at, several_at, tick_at, group_at, groups_of, ticks_of, found_in, RefusesWhere, AreAdded};
+ghost use Rattle.action_log.specs.TickList.{actions_of};
 
 use crate::format::{ADD, CAP, GROUP_TICKS, SET, SWAP, TRANSFER, last_kind};
+use crate::tick_list::TickList;
 use file_format::{Format, OPEN_GATE, numbers_read_back, u16_at, u32_at, u64_at};
 use std::alloc::Global;
 use world_actions::{Action, Refusal};
-use world_ticks::{TICK_ACTIONS, Tick};
+use world_ticks::TICK_ACTIONS;
 
 // A number of two bytes, and what follows it.
 fn read_u16(bytes: &[u8]) -> Option<(u16, &[u8])>
@@ -124,6 +126,7 @@ fn tick_count(bytes: &[u8]) -> Option<(usize, &[u8])>
     ensures some { IfSome result (λ found. (format : Format)
         → group_at format bytes.now ≡ several_at (tick_at format) found.0 found.1.now) }
     ensures none { IfNone result ((format : Format) → group_at format bytes.now ≡ None) }
+    ensures most { IfSome result (λ found. found.0 ≤ GROUP_TICKS) }
 {
     let (count, rest) = read_u16(bytes)?;
     let count = count as usize;
@@ -133,9 +136,11 @@ fn tick_count(bytes: &[u8]) -> Option<(usize, &[u8])>
     Some((count, rest))
 }
 
-// What follows a tick, if there is one.
-fn behind_tick(format: Format, bytes: &[u8]) -> Option<&[u8]>
-    ensures some { IfSome result (λ rest. (tick : List Action) × (tick_at format bytes.now ≡ Some (tick, rest.now))) }
+// How many actions a tick has, and what follows it, if there is one.
+fn count_tick(format: Format, bytes: &[u8]) -> Option<(usize, &[u8])>
+    ensures some { IfSome result (λ found. (tick : List Action)
+        × (tick_at format bytes.now ≡ Some (tick, found.1.now)) × (length tick ≡ found.0)) }
+    ensures most { IfSome result (λ found. found.0 ≤ TICK_ACTIONS) }
     ensures none { IfNone result (tick_at format bytes.now ≡ None) }
 {
     let (count, mut rest) = action_count(bytes)?;
@@ -143,104 +148,142 @@ fn behind_tick(format: Format, bytes: &[u8]) -> Option<&[u8]>
         let (_action, next) = read_action(format, rest)?;
         rest = next;
     }
-    Some(rest)
-}
-
-// How many ticks a group has behind its gate, and what follows them.
-fn count_group(format: Format, bytes: &[u8]) -> Option<(usize, &[u8])>
-    ensures some { IfSome result (λ found. (ticks : List (List Action))
-        × (group_at format bytes.now ≡ Some (ticks, found.1.now)) × (length ticks ≡ found.0)) }
-    ensures none { IfNone result (group_at format bytes.now ≡ None) }
-{
-    let (count, mut rest) = tick_count(bytes)?;
-    for _ in 0..count {
-        rest = behind_tick(format, rest)?;
-    }
     Some((count, rest))
 }
 
-/// How many groups there are, and how many ticks in all of them.
+/// How many groups there are, and how many ticks and actions in all of them.
 #[derive(Clone, Copy)]
 pub(super) struct Counts {
     pub(super) groups: usize,
     pub(super) ticks: usize,
+    pub(super) actions: usize,
 }
 
-/// Counts all groups and their ticks, where there may be `most`. It takes no memory.
+// Counts the ticks and the actions of a group behind its gate, and gives what follows it.
+fn count_group(format: Format, bytes: &[u8]) -> Option<(usize, usize, &[u8])>
+    ensures some { IfSome result (λ found. (ticks : List (List Action))
+        × (group_at format bytes.now ≡ Some (ticks, found.2.now)) × (length ticks ≡ found.0)
+        × (length (actions_of ticks) ≡ found.1)) }
+    ensures most { IfSome result (λ found. found.1 ≤ TICK_ACTIONS * found.0) }
+    ensures none { IfNone result (group_at format bytes.now ≡ None) }
+{
+    let (count, mut rest) = tick_count(bytes)?;
+    let mut actions = 0;
+    for _ in 0..count {
+        let (more, next) = count_tick(format, rest)?;
+        actions += more;
+        rest = next;
+    }
+    Some((count, actions, rest))
+}
+
+/// Counts all groups, their ticks and actions, where there may be `most` ticks. It takes no memory.
 pub(super) fn count_all(format: Format, bytes: &[u8], most: usize) -> Option<Counts>
+    requires { most ≤ SEGMENT_TICKS }
     ensures some { IfSome result (λ counts. (groups : List (List (List Action)))
         × (groups_of format bytes.now ≡ Some groups) × (length groups ≡ counts.groups)
-        × (length (joined groups) ≡ counts.ticks) × (counts.ticks ≤ most)) }
+        × (length (joined groups) ≡ counts.ticks) × (counts.ticks ≤ most)
+        × (length (actions_of (joined groups)) ≡ counts.actions)) }
     ensures none { IfNone result ((groups : List (List (List Action))) → groups_of format bytes.now ≡ Some groups
         → most < length (joined groups)) }
 {
     numbers_read_back();
-    let mut groups = 0;
-    let mut ticks = 0;
+    let mut counts = Counts {
+        groups: 0,
+        ticks: 0,
+        actions: 0,
+    };
     let mut rest = bytes;
     while let Some(group) = behind_gate(rest) {
-        let (more, next) = count_group(format, group)?;
-        if more > most - ticks {
+        let (ticks, actions, next) = count_group(format, group)?;
+        if ticks > most - counts.ticks {
             return None;
         }
-        groups += 1;
-        ticks += more;
+        counts.groups += 1;
+        counts.ticks += ticks;
+        counts.actions += actions;
         rest = next;
     }
-    Some(Counts { groups, ticks })
+    Some(counts)
 }
 
-// A tick, and what follows it.
-fn read_tick(alloc: Global, format: Format, bytes: &[u8]) -> Result<(Tick, &[u8]), Refusal>
-    ensures { Answers (λ tick. tick.list) (tick_at format bytes.now) result }
+// Adds the actions of a tick, and its end, and gives what follows it.
+fn read_tick<'a>(
+    format: Format,
+    bytes: &'a [u8],
+    actions: &mut Vec<Action>,
+    ends: &mut Vec<usize>,
+) -> Result<&'a [u8], Refusal>
+    ensures read { IfOk result (λ rest. (tick : List Action) × (tick_at format bytes.now ≡ Some (tick, rest.now))
+        × AreAdded (tick ∷ []) actions.old.items ends.old.items actions.new.items ends.new.items) }
+    ensures refused { IfErr result (RefusesWhere (tick_at format bytes.now ≡ None)) }
 {
     let Some((count, mut rest)) = action_count(bytes) else {
         return Err(Refusal::BadLog);
     };
-    let mut tick = Tick::new(alloc);
-    tick.reserve(count)?;
+    actions.reserve(count)?;
     for _ in 0..count {
         let Some((action, next)) = read_action(format, rest) else {
             return Err(Refusal::BadLog);
         };
-        tick.push_reserved(action);
+        actions.push_reserved(action);
         rest = next;
     }
-    Ok((tick, rest))
+    ends.push(actions.len())?;
+    Ok(rest)
 }
 
-// The ticks of a group behind its gate, and what follows it.
-fn read_group(alloc: Global, format: Format, bytes: &[u8]) -> Result<(Vec<Tick>, &[u8]), Refusal>
-    ensures { Answers (λ ticks. actions_in ticks.items) (group_at format bytes.now) result }
+// Adds the ticks of a group behind its gate, and gives what follows it.
+fn read_group<'a>(
+    format: Format,
+    bytes: &'a [u8],
+    actions: &mut Vec<Action>,
+    ends: &mut Vec<usize>,
+) -> Result<&'a [u8], Refusal>
+    ensures read { IfOk result (λ rest. (ticks : List (List Action)) × (group_at format bytes.now ≡ Some (ticks, rest.now))
+        × AreAdded ticks actions.old.items ends.old.items actions.new.items ends.new.items) }
+    ensures refused { IfErr result (RefusesWhere (group_at format bytes.now ≡ None)) }
 {
     let Some((count, mut rest)) = tick_count(bytes) else {
         return Err(Refusal::BadLog);
     };
-    let mut ticks = Vec::with_capacity(alloc, count)?;
     for _ in 0..count {
-        let (tick, next) = read_tick(alloc, format, rest)?;
-        ticks.push_reserved(tick);
-        rest = next;
+        rest = read_tick(format, rest, actions, ends)?;
     }
-    Ok((ticks, rest))
+    Ok(rest)
 }
 
-/// The ticks of all groups, which are so many.
+// Adds the ticks of all groups.
+fn read_groups(
+    format: Format,
+    bytes: &[u8],
+    actions: &mut Vec<Action>,
+    ends: &mut Vec<usize>,
+) -> Result<(), Refusal>
+    ensures read { OnOk result ((ticks : List (List Action)) × (ticks_of format bytes.now ≡ Some ticks)
+        × AreAdded ticks actions.old.items ends.old.items actions.new.items ends.new.items) }
+    ensures refused { IfErr result (RefusesWhere (ticks_of format bytes.now ≡ None)) }
+{
+    numbers_read_back();
+    let mut rest = bytes;
+    while let Some(group) = behind_gate(rest) {
+        rest = read_group(format, group, actions, ends)?;
+    }
+    Ok(())
+}
+
+/// The ticks of all groups. Memory is taken once, for as many ticks and actions as were counted.
 pub(super) fn read_ticks(
     alloc: Global,
     format: Format,
     bytes: &[u8],
-    count: usize,
-) -> Result<Vec<Tick>, Refusal>
-    ensures { AnswersAll (λ ticks. actions_in ticks.items) (ticks_of format bytes.now) result }
+    counts: Counts,
+) -> Result<TickList, Refusal>
+    ensures read { IfOk result (λ ticks. ticks_of format bytes.now ≡ Some ticks) }
+    ensures refused { IfErr result (RefusesWhere (ticks_of format bytes.now ≡ None)) }
 {
-    numbers_read_back();
-    let mut ticks = Vec::with_capacity(alloc, count)?;
-    let mut rest = bytes;
-    while let Some(group) = behind_gate(rest) {
-        let (mut more, next) = read_group(alloc, format, group)?;
-        ticks.append(&mut more)?;
-        rest = next;
-    }
-    Ok(ticks)
+    let mut actions = Vec::with_capacity(alloc, counts.actions)?;
+    let mut ends = Vec::with_capacity(alloc, counts.ticks)?;
+    read_groups(format, bytes, &mut actions, &mut ends)?;
+    Ok(TickList::of_parts(actions, ends))
 }

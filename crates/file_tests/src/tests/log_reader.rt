@@ -24,9 +24,10 @@ fn assert_reads(rt: &impl Abort, alloc: Global, bytes: &[u8], base: u64, want: &
         Ok(LogState::Open { base: read, ticks }) => {
             assert_eq!(rt; read, base);
             assert_eq!(rt; ticks.len(), want.len());
-            for i in 0..ticks.len().min(want.len()) {
-                assert_eq!(rt; ticks[i].actions(), want[i], "tick {i}");
+            for (i, tick) in want.iter().enumerate() {
+                assert_eq!(rt; ticks.get(i), Some(*tick), "tick {i}");
             }
+            assert!(rt; ticks.get(want.len()).is_none());
         }
         _ => panic!(rt; "the segment is open"),
     }

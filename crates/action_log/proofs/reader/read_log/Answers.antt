@@ -1,7 +1,6 @@
 use Rattle.std.proofs.Common.{◌≡◌, ◌≢◌, [], ◌∷◌, Some, refl, sym, ap, subst, ◌∙◌, drop, length, ℕ, List}
 use Rattle.action_log.specs.declared.format.TheConstants.{FIRST_GROUP}
 use Rattle.action_log.specs.Segment.{Tick, joined, OpenSegment, IsSegment, HasTicks}
-use Rattle.action_log.specs.LogState.{actions_in}
 use Rattle.action_log.specs.Reading.{ticks_of}
 use Rattle.action_log.proofs.ReadingLemmas.{from_place, ticks_by}
 use Rattle.action_log.proofs.reader.read_log.Goals as goal
@@ -19,7 +18,7 @@ pub returns-in_ok-ticks-in-Open-clause-reads : goal.returns-in_ok-ticks-in-Open-
 returns-in_ok-ticks-in-Open-clause-reads c =
     let bytes = c.args.bytes.now in
     let judged = c.in-Open.ensures in
-    let ticks = actions_in c.in_ok-ticks-in-Open.ticks.items in
-    let behind : ticks_of c.in-Open.format (drop FIRST_GROUP bytes) ≡ Some ticks = ap (ticks_of c.in-Open.format) (sym (from_place FIRST_GROUP bytes)) ∙ c.in_ok-ticks-in-Open.ensures in
+    let ticks = c.in_ok-ticks-in-Open.ticks in
+    let behind : ticks_of c.in-Open.format (drop FIRST_GROUP bytes) ≡ Some ticks = ap (ticks_of c.in-Open.format) (sym (from_place FIRST_GROUP bytes)) ∙ c.in_ok-ticks-in-Open.ensures.read in
     let same : joined judged.0 ≡ ticks = (let both = sym (ticks_by c.in-Open.format (drop FIRST_GROUP bytes) (Some judged.0) judged.1) ∙ behind in cc) in
     subst (λ (read : List Tick). IsSegment bytes (OpenSegment c.in-Open.base read)) same judged.2

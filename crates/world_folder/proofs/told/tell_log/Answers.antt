@@ -1,10 +1,9 @@
 use Rattle.std.proofs.Common.{◌≡◌, ◌⊎◌, inl, inr, List, ℕ, length, subst, rules}
-use Rattle.std.proofs.lemmas.List.{length-map}
 use Rattle.world_actions.specs.declared.refusal.Refusal.{Refusal}
 use Rattle.world_actions.specs.declared.refusal.Refusal.TheVariants.{BadLog, NoMemory}
 use Rattle.action_log.specs.declared.reader.LogState.{LogState}
 use Rattle.action_log.specs.Segment.{MalformedSegment, IsSegment, IsOpenSegment}
-use Rattle.action_log.specs.LogState.{segment_in, actions_in}
+use Rattle.action_log.specs.LogState.{segment_in}
 use Rattle.world_folder.proofs.FormatLemmas.{segment_format}
 use Rattle.world_folder.proofs.told.tell_log.Goals as goal
 
@@ -16,28 +15,28 @@ malformed bytes refusal is (inr refused) = refused.1
 
 pub unwrap-format-requires : goal.unwrap-format-requires
 unwrap-format-requires c =
-    let segment : IsOpenSegment c.args.bytes.now c.in-Ok-Open.base (actions_in c.in-Ok-Open.ticks.items) =
+    let segment : IsOpenSegment c.args.bytes.now c.in-Ok-Open.base c.in-Ok-Open.ticks =
     subst (λ (state : LogState). IsSegment c.args.bytes.now (segment_in state)) c.in-Ok-Open.field-0-is c.in-Ok-Open.ensures.reads in
-    let found = segment_format c.args.bytes.now c.in-Ok-Open.base (actions_in c.in-Ok-Open.ticks.items) segment in
+    let found = segment_format c.args.bytes.now c.in-Ok-Open.base c.in-Ok-Open.ticks segment in
     search rules
 
 pub unwrap-requires : goal.unwrap-requires
 unwrap-requires c =
-    let segment : IsOpenSegment c.args.bytes.now c.in-Ok-Open.base (actions_in c.in-Ok-Open.ticks.items) =
+    let segment : IsOpenSegment c.args.bytes.now c.in-Ok-Open.base c.in-Ok-Open.ticks =
     subst (λ (state : LogState). IsSegment c.args.bytes.now (segment_in state)) c.in-Ok-Open.field-0-is c.in-Ok-Open.ensures.reads in
-    let found = c.count_groups.ensures.each c.in-Ok-Open.base (actions_in c.in-Ok-Open.ticks.items) segment in
+    let found = c.count_groups.ensures.each c.in-Ok-Open.base c.in-Ok-Open.ticks segment in
     search rules
 
 pub returns-in-Ok-Open-clause-told : goal.returns-in-Ok-Open-clause-told
 returns-in-Ok-Open-clause-told c =
-    let listed = actions_in c.in-Ok-Open.ticks.items in
+    let listed = c.in-Ok-Open.ticks in
     let segment : IsOpenSegment c.args.bytes.now c.in-Ok-Open.base listed =
     subst (λ (state : LogState). IsSegment c.args.bytes.now (segment_in state)) c.in-Ok-Open.field-0-is c.in-Ok-Open.ensures.reads in
     let found = c.count_groups.ensures.each c.in-Ok-Open.base listed segment in
     let marked = segment_format c.args.bytes.now c.in-Ok-Open.base listed segment in
     let format : c.unwrap-format.result ≡ segment.format = search rules in
     let groups : c.unwrap.result ≡ length segment.groups = search rules in
-    let ticks : c.len.result ≡ length listed = search (length-map, rules) in
+    let ticks : c.len.result ≡ length listed = search rules in
     (listed, segment, format, groups, ticks)
 
 pub returns-in-Err-BadLog-clause-told : goal.returns-in-Err-BadLog-clause-told

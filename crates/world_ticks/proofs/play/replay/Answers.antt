@@ -6,17 +6,16 @@ use Rattle.world_ticks.proofs.AfterLemmas.{done_next, rest_next, rest_stops, wri
 use Rattle.world_ticks.proofs.play.replay.Goals as goal
 
 pub loop-a-init : goal.loop-a-init
-loop-a-init g c = record { items = search rules; done = search rules; rest = search rules; writes = performs_nothing _ _ }
+loop-a-init g c = record { done = search rules; rest = search rules; writes = performs_nothing _ _ }
 
 pub loop-a-preserved : goal.loop-a-preserved
 loop-a-preserved g c =
     let inv = c.loop-a.invariant in
-    let items = c.actions-a-items.result.now in
+    let items = c.args.actions.now in
     let i = c.loop-a.a-index in
     let writes : writes_of (g.C.Cells.words c.loop-a.c) (get_or items i (Set 0 0)) ≡ change_writes (get_or items i (Set 0 0)) c.in-Ok.change = search (rules, c.decided.ensures.writes, c.in-Ok.is) in
     let accepted : effect (g.C.Cells.words c.loop-a.c) (get_or items i (Set 0 0)) ≡ Ok (g.C.Cells.words c.put.new.c) = search (rules, c.decided.ensures.refuses, writes, c.in-Ok.is, c.put.ensures.words, c.decided.ensures.unchanged) in
     record {
-      items = inv.items;
       done = done_next _ _ _ items i (Set 0 0) c.loop-a-test.true inv.done accepted;
       rest = rw (inv.rest) (rest_next _ _ items i (Set 0 0) c.loop-a-test.true accepted);
       writes = rw (writes_next _ _ _ items i (Set 0 0) c.loop-a-test.true inv.done accepted, writes) (performs_then inv.writes (performs_then c.decided.ensures.reads c.put.ensures.writes));
@@ -25,18 +24,18 @@ loop-a-preserved g c =
 pub returns-in-Err-clause-refused : goal.returns-in-Err-clause-refused
 returns-in-Err-clause-refused g c =
     let inv = c.loop-a.invariant in
-    let items = c.actions-a-items.result.now in
+    let items = c.args.actions.now in
     let i = c.loop-a.a-index in
     let stops : IsErr (effect (g.C.Cells.words c.loop-a.c) (get_or items i (Set 0 0))) = search (rules, c.decided.ensures.refuses, c.in-Err.is) in (
       refl,
-      rw (← inv.items) (rest_stops _ _ items i (Set 0 0) c.loop-a-test.true inv.rest stops),
-      rw (← inv.items, c.decided.ensures.unchanged) (stops_at _ _ items i (Set 0 0) c.loop-a-test.true inv.done stops),
+      rest_stops _ _ items i (Set 0 0) c.loop-a-test.true inv.rest stops,
+      rw (c.decided.ensures.unchanged) (stops_at _ _ items i (Set 0 0) c.loop-a-test.true inv.done stops),
     )
 
 pub returns-in-Err-clause-writes : goal.returns-in-Err-clause-writes
 returns-in-Err-clause-writes g c =
     let inv = c.loop-a.invariant in
-    let items = c.actions-a-items.result.now in
+    let items = c.args.actions.now in
     let i = c.loop-a.a-index in
     let stops : IsErr (effect (g.C.Cells.words c.loop-a.c) (get_or items i (Set 0 0))) = search (rules, c.decided.ensures.refuses, c.in-Err.is) in
-    rw (← inv.items, writes_stop _ _ items i (Set 0 0) c.loop-a-test.true inv.done stops) (performs_then_reads inv.writes c.decided.ensures.reads)
+    rw (writes_stop _ _ items i (Set 0 0) c.loop-a-test.true inv.done stops) (performs_then_reads inv.writes c.decided.ensures.reads)

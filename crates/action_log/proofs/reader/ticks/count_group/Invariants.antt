@@ -1,7 +1,6 @@
-use Rattle.action_log.specs.Reading.{tick_at}
-use Rattle.action_log.proofs.ReadingLemmas.{IsCountedTo}
+use Rattle.action_log.proofs.ReadingLemmas.{IsGroupCounted}
 use Rattle.action_log.proofs.reader.ticks.count_group.Given as goal
 
--- so many ticks are read
+-- so many ticks are read, with so many actions
 abbrev pub invariant-loop : goal.invariant-loop
-invariant-loop l = IsCountedTo (tick_at l.format) l.count l.counter l.initial.rest l.rest
+invariant-loop l = IsGroupCounted l.format l.count l.counter l.actions l.initial.rest l.rest

@@ -1,35 +1,42 @@
-use Rattle.std.proofs.Common.{◌+◌, ◌-◌, ◌∷◌, [], inl, inr, refl, sym, ap, ◌∙◌, arith, List, length, length-append}
-use Rattle.std.proofs.lemmas.List.{map-append}
+use Rattle.std.proofs.Common.{◌++◌, ◌∷◌, [], inl, inr, refl, ◌∙◌, arith}
 use Rattle.std.proofs.lemmas.Result.{err_from_is_err_and}
-use Rattle.world_ticks.specs.Tick.{Actions}
-use Rattle.action_log.specs.Segment.{Tick}
-use Rattle.action_log.specs.LogState.{actions_in}
-use Rattle.action_log.specs.Reading.{tick_at, several_at}
-use Rattle.action_log.proofs.ReadingLemmas.{onto_all, several_next, several_none, several_all}
+use Rattle.action_log.specs.Reading.{tick_at}
+use Rattle.action_log.proofs.ReadingLemmas.{read_start, read_next, read_none, read_all}
+use Rattle.action_log.proofs.TickListLemmas.{added_none, added_then}
 use Rattle.action_log.proofs.reader.ticks.read_group.Goals as goal
 
-pub returns-in_default : goal.returns-in_default
-returns-in_default c = inr (refl, c.in_default.ensures.none c.args.format)
+pub returns-in_default-clause-refused : goal.returns-in_default-clause-refused
+returns-in_default-clause-refused c = inr (refl, c.in_default.ensures.none c.args.format)
 
-pub returns-in_err-tick : goal.returns-in_err-tick
-returns-in_err-tick c =
-    let p = err_from_is_err_and c.from_residual-in_err-tick.result c.from_residual-in_err-tick.ensures.1 in
-    rw (p.1, p.2) (elim c.in_err-tick.ensures [
+pub loop-init : goal.loop-init
+loop-init c = record {
+  ticks = [];
+  read = read_start (tick_at c.args.format) c.in-Some.count c.in-Some.rest.now;
+  added = added_none c.args.actions.now.items c.args.ends.now.items;
+}
+
+pub returns-in_err-rest-clause-refused : goal.returns-in_err-rest-clause-refused
+returns-in_err-rest-clause-refused c =
+    let p = err_from_is_err_and c.from_residual.result c.from_residual.ensures.1 in
+    let so_far = c.loop.invariant in
+    rw (p.1, p.2) (elim c.in_err-rest.ensures.refused [
       | inl memory ↦ inl memory
-      | inr bad ↦ inr (bad.0, c.in-Some.ensures.some c.args.format ∙ c.loop.invariant.all ∙ several_none (tick_at c.args.format) (actions_in c.loop.ticks.items) (c.in-Some.count - c.loop.counter) c.loop.rest.now (omega (arith, c.loop-test.true)) bad.1)
+      | inr bad ↦ inr (bad.0, c.in-Some.ensures.some c.args.format ∙ read_none (tick_at c.args.format) c.in-Some.count c.loop.counter so_far.ticks c.in-Some.rest.now c.loop.rest.now (omega (arith, c.loop-test.true)) bad.1 so_far.read)
     ])
 
 pub loop-preserved : goal.loop-preserved
 loop-preserved c =
-    let invariant = c.loop.invariant in
-    let left = c.in-Some.count - (c.loop.counter + 1) in record {
-      done = omega (arith, ap length c.push_reserved.ensures.items, length-append c.loop.ticks.items (c.in_ok-tick.tick ∷ []), invariant.done);
-      room = omega (arith, invariant.room, c.push_reserved.ensures.capacity);
-      all = invariant.all
-          ∙ several_next (tick_at c.args.format) (actions_in c.loop.ticks.items) (c.in-Some.count - c.loop.counter) left c.loop.rest.now c.in_ok-tick.next.now c.in_ok-tick.tick.list (omega (arith, c.loop-test.true)) c.in_ok-tick.ensures
-          ∙ ap (λ (l : List Tick). onto_all l (several_at (tick_at c.args.format) left c.in_ok-tick.next.now)) (sym (map-append (λ (t : Actions). t.list) c.loop.ticks.items (c.in_ok-tick.tick ∷ [])) ∙ ap actions_in (sym c.push_reserved.ensures.items));
+    let so_far = c.loop.invariant in
+    let tick = c.in_ok-rest.ensures.read in record {
+      ticks = so_far.ticks ++ tick.0 ∷ [];
+      read = read_next (tick_at c.args.format) c.in-Some.count c.loop.counter so_far.ticks c.in-Some.rest.now c.loop.rest.now c.in_ok-rest.rest.now tick.0 (omega (arith, c.loop-test.true)) tick.1 so_far.read;
+      added = added_then so_far.ticks (tick.0 ∷ []) _ _ _ _ _ _ so_far.added tick.2;
     }
 
-pub returns : goal.returns
-returns c =
-    c.in-Some.ensures.some c.args.format ∙ c.loop.invariant.all ∙ several_all (tick_at c.args.format) (actions_in c.loop.ticks.items) (c.in-Some.count - c.loop.counter) c.loop.rest.now (omega (arith, c.loop-test.false))
+pub returns-clause-read : goal.returns-clause-read
+returns-clause-read c =
+    let so_far = c.loop.invariant in (
+      so_far.ticks,
+      c.in-Some.ensures.some c.args.format ∙ read_all (tick_at c.args.format) c.in-Some.count c.loop.counter so_far.ticks c.in-Some.rest.now c.loop.rest.now (omega (arith, c.loop-test.false)) so_far.read,
+      so_far.added,
+    )

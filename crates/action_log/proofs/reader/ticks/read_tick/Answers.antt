@@ -1,27 +1,45 @@
-use Rattle.std.proofs.Common.{◌+◌, ◌-◌, ◌∷◌, [], inr, refl, sym, ap, ◌∙◌, arith, List, length, length-append}
-use Rattle.world_actions.specs.declared.action.Action.{Action}
-use Rattle.action_log.specs.Reading.{action_at, several_at}
-use Rattle.action_log.proofs.ReadingLemmas.{onto_all, several_next, several_none, several_all}
+use Rattle.std.proofs.Common.{◌≡◌, ◌∷◌, ◌++◌, [], inr, refl, sym, ap, ◌∙◌, append_assoc, arith, rules, length, length-append}
+use Rattle.std.proofs.lemmas.List.{append-nil}
+use Rattle.action_log.specs.Reading.{action_at}
+use Rattle.action_log.proofs.ReadingLemmas.{read_start, read_next, read_none, read_all}
+use Rattle.action_log.proofs.TickListLemmas.{added_tick}
 use Rattle.action_log.proofs.reader.ticks.read_tick.Goals as goal
 
-pub returns-in_default : goal.returns-in_default
-returns-in_default c = inr (refl, c.in_default.ensures.none c.args.format)
+pub returns-in_default-clause-refused : goal.returns-in_default-clause-refused
+returns-in_default-clause-refused c = inr (refl, c.in_default.ensures.none c.args.format)
 
-pub returns-in_default-read_action : goal.returns-in_default-read_action
-returns-in_default-read_action c =
-    inr (refl, c.in-Some.ensures.some c.args.format ∙ c.loop.invariant.all ∙ several_none (action_at c.args.format) c.loop.tick.list (c.in-Some.count - c.loop.counter) c.loop.rest.now (omega (arith, c.loop-test.true)) (sym c.in_default-read_action.ensures))
+pub loop-init : goal.loop-init
+loop-init c = record {
+  room = search (rules, arith);
+  read = record { tick = []; read = read_start (action_at c.args.format) c.in-Some.count c.in-Some.rest.now; all_are = c.reserve.ensures.items ∙ sym (append-nil c.args.actions.now.items) };
+}
+
+pub returns-in_default-read_action-clause-refused : goal.returns-in_default-read_action-clause-refused
+returns-in_default-read_action-clause-refused c =
+    let so_far = c.loop.invariant.read in
+    inr (
+      refl,
+      c.in-Some.ensures.some c.args.format
+          ∙ read_none (action_at c.args.format) c.in-Some.count c.loop.counter so_far.tick c.in-Some.rest.now c.loop.rest.now (omega (arith, c.loop-test.true)) (sym c.in_default-read_action.ensures) so_far.read,
+    )
 
 pub loop-preserved : goal.loop-preserved
 loop-preserved c =
-    let invariant = c.loop.invariant in
-    let left = c.in-Some.count - (c.loop.counter + 1) in record {
-      done = omega (arith, ap length c.push_reserved.ensures.list, length-append c.loop.tick.list (c.in-Some-read_action.action ∷ []), invariant.done);
-      room = omega (arith, invariant.room, c.push_reserved.ensures.room);
-      all = invariant.all
-          ∙ several_next (action_at c.args.format) c.loop.tick.list (c.in-Some.count - c.loop.counter) left c.loop.rest.now c.in-Some-read_action.next.now c.in-Some-read_action.action (omega (arith, c.loop-test.true)) (sym c.in-Some-read_action.ensures)
-          ∙ ap (λ (l : List Action). onto_all l (several_at (action_at c.args.format) left c.in-Some-read_action.next.now)) (sym c.push_reserved.ensures.list);
+    let so_far = c.loop.invariant.read in
+    let action = c.in-Some-read_action.action in record {
+      room = omega (arith, c.loop.invariant.room, c.loop-test.true, c.push_reserved.ensures.capacity, ap length c.push_reserved.ensures.items, length-append c.loop.actions.items (action ∷ []));
+      read = record {
+        tick = so_far.tick ++ action ∷ [];
+        read = read_next (action_at c.args.format) c.in-Some.count c.loop.counter so_far.tick c.in-Some.rest.now c.loop.rest.now c.in-Some-read_action.next.now action (omega (arith, c.loop-test.true)) (sym c.in-Some-read_action.ensures) so_far.read;
+        all_are = c.push_reserved.ensures.items ∙ ap (λ l. l ++ action ∷ []) so_far.all_are ∙ append_assoc c.args.actions.now.items so_far.tick (action ∷ []);
+      };
     }
 
-pub returns : goal.returns
-returns c =
-    c.in-Some.ensures.some c.args.format ∙ c.loop.invariant.all ∙ several_all (action_at c.args.format) c.loop.tick.list (c.in-Some.count - c.loop.counter) c.loop.rest.now (omega (arith, c.loop-test.false))
+pub returns-clause-read : goal.returns-clause-read
+returns-clause-read c =
+    let so_far = c.loop.invariant.read in
+    let end : c.len.result ≡ length c.loop.actions.items = search rules in (
+      so_far.tick,
+      c.in-Some.ensures.some c.args.format ∙ read_all (action_at c.args.format) c.in-Some.count c.loop.counter so_far.tick c.in-Some.rest.now c.loop.rest.now (omega (arith, c.loop-test.false)) so_far.read,
+      added_tick so_far.tick c.args.actions.now.items c.loop.actions.items c.args.ends.now.items c.push.new.self.items c.len.result so_far.all_are end c.in_ok-push.ensures.items,
+    )

@@ -1,12 +1,10 @@
-use Rattle.std.proofs.Common.{◌≡◌, ◌≤◌, ◌-◌, length}
-use Rattle.action_log.specs.Reading.{action_at, several_at}
-use Rattle.action_log.proofs.ReadingLemmas.{onto_all}
+use Rattle.std.proofs.Common.{◌+◌, ◌-◌, ◌≤◌, length, vec_capacity}
+use Rattle.action_log.proofs.ReadingLemmas.{IsTickRead}
 use Rattle.action_log.proofs.reader.ticks.read_tick.Given as goal
 
--- all actions read as those so far and those that are left
+-- so many actions are read, and there is room for those that are left
 abbrev pub invariant-loop : goal.invariant-loop
 invariant-loop l = record {
-  done : length l.tick.list ≡ l.counter;
-  room : l.count - l.counter ≤ l.tick.room;
-  all : several_at (action_at l.format) l.count l.initial.rest ≡ onto_all l.tick.list (several_at (action_at l.format) (l.count - l.counter) l.rest);
+  room : length l.actions.items + (l.count - l.counter) ≤ vec_capacity l.actions;
+  read : IsTickRead l.format l.count l.counter l.initial.rest l.rest l.fn.actions.items l.actions.items;
 }

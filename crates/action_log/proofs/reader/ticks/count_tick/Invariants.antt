@@ -1,0 +1,9 @@
+use Rattle.std.proofs.Common.{List}
+use Rattle.world_actions.specs.declared.action.Action.{Action}
+use Rattle.action_log.specs.Reading.{action_at}
+use Rattle.action_log.proofs.ReadingLemmas.{AreRead}
+use Rattle.action_log.proofs.reader.ticks.count_tick.Given as goal
+
+-- so many actions are read
+abbrev pub invariant-loop : goal.invariant-loop
+invariant-loop l = (tick : List Action) × AreRead (action_at l.format) l.count l.counter tick l.initial.rest l.rest
