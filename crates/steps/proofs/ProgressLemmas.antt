@@ -3,7 +3,7 @@ use Rattle.std.proofs.Common.{append-nil, refl, ap, sym, ◌∙◌, ◌≡◌, �
 use Rattle.std.proofs.Math.Seq.{drop-cons}
 use Rattle.std.proofs.lemmas.List.{take-append-drop}
 use Rattle.world_actions.specs.declared.refusal.Refusal.{Refusal}
-use Rattle.world_actions.specs.declared.refusal.Refusal.TheVariants.{NoMemory}
+use Rattle.world_actions.specs.declared.refusal.Refusal.TheVariants.{Device}
 use Rattle.world_core.specs.State.{State}
 use Rattle.byte_streams.specs.Front.{IsFront}
 use Rattle.line_grammar.specs.Kept.{HasNoNewline, kept_of, KeptMeans}
@@ -12,8 +12,8 @@ use Rattle.steps.specs.declared.line.Line.{Line}
 use Rattle.steps.specs.Line.{LineMeans}
 use Rattle.steps.specs.Played.{Played}
 use Rattle.steps.specs.Script.{lines_of, Replies, IsCutOff}
-use Rattle.steps.specs.Progress.{ScriptState, IsAt, LineLeads, IsFrontOf, Stands, LeadsOn, Completes, BreaksOff}
-use Rattle.steps.proofs.ScriptLemmas.{lines_of-line, lines_of-last, Replies-snoc}
+use Rattle.steps.specs.Progress.{ScriptState, LineLeads, Stands, LeadsOn, Completes, BreaksOff}
+use Rattle.steps.proofs.ScriptLemmas.{lines_of-line, lines_of-last, Replies-snoc, cut_text, cut_off}
 
 -- before anything is read
 pub stands_fresh : (input : List ℕ) → Stands input (record { core = None; kept = [] }) input []
@@ -66,41 +66,9 @@ leads_answered old new b meaning said newline means leads empty = record {
       };
 }
 
--- of the answer to the next line nothing is written, or a front
-next_part : (core : Option State) (played : Option Played) (line : List ℕ) (later : List (List ℕ)) (meaning : Option Line) (front : List ℕ) → IsAt played core → LineMeans line meaning
-    → (front ≡ []) ⊎ IsFrontOf meaning core front
-    → (front ≡ []) ⊎ ((text : List ℕ) × (last : Option Played) × Replies played (take 1 (line ∷ later)) text last × IsFront front text)
-next_part core played line later meaning front at means (inl none) = inl none
-next_part core played line later meaning front at means (inr part) =
-    let run = part.leads.on played at in
-    inr (part.said ++ 10 ∷ [], run.0, (meaning, part.said, run.0, [], means, run.2, (refl, refl), refl), part.is_front)
-
--- a fault in the answer to a line that is next
-cut_line : (input : List ℕ) (script : ScriptState) (played : Option Played) (answered later : List (List ℕ)) (line prior front : List ℕ) (meaning : Option Line) (refusal : Refusal)
-    → lines_of input ≡ answered ++ (line ∷ later) → IsAt played script.core → Replies None answered prior played → LineMeans line meaning
-    → (front ≡ []) ⊎ IsFrontOf meaning script.core front → (refusal ≡ NoMemory → front ≡ []) → IsCutOff input (prior ++ front) refusal
-cut_line input script played answered later line prior front meaning refusal split at replies means part memory = record {
-  answered = answered;
-  later = line ∷ later;
-  split = split;
-  core = played;
-  whole = prior;
-  replies = replies;
-  part = front;
-  are_written = refl;
-  next = next_part script.core played line later meaning front at means part;
-  in_memory = memory;
-}
-
--- a fault at the end of a line
-pub breaks_line : (old : ScriptState) (b : ℕ) (meaning : Option Line) (front : List ℕ) (refusal : Refusal) → b ≡ 10 → KeptMeans LineMeans old.kept meaning
-    → (front ≡ []) ⊎ IsFrontOf meaning old.core front → (refusal ≡ NoMemory → front ≡ []) → (left : List ℕ) → BreaksOff old (b ∷ left) front refusal
-breaks_line old b meaning front refusal newline means part memory left = record {
-  on = λ input prior stands.
-      cut_line input old stands.played stands.answered (lines_of left) stands.line prior front meaning refusal
-      (stands.split ∙ (ap (λ c. stands.answered ++ lines_of (stands.line ++ (c ∷ left))) newline ∙ ap (λ lines. stands.answered ++ lines) (lines_of-line stands.line left stands.unbroken)))
-      stands.is_at stands.replies (means stands.line (sym stands.kept_is)) part memory;
-}
+-- a front behind what was written before
+pub front_behind : (prior : List ℕ) {front said : List ℕ} → IsFront front said → IsFront (prior ++ front) (prior ++ said)
+front_behind prior {front} {said} is = (is.0, ap (λ l. prior ++ l) is.1 ∙ sym (append_assoc prior front is.0))
 
 -- a fault that has nothing to do with a line
 pub cut_between : (input left written : List ℕ) (script : ScriptState) (refusal : Refusal) → Stands input script left written → IsCutOff input written refusal
@@ -146,14 +114,28 @@ completes_answered script new meaning said some means leads = record {
       };
 }
 
-pub breaks_last : (script : ScriptState) (meaning : Option Line) (front : List ℕ) (refusal : Refusal) → script.kept ≢ [] → KeptMeans LineMeans script.kept meaning
-    → (front ≡ []) ⊎ IsFrontOf meaning script.core front → (refusal ≡ NoMemory → front ≡ []) → BreaksOff script [] front refusal
-breaks_last script meaning front refusal some means part memory = record {
+-- ---- faults
+
+-- no part of the next answer is written
+pub breaks_between : (script : ScriptState) (left : List ℕ) (refusal : Refusal) → BreaksOff script left [] refusal
+breaks_between script left refusal = record { on = λ input prior stands. rw (append-nil) (cut_between input left prior script refusal stands) }
+
+-- a front of what was said is written
+pub breaks_front : {old new : ScriptState} {bytes said front : List ℕ} → LeadsOn old bytes new said → IsFront front said → (left : List ℕ) → BreaksOff old (bytes ++ left) front Device
+breaks_front {old} {new} {bytes} {said} {front} leads is left = record {
   on = λ input prior stands.
-      let last = last_line stands.line stands.unbroken (some_line script stands.line stands.kept_is some) in
-      cut_line input script stands.played stands.answered [] stands.line prior front meaning refusal
-      (stands.split ∙ ap (λ lines. stands.answered ++ lines) last) stands.is_at stands.replies
-      (means stands.line (sym stands.kept_is)) part memory;
+      let after = leads.on input left prior stands in
+      cut_off input after.answered (lines_of (after.line ++ left)) (prior ++ front) Device after.split
+      (cut_text after.answered None after.played (prior ++ said) (prior ++ front) after.replies (front_behind prior is)) (λ e. cc);
+}
+
+-- and of what is said at the end
+pub breaks_end : {script : ScriptState} {said front : List ℕ} → Completes script said → IsFront front said → BreaksOff script [] front Device
+breaks_end {script} {said} {front} completes is = record {
+  on = λ input prior stands.
+      let whole = completes.on input prior stands in
+      cut_off input (lines_of input) [] (prior ++ front) Device (sym (append-nil (lines_of input)))
+      (cut_text (lines_of input) None whole.last (prior ++ said) (prior ++ front) whole.replies (front_behind prior is)) (λ e. cc);
 }
 
 -- a piece, at one of its bytes
@@ -161,3 +143,7 @@ pub piece_at : (piece left : List ℕ) (i : ℕ) → i < length piece → take i
 piece_at piece left i below =
     sym (append_assoc (take i piece) (get_or piece i 0 ∷ drop (suc i) piece) left)
     ∙ ap (λ bytes. bytes ++ left) (ap (λ rest. take i piece ++ rest) (sym (drop-cons piece i 0 below)) ∙ take-append-drop i piece)
+
+-- and what is left of it from there on
+pub rest_of_piece : (piece left : List ℕ) (i : ℕ) → take i piece ++ (drop i piece ++ left) ≡ piece ++ left
+rest_of_piece piece left i = sym (append_assoc (take i piece) (drop i piece) left) ∙ ap (λ bytes. bytes ++ left) (take-append-drop i piece)

@@ -2,7 +2,6 @@
 -- How far a script has come, for the functions that run it byte by byte.
 use Rattle.std.specs.Prelude.{◌≡◌, ℕ, List, [], ◌∷◌, ◌++◌, Option, Some, None, option_map}
 use Rattle.world_actions.specs.declared.refusal.Refusal.{Refusal}
-use Rattle.byte_streams.specs.Front.{IsFront}
 use Rattle.line_grammar.specs.Kept.{kept_of, HasNoNewline}
 use Rattle.steps.specs.declared.line.Line.{Line}
 use Rattle.world_core.specs.State.{State}
@@ -28,13 +27,6 @@ pub record IsAt (played : Option Played) (core : Option State) : Type 0 where
 -- with the one core open, a line with this meaning says this and leaves the other, however it was played
 pub record LineLeads (meaning : Option Line) (old : Option State) (said : List ℕ) (new : Option State) : Type 0 where
   pub on : (from : Option Played) → IsAt from old → (to : Option Played) × IsAt to new × LineRuns meaning from said to
-
--- a front of what a line says with this core open, and of its newline
-pub record IsFrontOf (meaning : Option Line) (old : Option State) (front : List ℕ) : Type 0 where
-  pub said : List ℕ
-  pub new : Option State
-  pub leads : LineLeads meaning old said new
-  pub is_front : IsFront front (said ++ 10 ∷ [])
 
 -- the lines that ended are answered, the line that has not is kept, and these bytes are left of the input
 pub record Stands (input : List ℕ) (script : ScriptState) (left written : List ℕ) : Type 0 where

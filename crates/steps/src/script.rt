@@ -1,11 +1,12 @@
-ghost use Rattle.std.specs.Prelude.{◌≡◌, ◌++◌, ◌∷◌, ℕ, List, [], Option, OnOk, IfOk, IfErr, IfSome, None, Some, ◌⊎◌, option_map};
+ghost use Rattle.std.specs.Prelude.{◌≡◌, ◌++◌, ◌∷◌, ℕ, List, [], Option, OnOk, OnErr, IfOk, IfErr, IfSome, None, Some, option_map};
 ghost use Rattle.std.specs.Io.KnownBytes.{Appends, IsAtEnd};
 ghost use Rattle.steps.specs.declared.line.Line.{Line};
 ghost use Rattle.steps.specs.Line.{LineMeans, LineIsInBounds};
 ghost use Rattle.steps.specs.OpenCore.{state_of, method_of, method_after};
 ghost use Rattle.steps.specs.Script.{IsScriptText, IsFault, IsCutOff, AnswersEach};
 ghost use Rattle.line_grammar.specs.Kept.{KeptMeans};
-ghost use Rattle.steps.specs.Progress.{LineLeads, IsFrontOf, LeadsOn, Completes, BreaksOff};
+ghost use Rattle.byte_streams.specs.Front.{IsFront};
+ghost use Rattle.steps.specs.Progress.{LineLeads, LeadsOn, Completes, BreaksOff};
 
 use crate::line::{Line, read_line};
 use crate::open_core::OpenCore;
@@ -18,11 +19,12 @@ use std::marker::Model;
 use world_actions::Refusal;
 use world_core::Answer;
 
-/// How many bytes are read at once.
-const PIECE_BYTES: usize = 512;
+/// How many bytes are read at once, and from how many bytes on answers are written before their piece is over.
+const PIECE_BYTES: usize = 4096;
 
 /// Runs the script that the reader gives and writes its text, and nothing else. `NoMemory` and
-/// `Device` end it: then whole answers stand, the last of them cut where the writer failed in it.
+/// `Device` end it: then whole answers stand, the last of them cut where the writer failed in it. The answers to what
+/// was read at once are written together.
 pub fn run_script<R: Read, W: Write>(alloc: Global, r: &mut R, w: &mut W) -> Result<(), Refusal>
     ensures whole { OnOk result (IfSome (R.remaining r.old) (λ input. (text : List ℕ)
         × IsScriptText input text × Appends (W.contents w.old) (W.contents w.new) text)) }
@@ -32,14 +34,15 @@ pub fn run_script<R: Read, W: Write>(alloc: Global, r: &mut R, w: &mut W) -> Res
     ensures fault { IfErr result IsFault }
 {
     let mut script = Script::new(alloc)?;
+    let mut text = Vec::new(alloc);
     let mut piece = [0; PIECE_BYTES];
     for _ in 0..u64::MAX {
         let n = read_some(r, &mut piece)?;
         if n == 0 {
-            script.finish(w)?;
+            script.finish(&mut text, w)?;
             return Ok(());
         }
-        script.take_piece(&piece[..n], w)?;
+        script.take_piece(&piece[..n], &mut text, w)?;
     }
     Err(Refusal::Device)
 }
@@ -49,7 +52,7 @@ pub fn script_answers_each_line()
     ensures { (input text : List ℕ) → IsScriptText input text → AnswersEach input text }
 {}
 
-/// The open core, the bytes that are kept of the line that has not ended, and a buffer for answers.
+/// The open core, the bytes that are kept of the line that has not ended, and a buffer for the answer to a line.
 #[derive(Drop)]
 struct Script {
     alloc: Global,
@@ -82,30 +85,42 @@ impl Script {
         })
     }
 
-    // Goes through the next bytes of the input, and answers each line that ends in them.
-    fn take_piece<W: Write>(&mut self, piece: &[u8], w: &mut W) -> Result<(), Refusal>
-        ensures done { OnOk result ((written : List ℕ) × Appends (W.contents w.old) (W.contents w.new) written
-            × LeadsOn self.old piece.now self.new written) }
+    // Goes through the next bytes of the input, and answers each line that ends in them. No answer waits behind them.
+    fn take_piece<W: Write>(
+        &mut self,
+        piece: &[u8],
+        text: &mut Vec<u8>,
+        w: &mut W,
+    ) -> Result<(), Refusal>
+        requires { text.old.items ≡ [] }
+        ensures done { OnOk result ((text.new.items ≡ []) × (written : List ℕ)
+            × Appends (W.contents w.old) (W.contents w.new) written × LeadsOn self.old piece.now self.new written) }
         ensures fault { IfErr result (λ refusal. IsFault refusal
             × (written : List ℕ) × Appends (W.contents w.old) (W.contents w.new) written
             × ((left : List ℕ) → BreaksOff self.old (piece.now ++ left) written refusal)) }
     {
         for byte in piece {
-            self.take_byte(*byte, w)?;
+            match self.take_byte(*byte, text) {
+                Ok(()) => write_long(text, w)?,
+                Err(refusal) => {
+                    write_out(text, w)?;
+                    return Err(refusal);
+                }
+            }
         }
+        write_out(text, w)?;
         Ok(())
     }
 
     // Takes a byte of the line, or answers the line that ends.
-    fn take_byte<W: Write>(&mut self, byte: u8, w: &mut W) -> Result<(), Refusal>
-        ensures done { OnOk result ((written : List ℕ) × Appends (W.contents w.old) (W.contents w.new) written
-            × LeadsOn self.old (byte ∷ []) self.new written) }
-        ensures fault { IfErr result (λ refusal. IsFault refusal
-            × (written : List ℕ) × Appends (W.contents w.old) (W.contents w.new) written
-            × ((left : List ℕ) → BreaksOff self.old (byte ∷ left) written refusal)) }
+    fn take_byte(&mut self, byte: u8, text: &mut Vec<u8>) -> Result<(), Refusal>
+        ensures done { OnOk result ((said : List ℕ) × (text.new.items ≡ text.old.items ++ said)
+            × LeadsOn self.old (byte ∷ []) self.new said) }
+        ensures same { OnErr result (text.new.items ≡ text.old.items) }
+        ensures memory { IfErr result (λ refusal. refusal ≡ Refusal.NoMemory) }
     {
         if byte == b'\n' {
-            self.answer_line(w)?;
+            self.answer_line(text)?;
             return Ok(());
         }
         self.line.push(byte);
@@ -113,7 +128,8 @@ impl Script {
     }
 
     // Answers what is left at the end of the input, if anything is.
-    fn finish<W: Write>(&mut self, w: &mut W) -> Result<(), Refusal>
+    fn finish<W: Write>(&mut self, text: &mut Vec<u8>, w: &mut W) -> Result<(), Refusal>
+        requires { text.old.items ≡ [] }
         ensures done { OnOk result ((written : List ℕ) × Appends (W.contents w.old) (W.contents w.new) written
             × Completes self.old written) }
         ensures fault { IfErr result (λ refusal. IsFault refusal
@@ -123,29 +139,51 @@ impl Script {
         if self.line.bytes().is_empty() {
             return Ok(());
         }
-        self.answer_line(w)?;
+        self.answer_line(text)?;
+        write_out(text, w)?;
         Ok(())
     }
 
-    // Answers the kept line, and keeps nothing of it.
-    fn answer_line<W: Write>(&mut self, w: &mut W) -> Result<(), Refusal>
+    // Answers the kept line, and keeps nothing of it. Where there is no memory it adds no part of the answer.
+    fn answer_line(&mut self, text: &mut Vec<u8>) -> Result<(), Refusal>
         ensures done { OnOk result ((meaning : Option Line) × KeptMeans LineMeans self.old.kept meaning
             × (said : List ℕ) × LineLeads meaning self.old.core said self.new.core × (self.new.kept ≡ [])
-            × Appends (W.contents w.old) (W.contents w.new) (said ++ 10 ∷ [])) }
-        ensures fault { IfErr result (λ refusal. IsFault refusal
-            × (meaning : Option Line) × KeptMeans LineMeans self.old.kept meaning
-            × (front : List ℕ) × ((front ≡ []) ⊎ IsFrontOf meaning self.old.core front)
-            × (refusal ≡ Refusal.NoMemory → front ≡ [])
-            × Appends (W.contents w.old) (W.contents w.new) front) }
+            × (text.new.items ≡ text.old.items ++ (said ++ 10 ∷ []))) }
+        ensures same { OnErr result (text.new.items ≡ text.old.items) }
+        ensures memory { IfErr result (λ refusal. refusal ≡ Refusal.NoMemory) }
     {
         let meaning = read_kept(self.line.bytes());
         self.line.clear();
         self.answer.clear();
         push_reply(self.alloc, &mut self.core, meaning, &mut self.answer)?;
         push_bytes(&mut self.answer, b"\n")?;
-        write_whole(w, &self.answer)?;
+        push_bytes(text, &self.answer)?;
         Ok(())
     }
+}
+
+// Writes answers, and keeps nothing of them.
+fn write_out<W: Write>(text: &mut Vec<u8>, w: &mut W) -> Result<(), Refusal>
+    ensures whole { OnOk result ((text.new.items ≡ []) × Appends (W.contents w.old) (W.contents w.new) text.old.items) }
+    ensures fault { IfErr result (λ refusal. (refusal ≡ Refusal.Device)
+        × (front : List ℕ) × IsFront front text.old.items × Appends (W.contents w.old) (W.contents w.new) front) }
+{
+    write_whole(w, text)?;
+    text.clear();
+    Ok(())
+}
+
+// Writes answers that have come to a piece.
+fn write_long<W: Write>(text: &mut Vec<u8>, w: &mut W) -> Result<(), Refusal>
+    ensures done { OnOk result ((written : List ℕ) × (text.old.items ≡ written ++ text.new.items)
+        × Appends (W.contents w.old) (W.contents w.new) written) }
+    ensures fault { IfErr result (λ refusal. (refusal ≡ Refusal.Device)
+        × (front : List ℕ) × IsFront front text.old.items × Appends (W.contents w.old) (W.contents w.new) front) }
+{
+    if text.len() >= PIECE_BYTES {
+        write_out(text, w)?;
+    }
+    Ok(())
 }
 
 // What a line asks for of which these bytes are kept.

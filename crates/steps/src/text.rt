@@ -1,4 +1,4 @@
-ghost use Rattle.std.specs.Prelude.{◌≡◌, ◌++◌, decimal, OnOk, IfErr};
+ghost use Rattle.std.specs.Prelude.{◌≡◌, ◌++◌, decimal, OnOk, OnErr, IfErr};
 ghost use Rattle.world_core.specs.declared.moves.Answer.TheVariants as answer;
 ghost use Rattle.steps.specs.Text.{answer_text};
 
@@ -56,6 +56,7 @@ fn push_log_answer(text: &mut Vec<u8>, given: LogAnswer) -> Result<(), Refusal>
 /// Adds bytes as they are.
 pub fn push_bytes(text: &mut Vec<u8>, bytes: &[u8]) -> Result<(), Refusal>
     ensures text { OnOk result (text.new.items ≡ text.old.items ++ bytes.now) }
+    ensures same { OnErr result (text.new.items ≡ text.old.items) }
     ensures memory { IfErr result (λ refusal. refusal ≡ Refusal.NoMemory) }
 {
     text.extend_from_slice(bytes)?;

@@ -383,6 +383,53 @@ fn many_reads_are_answered(rt: HostRuntime) -> Result<(), Fail> {
 }
 
 #[test]
+fn answers_to_what_was_read_at_once_take_one_call(rt: HostRuntime) {
+    for (most, calls) in [(512, 1), (1, 7)] {
+        let (ended, page) = run(&rt, TRANSFERS, most);
+        assert!(rt; ended == Ok(()), "in pieces of {most}");
+        assert_eq!(rt; page.calls, calls, "in pieces of {most}");
+    }
+}
+
+// A writer that takes all, and remembers how much each of its first calls brought.
+#[derive(Drop)]
+struct Lengths {
+    list: [usize; 4],
+    calls: usize,
+}
+
+impl Write for Lengths {
+    fn write(&mut self, buf: &[u8]) -> io::Result<usize> {
+        if let Some(length) = self.list.get_mut(self.calls) {
+            *length = buf.len();
+        }
+        self.calls = self.calls.saturating_add(1);
+        Ok(buf.len())
+    }
+
+    fn flush(&mut self) -> io::Result<()> {
+        Ok(())
+    }
+}
+
+// Answers of 8 and of 600 bytes: they are written once there are 4,096 or more, and the last ones at the end.
+#[test]
+fn long_answers_are_written_as_they_come(rt: HostRuntime) -> Result<(), Fail> {
+    let mut input = b"open plain 300\n".to_vec(rt.alloc())?;
+    for _ in 0..20 {
+        input.extend_from_slice(b"world\n")?;
+    }
+    let mut reader = input.as_slice();
+    let mut lengths = Lengths {
+        list: [0; 4],
+        calls: 0,
+    };
+    run_script(rt.alloc(), &mut reader, &mut lengths)?;
+    assert_eq!(rt; (lengths.list, lengths.calls), ([4208, 4200, 3600, 0], 3));
+    Ok(())
+}
+
+#[test]
 fn interrupted_calls_are_tried_again(rt: HostRuntime) {
     let mut reader = Pieces {
         bytes: TRANSFERS,
