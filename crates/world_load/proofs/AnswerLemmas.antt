@@ -16,19 +16,19 @@ same_tick end m n first second is =
     decimal_injective m n first second (append_cancel_right (decimal m) (decimal n) end
     (append_cancel_left (codes "tick ") (decimal m ++ end) (decimal n ++ end) is))
 
--- an answer is read as its number is
-pub answer_read : (answer rest digits end : List ℕ) (reading : Option ℕ) → answer ≡ codes "tick " ++ rest → rest ≡ digits ++ end
-    → IsReading decimal (λ n. n < 2 ^ 64) digits reading → IsReading (answer_with end) (λ n. n < 2 ^ 64) answer reading
-answer_read answer rest digits end (Some n) head tail read = (read.0, cc (read.1))
-answer_read answer rest digits end None head tail read = λ n fits is.
+-- a text is read as its number is
+pub read_between : (text rest digits front end : List ℕ) (reading : Option ℕ) → text ≡ front ++ rest → rest ≡ digits ++ end
+    → IsReading decimal (λ n. n < 2 ^ 64) digits reading → IsReading (λ n. front ++ (decimal n ++ end)) (λ n. n < 2 ^ 64) text reading
+read_between text rest digits front end (Some n) head tail read = (read.0, cc (read.1))
+read_between text rest digits front end None head tail read = λ n fits is.
     read n fits (append_cancel_right digits (decimal n) end
-    (sym tail ∙ append_cancel_left (codes "tick ") rest (decimal n ++ end) (sym head ∙ is)))
+        (sym tail ∙ append_cancel_left front rest (decimal n ++ end) (sym head ∙ is)))
 
--- without its end it is none
-pub no_end : (answer rest end : List ℕ) → answer ≡ codes "tick " ++ rest → ((front : List ℕ) → rest ≢ front ++ end)
-    → IsReading (answer_with end) (λ n. n < 2 ^ 64) answer None
-no_end answer rest end head none = λ n fits is.
-    none (decimal n) (append_cancel_left (codes "tick ") rest (decimal n ++ end) (sym head ∙ is))
+-- without its end it has none
+pub no_end : (text rest front end : List ℕ) → text ≡ front ++ rest → ((digits : List ℕ) → rest ≢ digits ++ end)
+    → IsReading (λ n. front ++ (decimal n ++ end)) (λ n. n < 2 ^ 64) text None
+no_end text rest front end head none = λ n fits is.
+    none (decimal n) (append_cancel_left front rest (decimal n ++ end) (sym head ∙ is))
 
 -- an answer with a tick that isn't after the last one is that of no later tick
 pub read_as_no_later : (answer shown end : List ℕ) (tick last : ℕ) → shown ≡ end → tick < 2 ^ 64 → answer ≡ answer_with shown tick → tick ≤ last

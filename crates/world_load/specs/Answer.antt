@@ -1,5 +1,6 @@
--- What a server answers a batch.
-use Rattle.std.specs.Prelude.{ℕ, zero, suc, List, [], ◌∷◌, ◌++◌, codes, decimal}
+-- What a server answers the batches of a connection.
+use Rattle.std.specs.Prelude.{◌≡◌, ℕ, zero, suc, ◌≤◌, ◌<◌, List, [], ◌∷◌, ◌++◌, length, All, codes, decimal}
+use Rattle.std.specs.List.{flat_map, AllPairs}
 
 -- the answer of this tick, with what follows its number
 abbrev pub answer_with : (end : List ℕ) → (tick : ℕ) → List ℕ
@@ -18,3 +19,16 @@ all_accepted lines = 58 ∷ pluses lines
 pub record Checking : Type 0 where
   pub end : List ℕ
   pub last : ℕ
+
+-- the bytes are so many answers with this after their numbers, each of a later tick than the one before, none past the last one
+pub record AreAnswersUpTo (last : ℕ) (end : List ℕ) (count : ℕ) (bytes : List ℕ) : Type 0 where
+  pub ticks : List ℕ
+  pub as_many : length ticks ≡ count
+  pub rising : AllPairs (λ earlier later. earlier < later) ticks
+  pub positive : All (λ tick. 0 < tick) ticks
+  pub up_to : All (λ tick. tick ≤ last) ticks
+  pub bytes_are : bytes ≡ flat_map (answer_with end) ticks
+
+-- the same up to some tick
+abbrev pub AreAnswers : (end : List ℕ) (count : ℕ) (bytes : List ℕ) → Type 0
+AreAnswers end count bytes = (last : ℕ) × AreAnswersUpTo last end count bytes

@@ -1,16 +1,19 @@
+ghost use Rattle.std.specs.Prelude.{◌≡◌, ◌++◌, ◌⊎◌, IfOk, IsErr};
+
 use crate::client::play;
 use crate::failure::Failure;
 use crate::latencies::Latencies;
 use crate::load::Load;
+use crate::progress::Progress;
 use std::alloc::Global;
-use std::net::{Net, TcpStream};
-use std::sync::atomic::{AtomicU64, Ordering};
+use std::io::{self, BufReader};
+use std::net::{Ipv4Addr, Net, TcpStream};
 use std::sync::{Arc, Wait};
 use std::thread::{self, JoinHandle, Threads, sleep};
 use std::time::{Clock, Duration, Instant};
 
 /// How many milliseconds pass from a look at the clients' progress to the next one.
-const PAUSE: u64 = 50;
+const PAUSE: u64 = 10;
 
 /// What the clients saw.
 #[derive(Drop)]
@@ -20,14 +23,7 @@ pub struct Seen {
     pub milliseconds: u64,
 }
 
-/// How many batches were answered, and how many clients have ended.
-#[derive(Drop)]
-struct Progress {
-    answered: AtomicU64,
-    ended: AtomicU64,
-}
-
-type Client = JoinHandle<Result<Vec<u64>, Failure>>;
+type Handle = JoinHandle<Result<Vec<u64>, Failure>>;
 
 /// Lets the clients of a load play against the server at a port, each in a thread of its own. Meanwhile it tells on standard
 /// error, each second, how far they are.
@@ -35,16 +31,13 @@ pub fn run_crowd<
     R: Net<Stream = TcpStream> + Threads + Wait + Clock + Eprint + Copy + Send + 'static,
 >(rt: &R, alloc: Global, port: u16, load: Load) -> Result<Seen, Failure> {
     let streams = connect(rt, alloc, port, load.connections)?;
-    let progress = Arc::new(
-        alloc,
-        Progress {
-            answered: AtomicU64::new(0),
-            ended: AtomicU64::new(0),
-        },
-    )?;
+    let progress = Arc::new(alloc, Progress::new())?;
     let begin = Instant::now(rt)?;
     let mut clients = Vec::with_capacity(alloc, streams.len())?;
     let started = start(rt, alloc, streams, load, &progress, &mut clients);
+    if started.is_err() {
+        progress.fail();
+    }
     watch(rt, &progress, clients.len() as u64, begin)?;
     let latencies = join(rt, alloc, clients);
     let milliseconds = u64::try_from(begin.elapsed(rt)?.as_millis()).unwrap_or(u64::MAX);
@@ -64,11 +57,18 @@ fn connect<R: Net<Stream = TcpStream>>(
 ) -> Result<Vec<TcpStream>, Failure> {
     let mut streams = Vec::with_capacity(alloc, connections as usize)?;
     for _ in 0..connections {
-        let stream = TcpStream::connect(rt, ("127.0.0.1", port))?;
-        stream.set_nodelay(true)?;
-        streams.push(stream)?;
+        match connect_once(rt, port) {
+            Ok(stream) => streams.push(stream)?,
+            Err(error) => return Err(Failure::NotConnected { port, error }),
+        }
     }
     Ok(streams)
+}
+
+fn connect_once<R: Net<Stream = TcpStream>>(rt: &R, port: u16) -> io::Result<TcpStream> {
+    let stream = TcpStream::connect(rt, (Ipv4Addr::LOCALHOST, port))?;
+    stream.set_nodelay(true)?;
+    Ok(stream)
 }
 
 // Gives each connection a client in a thread.
@@ -78,7 +78,7 @@ fn start<R: Threads + Clock + Copy + Send + 'static>(
     streams: Vec<TcpStream>,
     load: Load,
     progress: &Arc<Progress, Global>,
-    clients: &mut Vec<Client>,
+    clients: &mut Vec<Handle>,
 ) -> Result<(), Failure> {
     for (seed, stream) in streams.into_iter().enumerate() {
         clients.push(start_client(rt, alloc, stream, load, seed as u64, progress.clone()?)?)?;
@@ -93,17 +93,34 @@ fn start_client<R: Threads + Clock + Copy + Send + 'static>(
     load: Load,
     seed: u64,
     progress: Arc<Progress, Global>,
-) -> Result<Client, Failure> {
+) -> Result<Handle, Failure> {
     let here = *rt;
     let run = move || {
-        let played = play(&here, alloc, &stream, load, seed, &progress.answered);
-        progress.ended.fetch_add(1, Ordering::SeqCst);
+        let played = play_over(&here, alloc, &stream, &load, seed, &progress);
+        if played.is_err() {
+            progress.fail();
+        }
+        progress.client_ended();
         played
     };
     match thread::spawn(rt, run) {
         Ok(client) => Ok(client),
         Err(_) => Err(Failure::NoThread),
     }
+}
+
+// Plays over a stream, both ways.
+fn play_over<R: Clock>(
+    rt: &R,
+    alloc: Global,
+    stream: &TcpStream,
+    load: &Load,
+    seed: u64,
+    progress: &Progress,
+) -> Result<Vec<u64>, Failure> {
+    let mut answers = BufReader::new(alloc, stream)?;
+    let mut requests = stream;
+    play(rt, alloc, &mut answers, &mut requests, load, seed, progress)
 }
 
 // Tells each second how many batches were answered, until so many clients have ended.
@@ -115,23 +132,23 @@ fn watch<R: Wait + Clock + Eprint>(
 ) -> Result<(), Failure> {
     let (mut seconds, mut before) = (0, 0);
     for _ in rt.forever() {
-        if progress.ended.load(Ordering::SeqCst) >= clients {
+        if progress.ended() >= clients {
             break;
         }
         sleep(rt, Duration::from_millis(PAUSE));
         let now = begin.elapsed(rt)?.as_secs();
         if now > seconds {
-            let answered = progress.answered.load(Ordering::SeqCst);
-            let more = answered.saturating_sub(before);
-            let _ = eprintln!(rt; "{now} s: {answered} ticks, {more} more");
-            (seconds, before) = (now, answered);
+            let batches = progress.batches();
+            let more = batches.saturating_sub(before);
+            let _ = eprintln!(rt; "{now} s: {batches} ticks, {more} of them since {seconds} s");
+            (seconds, before) = (now, batches);
         }
     }
     Ok(())
 }
 
 // Waits for the clients: what all their batches waited, or why one ended too early.
-fn join<R: Threads>(rt: &R, alloc: Global, clients: Vec<Client>) -> Result<Vec<u64>, Failure> {
+fn join<R: Threads>(rt: &R, alloc: Global, clients: Vec<Handle>) -> Result<Vec<u64>, Failure> {
     let mut all = Ok(Vec::new(alloc));
     for client in clients {
         let played = client.join(rt);
@@ -144,7 +161,10 @@ fn join<R: Threads>(rt: &R, alloc: Global, clients: Vec<Client>) -> Result<Vec<u
 fn both(
     all: Result<Vec<u64>, Failure>,
     more: Result<Vec<u64>, Failure>,
-) -> Result<Vec<u64>, Failure> {
+) -> Result<Vec<u64>, Failure>
+    ensures joined { IfOk result (λ list. IfOk all (λ these. IfOk more (λ those. list.items ≡ these.items ++ those.items))) }
+    ensures fails { (IsErr all ⊎ IsErr more) → IsErr result }
+{
     let mut all = all?;
     all.extend_from_slice(&more?)?;
     Ok(all)

@@ -12,6 +12,7 @@ mod crowd;
 mod failure;
 mod latencies;
 mod load;
+mod progress;
 mod report;
 
 use arguments::{load_of, matches_of};
