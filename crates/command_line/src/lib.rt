@@ -1,11 +1,13 @@
-//! What a program does with its command line before its own work.
+//! What a program does with its command line before its own work, and its exit status.
 #![tactic(auto)]
 
 mod clap_error;
+mod ending;
 mod not_run;
 mod words;
 
 pub use clap_error::refused;
+pub use ending::ended;
 pub use not_run::NotRun;
 pub use words::{command_words, unreadable};
 

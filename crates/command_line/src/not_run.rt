@@ -1,3 +1,7 @@
+use crate::ending::ended;
+use std::alloc::AllocError;
+use std::process::ExitCode;
+
 /// Why a program does none of its work.
 #[derive(Clone, Copy, Debug, PartialEq, Eq)]
 pub enum NotRun {
@@ -7,4 +11,23 @@ pub enum NotRun {
     Mistaken,
     /// There is no memory for its words.
     NoMemory,
+}
+
+impl NotRun {
+    ghost use Rattle.std.specs.Prelude.{◌≡◌};
+    ghost use Rattle.std.specs.Process.{exit_status};
+    ghost use Rattle.command_line.specs.declared.not_run.NotRun.TheVariants.{Told, Mistaken, NoMemory};
+
+    /// The exit status for it. Want of memory, which nobody was told of yet, is told on standard error.
+    pub fn report<R: Eprint>(self, rt: &R) -> ExitCode
+        ensures told { self ≡ Told → exit_status result ≡ 0 }
+        ensures mistaken { self ≡ Mistaken → exit_status result ≡ 2 }
+        ensures memory { self ≡ NoMemory → exit_status result ≡ 1 }
+    {
+        match self {
+            NotRun::Told => ExitCode::SUCCESS,
+            NotRun::Mistaken => ExitCode::from(2),
+            NotRun::NoMemory => ended(rt, Err(AllocError)),
+        }
+    }
 }

@@ -1,9 +1,10 @@
 use crate::moves::{read_at_random, take_cells, write_at_random, write_in_order};
 use crate::store::Store;
-use crate::times::{Times, nanoseconds, picoseconds};
+use crate::times::{Times, picoseconds};
 use anyhow::Error;
 use std::alloc::Global;
 use std::time::{Clock, Instant};
+use timings::nanoseconds_of;
 use world_ticks::Cells;
 
 /// How many reads or writes are timed at once.
@@ -54,16 +55,16 @@ impl Figures {
         write_in_order(store, 1);
         let start = Instant::now(rt)?;
         let number = write_at_random(store, SEED, TIMES);
-        let time = nanoseconds(start.elapsed(rt)?);
+        let time = nanoseconds_of(start.elapsed(rt)?);
         self.random_write.push(picoseconds(time, u64::from(TIMES)))?;
         let start = Instant::now(rt)?;
         write_in_order(store, PASSES);
-        let time = nanoseconds(start.elapsed(rt)?);
+        let time = nanoseconds_of(start.elapsed(rt)?);
         self.ordered_write
             .push(picoseconds(time, u64::from(TIMES)))?;
         let start = Instant::now(rt)?;
         let sum = read_at_random(store, number, TIMES);
-        let time = nanoseconds(start.elapsed(rt)?);
+        let time = nanoseconds_of(start.elapsed(rt)?);
         self.random_read.push(picoseconds(time, u64::from(TIMES)))?;
         self.sum = self.sum.wrapping_add(sum);
         Ok(())
@@ -85,7 +86,7 @@ impl Figures {
             let cells = store.len();
             let start = Instant::now(rt)?;
             let sum = take_cells(store, cells);
-            time = time.saturating_add(nanoseconds(start.elapsed(rt)?));
+            time = time.saturating_add(nanoseconds_of(start.elapsed(rt)?));
             takes = takes.saturating_add(cells as u64);
             store.end_round();
             self.sum = self.sum.wrapping_add(sum);
@@ -103,7 +104,7 @@ impl Figures {
         let _before = Instant::now(rt)?;
         let start = Instant::now(rt)?;
         let is_open = store.try_mark();
-        let time = nanoseconds(start.elapsed(rt)?);
+        let time = nanoseconds_of(start.elapsed(rt)?);
         if is_open {
             self.mark.push(time.saturating_sub(clock))?;
         }
@@ -116,7 +117,7 @@ pub fn clock_time<R: Clock>(rt: &R, alloc: Global) -> Result<u64, Error> {
     let mut times = Times::new(alloc);
     for _ in 0..CLOCKS {
         let start = Instant::now(rt)?;
-        times.push(nanoseconds(start.elapsed(rt)?))?;
+        times.push(nanoseconds_of(start.elapsed(rt)?))?;
     }
     Ok(times.median())
 }

@@ -2,11 +2,11 @@ ghost use Rattle.std.specs.Prelude.{◌≡◌, []};
 
 use crate::moves::{take_cells, write_at_random};
 use crate::seats::{WritingSeat, end_taken};
-use crate::times::nanoseconds;
 use shared_capture::{Back, Front, Method};
 use std::io;
 use std::thread::{Threads, join, yield_now};
 use std::time::{Clock, Instant};
+use timings::nanoseconds_of;
 
 /// How long two threads are timed.
 const SECONDS: u64 = 3;
@@ -75,7 +75,7 @@ fn write_on<M: Method, R: Clock>(rt: &R, mut seat: WritingSeat<M>) -> io::Result
             break;
         }
     }
-    let nanoseconds = nanoseconds(start.elapsed(rt)?);
+    let nanoseconds = nanoseconds_of(start.elapsed(rt)?);
     Ok((
         Speed {
             times: writes,
@@ -105,6 +105,6 @@ fn take_on<M: Method, R: Clock>(rt: &R, mut back: Back<M>, cells: usize) -> io::
     }
     Ok(Speed {
         times,
-        nanoseconds: nanoseconds(start.elapsed(rt)?),
+        nanoseconds: nanoseconds_of(start.elapsed(rt)?),
     })
 }

@@ -1,5 +1,5 @@
 use std::alloc::{AllocError, Global};
-use std::time::Duration;
+use timings::of_thousandths;
 
 /// Times of one thing, measured several times.
 #[derive(Drop)]
@@ -8,6 +8,8 @@ pub struct Times {
 }
 
 impl Times {
+    ghost use Rattle.std.specs.Prelude.{◌≤◌};
+
     /// No time yet.
     pub fn new(alloc: Global) -> Self {
         Times {
@@ -20,22 +22,18 @@ impl Times {
         Ok(self.list.push(time)?)
     }
 
-    /// The time below which so many of a hundred are, or 0 where there is none.
-    pub fn percentile(&mut self, percent: usize) -> u64 {
+    /// The time that so many of a hundred don't exceed, and 0 where there is none.
+    pub fn percentile(&mut self, percent: u32) -> u64
+        requires { (1 ≤ percent) × (percent ≤ 100) }
+    {
         self.list.sort_unstable();
-        let place = self.list.len().saturating_mul(percent) / 100;
-        self.list.get(place).copied().unwrap_or(0)
+        of_thousandths(&self.list, percent * 10)
     }
 
     /// The time in the middle.
     pub fn median(&mut self) -> u64 {
         self.percentile(50)
     }
-}
-
-/// The nanoseconds of a time.
-pub fn nanoseconds(time: Duration) -> u64 {
-    u64::try_from(time.as_nanos()).unwrap_or(u64::MAX)
 }
 
 /// The picoseconds of one of so many things, of which all took so many nanoseconds.

@@ -1,0 +1,113 @@
+use crate::load::Load;
+use clap::error::Error;
+use clap::{Arg, ArgMatches, Command, value_parser};
+use std::alloc::{AllocError, Global};
+use world_actions::CELLS as MOST_CELLS;
+use world_ticks::TICK_ACTIONS;
+
+/// The names of the arguments.
+const PORT: &str = "port";
+
+const CONNECTIONS: &str = "connections";
+
+const LINES: &str = "lines";
+
+const CELLS: &str = "cells";
+
+const BATCHES: &str = "batches";
+
+const SECONDS: &str = "seconds";
+
+/// What `world_load --help` says at its end.
+const HELP: &str = "\
+Each connection sends a batch, waits for its answer, checks it, and sends the next one. Each line of a batch sets a random
+cell. It ends after so many seconds, or after so many batches of each connection where that comes first, and tells ticks and
+actions a second and how long batches waited for their answers. A worldd that serves as many clients ends then too:
+
+    worldd serve --dir D --method zigzag --port 7070 --clients 50 &
+    world_load --port 7070 --connections 50 --cells 1000
+
+Status 0: each answer was right. 1: a fault or a wrong answer, which is told. 2: a wrong command line.";
+
+/// What the words ask for; the error has clap's text.
+pub fn matches_of<'a>(alloc: Global, words: &'a [String]) -> Result<ArgMatches<'a>, Error> {
+    command(alloc)?.try_get_matches_from(words)
+}
+
+fn command<'a>(alloc: Global) -> Result<Command<'a>, AllocError> {
+    Command::new(alloc, "world_load")
+        .version("0.1.0")
+        .about("Loads a serving worldd, checks its answers, and tells how long they took")
+        .after_help(HELP)
+        .arg(port_argument(alloc))?
+        .arg(connections_argument(alloc))?
+        .arg(lines_argument(alloc))?
+        .arg(cells_argument(alloc))?
+        .arg(batches_argument(alloc))?
+        .arg(seconds_argument(alloc))
+}
+
+fn port_argument<'a>(alloc: Global) -> Arg<'a> {
+    Arg::new(alloc, PORT)
+        .long(PORT)
+        .value_name("P")
+        .required(true)
+        .value_parser(value_parser!(u16).range(1..))
+        .help("The port on 127.0.0.1 that worldd listens on")
+}
+
+fn connections_argument<'a>(alloc: Global) -> Arg<'a> {
+    Arg::new(alloc, CONNECTIONS)
+        .long(CONNECTIONS)
+        .value_name("K")
+        .default_value("1")
+        .value_parser(value_parser!(u32).range(1..=10_000))
+        .help("How many connections there are at once, each with a thread of its own")
+}
+
+fn lines_argument<'a>(alloc: Global) -> Arg<'a> {
+    Arg::new(alloc, LINES)
+        .long(LINES)
+        .value_name("L")
+        .default_value("1")
+        .value_parser(value_parser!(u32).range(0..=TICK_ACTIONS as i64))
+        .help("How many lines a batch has before its end")
+}
+
+fn cells_argument<'a>(alloc: Global) -> Arg<'a> {
+    Arg::new(alloc, CELLS)
+        .long(CELLS)
+        .value_name("N")
+        .default_value("1")
+        .value_parser(value_parser!(u32).range(1..=i64::from(MOST_CELLS)))
+        .help("Which cells are set: the first N, which the world has to have")
+}
+
+fn batches_argument<'a>(alloc: Global) -> Arg<'a> {
+    Arg::new(alloc, BATCHES)
+        .long(BATCHES)
+        .value_name("B")
+        .value_parser(value_parser!(u32).range(1..))
+        .help("After how many batches a connection ends; without it, after the seconds alone")
+}
+
+fn seconds_argument<'a>(alloc: Global) -> Arg<'a> {
+    Arg::new(alloc, SECONDS)
+        .long(SECONDS)
+        .value_name("S")
+        .default_value("10")
+        .value_parser(value_parser!(u32).range(1..=86_400))
+        .help("After how many seconds no more batches are sent")
+}
+
+/// The port, and what is asked of the server there.
+pub fn load_of(matches: &ArgMatches<'_>) -> Option<(u16, Load)> {
+    let load = Load {
+        connections: matches.get_one(CONNECTIONS)?,
+        lines: matches.get_one(LINES)?,
+        cells: matches.get_one(CELLS)?,
+        batches: matches.get_one(BATCHES),
+        seconds: matches.get_one(SECONDS)?,
+    };
+    Some((matches.get_one(PORT)?, load))
+}

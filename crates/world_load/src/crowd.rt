@@ -1,0 +1,171 @@
+ghost use Rattle.std.specs.Prelude.{◌≡◌, ◌++◌, ◌⊎◌, IfOk, IsErr};
+
+use crate::client::play;
+use crate::failure::Failure;
+use crate::latencies::Latencies;
+use crate::load::Load;
+use crate::progress::Progress;
+use std::alloc::Global;
+use std::io::{self, BufReader};
+use std::net::{Ipv4Addr, Net, TcpStream};
+use std::sync::{Arc, Wait};
+use std::thread::{self, JoinHandle, Threads, sleep};
+use std::time::{Clock, Duration, Instant};
+
+/// How many milliseconds pass from a look at the clients' progress to the next one.
+const PAUSE: u64 = 10;
+
+/// What the clients saw.
+#[derive(Drop)]
+pub struct Seen {
+    pub latencies: Latencies,
+    /// How long the clients played.
+    pub milliseconds: u64,
+}
+
+type Handle = JoinHandle<Result<Vec<u64>, Failure>>;
+
+/// Lets the clients of a load play against the server at a port, each in a thread of its own. Meanwhile it tells on standard
+/// error, each second, how far they are.
+pub fn run_crowd<
+    R: Net<Stream = TcpStream> + Threads + Wait + Clock + Eprint + Copy + Send + 'static,
+>(rt: &R, alloc: Global, port: u16, load: Load) -> Result<Seen, Failure> {
+    let streams = connect(rt, alloc, port, load.connections)?;
+    let progress = Arc::new(alloc, Progress::new())?;
+    let begin = Instant::now(rt)?;
+    let mut clients = Vec::with_capacity(alloc, streams.len())?;
+    let started = start(rt, alloc, streams, load, &progress, &mut clients);
+    if started.is_err() {
+        progress.fail();
+    }
+    watch(rt, &progress, clients.len() as u64, begin)?;
+    let latencies = join(rt, alloc, clients);
+    let milliseconds = u64::try_from(begin.elapsed(rt)?.as_millis()).unwrap_or(u64::MAX);
+    started?;
+    Ok(Seen {
+        latencies: Latencies::new(latencies?),
+        milliseconds,
+    })
+}
+
+// Connects so many times.
+fn connect<R: Net<Stream = TcpStream>>(
+    rt: &R,
+    alloc: Global,
+    port: u16,
+    connections: u32,
+) -> Result<Vec<TcpStream>, Failure> {
+    let mut streams = Vec::with_capacity(alloc, connections as usize)?;
+    for _ in 0..connections {
+        match connect_once(rt, port) {
+            Ok(stream) => streams.push(stream)?,
+            Err(error) => return Err(Failure::NotConnected { port, error }),
+        }
+    }
+    Ok(streams)
+}
+
+fn connect_once<R: Net<Stream = TcpStream>>(rt: &R, port: u16) -> io::Result<TcpStream> {
+    let stream = TcpStream::connect(rt, (Ipv4Addr::LOCALHOST, port))?;
+    stream.set_nodelay(true)?;
+    Ok(stream)
+}
+
+// Gives each connection a client in a thread.
+fn start<R: Threads + Clock + Copy + Send + 'static>(
+    rt: &R,
+    alloc: Global,
+    streams: Vec<TcpStream>,
+    load: Load,
+    progress: &Arc<Progress, Global>,
+    clients: &mut Vec<Handle>,
+) -> Result<(), Failure> {
+    for (seed, stream) in streams.into_iter().enumerate() {
+        clients.push(start_client(rt, alloc, stream, load, seed as u64, progress.clone()?)?)?;
+    }
+    Ok(())
+}
+
+fn start_client<R: Threads + Clock + Copy + Send + 'static>(
+    rt: &R,
+    alloc: Global,
+    stream: TcpStream,
+    load: Load,
+    seed: u64,
+    progress: Arc<Progress, Global>,
+) -> Result<Handle, Failure> {
+    let here = *rt;
+    let run = move || {
+        let played = play_over(&here, alloc, &stream, &load, seed, &progress);
+        if played.is_err() {
+            progress.fail();
+        }
+        progress.client_ended();
+        played
+    };
+    match thread::spawn(rt, run) {
+        Ok(client) => Ok(client),
+        Err(_) => Err(Failure::NoThread),
+    }
+}
+
+// Plays over a stream, both ways.
+fn play_over<R: Clock>(
+    rt: &R,
+    alloc: Global,
+    stream: &TcpStream,
+    load: &Load,
+    seed: u64,
+    progress: &Progress,
+) -> Result<Vec<u64>, Failure> {
+    let mut answers = BufReader::new(alloc, stream)?;
+    let mut requests = stream;
+    play(rt, alloc, &mut answers, &mut requests, load, seed, progress)
+}
+
+// Tells each second how many batches were answered, until so many clients have ended.
+fn watch<R: Wait + Clock + Eprint>(
+    rt: &R,
+    progress: &Progress,
+    clients: u64,
+    begin: Instant,
+) -> Result<(), Failure> {
+    let (mut seconds, mut before) = (0, 0);
+    for _ in rt.forever() {
+        if progress.ended() >= clients {
+            break;
+        }
+        sleep(rt, Duration::from_millis(PAUSE));
+        let now = begin.elapsed(rt)?.as_secs();
+        if now > seconds {
+            let batches = progress.batches();
+            let more = batches.saturating_sub(before);
+            let _ = eprintln!(rt; "{now} s: {batches} ticks, {more} of them since {seconds} s");
+            (seconds, before) = (now, batches);
+        }
+    }
+    Ok(())
+}
+
+// Waits for the clients: what all their batches waited, or why one ended too early.
+fn join<R: Threads>(rt: &R, alloc: Global, clients: Vec<Handle>) -> Result<Vec<u64>, Failure> {
+    let mut all = Ok(Vec::new(alloc));
+    for client in clients {
+        let played = client.join(rt);
+        all = both(all, played);
+    }
+    all
+}
+
+// These latencies and those, or the first failure.
+fn both(
+    all: Result<Vec<u64>, Failure>,
+    more: Result<Vec<u64>, Failure>,
+) -> Result<Vec<u64>, Failure>
+    ensures joined { IfOk result (λ list. IfOk all (λ these. IfOk more (λ those. list.items ≡ these.items ++ those.items))) }
+    ensures fails { (IsErr all ⊎ IsErr more) → IsErr result }
+{
+    let mut all = all?;
+    all.extend_from_slice(&more?)?;
+    Ok(all)
+}

@@ -1,0 +1,14 @@
+/// What clients ask of a server.
+#[derive(Clone, Copy, Debug, PartialEq, Eq)]
+pub struct Load {
+    /// How many connections there are at once, each with a thread of its own.
+    pub connections: u32,
+    /// How many sets a batch has.
+    pub lines: u32,
+    /// The first so many cells are set.
+    pub cells: u32,
+    /// After how many batches a connection ends, if it isn't the seconds that end it.
+    pub batches: Option<u32>,
+    /// After how many seconds no more batches are sent.
+    pub seconds: u32,
+}

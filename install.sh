@@ -1,0 +1,46 @@
+#!/bin/sh
+# Installs worldd and world_load: ./install.sh PREFIX, as ./install.sh "$HOME/worldd"
+#
+# It proves and builds both, as the gate does, where that isn't done yet, which takes a while the first time. It writes
+# PREFIX/bin/worldd, PREFIX/bin/world_load and PREFIX/share/worldd/worldd.service, a unit for systemd, and nothing else.
+# A second run puts newer ones in their places, also while a server runs, which goes on as it is until it is started again.
+# Where PREFIX is root's: sudo env "PATH=$PATH" ./install.sh /usr/local
+set -eu
+
+fail() {
+    echo "install.sh: $2" >&2
+    exit "$1"
+}
+
+case $# in
+1) prefix=$1 ;;
+*) fail 2 "usage: ./install.sh PREFIX" ;;
+esac
+case $prefix in
+'' | -*) fail 2 "PREFIX is the path of a folder, and not '$prefix'" ;;
+/*) ;;
+*) prefix=$PWD/$prefix ;;
+esac
+case $prefix in
+*[\"\'\\\`\$%\&\|]* | *'
+'*) fail 2 "a unit can't have the path $prefix: choose one without quotes and \\ \` \$ % & |" ;;
+esac
+command -v rt >/dev/null || fail 1 "there is no rt: put the bin folder of the Rattle kit on the PATH"
+
+# What can't be written is told before hours of proof.
+mkdir -p "$prefix/bin" "$prefix/share/worldd"
+prefix=$(CDPATH='' cd -- "$prefix" && pwd)
+for folder in "$prefix/bin" "$prefix/share/worldd"; do
+    [ -w "$folder" ] || fail 1 "$folder can't be written"
+done
+
+top=$(CDPATH='' cd -- "$(dirname -- "$0")" && pwd)
+for program in worldd world_load; do
+    (cd "$top/crates/$program" && rt run -- --version)
+done
+for program in worldd world_load; do
+    install -m 755 "$top/crates/$program/out/$program" "$prefix/bin/$program"
+done
+sed "s|@PREFIX@|$prefix|" "$top/worldd.service" >"$prefix/share/worldd/worldd.service"
+echo "installed: $prefix/bin/worldd, $prefix/bin/world_load"
+echo "to serve a world for good: the first lines of $prefix/share/worldd/worldd.service"
