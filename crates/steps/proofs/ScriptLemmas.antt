@@ -112,18 +112,18 @@ cut_text (line ∷ lines) from last text front replies is =
         next = inr (line, lines, refl, said, replies.2, (replies.0, replies.1, replies.2, [], replies.4, replies.5, (refl, refl), refl), more);
       }
       | inr more ↦ (
-        let later = cut_text lines replies.2 last replies.3 more.0 replies.6 (is.0, more.2) in
-        record {
-          answered = line ∷ later.answered;
-          later = later.later;
-          split = ap (λ l. line ∷ l) later.split;
-          core = later.core;
-          whole = said ++ later.whole;
-          replies = (replies.0, replies.1, replies.2, later.whole, replies.4, replies.5, later.replies, append_assoc replies.1 (10 ∷ []) later.whole);
-          part = later.part;
-          are = more.1 ∙ ap (λ l. said ++ l) later.are ∙ sym (append_assoc said later.whole later.part);
-          next = later.next;
-        })
+          let later = cut_text lines replies.2 last replies.3 more.0 replies.6 (is.0, more.2) in
+          record {
+            answered = line ∷ later.answered;
+            later = later.later;
+            split = ap (λ l. line ∷ l) later.split;
+            core = later.core;
+            whole = said ++ later.whole;
+            replies = (replies.0, replies.1, replies.2, later.whole, replies.4, replies.5, later.replies, append_assoc replies.1 (10 ∷ []) later.whole);
+            part = later.part;
+            are = more.1 ∙ ap (λ l. said ++ l) later.are ∙ sym (append_assoc said later.whole later.part);
+            next = later.next;
+          })
     ]
 
 -- what is cut of the answers to some lines is so of those to more of them
