@@ -1,6 +1,5 @@
 -- One byte of a script at a time: what stands after it.
-use Rattle.std.proofs.Common.{append-nil, refl, ap, sym, ◌∙◌, ◌≡◌, ◌≢◌, ℕ, suc, ◌<◌, List, [], ◌∷◌, ◌++◌, append_assoc, length, get_or, take, drop, Option, None, ◌⊎◌, inl, inr}
-use Rattle.std.proofs.Math.Seq.{drop-cons}
+use Rattle.std.proofs.Common.{append-nil, refl, ap, sym, subst, ◌∙◌, ◌≡◌, ◌≢◌, ℕ, List, [], ◌∷◌, ◌++◌, append_assoc, take, drop, Option, None, ◌⊎◌, inl, inr}
 use Rattle.std.proofs.lemmas.List.{take-append-drop}
 use Rattle.world_actions.specs.declared.refusal.Refusal.{Refusal}
 use Rattle.world_actions.specs.declared.refusal.Refusal.TheVariants.{Device}
@@ -67,7 +66,7 @@ leads_answered old new b meaning said newline means leads empty = record {
 }
 
 -- a front behind what was written before
-pub front_behind : (prior : List ℕ) {front said : List ℕ} → IsFront front said → IsFront (prior ++ front) (prior ++ said)
+front_behind : (prior : List ℕ) {front said : List ℕ} → IsFront front said → IsFront (prior ++ front) (prior ++ said)
 front_behind prior {front} {said} is = (is.0, ap (λ l. prior ++ l) is.1 ∙ sym (append_assoc prior front is.0))
 
 -- a fault that has nothing to do with a line
@@ -138,12 +137,24 @@ breaks_end {script} {said} {front} completes is = record {
       (cut_text (lines_of input) None whole.last (prior ++ said) (prior ++ front) whole.replies (front_behind prior is)) (λ e. cc);
 }
 
--- a piece, at one of its bytes
-pub piece_at : (piece left : List ℕ) (i : ℕ) → i < length piece → take i piece ++ (get_or piece i 0 ∷ (drop (suc i) piece ++ left)) ≡ piece ++ left
-piece_at piece left i below =
-    sym (append_assoc (take i piece) (get_or piece i 0 ∷ drop (suc i) piece) left)
-    ∙ ap (λ bytes. bytes ++ left) (ap (λ rest. take i piece ++ rest) (sym (drop-cons piece i 0 below)) ∙ take-append-drop i piece)
-
--- and what is left of it from there on
-pub rest_of_piece : (piece left : List ℕ) (i : ℕ) → take i piece ++ (drop i piece ++ left) ≡ piece ++ left
+-- what is left of a piece from a place on
+rest_of_piece : (piece left : List ℕ) (i : ℕ) → take i piece ++ (drop i piece ++ left) ≡ piece ++ left
 rest_of_piece piece left i = sym (append_assoc (take i piece) (drop i piece) left) ∙ ap (λ bytes. bytes ++ left) (take-append-drop i piece)
+
+-- what waits behind what was written, and what is said next
+pub leads_more : {old middle new : ScriptState} {bytes more : List ℕ} (written text said all : List ℕ) → LeadsOn old bytes middle (written ++ text) → LeadsOn middle more new said
+    → all ≡ text ++ said → LeadsOn old (bytes ++ more) new (written ++ all)
+leads_more {old} {middle} {new} {bytes} {more} written text said all one two is =
+    subst (λ (l : List ℕ). LeadsOn old (bytes ++ more) new l) (append_assoc written text said ∙ ap (λ l. written ++ l) (sym is)) (leads_then one two)
+
+-- in a piece no part of the next answer is written
+pub breaks_at : {old middle : ScriptState} (piece left : List ℕ) (i : ℕ) (written : List ℕ) (refusal : Refusal) → LeadsOn old (take i piece) middle written → BreaksOff old (piece ++ left) written refusal
+breaks_at {old} {middle} piece left i written refusal leads =
+    subst (λ (l : List ℕ). BreaksOff old l written refusal) (rest_of_piece piece left i)
+    (subst (λ (l : List ℕ). BreaksOff old (take i piece ++ (drop i piece ++ left)) l refusal) (append-nil written) (breaks_after leads (breaks_between middle (drop i piece ++ left) refusal)))
+
+-- and a front of what waits
+pub breaks_writing : {old middle : ScriptState} (piece left : List ℕ) (i : ℕ) (written text front : List ℕ) → LeadsOn old (take i piece) middle (written ++ text) → IsFront front text
+    → BreaksOff old (piece ++ left) (written ++ front) Device
+breaks_writing {old} {middle} piece left i written text front leads is =
+    subst (λ (l : List ℕ). BreaksOff old l (written ++ front) Device) (rest_of_piece piece left i) (breaks_front leads (front_behind written is) (drop i piece ++ left))
