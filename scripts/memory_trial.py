@@ -75,13 +75,19 @@ class Run:
     was_refused: bool
 
 
+def built_watcher(room: pathlib.Path) -> pathlib.Path:
+    """The library that watches the allocations of a program before which it is loaded."""
+    library = room / "watched_allocations.so"
+    source = pathlib.Path(__file__).with_name("watched_allocations.c")
+    subprocess.run(["cc", "-shared", "-fPIC", "-O1", "-o", library, source], check=True)
+    return library
+
+
 class Refuser:
     """Refuses an allocation of each program that it starts."""
 
     def __init__(self, room: pathlib.Path) -> None:
-        self.library = room / "refused_allocation.so"
-        source = pathlib.Path(__file__).with_suffix("").parent / "refused_allocation.c"
-        subprocess.run(["cc", "-shared", "-fPIC", "-O1", "-o", self.library, source], check=True)
+        self.library = built_watcher(room)
 
     def start(
         self, command: list[object], number: int, which: str = "REFUSED_ALLOCATION", **files: object

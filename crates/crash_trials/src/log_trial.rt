@@ -6,7 +6,7 @@ ghost use Rattle.crash_trials.specs.Tally.{outcomes};
 use crate::crash::{CRASHES, empty_file};
 use crate::outcome::Outcome;
 use crate::tally::Tally;
-use action_log::{HEADER_BYTES, LogAnswer, LogKeeper, Record, log_outcomes};
+use action_log::{LogAnswer, LogKeeper, Record, log_outcomes};
 use circular_buffer::HeapCircularBuffer;
 use disk_model::{Fused, ModelFile};
 use recovery::{Recovered, recover};
@@ -38,25 +38,6 @@ pub fn try_log(alloc: Global) -> Result<Tally, Refusal> {
         run(alloc, Some(failing), &mut tally)?;
     }
     Ok(tally)
-}
-
-/// The bytes that a group of so many ticks of four actions writes, and the calls that it makes.
-pub fn cost_of_group(alloc: Global, ticks: u64) -> Result<(usize, u32), Refusal>
-    requires { ticks ≤ 32 }
-{
-    let mut trial = LogTrial::new(alloc, busy_ticks(alloc, ticks)?)?;
-    let mut calls = 0u32;
-    for _ in 0..STEPS {
-        let is_start = trial.keeper.starting();
-        match trial.step() {
-            LogAnswer::Idle | LogAnswer::Down => break,
-            _ if is_start => {}
-            _ => calls = calls.saturating_add(1),
-        }
-    }
-    // Behind the segment's header, and the group's gate once more.
-    let grown = trial.log_a.inner().now().len().saturating_sub(HEADER_BYTES);
-    Ok((grown.saturating_add(1), calls))
 }
 
 // Runs to the end or up to the step whose call fails, and counts the steps that made a call.
@@ -206,24 +187,6 @@ fn records(alloc: Global) -> Result<HeapCircularBuffer<Record>, Refusal>
     }
     push(&mut queue, Record::Switch(FIRST_TICKS));
     push(&mut queue, Record::Tick(tick(alloc, TICKS)?));
-    Ok(queue)
-}
-
-// So many ticks of four actions.
-fn busy_ticks(alloc: Global, ticks: u64) -> Result<HeapCircularBuffer<Record>, Refusal>
-    requires { ticks ≤ 32 }
-    ensures { IfOk result (λ queue. QueueFits 0 0 queue.items) }
-{
-    let mut queue = HeapCircularBuffer::with_capacity(alloc, 64)?;
-    for i in 0..ticks {
-        let mut tick = Tick::new(alloc);
-        tick.reserve(4)?;
-        tick.push_reserved(Action::Set { cell: 0, value: i });
-        tick.push_reserved(Action::Set { cell: 1, value: i });
-        tick.push_reserved(Action::Set { cell: 2, value: i });
-        tick.push_reserved(Action::Set { cell: 3, value: i });
-        push(&mut queue, Record::Tick(tick));
-    }
     Ok(queue)
 }
 

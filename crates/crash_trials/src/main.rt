@@ -1,11 +1,8 @@
 //! The program `crash_trials`: runs rounds of both capture methods and jobs of the log over files in memory,
 //! lets the call of each step fail in turn, and reads what crashes of several kinds may leave after each
 //! step. It tells how many calls failed, how many outcomes hold nothing, what stood before, or what is being
-//! written, and how many outcomes and answers are wrong. At the end it tells what groups of the log cost. It
-//! fails where an outcome or an answer is wrong.
+//! written, and how many outcomes and answers are wrong. It fails where one is wrong.
 #![tactic(auto)]
-
-ghost use Rattle.std.specs.Prelude.{◌≤◌};
 
 mod crash;
 mod image_trial;
@@ -15,7 +12,7 @@ mod outcome;
 mod tally;
 
 use image_trial::try_images;
-use log_trial::{cost_of_group, try_log};
+use log_trial::try_log;
 use ping_pong::PingPong;
 use std::io;
 use std::process::ExitCode;
@@ -26,9 +23,6 @@ use zigzag::Zigzag;
 
 /// The sizes of the worlds that are tried.
 const SIZES: [u32; 4] = [1, 64, 65, 130];
-
-/// The ticks of the groups whose cost is told.
-const GROUPS: [u64; 3] = [1, 8, 32];
 
 fn main(rt: HostRuntime) -> ExitCode {
     ended(&rt, run(&rt))
@@ -43,9 +37,6 @@ fn run<R: Print + AllocGlobal>(rt: &R) -> io::Result<bool> {
         passes &= tell(rt, "pingpong", cells, seen)?;
     }
     passes &= tell(rt, "log", 1, try_log(rt.alloc()))?;
-    for ticks in GROUPS {
-        passes &= tell_cost(rt, ticks)?;
-    }
     Ok(passes)
 }
 
@@ -66,22 +57,6 @@ fn tell<R: Print>(
                 "{method} {cells}: refused with {}: {refusal}",
                 refusal.code()
             )?;
-            Ok(false)
-        }
-    }
-}
-
-// Tells what a group of so many ticks costs.
-fn tell_cost<R: Print + AllocGlobal>(rt: &R, ticks: u64) -> io::Result<bool>
-    requires { ticks ≤ 32 }
-{
-    match cost_of_group(rt.alloc(), ticks) {
-        Ok((bytes, calls)) => {
-            println!(rt; "group of {ticks}: {bytes} bytes, {calls} calls")?;
-            Ok(true)
-        }
-        Err(refusal) => {
-            println!(rt; "group of {ticks}: refused with {}", refusal.code())?;
             Ok(false)
         }
     }

@@ -14,14 +14,23 @@ turns of 4,194,304 reads or writes, and of 1,008 marks, each after 1,024 writes 
 less the clock's own time. Each ratio stands beside the most that it is to be; none lets the
 program fail.";
 
+/// What `measures allocations --help` says at its end.
+const ALLOCATIONS_HELP: &str = "\
+It names each call with the most allocations that it is to make. scripts/count_allocations.py runs it,
+and counts those that it makes.";
+
 /// What the words ask for; the error has clap's text.
 pub fn matches_of<'a>(alloc: Global, words: &'a [String]) -> Result<ArgMatches<'a>, Error> {
     let all = Command::new(alloc, "all")
         .about("Measures how fast the stores are on this machine")
         .after_help(ALL_HELP);
+    let allocations = Command::new(alloc, "allocations")
+        .about("Makes calls, each of whose allocations can be counted from outside")
+        .after_help(ALLOCATIONS_HELP);
     Command::new(alloc, "measures")
         .about("Tells what the stores need and how fast they are")
         .after_help(HELP)
         .subcommand(all)?
+        .subcommand(allocations)?
         .try_get_matches_from(words)
 }

@@ -3,23 +3,42 @@
 //! stores are on this one.
 #![tactic(auto)]
 
+mod allocations;
 mod arguments;
+mod counted;
 mod counts;
+mod devices;
 mod figures;
+mod file_allocations;
+mod file_report;
+mod images;
+mod keeper_speed;
+mod logs;
 mod measuring;
 mod moves;
 mod pair_speed;
+mod recovery_speed;
 mod report;
+mod rounds;
 mod seats;
 mod store;
+mod ticks;
 mod times;
 
+use allocations::make_calls;
 use anyhow::Error;
 use arguments::matches_of;
 use command_line::{command_words, ended, refused, unreadable};
 use counts::tell_counts;
+use devices::tell_devices;
+use file_report::{tell_keepers, tell_recovery};
+use keeper_speed::KeeperSpeed;
+use logs::Log;
 use measuring::{measure_ping_pong_pair, measure_stores, measure_zigzag_pair};
+use recovery_speed::RecoverySpeed;
 use report::{tell_figures, tell_pair, tell_ratios};
+use std::env::Env;
+use std::fs::Files;
 use std::process::ExitCode;
 use std::thread::Threads;
 use std::time::Clock;
@@ -30,20 +49,70 @@ fn main(rt: HostRuntime) -> ExitCode {
         Err(error) => return unreadable(&rt, &error).report(&rt),
     };
     match matches_of(rt.alloc(), &words) {
-        Ok(matches) if matches.subcommand_name().is_some() => ended(&rt, measure_all(&rt)),
-        Ok(_) => ended(&rt, tell_counts(&rt)),
+        Ok(matches) => ended(&rt, run(&rt, matches.subcommand_name())),
         Err(error) => refused(&rt, &error).report(&rt),
     }
 }
 
-fn measure_all<R: Print + AllocGlobal + Clock + Threads + Sync>(rt: &R) -> Result<(), Error> {
+fn run<R: Print + AllocGlobal + Clock + Env + Files + Threads + Sync>(
+    rt: &R,
+    command: Option<&str>,
+) -> Result<(), Error> {
+    match command {
+        Some("allocations") => make_calls(rt),
+        Some(_) => measure_all(rt),
+        None => count_all(rt),
+    }
+}
+
+fn count_all<R: Print + AllocGlobal>(rt: &R) -> Result<(), Error> {
+    tell_counts(rt)?;
+    tell_devices(rt)
+}
+
+fn measure_all<R: Print + AllocGlobal + Clock + Env + Files + Threads + Sync>(
+    rt: &R,
+) -> Result<(), Error> {
     let mut all = measure_stores(rt, rt.alloc())?;
     tell_figures(rt, &mut all)?;
     tell_ratios(rt, &mut all)?;
+    measure_files(rt, all.zigzag.take.median())?;
     tell_pair(rt, "shared zigzag", &measure_zigzag_pair(rt, rt.alloc())?)?;
     tell_pair(
         rt,
         "shared pingpong",
         &measure_ping_pong_pair(rt, rt.alloc())?,
     )
+}
+
+// Measures what is done with files, beside the picoseconds of a take of Zigzag.
+fn measure_files<R: Print + AllocGlobal + Clock + Env + Files>(
+    rt: &R,
+    take: u64,
+) -> Result<(), Error> {
+    let mut log = Log::new(rt.alloc())?;
+    let action = measure_keepers(rt, &mut log, take)?;
+    measure_recovery(rt, log.first_segment(), action)
+}
+
+// Measures both keepers, and gives the picoseconds of an action replayed.
+fn measure_keepers<R: Print + AllocGlobal + Clock>(
+    rt: &R,
+    log: &mut Log,
+    take: u64,
+) -> Result<u64, Error> {
+    let mut speed = KeeperSpeed::new(rt.alloc());
+    speed.time_all(rt, rt.alloc(), log)?;
+    tell_keepers(rt, &mut speed, take)?;
+    Ok(speed.action.median())
+}
+
+fn measure_recovery<R: Print + AllocGlobal + Clock + Env + Files>(
+    rt: &R,
+    segment: &[u8],
+    action: u64,
+) -> Result<(), Error> {
+    let mut speed = RecoverySpeed::new(rt.alloc(), segment.len() as u64);
+    speed.time_all(rt, segment)?;
+    tell_recovery(rt, &mut speed, action)
 }

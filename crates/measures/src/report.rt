@@ -103,7 +103,8 @@ fn tell_write_ratios<R: Print>(rt: &R, all: &mut AllFigures) -> Result<(), Error
     Ok(())
 }
 
-fn tell_ratio<R: Print>(
+/// Tells a ratio beside the most that it is to be.
+pub fn tell_ratio<R: Print>(
     rt: &R,
     name: &str,
     part: u64,
@@ -134,7 +135,7 @@ pub fn tell_pair<R: Print + AllocGlobal>(
     Ok(())
 }
 
-// A number of thousandths with its decimals.
-fn decimal(alloc: Global, thousandths: u64) -> Result<String, AllocError> {
+/// A number of thousandths with its decimals.
+pub fn decimal(alloc: Global, thousandths: u64) -> Result<String, AllocError> {
     format!(in alloc; "{}.{:03}", thousandths / 1000, thousandths % 1000)
 }

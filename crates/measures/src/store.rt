@@ -45,7 +45,8 @@ impl Store for PingPong {
     fn end_round(&mut self) {}
 }
 
-fn mark_closed<C: Capture>(store: &mut C) -> bool {
+/// Opens a round where none is open, and tells whether it did.
+pub fn mark_closed<C: Capture>(store: &mut C) -> bool {
     if store.open_round() {
         return false;
     }

@@ -1,5 +1,5 @@
-use crate::stretch::{refuse_none, refuse_one};
 use std::alloc::Global;
+use trial_kit::{end_stretch, refuse_one};
 use world_actions::Refusal;
 
 /// A call that takes memory, with the values that it is made on.
@@ -39,7 +39,7 @@ pub fn try_case<X: Case>(alloc: Global) -> Result<Outcome, Refusal> {
     let before = case.seen();
     refuse_one(alloc);
     let first = case.call();
-    refuse_none(alloc);
+    end_stretch(alloc);
     let (outcome, answer) = match first {
         Ok(answer) => (Outcome::Answered, answer),
         Err(refusal) if refusal == X::refusal() && case.seen() == before => {

@@ -1,7 +1,6 @@
 use crate::case::folded;
 use crate::cores::{number_of, settle, settle_images};
 use crate::files::{IMAGE, file_of};
-use crate::stretch::{refuse_each, refuse_none};
 use action_log::read_log;
 use capture_core::{Capture, PlainCopy, Taken};
 use disk_model::{Disk, ModelFile};
@@ -10,6 +9,7 @@ use ping_pong::PingPong;
 use sessions::{BatchReader, Fed};
 use shared_capture::{Joined, Pong, Zig};
 use std::alloc::Global;
+use trial_kit::{end_stretch, refuse_each};
 use world_actions::{Action, Refusal, check};
 use world_core::{Core, Move};
 use world_ticks::{Tick, Words, act, replay};
@@ -62,7 +62,7 @@ fn try_free<X: Free>(alloc: Global) -> Result<bool, Refusal> {
     let ready = X::set_up(alloc)?;
     refuse_each(alloc);
     let given = ready.call(alloc);
-    refuse_none(alloc);
+    end_stretch(alloc);
     Ok(given.is_some() && given == wanted)
 }
 

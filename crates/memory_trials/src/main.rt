@@ -10,7 +10,6 @@ mod files;
 mod free;
 mod plays;
 mod stores;
-mod stretch;
 mod worlds;
 
 use capture_core::PlainCopy;

@@ -1,0 +1,66 @@
+use crate::logs::Log;
+use crate::measuring::CELLS;
+use crate::rounds::Rounds;
+use action_log::GROUP_TICKS;
+use anyhow::Error;
+use capture_core::Capture;
+use ping_pong::PingPong;
+use zigzag::Zigzag;
+
+/// How many cells are written before the round that is counted.
+const WRITES: u32 = 1024;
+
+/// Tells what is asked of the files of a log and of images.
+pub fn tell_devices<R: Print + AllocGlobal>(rt: &R) -> Result<(), Error> {
+    let mut log = Log::new(rt.alloc())?;
+    tell_log(rt, &mut log)?;
+    tell_round::<R, Zigzag>(rt, "zigzag")?;
+    tell_round::<R, PingPong>(rt, "pingpong")
+}
+
+fn tell_log<R: Print + AllocGlobal>(rt: &R, log: &mut Log) -> Result<(), Error> {
+    log.write()?;
+    println!(rt; "start of a log: {}", log.take_calls())?;
+    tell_group(rt, log, 1)?;
+    tell_group(rt, log, 8)?;
+    tell_group(rt, log, GROUP_TICKS)?;
+    tell_switch(rt, log, "a closed")?;
+    tell_switch(rt, log, "an open")
+}
+
+// A group of so many ticks of four actions.
+fn tell_group<R: Print + AllocGlobal>(rt: &R, log: &mut Log, ticks: usize) -> Result<(), Error> {
+    log.push_group(rt.alloc(), ticks)?;
+    log.write()?;
+    println!(rt; "group of {ticks}: {}", log.take_calls())?;
+    Ok(())
+}
+
+fn tell_switch<R: Print>(rt: &R, log: &mut Log, segment: &str) -> Result<(), Error> {
+    log.switch()?;
+    log.write()?;
+    println!(rt; "switch into {segment} segment: {}", log.take_calls())?;
+    Ok(())
+}
+
+fn tell_round<R: Print + AllocGlobal, C: Capture>(rt: &R, method: &str) -> Result<(), Error> {
+    let mut rounds = Rounds::<C>::new(rt.alloc(), CELLS as u32)?;
+    tell_third_round(rt, method, &mut rounds)
+}
+
+// Both files have an image then, and the words of cells that weren't written are in the newest one.
+fn tell_third_round<R: Print, C: Capture>(
+    rt: &R,
+    method: &str,
+    rounds: &mut Rounds<C>,
+) -> Result<(), Error> {
+    let mut number = 1;
+    for _ in 0..3 {
+        rounds.take_calls();
+        number = rounds.play(number, WRITES);
+        rounds.begin()?;
+        rounds.write()?;
+    }
+    println!(rt; "image round of {method}: {}", rounds.take_calls())?;
+    Ok(())
+}
