@@ -127,7 +127,7 @@ fn play_round(rounds: &mut Rounds<Zigzag>, seed: u64) -> Result<u64, Refusal> {
 
 fn replay_all(words: &mut Words, ticks: &[Tick]) -> Result<(), Refusal> {
     for tick in ticks {
-        replay(words, tick)?;
+        replay(words, tick.actions())?;
     }
     Ok(())
 }
