@@ -136,7 +136,7 @@ fn recover_segment<R: Print + AllocGlobal>(
 ) -> Result<(), Error> {
     log.write_segment(rt.alloc())?;
     recover_one(rt, image, log.first_segment())?;
-    tell_most(rt, "the same with a full segment", 16)
+    tell_most(rt, "the same with a full segment", 3)
 }
 
 fn recover_one<R: AllocGlobal>(rt: &R, image: &[u8], log: &[u8]) -> Result<(), Refusal> {
