@@ -66,8 +66,8 @@ leads_answered old new b meaning said newline means leads empty = record {
 }
 
 -- a front behind what was written before
-front_behind : (prior : List ℕ) {front said : List ℕ} → IsFront front said → IsFront (prior ++ front) (prior ++ said)
-front_behind prior {front} {said} is = (is.0, ap (λ l. prior ++ l) is.1 ∙ sym (append_assoc prior front is.0))
+front_behind : (prior front said : List ℕ) → IsFront front said → IsFront (prior ++ front) (prior ++ said)
+front_behind prior front said is = (is.0, ap (λ l. prior ++ l) is.1 ∙ sym (append_assoc prior front is.0))
 
 -- a fault that has nothing to do with a line
 pub cut_between : (input left written : List ℕ) (script : ScriptState) (refusal : Refusal) → Stands input script left written → IsCutOff input written refusal
@@ -125,7 +125,7 @@ breaks_front {old} {new} {bytes} {said} {front} leads is left = record {
   on = λ input prior stands.
       let after = leads.on input left prior stands in
       cut_off input after.answered (lines_of (after.line ++ left)) (prior ++ front) Device after.split
-      (cut_text after.answered None after.played (prior ++ said) (prior ++ front) after.replies (front_behind prior is)) (λ e. cc);
+      (cut_text after.answered None after.played (prior ++ said) (prior ++ front) after.replies (front_behind prior front said is)) (λ e. cc);
 }
 
 -- and of what is said at the end
@@ -134,7 +134,7 @@ breaks_end {script} {said} {front} completes is = record {
   on = λ input prior stands.
       let whole = completes.on input prior stands in
       cut_off input (lines_of input) [] (prior ++ front) Device (sym (append-nil (lines_of input)))
-      (cut_text (lines_of input) None whole.last (prior ++ said) (prior ++ front) whole.replies (front_behind prior is)) (λ e. cc);
+      (cut_text (lines_of input) None whole.last (prior ++ said) (prior ++ front) whole.replies (front_behind prior front said is)) (λ e. cc);
 }
 
 -- what is left of a piece from a place on
@@ -157,4 +157,4 @@ breaks_at {old} {middle} piece left i written refusal leads =
 pub breaks_writing : {old middle : ScriptState} (piece left : List ℕ) (i : ℕ) (written text front : List ℕ) → LeadsOn old (take i piece) middle (written ++ text) → IsFront front text
     → BreaksOff old (piece ++ left) (written ++ front) Device
 breaks_writing {old} {middle} piece left i written text front leads is =
-    subst (λ (l : List ℕ). BreaksOff old l (written ++ front) Device) (rest_of_piece piece left i) (breaks_front leads (front_behind written is) (drop i piece ++ left))
+    subst (λ (l : List ℕ). BreaksOff old l (written ++ front) Device) (rest_of_piece piece left i) (breaks_front leads (front_behind written front text is) (drop i piece ++ left))

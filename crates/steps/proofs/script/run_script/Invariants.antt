@@ -1,10 +1,13 @@
-use Rattle.std.proofs.Common.{◌≡◌, ℕ, List, Some}
+use Rattle.std.proofs.Common.{◌≡◌, ℕ, List, [], Some}
 use Rattle.std.specs.Io.KnownBytes.{Appends}
 use Rattle.steps.specs.Progress.{Stands}
 use Rattle.steps.proofs.script.run_script.Given as goal
 
--- of each input that the reader had, what was written stands for what was read
+-- no answer waits, and of each input that the reader had, what was written stands for what was read
 abbrev pub invariant-loop : goal.invariant-loop
-invariant-loop g l = (input : List ℕ) → g.R.Read.remaining l.fn.r ≡ Some input
-    → (left : List ℕ) × (g.R.Read.remaining l.r ≡ Some left)
-    × ((written : List ℕ) × Appends (g.W.Write.contents l.fn.w) (g.W.Write.contents l.w) written × Stands input l.script left written)
+invariant-loop g l = record {
+  none : l.text.items ≡ [];
+  stands : (input : List ℕ) → g.R.Read.remaining l.fn.r ≡ Some input
+      → (left : List ℕ) × (g.R.Read.remaining l.r ≡ Some left)
+      × ((written : List ℕ) × Appends (g.W.Write.contents l.fn.w) (g.W.Write.contents l.w) written × Stands input l.script left written);
+}
