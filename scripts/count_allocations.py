@@ -39,7 +39,7 @@ def counts_of(measures: str, library: pathlib.Path) -> tuple[list[str], list[int
 def tell(line: str, count: int) -> bool:
     """Tells how many allocations a call makes, and whether that is as few as the line says."""
     call, most = line.split(MOST)
-    print(f"{call}: {count} allocations, at most {most}")
+    print(f"{call}: {count} of at most {most} allocations")
     return count <= int(most)
 
 

@@ -31,7 +31,7 @@ pub struct RecoverySpeed {
     pub segment: Times,
     /// The bytes of that segment.
     pub segment_bytes: u64,
-    /// The sum of the ticks and of the first words that were recovered: it is told, so that they have to be.
+    /// The sum of the ticks and words that were recovered: it is told, so that each has to be.
     pub sum: u64,
 }
 
