@@ -50,10 +50,10 @@ loop-preserved g c =
     let step = c.in_ok-take_piece.ensures.done in record {
       none = step.0;
       stands = λ input known.
-    let inv = c.loop.invariant.stands input known in
-    let run = inv.2 in
-    let left = consumed _ _ inv.0 (take c.in_ok-n.n c.read_some.new.piece) inv.1 c.in_ok-n.ensures.took in
-    (left.0, left.1, (run.0 ++ step.1, Appends-both _ _ _ _ _ run.1 step.2, step.3.on input left.0 run.0 (rw (left.2) at run.2)));
+          let inv = c.loop.invariant.stands input known in
+          let run = inv.2 in
+          let left = consumed _ _ inv.0 (take c.in_ok-n.n c.read_some.new.piece) inv.1 c.in_ok-n.ensures.took in
+          (left.0, left.1, (run.0 ++ step.1, Appends-both _ _ _ _ _ run.1 step.2, step.3.on input left.0 run.0 (rw (left.2) at run.2)));
     }
 
 pub returns-clause-cut_off : goal.returns-clause-cut_off
