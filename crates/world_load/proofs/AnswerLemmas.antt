@@ -22,7 +22,7 @@ pub read_between : (text rest digits front end : List ℕ) (reading : Option ℕ
 read_between text rest digits front end (Some n) head tail read = (read.0, cc (read.1))
 read_between text rest digits front end None head tail read = λ n fits is.
     read n fits (append_cancel_right digits (decimal n) end
-        (sym tail ∙ append_cancel_left front rest (decimal n ++ end) (sym head ∙ is)))
+    (sym tail ∙ append_cancel_left front rest (decimal n ++ end) (sym head ∙ is)))
 
 -- without its end it has none
 pub no_end : (text rest front end : List ℕ) → text ≡ front ++ rest → ((digits : List ℕ) → rest ≢ digits ++ end)

@@ -69,8 +69,13 @@ pub fn unexpected(alloc: Global, last: u64, load: &Load, answer: &[u8]) -> Failu
         return Failure::TooFewCells { cells: load.cells };
     }
     match String::from_utf8_lossy(alloc, answer.trim_ascii_end()) {
-        Ok(answer_text) if answer.ends_with(b"\n") => Failure::Wrong { last, answer: answer_text },
-        Ok(answer_text) => Failure::CutOff { answer: answer_text },
+        Ok(answer_text) if answer.ends_with(b"\n") => Failure::Wrong {
+            last,
+            answer: answer_text,
+        },
+        Ok(answer_text) => Failure::CutOff {
+            answer: answer_text,
+        },
         Err(_) => Failure::NoMemory,
     }
 }

@@ -31,12 +31,7 @@ fn read_batch(alloc: Global, stream: &TcpStream, lines: u32) -> io::Result<()> {
 }
 
 // In the place of a server: it takes a client, and answers its batches so.
-fn answer(
-    alloc: Global,
-    listener: &TcpListener,
-    lines: u32,
-    answers: &[&[u8]],
-) -> io::Result<()> {
+fn answer(alloc: Global, listener: &TcpListener, lines: u32, answers: &[&[u8]]) -> io::Result<()> {
     let (stream, _) = listener.accept()?;
     for text in answers {
         read_batch(alloc, &stream, lines)?;
@@ -64,11 +59,7 @@ fn told_of<
         + Copy
         + Send
         + 'static,
->(
-    rt: &R,
-    load: Load,
-    answers: &'static [&'static [u8]],
-) -> Result<String, Fail> {
+>(rt: &R, load: Load, answers: &'static [&'static [u8]]) -> Result<String, Fail> {
     let alloc = rt.alloc();
     let listener = TcpListener::bind(rt, "127.0.0.1:0")?;
     let port = listener.local_addr()?.port();
@@ -93,10 +84,7 @@ fn each_answer_is_checked(rt: HostRuntime) -> Result<(), Fail> {
             &[b"tick 0: + +\n"],
             "a wrong answer after tick 0: tick 0: + +",
         ),
-        (
-            &[b"tick 1: +\n"],
-            "a wrong answer after tick 0: tick 1: +",
-        ),
+        (&[b"tick 1: +\n"], "a wrong answer after tick 0: tick 1: +"),
         (
             &[b"tick 1: + -12\n"],
             "a wrong answer after tick 0: tick 1: + -12",
@@ -105,10 +93,7 @@ fn each_answer_is_checked(rt: HostRuntime) -> Result<(), Fail> {
             &[b"tick 01: + +\n"],
             "a wrong answer after tick 0: tick 01: + +",
         ),
-        (
-            &[b"fault 99\n"],
-            "a wrong answer after tick 0: fault 99",
-        ),
+        (&[b"fault 99\n"], "a wrong answer after tick 0: fault 99"),
     ];
     for (answers, wanted) in cases {
         assert_eq!(rt; told_of(&rt, LOAD, answers)?.as_str(), wanted);
@@ -200,7 +185,10 @@ fn a_failure_ends_the_others(rt: HostRuntime) -> Result<(), Fail> {
     };
     let seen = run_crowd(&rt, alloc, port, load);
     assert!(rt; server.join(&rt).is_err(), "the first client has gone");
-    assert_eq!(rt; told(alloc, seen)?.as_str(), "a wrong answer after tick 0: no");
+    assert_eq!(rt;
+        told(alloc, seen)?.as_str(),
+        "a wrong answer after tick 0: no"
+    );
     Ok(())
 }
 
@@ -209,7 +197,9 @@ fn no_server(rt: HostRuntime) -> Result<(), Fail> {
     let listener = TcpListener::bind(&rt, "127.0.0.1:0")?;
     let port = listener.local_addr()?.port();
     drop(listener);
-    let wanted = format!(in rt.alloc(); "can't connect to port {port} of 127.0.0.1: Connection refused (os error 111)")?;
+    let wanted = format!(in rt.alloc();
+        "can't connect to port {port} of 127.0.0.1: Connection refused (os error 111)"
+    )?;
     let seen = run_crowd(&rt, rt.alloc(), port, LOAD);
     assert_eq!(rt; told(rt.alloc(), seen)?.as_str(), wanted.as_str());
     Ok(())
