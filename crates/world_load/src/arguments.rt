@@ -20,14 +20,17 @@ const SECONDS: &str = "seconds";
 
 /// What `world_load --help` says at its end.
 const HELP: &str = "\
-Each connection sends a batch, waits for its answer, checks it, and sends the next one. Each line of a batch sets a random
-cell. It ends after so many seconds, or after so many batches of each connection where that comes first, and tells ticks and
-actions a second and how long batches waited for their answers. A worldd that serves as many clients ends then too:
-
-    worldd serve --dir D --method zigzag --port 7070 --clients 50 &
-    world_load --port 7070 --connections 50 --cells 1000
-
-Status 0: each answer was right. 1: a fault or a wrong answer, which is told. 2: a wrong command line.";
+Each connection sends a batch, waits for its answer, checks it, and sends the next one.
+Each line of a batch sets a cell to a number, both at random: load a world that has
+nothing to lose. It ends after S seconds, or where each connection has sent B batches
+before, and tells ticks and actions a second, and how long batches waited for their
+answers. A worldd that serves as many clients ends then too:
+  worldd create --dir D --cells 1000
+  worldd serve --dir D --method zigzag --port 7070 --clients 50 &
+  world_load --port 7070 --connections 50 --cells 1000
+On standard error it tells each second how many ticks were answered. Its status is 0
+where each answer was right; 1 after a fault or a wrong answer, which is told; 2 for a
+wrong command line.";
 
 /// What the words ask for; the error has clap's text.
 pub fn matches_of<'a>(alloc: Global, words: &'a [String]) -> Result<ArgMatches<'a>, Error> {
@@ -62,7 +65,7 @@ fn connections_argument<'a>(alloc: Global) -> Arg<'a> {
         .value_name("K")
         .default_value("1")
         .value_parser(value_parser!(u32).range(1..=10_000))
-        .help("How many connections there are at once, each with a thread of its own")
+        .help("How many clients there are at once, each with a connection and a thread")
 }
 
 fn lines_argument<'a>(alloc: Global) -> Arg<'a> {
@@ -80,7 +83,7 @@ fn cells_argument<'a>(alloc: Global) -> Arg<'a> {
         .value_name("N")
         .default_value("1")
         .value_parser(value_parser!(u32).range(1..=i64::from(MOST_CELLS)))
-        .help("Which cells are set: the first N, which the world has to have")
+        .help("How many cells are set, the first N: the world has as many, or more")
 }
 
 fn batches_argument<'a>(alloc: Global) -> Arg<'a> {

@@ -39,8 +39,13 @@ fn per_second(things: u64, milliseconds: u64) -> u64 {
 
 fn tell_latencies<R: Print>(rt: &R, latencies: &Latencies) -> Result<(), Failure> {
     print!(rt; "milliseconds:")?;
-    for (name, thousandths) in [("p50", 500), ("p99", 990), ("p99.9", 999), ("most", 1000)] {
-        let microseconds = latencies.of_thousandths(thousandths) / 1000;
+    for (name, latency) in [
+        ("p50", latencies.of_thousandths(500)),
+        ("p99", latencies.of_thousandths(990)),
+        ("p99.9", latencies.of_thousandths(999)),
+        ("max", latencies.greatest()),
+    ] {
+        let microseconds = latency / 1000;
         print!(rt;
             " {name} {}.{:03}",
             microseconds / 1000,
@@ -51,39 +56,39 @@ fn tell_latencies<R: Print>(rt: &R, latencies: &Latencies) -> Result<(), Failure
     Ok(())
 }
 
-// A row for each bound, between the first latency and the last one: how many are up to it and above the bound before.
+// A row for each bound, from that of the shortest latency to that of the longest one.
 fn tell_chart<R: Print>(rt: &R, latencies: &Latencies) -> Result<(), Failure> {
-    let most = most_of_a_row(latencies);
-    let mut before = 0;
-    for bound in BOUNDS {
-        let below = latencies.up_to(bound.saturating_mul(1000));
-        if below > 0 && before < latencies.len() {
-            let count = below.saturating_sub(before);
+    let rows = rows_of(latencies);
+    let most = rows.iter().copied().max().unwrap_or(0);
+    let all = latencies.len();
+    let mut left = all;
+    for (bound, count) in BOUNDS.into_iter().zip(rows) {
+        if count > 0 || (0 < left && left < all) {
+            let (whole, hundredths) = (bound / 1000, bound % 1000 / 10);
             println!(rt;
-                "up to {:>5}.{:02} ms {:<50} {count}",
-                bound / 1000,
-                bound % 1000 / 10,
+                "up to {whole:>5}.{hundredths:02} ms {:<50} {count}",
                 bar(count, most)
             )?;
         }
-        before = below;
+        left = left.saturating_sub(count);
     }
-    let above = latencies.len().saturating_sub(before);
-    if above > 0 {
-        println!(rt; "above it       {:<50} {above}", bar(above, most))?;
+    if left > 0 {
+        println!(rt; "longer            {:<50} {left}", bar(left, most))?;
     }
     Ok(())
 }
 
-// The most latencies that a row has.
-fn most_of_a_row(latencies: &Latencies) -> usize {
-    let (mut most, mut before) = (0, 0);
-    for bound in BOUNDS {
+// How many latencies are up to each bound and above the one before, and how many are above the last one.
+fn rows_of(latencies: &Latencies) -> [usize; BOUNDS.len() + 1] {
+    let mut rows = [0; BOUNDS.len() + 1];
+    let mut before = 0;
+    for (row, bound) in rows.iter_mut().zip(BOUNDS) {
         let below = latencies.up_to(bound.saturating_mul(1000));
-        most = most.max(below.saturating_sub(before));
+        *row = below.saturating_sub(before);
         before = below;
     }
-    most.max(latencies.len().saturating_sub(before))
+    rows[BOUNDS.len()] = latencies.len().saturating_sub(before);
+    rows
 }
 
 // A bar for so many, where the longest one stands for the most.

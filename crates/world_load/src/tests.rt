@@ -20,6 +20,15 @@ const LOAD: Load = Load {
     seconds: 60,
 };
 
+// The same texts, as they can be given to a thread.
+fn owned(alloc: Global, texts: &[&str]) -> Result<Vec<String>, Fail> {
+    let mut all = Vec::new(alloc);
+    for text in texts {
+        all.push(String::from_str(alloc, text)?)?;
+    }
+    Ok(all)
+}
+
 // Reads a batch of so many lines.
 fn read_batch(alloc: Global, stream: &TcpStream, lines: u32) -> io::Result<()> {
     let mut reader = BufReader::new(alloc, stream)?;
@@ -31,11 +40,15 @@ fn read_batch(alloc: Global, stream: &TcpStream, lines: u32) -> io::Result<()> {
 }
 
 // In the place of a server: it takes a client, and answers its batches so.
+<<<<<<< HEAD
 fn answer(alloc: Global, listener: &TcpListener, lines: u32, answers: &[&[u8]]) -> io::Result<()> {
+=======
+fn answer(alloc: Global, listener: &TcpListener, lines: u32, answers: &[String]) -> io::Result<()> {
+>>>>>>> 76725e9ca391526908ad00defcb08284ad89bc44
     let (stream, _) = listener.accept()?;
     for text in answers {
         read_batch(alloc, &stream, lines)?;
-        (&stream).write_all(text)?;
+        (&stream).write_all(text.as_bytes())?;
     }
     Ok(())
 }
@@ -59,12 +72,17 @@ fn told_of<
         + Copy
         + Send
         + 'static,
+<<<<<<< HEAD
 >(rt: &R, load: Load, answers: &'static [&'static [u8]]) -> Result<String, Fail> {
+=======
+>(rt: &R, load: Load, answers: &[&str]) -> Result<String, Fail> {
+>>>>>>> 76725e9ca391526908ad00defcb08284ad89bc44
     let alloc = rt.alloc();
+    let answers = owned(alloc, answers)?;
     let listener = TcpListener::bind(rt, "127.0.0.1:0")?;
     let port = listener.local_addr()?.port();
     let lines = load.lines;
-    let Ok(server) = thread::spawn(rt, move || answer(alloc, &listener, lines, answers)) else {
+    let Ok(server) = thread::spawn(rt, move || answer(alloc, &listener, lines, &answers)) else {
         return Err(Fail::new("no thread"));
     };
     let seen = run_crowd(rt, alloc, port, load);
@@ -74,26 +92,36 @@ fn told_of<
 
 #[test]
 fn each_answer_is_checked(rt: HostRuntime) -> Result<(), Fail> {
-    let cases: [(&[&[u8]], &str); 7] = [
-        (&[b"tick 1: + +\n", b"tick 5: + +\n"], "2 answers"),
+    let cases: [(&[&str], &str); 7] = [
+        (&["tick 1: + +\n", "tick 5: + +\n"], "2 answers"),
         (
-            &[b"tick 2: + +\n", b"tick 2: + +\n"],
+            &["tick 2: + +\n", "tick 2: + +\n"],
             "a wrong answer after tick 2: tick 2: + +",
         ),
         (
-            &[b"tick 0: + +\n"],
+            &["tick 0: + +\n"],
             "a wrong answer after tick 0: tick 0: + +",
         ),
+<<<<<<< HEAD
         (&[b"tick 1: +\n"], "a wrong answer after tick 0: tick 1: +"),
         (
             &[b"tick 1: + -12\n"],
+=======
+        (&["tick 1: +\n"], "a wrong answer after tick 0: tick 1: +"),
+        (
+            &["tick 1: + -12\n"],
+>>>>>>> 76725e9ca391526908ad00defcb08284ad89bc44
             "a wrong answer after tick 0: tick 1: + -12",
         ),
         (
-            &[b"tick 01: + +\n"],
+            &["tick 01: + +\n"],
             "a wrong answer after tick 0: tick 01: + +",
         ),
+<<<<<<< HEAD
         (&[b"fault 99\n"], "a wrong answer after tick 0: fault 99"),
+=======
+        (&["fault 99\n"], "a wrong answer after tick 0: fault 99"),
+>>>>>>> 76725e9ca391526908ad00defcb08284ad89bc44
     ];
     for (answers, wanted) in cases {
         assert_eq!(rt; told_of(&rt, LOAD, answers)?.as_str(), wanted);
@@ -104,24 +132,24 @@ fn each_answer_is_checked(rt: HostRuntime) -> Result<(), Fail> {
 #[test]
 fn batches_without_lines(rt: HostRuntime) -> Result<(), Fail> {
     let load = Load { lines: 0, ..LOAD };
-    let answers: &[&[u8]] = &[b"tick 1:\n", b"tick 2:\n"];
+    let answers: &[&str] = &["tick 1:\n", "tick 2:\n"];
     assert_eq!(rt; told_of(&rt, load, answers)?.as_str(), "2 answers");
     Ok(())
 }
 
 #[test]
 fn what_a_server_refuses_is_told(rt: HostRuntime) -> Result<(), Fail> {
-    let cases: [(&[&[u8]], &str); 3] = [
+    let cases: [(&[&str], &str); 3] = [
         (
-            &[b"fault 12\n"],
+            &["fault 12\n"],
             "the server refused a batch: the log can't be written since the device failed: restart",
         ),
         (
-            &[b"tick 1: + +\n", b"fault 17\n"],
+            &["tick 1: + +\n", "fault 17\n"],
             "the server refused a batch: there is no memory left",
         ),
         (
-            &[b"tick 1: + -1\n"],
+            &["tick 1: + -1\n"],
             "the world has fewer than 3 cells: --cells is to be at most that of `worldd create`",
         ),
     ];
@@ -133,21 +161,21 @@ fn what_a_server_refuses_is_told(rt: HostRuntime) -> Result<(), Fail> {
 
 #[test]
 fn a_connection_that_is_closed(rt: HostRuntime) -> Result<(), Fail> {
-    let cases: [(&[&[u8]], &str); 4] = [
+    let cases: [(&[&str], &str); 4] = [
         (
             &[],
             "the server closed a connection: it may have served as many clients as its --clients",
         ),
         (
-            &[b"tick 1: + +\n", b""],
+            &["tick 1: + +\n", ""],
             "the server closed a connection: it may have served as many clients as its --clients",
         ),
         (
-            &[b"tick 1: +"],
+            &["tick 1: +"],
             "the server closed a connection in the midst of an answer: tick 1: +",
         ),
         (
-            &[b"tick 1: + +"],
+            &["tick 1: + +"],
             "the server closed a connection in the midst of an answer: tick 1: + +",
         ),
     ];
@@ -233,10 +261,7 @@ fn latencies_of_a_thousand(rt: HostRuntime) -> Result<(), Fail> {
 
 // What a command line asks for.
 fn asked(rt: &HostRuntime, line: &[&str]) -> Result<Option<(u16, Load)>, Fail> {
-    let mut words = Vec::new(rt.alloc());
-    for word in line {
-        words.push(String::from_str(rt.alloc(), word)?)?;
-    }
+    let words = owned(rt.alloc(), line)?;
     match matches_of(rt.alloc(), &words) {
         Ok(matches) => Ok(load_of(&matches)),
         Err(_) => Ok(None),
