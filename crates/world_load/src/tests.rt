@@ -40,11 +40,7 @@ fn read_batch(alloc: Global, stream: &TcpStream, lines: u32) -> io::Result<()> {
 }
 
 // In the place of a server: it takes a client, and answers its batches so.
-<<<<<<< HEAD
-fn answer(alloc: Global, listener: &TcpListener, lines: u32, answers: &[&[u8]]) -> io::Result<()> {
-=======
 fn answer(alloc: Global, listener: &TcpListener, lines: u32, answers: &[String]) -> io::Result<()> {
->>>>>>> 76725e9ca391526908ad00defcb08284ad89bc44
     let (stream, _) = listener.accept()?;
     for text in answers {
         read_batch(alloc, &stream, lines)?;
@@ -72,11 +68,7 @@ fn told_of<
         + Copy
         + Send
         + 'static,
-<<<<<<< HEAD
->(rt: &R, load: Load, answers: &'static [&'static [u8]]) -> Result<String, Fail> {
-=======
 >(rt: &R, load: Load, answers: &[&str]) -> Result<String, Fail> {
->>>>>>> 76725e9ca391526908ad00defcb08284ad89bc44
     let alloc = rt.alloc();
     let answers = owned(alloc, answers)?;
     let listener = TcpListener::bind(rt, "127.0.0.1:0")?;
@@ -102,26 +94,16 @@ fn each_answer_is_checked(rt: HostRuntime) -> Result<(), Fail> {
             &["tick 0: + +\n"],
             "a wrong answer after tick 0: tick 0: + +",
         ),
-<<<<<<< HEAD
-        (&[b"tick 1: +\n"], "a wrong answer after tick 0: tick 1: +"),
-        (
-            &[b"tick 1: + -12\n"],
-=======
         (&["tick 1: +\n"], "a wrong answer after tick 0: tick 1: +"),
         (
             &["tick 1: + -12\n"],
->>>>>>> 76725e9ca391526908ad00defcb08284ad89bc44
             "a wrong answer after tick 0: tick 1: + -12",
         ),
         (
             &["tick 01: + +\n"],
             "a wrong answer after tick 0: tick 01: + +",
         ),
-<<<<<<< HEAD
-        (&[b"fault 99\n"], "a wrong answer after tick 0: fault 99"),
-=======
         (&["fault 99\n"], "a wrong answer after tick 0: fault 99"),
->>>>>>> 76725e9ca391526908ad00defcb08284ad89bc44
     ];
     for (answers, wanted) in cases {
         assert_eq!(rt; told_of(&rt, LOAD, answers)?.as_str(), wanted);
