@@ -1,5 +1,5 @@
 -- Answers, and the numbers of their ticks.
-use Rattle.std.proofs.Common.{rules, arith, refl, sym, ap, ◌∙◌, ◌≡◌, ◌≢◌, ℕ, suc, ◌<◌, ◌≤◌, ◌^◌, ◌-◌, ◌+◌, List, [], ◌∷◌, ◌++◌, append_assoc, length, take, drop, decimal, codes, Option, Some, None}
+use Rattle.std.proofs.Common.{arith, sym, ◌∙◌, ◌≡◌, ◌≢◌, ℕ, suc, ◌<◌, ◌≤◌, ◌^◌, List, ◌++◌, append_assoc, decimal, codes, Option, Some, None}
 use Rattle.std.proofs.lemmas.List.{append_cancel_left, append_cancel_right}
 use Rattle.std.proofs.lemmas.Fmt.{decimal_injective}
 use Rattle.line_grammar.specs.Reading.{IsReading}
