@@ -1,4 +1,5 @@
-use Rattle.action_log.proofs.ReadingLemmas.{Numbers, spellings_apart, reads_once, each_reads}
+use Rattle.action_log.proofs.ActionReadingLemmas.{Numbers}
+use Rattle.action_log.proofs.ReadingLemmas.{spellings_apart, reads_once, each_reads}
 use Rattle.action_log.proofs.laws.segments_read_once.Goals as goal
 
 pub returns : goal.returns

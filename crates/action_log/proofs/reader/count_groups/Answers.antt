@@ -1,6 +1,7 @@
 use Rattle.std.proofs.Common.{Some, sym, ap, ◌∙◌, ℕ}
 use Rattle.action_log.specs.Segment.{joined}
-use Rattle.action_log.proofs.ReadingLemmas.{Numbers, as_many_groups, open_not_closed}
+use Rattle.action_log.proofs.ActionReadingLemmas.{Numbers}
+use Rattle.action_log.proofs.ReadingLemmas.{as_many_groups, open_not_closed}
 use Rattle.action_log.proofs.reader.count_groups.Goals as goal
 
 pub returns-in-Closed-clause-each : goal.returns-in-Closed-clause-each

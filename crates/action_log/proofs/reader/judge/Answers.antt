@@ -6,7 +6,10 @@ use Rattle.file_format.specs.declared.format.Format.{Format}
 use Rattle.action_log.specs.declared.format.TheConstants.{FIRST_GROUP, SEGMENT_TICKS}
 use Rattle.action_log.specs.Segment.{joined, MalformedSegment, OpenSegment}
 use Rattle.action_log.specs.Reading.{groups_of, ticks_of}
-use Rattle.action_log.proofs.ReadingLemmas.{Numbers, within_bounds, behind_mark, gated_reads, within_few, within_many, groups_by, ticks_by, reads_as, from_place}
+use Rattle.action_log.proofs.ValueReadingLemmas.{from_place}
+use Rattle.action_log.proofs.ActionReadingLemmas.{Numbers}
+use Rattle.action_log.proofs.GroupReadingLemmas.{groups_by, ticks_by}
+use Rattle.action_log.proofs.ReadingLemmas.{within_bounds, behind_mark, gated_reads, within_few, within_many, reads_as}
 use Rattle.action_log.proofs.reader.judge.Goals as goal
 
 -- more than the format takes are too many, or have too great numbers

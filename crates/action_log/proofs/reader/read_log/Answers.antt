@@ -2,7 +2,8 @@ use Rattle.std.proofs.Common.{◌≡◌, ◌≢◌, [], ◌∷◌, Some, refl, s
 use Rattle.action_log.specs.declared.format.TheConstants.{FIRST_GROUP}
 use Rattle.action_log.specs.Segment.{Tick, joined, OpenSegment, IsSegment, HasTicks}
 use Rattle.action_log.specs.Reading.{ticks_of}
-use Rattle.action_log.proofs.ReadingLemmas.{from_place, ticks_by}
+use Rattle.action_log.proofs.ValueReadingLemmas.{from_place}
+use Rattle.action_log.proofs.GroupReadingLemmas.{ticks_by}
 use Rattle.action_log.proofs.reader.read_log.Goals as goal
 
 has_ticks : (bytes : List ℕ) (base : ℕ) (ticks : List Tick) → length ticks ≢ 0 → IsSegment bytes (OpenSegment base ticks) → HasTicks bytes

@@ -1,7 +1,7 @@
 use Rattle.std.proofs.Common.{inr, arith}
 use Rattle.world_ticks.specs.declared.tick.TheConstants.{TICK_ACTIONS}
 use Rattle.action_log.specs.Reading.{action_at}
-use Rattle.action_log.proofs.ReadingLemmas.{counted_none, counted_outside, counted_inside}
+use Rattle.action_log.proofs.ValueReadingLemmas.{counted_none, counted_outside, counted_inside}
 use Rattle.action_log.proofs.reader.ticks.action_count.Goals as goal
 
 pub returns-in_err-count-clause-none : goal.returns-in_err-count-clause-none

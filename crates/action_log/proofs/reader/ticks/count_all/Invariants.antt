@@ -1,6 +1,6 @@
 use Rattle.std.proofs.Common.{◌+◌, ◌*◌, ◌≤◌, length}
 use Rattle.world_ticks.specs.declared.tick.TheConstants.{TICK_ACTIONS}
-use Rattle.action_log.proofs.ReadingLemmas.{IsReadOver}
+use Rattle.action_log.proofs.GroupReadingLemmas.{IsReadOver}
 use Rattle.action_log.proofs.reader.ticks.count_all.Given as goal
 
 -- so many groups, ticks and actions are read: no more groups than bytes, and not too many ticks

@@ -1,4 +1,4 @@
-use Rattle.action_log.proofs.ReadingLemmas.{IsGroupCounted}
+use Rattle.action_log.proofs.GroupReadingLemmas.{IsGroupCounted}
 use Rattle.action_log.proofs.reader.ticks.count_group.Given as goal
 
 -- so many ticks are read, with so many actions

@@ -1,6 +1,6 @@
 use Rattle.std.proofs.Common.{◌++◌, ◌∷◌, [], sym, ◌∙◌, arith}
 use Rattle.action_log.specs.Reading.{action_at}
-use Rattle.action_log.proofs.ReadingLemmas.{read_start, read_next, read_none, read_all}
+use Rattle.action_log.proofs.ValueReadingLemmas.{read_start, read_next, read_none, read_all}
 use Rattle.action_log.proofs.reader.ticks.count_tick.Goals as goal
 
 pub loop-init : goal.loop-init

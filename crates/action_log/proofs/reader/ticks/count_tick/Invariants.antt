@@ -1,7 +1,7 @@
 use Rattle.std.proofs.Common.{List}
 use Rattle.world_actions.specs.declared.action.Action.{Action}
 use Rattle.action_log.specs.Reading.{action_at}
-use Rattle.action_log.proofs.ReadingLemmas.{AreRead}
+use Rattle.action_log.proofs.ValueReadingLemmas.{AreRead}
 use Rattle.action_log.proofs.reader.ticks.count_tick.Given as goal
 
 -- so many actions are read

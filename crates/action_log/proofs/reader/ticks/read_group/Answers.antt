@@ -1,7 +1,7 @@
 use Rattle.std.proofs.Common.{◌++◌, ◌∷◌, [], inl, inr, refl, ◌∙◌, arith}
 use Rattle.std.proofs.lemmas.Result.{err_from_is_err_and}
 use Rattle.action_log.specs.Reading.{tick_at}
-use Rattle.action_log.proofs.ReadingLemmas.{read_start, read_next, read_none, read_all}
+use Rattle.action_log.proofs.ValueReadingLemmas.{read_start, read_next, read_none, read_all}
 use Rattle.action_log.proofs.TickListLemmas.{added_none, added_then}
 use Rattle.action_log.proofs.reader.ticks.read_group.Goals as goal
 

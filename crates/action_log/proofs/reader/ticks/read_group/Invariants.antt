@@ -1,4 +1,4 @@
-use Rattle.action_log.proofs.ReadingLemmas.{IsGroupRead}
+use Rattle.action_log.proofs.GroupReadingLemmas.{IsGroupRead}
 use Rattle.action_log.proofs.reader.ticks.read_group.Given as goal
 
 -- so many ticks are read

@@ -4,7 +4,8 @@ use mir.Facts.{Fits-lt-pow}
 use Rattle.action_log.specs.Segment.{Tick, joined}
 use Rattle.action_log.specs.Reading.{AreAdded}
 use Rattle.action_log.proofs.GroupLemmas.{joined_with}
-use Rattle.action_log.proofs.ReadingLemmas.{Numbers, read_to_start, read_to_next, read_to_bad, read_to_end, ticks_by}
+use Rattle.action_log.proofs.ActionReadingLemmas.{Numbers}
+use Rattle.action_log.proofs.GroupReadingLemmas.{read_to_start, read_to_next, read_to_bad, read_to_end, ticks_by}
 use Rattle.action_log.proofs.TickListLemmas.{added_none, added_then}
 use Rattle.action_log.proofs.reader.ticks.read_groups.Goals as goal
 

@@ -1,5 +1,5 @@
 use Rattle.std.proofs.Common.{length}
-use Rattle.action_log.proofs.ReadingLemmas.{AreGroupsRead}
+use Rattle.action_log.proofs.GroupReadingLemmas.{AreGroupsRead}
 use Rattle.action_log.proofs.reader.ticks.read_groups.Given as goal
 
 -- so many groups are read

@@ -1,7 +1,7 @@
 use Rattle.std.proofs.Common.{◌≡◌, ◌∷◌, ◌++◌, [], inr, refl, sym, ap, ◌∙◌, append_assoc, arith, rules, length, length-append}
 use Rattle.std.proofs.lemmas.List.{append-nil}
 use Rattle.action_log.specs.Reading.{action_at}
-use Rattle.action_log.proofs.ReadingLemmas.{read_start, read_next, read_none, read_all}
+use Rattle.action_log.proofs.ValueReadingLemmas.{read_start, read_next, read_none, read_all}
 use Rattle.action_log.proofs.TickListLemmas.{added_tick}
 use Rattle.action_log.proofs.reader.ticks.read_tick.Goals as goal
 

@@ -1,5 +1,5 @@
 use Rattle.std.proofs.Common.{◌+◌, ◌-◌, ◌≤◌, length, vec_capacity}
-use Rattle.action_log.proofs.ReadingLemmas.{IsTickRead}
+use Rattle.action_log.proofs.GroupReadingLemmas.{IsTickRead}
 use Rattle.action_log.proofs.reader.ticks.read_tick.Given as goal
 
 -- so many actions are read, and there is room for those that are left

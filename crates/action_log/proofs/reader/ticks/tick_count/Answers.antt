@@ -1,7 +1,7 @@
 use Rattle.std.proofs.Common.{inl, inr}
 use Rattle.action_log.specs.declared.format.TheConstants.{GROUP_TICKS}
 use Rattle.action_log.specs.Reading.{tick_at}
-use Rattle.action_log.proofs.ReadingLemmas.{counted_none, counted_outside, counted_inside}
+use Rattle.action_log.proofs.ValueReadingLemmas.{counted_none, counted_outside, counted_inside}
 use Rattle.action_log.proofs.reader.ticks.tick_count.Goals.{then-count-lt1-via-then-count-lt1, then-count-lt1-via-else-count-lt1+then-count-gt-GROUP_TICKS}
 use Rattle.action_log.proofs.reader.ticks.tick_count.Goals as goal
 
