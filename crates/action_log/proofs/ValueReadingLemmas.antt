@@ -74,9 +74,6 @@ pub record Takes {X : Type 0} (Is : X → Type 0) (spelling : X → List ℕ) (b
   pub are_bytes : IsBytes rest
   pub is : Is x
 
-takes_found : {X : Type 0} (Is : X → Type 0) (spelling : X → List ℕ) (bytes : List ℕ) (y x : X) (later rest : List ℕ) → found {X = X × List ℕ} (y, later) ≡ found (x, rest) → Takes Is spelling bytes y later → Takes Is spelling bytes x rest
-takes_found {X = X} Is spelling bytes y x later rest e = subst (λ (p : X × List ℕ). Takes Is spelling bytes p.0 p.1) (found_is (y, later) (x, rest) e)
-
 -- a reader takes a spelling from the front, and reads each spelling again
 pub record Reads {X : Type 0} (one : Reader X) (Is : X → Type 0) (spelling : X → List ℕ) : Type 0 where
   pub takes : (bytes : List ℕ) (x : X) (rest : List ℕ) → IsBytes bytes → one bytes ≡ Some (x, rest) → Takes Is spelling bytes x rest
