@@ -4,7 +4,7 @@ use crate::times::{Times, picoseconds};
 use anyhow::Error;
 use std::alloc::Global;
 use std::time::{Clock, Instant};
-use timings::nanoseconds_of;
+use trial_kit::nanoseconds_of;
 use world_ticks::Cells;
 
 /// How many reads or writes are timed at once.

@@ -7,7 +7,7 @@ use action_log::GROUP_TICKS;
 use anyhow::Error;
 use std::alloc::Global;
 use std::time::{Clock, Instant};
-use timings::nanoseconds_of;
+use trial_kit::nanoseconds_of;
 use world_actions::Refusal;
 use world_ticks::{Tick, Words, replay};
 use zigzag::Zigzag;

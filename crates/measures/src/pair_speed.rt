@@ -6,7 +6,7 @@ use shared_capture::{Back, Front, Method};
 use std::io;
 use std::thread::{Threads, join, yield_now};
 use std::time::{Clock, Instant};
-use timings::nanoseconds_of;
+use trial_kit::nanoseconds_of;
 
 /// How long two threads are timed.
 const SECONDS: u64 = 3;

@@ -9,7 +9,7 @@ use std::env::{self, Env};
 use std::fs::{self, Files};
 use std::path::Path;
 use std::time::{Clock, Instant};
-use timings::nanoseconds_of;
+use trial_kit::nanoseconds_of;
 use world_actions::CELLS as MOST_CELLS;
 
 /// How often each file is read and recovered.

@@ -1,5 +1,5 @@
 use std::alloc::{AllocError, Global};
-use timings::of_thousandths;
+use trial_kit::of_thousandths;
 
 /// Times of one thing, measured several times.
 #[derive(Drop)]

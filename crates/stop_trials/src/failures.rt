@@ -6,7 +6,7 @@ use capture_core::Capture;
 use disk_model::Leaving;
 use image_files::ImageAnswer;
 use std::alloc::Global;
-use trial_tallies::StopTally;
+use trial_kit::StopTally;
 use world_actions::Refusal;
 use world_core::{Answer, Fate};
 

@@ -18,8 +18,7 @@ use std::alloc::Global;
 use std::io;
 use std::process::ExitCode;
 use stops::try_stops;
-use trial_kit::ended;
-use trial_tallies::StopTally;
+use trial_kit::{StopTally, ended};
 use world_actions::Refusal;
 use zigzag::Zigzag;
 

@@ -3,7 +3,7 @@ use crate::run::Run;
 use capture_core::Capture;
 use disk_model::Leaving;
 use std::alloc::Global;
-use trial_tallies::StopTally;
+use trial_kit::StopTally;
 use world_actions::Refusal;
 
 /// What a crash leaves of each file.

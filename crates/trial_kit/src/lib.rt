@@ -1,15 +1,26 @@
-//! What the trials share: numbers that look random, counts of what was seen, what a crash leaves of a file, stretches whose
-//! allocations are refused or counted, and the exit status.
+//! The common parts of the trials and measures: numbers that look random, counts of what was seen, tallies that say when a
+//! trial passes, the bytes that a crash leaves of a file, stretches whose allocations are refused or counted, percentiles of
+//! measured times, and the exit status.
 #![tactic(auto)]
 
 mod counts;
+mod cut_tally;
 mod ending;
+mod failure_tally;
+mod nanoseconds;
+mod percentile;
 mod random;
 mod remains;
+mod stop_tally;
 mod stretch;
 
 pub use counts::Counts;
+pub use cut_tally::CutTally;
 pub use ending::ended;
+pub use failure_tally::{FAILING_FILES, FailureTally};
+pub use nanoseconds::nanoseconds_of;
+pub use percentile::of_thousandths;
 pub use random::Random;
 pub use remains::left_by;
+pub use stop_tally::StopTally;
 pub use stretch::{count_each, end_stretch, refuse_each, refuse_one};

@@ -4,8 +4,7 @@ use disk_model::FourFiles;
 use image_files::Slot;
 use recovery::Recovered;
 use std::alloc::Global;
-use trial_kit::Random;
-use trial_tallies::CutTally;
+use trial_kit::{CutTally, Random};
 use world_actions::Refusal;
 
 /// Cuts the power at so many random moments up to the last one, in order, and looks at what stands then.

@@ -11,7 +11,7 @@ use std::alloc::Global;
 use std::sync::Wait;
 use std::thread::Threads;
 use tcp_service::{Remote, Seats, open_world};
-use trial_tallies::{FAILING_FILES, FailureTally};
+use trial_kit::{FAILING_FILES, FailureTally};
 use worker_threads::{Ends, Workers, ends_meet, stop};
 use workers::{Ask, Open};
 use world_actions::Refusal;

@@ -24,8 +24,7 @@ use std::process::ExitCode;
 use std::sync::Wait;
 use std::thread::Threads;
 use tcp_service::Seats;
-use trial_kit::ended;
-use trial_tallies::{CutTally, FailureTally};
+use trial_kit::{CutTally, FailureTally, ended};
 use world_actions::Refusal;
 use world_folder::create;
 

@@ -12,8 +12,7 @@ use std::sync::atomic::{AtomicU64, Ordering};
 use std::sync::{Arc, Wait};
 use std::thread::Threads;
 use tcp_service::Seats;
-use trial_kit::Random;
-use trial_tallies::CutTally;
+use trial_kit::{CutTally, Random};
 use world_actions::Refusal;
 use world_folder::open_existing;
 

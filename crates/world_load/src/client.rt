@@ -10,8 +10,7 @@ use std::alloc::{AllocError, Global};
 use std::io::{self, BufRead, Write};
 use std::marker::Model;
 use std::time::{Clock, Instant};
-use timings::nanoseconds_of;
-use trial_kit::Random;
+use trial_kit::{Random, nanoseconds_of};
 use world_actions::LIMIT;
 
 /// The most batches of a connection.

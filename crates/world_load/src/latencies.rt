@@ -1,5 +1,5 @@
 use std::marker::Model;
-use timings::of_thousandths;
+use trial_kit::of_thousandths;
 
 /// How long batches waited for their answers, in nanoseconds, the shortest first.
 #[derive(Drop)]

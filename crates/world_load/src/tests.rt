@@ -1,3 +1,5 @@
+mod times;
+
 use crate::arguments::{load_of, matches_of};
 use crate::crowd::{Seen, run_crowd};
 use crate::failure::Failure;

@@ -1,5 +1,5 @@
 use std::fmt;
-use trial_kit::Counts;
+use crate::counts::Counts;
 
 /// The ticks that may stand.
 const TICKS: usize = 4;

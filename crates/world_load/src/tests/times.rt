@@ -1,6 +1,6 @@
-use super::{nanoseconds_of, of_thousandths};
 use std::test::Fail;
 use std::time::Duration;
+use trial_kit::{nanoseconds_of, of_thousandths};
 
 #[test]
 fn thousandths_of_a_thousand(rt: HostRuntime) -> Result<(), Fail> {

@@ -1,0 +1,192 @@
+#!/usr/bin/env python3
+"""Measures the gate's processor time, by crate and by kind of work.
+
+    scripts/gate_time.py watch PID        records the checks below a process until it ends (`.ci/run` does this)
+    scripts/gate_time.py total PID LOG    prints the cost so far of that process, and how much of it was kept work
+    scripts/gate_time.py dearest          prints the dearest crates of the last run
+    scripts/gate_time.py unit             measures the unit, and prints the last run's cost in units
+
+Times are processor seconds, user and system. The unit is `rt verdict` in crates/packed_marks, alone on the machine:
+processors differ by as much as three times, and the unit makes runs on two machines comparable.
+"""
+import argparse
+import collections
+import os
+import pathlib
+import re
+import resource
+import subprocess
+import sys
+import time
+
+TOP = pathlib.Path(__file__).resolve().parent.parent
+TIMES = TOP / "out" / "gate_times"
+UNIT_CRATE = "packed_marks"
+BOUND_UNITS = 144
+TICKS = os.sysconf("SC_CLK_TCK")
+KINDS = ("proof", "tests", "wrong bodies", "programs")
+
+
+def fields_of(pid: int) -> list[str]:
+    """The fields of /proc/PID/stat behind the command's name."""
+    return pathlib.Path(f"/proc/{pid}/stat").read_text().rpartition(")")[2].split()
+
+
+def seconds_of(fields: list[str]) -> float:
+    """Processor seconds of a process and of its children that have ended."""
+    return sum(int(ticks) for ticks in fields[11:15]) / TICKS
+
+
+def work_of(pid: int) -> tuple[str, str] | None:
+    """Crate and kind of a check, or None for another process."""
+    words = pathlib.Path(f"/proc/{pid}/cmdline").read_bytes().decode(errors="replace").split("\0")
+    if not words[0].endswith("/rattle") or "--crate-name" not in words:
+        return None
+    if os.readlink(f"/proc/{pid}/cwd").startswith("/tmp/rt-edit-"):
+        kind = "wrong bodies"
+    elif "--test" in words:
+        kind = "tests"
+    elif "--crate-checked" in words:
+        kind = "programs"
+    else:
+        kind = "proof"
+    return words[words.index("--crate-name") + 1], kind
+
+
+def is_below(pid: int, top: int) -> bool:
+    """Whether a process descends from another one."""
+    while pid > 1 and pid != top:
+        pid = int(fields_of(pid)[1])
+    return pid == top
+
+
+def watch(top: int) -> None:
+    """Records each check below a process, once a second, until that process ends."""
+    seen: dict[tuple[int, str], tuple[str, str]] = {}
+    others: set[tuple[int, str]] = set()
+    seconds: dict[tuple[int, str], float] = {}
+    while os.path.exists(f"/proc/{top}"):
+        for name in os.listdir("/proc"):
+            if not name.isdigit():
+                continue
+            try:
+                fields = fields_of(int(name))
+                key = int(name), fields[19]
+                if key in others:
+                    continue
+                if key not in seen:
+                    work = work_of(int(name))
+                    if work is None or not is_below(int(name), top):
+                        # A process shows its parent's words until it runs its own program.
+                        if time.time() - os.stat(f"/proc/{name}").st_ctime > 5:
+                            others.add(key)
+                        continue
+                    seen[key] = work
+                seconds[key] = seconds_of(fields)
+            except (OSError, ValueError, IndexError):
+                continue
+        write_times(seen, seconds)
+        time.sleep(1)
+
+
+def write_times(seen: dict, seconds: dict) -> None:
+    """Writes the sums by crate and kind, replacing the file in one step."""
+    sums: dict[tuple[str, str], float] = collections.defaultdict(float)
+    for key, work in seen.items():
+        sums[work] += seconds.get(key, 0)
+    TIMES.parent.mkdir(exist_ok=True)
+    new = TIMES.with_suffix(".new")
+    new.write_text("".join(f"{crate}\t{kind}\t{sum:.1f}\n" for (crate, kind), sum in sorted(sums.items())))
+    new.replace(TIMES)
+
+
+def read_times() -> dict[str, dict[str, float]]:
+    """Seconds by crate and kind of the last run."""
+    found: dict[str, dict[str, float]] = collections.defaultdict(dict)
+    for line in TIMES.read_text().splitlines():
+        crate, kind, seconds = line.split("\t")
+        found[crate][kind] = float(seconds)
+    return found
+
+
+def kept_of(log: str) -> str:
+    """What was done in a run of `rt ci` and what was kept, by its log."""
+    crates = len(re.findall(r"^rt: \S+ is kept: ", log, re.M))
+    every = sum(not line.startswith("#") and ":" in line for line in (TOP / "crates.txt").read_text().splitlines())
+    bodies = len(list(TOP.glob("crates/*/must-fail/*.edit")))
+    tried = re.search(r"and (\d+) of the \d+ must-fail edits", log)
+    if tried:
+        done = int(tried[1])
+    elif "every proof and must-fail edit was done in this run" in log:
+        done = bodies
+    else:
+        done = 0
+    return (
+        f"done in this run: {every - crates} of {every} crates, {done} of {bodies} wrong bodies; "
+        f"kept from an earlier run: {crates} crates, {bodies - done} wrong bodies"
+    )
+
+
+def total(pid: int, log: pathlib.Path) -> None:
+    """Prints wall and processor minutes of a process's children, and what was kept."""
+    fields = fields_of(pid)
+    uptime = float(pathlib.Path("/proc/uptime").read_text().split()[0])
+    wall = uptime - int(fields[19]) / TICKS
+    processor = sum(int(ticks) for ticks in fields[13:15]) / TICKS
+    with TIMES.open("a") as times:
+        times.write(f"all\tall\t{processor:.1f}\n")
+    print(f"gate: {wall / 60:.1f} minutes, {processor / 60:.1f} processor minutes; {kept_of(log.read_text())}")
+
+
+def dearest(most: int) -> None:
+    """Prints the dearest crates of the last run."""
+    found = read_times()
+    found.pop("all", None)
+    print(f"{'crate':16}" + "".join(f"{kind:>14}" for kind in (*KINDS, "all")))
+    sums = collections.Counter({crate: sum(kinds.values()) for crate, kinds in found.items()})
+    for crate, seconds in sums.most_common(most):
+        print(f"{crate:16}" + "".join(f"{found[crate].get(kind, 0):14.0f}" for kind in KINDS) + f"{seconds:14.0f}")
+    whole = [sum(kinds.get(kind, 0) for kinds in found.values()) for kind in KINDS]
+    print(f"{'all':16}" + "".join(f"{seconds:14.0f}" for seconds in (*whole, sum(whole))))
+
+
+def unit() -> int:
+    """Measures the unit, and prints the last run's cost in units."""
+    begun = resource.getrusage(resource.RUSAGE_CHILDREN)
+    run = subprocess.run(["rt", "verdict"], cwd=TOP / "crates" / UNIT_CRATE, capture_output=True, text=True)
+    ended = resource.getrusage(resource.RUSAGE_CHILDREN)
+    if run.returncode:
+        print(f"gate_time: the verdict on {UNIT_CRATE} failed:\n{run.stdout[-500:]}{run.stderr[-500:]}", file=sys.stderr)
+        return 1
+    seconds = ended.ru_utime + ended.ru_stime - begun.ru_utime - begun.ru_stime
+    print(f"the unit is {seconds:.0f} processor seconds here; {BOUND_UNITS} units are {BOUND_UNITS * seconds / 60:.0f} processor minutes")
+    cost = read_times().get("all", {}).get("all") if TIMES.exists() else None
+    if cost is not None:
+        print(f"the last run took {cost / 60:.1f} processor minutes, {cost / seconds:.0f} units")
+    return 0
+
+
+def main() -> int:
+    """Does what the command line asks for."""
+    parser = argparse.ArgumentParser(description=__doc__.splitlines()[0])
+    commands = parser.add_subparsers(dest="command", required=True)
+    commands.add_parser("watch", help="record the checks below a process until it ends").add_argument("pid", type=int)
+    whole = commands.add_parser("total", help="print the cost so far of a process's children")
+    whole.add_argument("pid", type=int)
+    whole.add_argument("log", type=pathlib.Path)
+    commands.add_parser("dearest", help="print the dearest crates of the last run").add_argument("--most", type=int, default=20)
+    commands.add_parser("unit", help="measure the unit, and print the last run's cost in units")
+    given = parser.parse_args()
+    if given.command == "watch":
+        watch(given.pid)
+    elif given.command == "total":
+        total(given.pid, given.log)
+    elif given.command == "dearest":
+        dearest(given.most)
+    else:
+        return unit()
+    return 0
+
+
+if __name__ == "__main__":
+    sys.exit(main())
