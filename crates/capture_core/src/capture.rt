@@ -58,6 +58,3 @@ pub fn accesses_write<C: Capture>()
         → Performs C.accessed old writes new → Covers image (C.content old)
         → Covers image (C.content new) }
 {}
-
-#[cfg(test)]
-mod tests;

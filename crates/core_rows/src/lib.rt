@@ -7,6 +7,3 @@ mod told;
 
 pub use asked::Asked;
 pub use told::Told;
-
-#[cfg(test)]
-mod tests;

@@ -175,6 +175,3 @@ impl Disk for FileDisk {
         self.answered(answer)
     }
 }
-
-#[cfg(test)]
-mod tests;

@@ -37,6 +37,3 @@ impl<D: Disk> FourFiles<D> {
         })
     }
 }
-
-#[cfg(test)]
-mod tests;

@@ -27,6 +27,3 @@ pub use fused::Fused;
 pub use leaving::Leaving;
 pub use model_file::ModelFile;
 pub use whole_file::read_all;
-
-#[cfg(test)]
-mod tests;

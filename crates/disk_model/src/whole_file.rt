@@ -18,6 +18,3 @@ pub fn read_all<D: Disk>(alloc: Global, disk: &mut D) -> Result<Vec<u8>, Refusal
     disk.read_at(0, &mut bytes)?;
     Ok(bytes)
 }
-
-#[cfg(test)]
-mod tests;

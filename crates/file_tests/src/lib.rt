@@ -1,4 +1,5 @@
-//! Tests of `image_files` and `action_log`: their readers on bytes, and their keepers over files in memory.
+//! Tests of the files: their numbers and marks, the disk model and files of the system, the readers and keepers of images and
+//! of the log, and recovery.
 #![tactic(auto)]
 
 #[cfg(test)]

@@ -1,4 +1,11 @@
+mod file_disk;
+mod format;
+mod four_files;
 mod image_keeper;
 mod image_reader;
 mod log_keeper;
 mod log_reader;
+mod model_file;
+mod number;
+mod recovered;
+mod whole_file;

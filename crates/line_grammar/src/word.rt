@@ -18,18 +18,3 @@ pub(crate) fn split_word(words: &[u8]) -> Option<(&[u8], &[u8])>
     let space = words.iter().position(|&b| b == b' ')?;
     Some((&words[..space], &words[space + 1..]))
 }
-
-#[cfg(test)]
-mod tests {
-    use super::*;
-
-    #[test]
-    fn words_at_the_front(rt: HostRuntime) {
-        assert_eq!(rt;
-            after(b"open plain 7", b"open plain "),
-            Some(b"7".as_slice())
-        );
-        assert_eq!(rt; after(b"open plain", b"open plain "), None);
-        assert_eq!(rt; after(b"world", b"world"), Some(b"".as_slice()));
-    }
-}

@@ -151,6 +151,3 @@ fn write_fault<W: Write>(w: &mut W, refusal: Refusal) -> Result<(), Refusal>
     write_whole(w, buffer.format(refusal.code()).as_bytes())?;
     write_whole(w, b"\n")
 }
-
-#[cfg(test)]
-mod tests;

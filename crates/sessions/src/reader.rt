@@ -149,6 +149,3 @@ fn read_kept(kept: &[u8]) -> Option<Command>
     kept_bytes();
     read_command(kept)
 }
-
-#[cfg(test)]
-mod tests;

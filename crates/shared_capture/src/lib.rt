@@ -22,8 +22,6 @@ mod pair;
 mod plays;
 mod steps;
 mod table;
-#[cfg(test)]
-mod tests;
 mod view;
 
 pub use back::Back;

@@ -83,6 +83,3 @@ impl OpenCore {
         }
     }
 }
-
-#[cfg(test)]
-mod tests;

@@ -227,6 +227,3 @@ fn put(core: &mut Option<OpenCore>, opened: OpenCore)
 {
     *core = Some(opened);
 }
-
-#[cfg(test)]
-mod tests;

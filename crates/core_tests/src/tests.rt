@@ -1,0 +1,3 @@
+mod core;
+mod script;
+mod stores;

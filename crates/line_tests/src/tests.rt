@@ -1,0 +1,11 @@
+mod action;
+mod answer;
+mod command;
+mod kept;
+mod number;
+mod play;
+mod reader;
+mod refusal;
+mod serve;
+mod tick;
+mod word;
