@@ -1,5 +1,4 @@
-//! Moves and answers of the core as plain values, which can be compared and kept, and rows of them that each store
-//! has to give.
+//! Moves and answers of the core as plain values, which can be compared and kept.
 #![tactic(auto)]
 
 mod asked;

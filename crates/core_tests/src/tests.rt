@@ -1,3 +1,3 @@
-mod core;
+mod moves;
 mod script;
 mod stores;

@@ -1,6 +1,6 @@
-use super::run_script;
 use std::io::{self, ErrorKind, Read, Write};
 use std::test::Fail;
+use steps::run_script;
 use world_actions::Refusal;
 
 // The script of the first page, and a refused transfer.

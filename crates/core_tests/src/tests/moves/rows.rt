@@ -1,7 +1,6 @@
 use super::{IMAGE, IMAGE_FAILS, LOG, LOG_FAILS, Line, SET, ones, told_by};
-use crate::asked::Asked;
-use crate::told::Told;
 use capture_core::{Capture, PlainCopy};
+use core_rows::{Asked, Told};
 use disk_model::Leaving;
 use ping_pong::PingPong;
 use shared_capture::{Joined, Pong, Zig};

@@ -1,6 +1,5 @@
-use crate::asked::Asked;
-use crate::told::Told;
 use capture_core::{Capture, PlainCopy};
+use core_rows::{Asked, Told};
 use ping_pong::PingPong;
 use std::alloc::Global;
 use std::process::Abort;
