@@ -10,6 +10,3 @@ pub use clap_error::refused;
 pub use ending::ended;
 pub use not_run::NotRun;
 pub use words::{command_words, unreadable};
-
-#[cfg(test)]
-mod tests;

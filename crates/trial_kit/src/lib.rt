@@ -1,12 +1,13 @@
 //! The common parts of the trials and measures: numbers that look random, counts of what was seen, tallies that say when a
-//! trial passes, the bytes that a crash leaves of a file, stretches whose allocations are refused or counted, percentiles of
-//! measured times, and the exit status.
+//! trial passes, the bytes that a crash leaves of a file, stretches whose allocations are refused or counted, measured times and
+//! their percentiles, and the exit status.
 #![tactic(auto)]
 
 mod counts;
 mod cut_tally;
 mod ending;
 mod failure_tally;
+mod latencies;
 mod nanoseconds;
 mod percentile;
 mod random;
@@ -18,6 +19,7 @@ pub use counts::Counts;
 pub use cut_tally::CutTally;
 pub use ending::ended;
 pub use failure_tally::{FAILING_FILES, FailureTally};
+pub use latencies::Latencies;
 pub use nanoseconds::nanoseconds_of;
 pub use percentile::of_thousandths;
 pub use random::Random;

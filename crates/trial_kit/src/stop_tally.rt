@@ -1,5 +1,5 @@
-use std::fmt;
 use crate::counts::Counts;
+use std::fmt;
 
 /// The ticks that may stand.
 const TICKS: usize = 4;

@@ -2,7 +2,6 @@ ghost use Rattle.std.specs.Prelude.{◌≡◌, ◌++◌, ◌⊎◌, IfOk, IsErr}
 
 use crate::client::play;
 use crate::failure::Failure;
-use crate::latencies::Latencies;
 use crate::load::Load;
 use crate::progress::Progress;
 use std::alloc::Global;
@@ -11,6 +10,7 @@ use std::net::{Ipv4Addr, Net, TcpStream};
 use std::sync::{Arc, Wait};
 use std::thread::{self, JoinHandle, Threads, sleep};
 use std::time::{Clock, Duration, Instant};
+use trial_kit::Latencies;
 
 /// How many milliseconds pass from a look at the clients' progress to the next one.
 const PAUSE: u64 = 10;

@@ -10,7 +10,6 @@ mod checker;
 mod client;
 mod crowd;
 mod failure;
-mod latencies;
 mod load;
 mod progress;
 mod report;
@@ -56,6 +55,3 @@ fn run<
     let seen = run_crowd(rt, rt.alloc(), port, load)?;
     tell(rt, &load, &seen)
 }
-
-#[cfg(test)]
-mod tests;

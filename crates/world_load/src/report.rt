@@ -1,7 +1,7 @@
 use crate::crowd::Seen;
 use crate::failure::Failure;
-use crate::latencies::Latencies;
 use crate::load::Load;
+use trial_kit::Latencies;
 
 /// The bounds of the chart's rows, in microseconds.
 const BOUNDS: [u64; 16] = [

@@ -40,17 +40,7 @@ fn main(rt: HostRuntime) -> Ending {
     }
 }
 
-// Does what the words ask for, but for a server, which needs more of the system.
-fn answer<R: Input + Print + Eprint + Files<File = File> + AllocGlobal>(
-    rt: &R,
-    words: &[String],
-) -> Ending {
-    match matches_of(rt.alloc(), words) {
-        Ok(matches) => run(rt, &matches),
-        Err(error) => not_run(refused(rt, &error)),
-    }
-}
-
+// Does what the words ask for, except `serve`, which needs more of the system.
 fn run<R: Input + Print + Files<File = File> + AllocGlobal>(
     rt: &R,
     matches: &ArgMatches<'_>,

@@ -1,47 +1,36 @@
-use super::{answer, not_run};
+use super::not_run;
 use crate::arguments::matches_of;
+use crate::service::service_of;
 use clap::error::Error;
 use command_line::{refused, unreadable};
-use std::alloc::{AllocError, Allocator, Global};
+use shared_capture::Kind;
+use std::alloc::{AllocError, Global};
 use std::cell::RefCell;
 use std::fmt::Display;
-use std::fs::{File, Files, Metadata, OpenOptions};
-use std::io::{self, BufRead, ErrorKind, Lines};
+use std::io::{self, ErrorKind};
 use std::process::{ExitCode, Termination};
 use std::test::Fail;
 use world_actions::Refusal;
 use world_folder::Ending;
 
-mod creating;
-mod faults;
-mod folders;
-mod serving;
-
-// A runtime with the files of another one and this input, whose outputs are kept. Its standard output
-// may be closed.
+// Keeps all that is printed.
 #[derive(Drop)]
-struct Desk<'a> {
-    files: &'a HostRuntime,
+struct Desk {
     alloc: Global,
-    input: &'static [u8],
-    is_closed: bool,
     output: RefCell<String>,
     errors: RefCell<String>,
 }
 
-impl<'a> Desk<'a> {
-    fn new(rt: &'a HostRuntime, input: &'static [u8], is_closed: bool) -> Self {
+impl Desk {
+    fn new(alloc: Global) -> Self {
         Desk {
-            files: rt,
-            alloc: rt.alloc(),
-            input,
-            is_closed,
-            output: RefCell::new(String::new(rt.alloc())),
-            errors: RefCell::new(String::new(rt.alloc())),
+            alloc,
+            output: RefCell::new(String::new(alloc)),
+            errors: RefCell::new(String::new(alloc)),
         }
     }
 
-    // Adds a text and what ends it.
+    // Adds a text and its end.
     fn keep<D: Display + Drop>(
         &self,
         kept: &RefCell<String>,
@@ -57,56 +46,30 @@ impl<'a> Desk<'a> {
         Ok(())
     }
 
-    fn print_with<D: Display + Drop>(&self, text: D, end: &str) -> io::Result<()> {
-        if self.is_closed {
-            return Err(io::Error::from(ErrorKind::BrokenPipe));
-        }
-        self.keep(&self.output, text, end)
+    // What was printed, and what was printed as errors.
+    fn printed(self) -> (String, String) {
+        (self.output.into_inner(), self.errors.into_inner())
     }
 }
 
-impl Alloc for Desk<'_> {
-    type A = Global;
-
-    fn alloc(&self) -> Global {
-        self.alloc
-    }
-}
-
-impl Input for Desk<'_> {
-    type Reader = &'static [u8];
-
-    fn read_line<A: Allocator + Clone>(&self, buf: &mut String<A>) -> io::Result<usize> {
-        self.reader().read_line(buf)
-    }
-
-    fn lines<A: Allocator>(&self, alloc: A) -> Lines<&'static [u8], A> {
-        self.reader().lines(alloc)
-    }
-
-    fn reader(&self) -> &'static [u8] {
-        self.input
-    }
-}
-
-impl Print for Desk<'_> {
+impl Print for Desk {
     fn print<D: Display + Drop>(&self, text: D) -> io::Result<()> {
-        self.print_with(text, "")
+        self.keep(&self.output, text, "")
     }
 
     fn println<D: Display + Drop>(&self, text: D) -> io::Result<()> {
-        self.print_with(text, "\n")
+        self.keep(&self.output, text, "\n")
     }
 
     fn write_all(&self, bytes: &[u8]) -> io::Result<()> {
         let Ok(text) = str::from_utf8(bytes) else {
             return Err(io::Error::from(ErrorKind::InvalidData));
         };
-        self.print_with(text, "")
+        self.keep(&self.output, text, "")
     }
 }
 
-impl Eprint for Desk<'_> {
+impl Eprint for Desk {
     fn eprint<D: Display + Drop>(&self, text: D) -> io::Result<()> {
         self.keep(&self.errors, text, "")
     }
@@ -116,92 +79,12 @@ impl Eprint for Desk<'_> {
     }
 }
 
-impl Files for Desk<'_> {
-    type File = File;
-
-    type Dir = <HostRuntime as Files>::Dir;
-
-    fn open_file(&self, how: &OpenOptions, path: &str) -> io::Result<File> {
-        self.files.open_file(how, path)
-    }
-
-    fn open_dir(&self, path: &str) -> io::Result<<HostRuntime as Files>::Dir> {
-        self.files.open_dir(path)
-    }
-
-    fn metadata(&self, path: &str) -> io::Result<Metadata> {
-        self.files.metadata(path)
-    }
-
-    fn symlink_metadata(&self, path: &str) -> io::Result<Metadata> {
-        self.files.symlink_metadata(path)
-    }
-
-    fn copy(&self, from: &str, to: &str) -> io::Result<u64> {
-        self.files.copy(from, to)
-    }
-
-    fn rename(&self, from: &str, to: &str) -> io::Result<()> {
-        self.files.rename(from, to)
-    }
-
-    fn remove_file(&self, path: &str) -> io::Result<()> {
-        self.files.remove_file(path)
-    }
-
-    fn create_dir(&self, path: &str) -> io::Result<()> {
-        self.files.create_dir(path)
-    }
-
-    fn remove_dir(&self, path: &str) -> io::Result<()> {
-        self.files.remove_dir(path)
-    }
-
-    fn remove_dir_all<B: Allocator>(&self, alloc: B, path: &str) -> io::Result<()> {
-        self.files.remove_dir_all(alloc, path)
-    }
-}
-
-// The words of a command line.
-fn words(rt: &HostRuntime, line: &[&str]) -> Result<Vec<String>, Fail> {
-    let mut words = Vec::new(rt.alloc());
-    for word in line {
-        words.push(String::from_str(rt.alloc(), word)?)?;
-    }
-    Ok(words)
-}
-
-#[test]
-fn steps_is_a_command(rt: HostRuntime) -> Result<(), Fail> {
-    let line = words(&rt, &["worldd", "steps"])?;
-    let matches = matches_of(rt.alloc(), &line)?;
-    assert_eq!(rt; matches.subcommand_name(), Some("steps"));
-    Ok(())
-}
-
-#[test]
-fn a_script_is_answered(rt: HostRuntime) -> Result<(), Fail> {
-    let desk = Desk::new(&rt, b"open plain 1\nget 0\n", false);
-    let line = words(&rt, &["worldd", "steps"])?;
-    let ending = answer(&desk, &line);
-    assert!(rt; matches!(ending, Ending::Ran) && ending.report(&desk) == ExitCode::SUCCESS);
-    assert_eq!(rt; desk.output.into_inner().as_str(), "ready 0\n= 0\n");
-    assert_eq!(rt; desk.errors.into_inner().as_str(), "");
-    Ok(())
-}
-
-#[test]
-fn a_closed_output_is_a_fault(rt: HostRuntime) -> Result<(), Fail> {
-    let desk = Desk::new(&rt, b"open plain 1\n", true);
-    let line = words(&rt, &["worldd", "steps"])?;
-    let ending = answer(&desk, &line);
-    assert!(rt; matches!(ending, Ending::Fault(Refusal::Device)));
-    assert!(rt; ending.report(&desk) == ExitCode::from(1));
-    assert_eq!(rt;
-        desk.errors.into_inner().as_str(),
-        "fault 18\nworldd: the device failed\n"
-    );
-    Ok(())
+// The status that an ending reports, and what it prints as errors.
+fn reported(alloc: Global, ending: Ending) -> (ExitCode, String) {
+    let desk = Desk::new(alloc);
+    let status = ending.report(&desk);
+    let (_, errors) = desk.printed();
+    (status, errors)
 }
 
 #[test]
@@ -217,170 +100,139 @@ fn faults_are_told_by_code_and_in_words(rt: HostRuntime) {
         ),
         (Refusal::Device, "fault 18\nworldd: the device failed\n"),
     ] {
-        let desk = Desk::new(&rt, b"", false);
-        assert!(rt; Ending::Fault(refusal).report(&desk) == ExitCode::from(1));
-        assert_eq!(rt; desk.output.into_inner().as_str(), "");
-        assert_eq!(rt; desk.errors.into_inner().as_str(), text);
-    }
-}
-
-#[test]
-fn wrong_command_lines_end_with_two(rt: HostRuntime) -> Result<(), Fail> {
-    let cases: [(&[&str], &str); 16] = [
-        (
-            &["worldd"],
-            "error: 'worldd' requires a subcommand but one was not provided\n  [subcommands: steps, create, recover, inspect, serve, help]\n\nUsage: worldd <COMMAND>\n\nFor more information, try '--help'.\n",
-        ),
-        (
-            &["worldd", "stepz"],
-            "error: unrecognized subcommand 'stepz'\n\n  tip: a similar subcommand exists: 'steps'\n\nUsage: worldd <COMMAND>\n\nFor more information, try '--help'.\n",
-        ),
-        (
-            &["worldd", "steps", "extra"],
-            "error: unexpected argument 'extra' found\n\nUsage: worldd steps\n\nFor more information, try '--help'.\n",
-        ),
-        (
-            &["worldd", "create", "--cells", "1"],
-            "error: the following required arguments were not provided:\n  --dir <FOLDER>\n\nUsage: worldd create --dir <FOLDER> --cells <N>\n\nFor more information, try '--help'.\n",
-        ),
-        (
-            &["worldd", "create", "--dir", "world"],
-            "error: the following required arguments were not provided:\n  --cells <N>\n\nUsage: worldd create --dir <FOLDER> --cells <N>\n\nFor more information, try '--help'.\n",
-        ),
-        (
-            &["worldd", "create", "--dir", "world", "--cells", "0"],
-            "error: invalid value '0' for '--cells <N>': 0 is not in 1..=1048576\n\nFor more information, try '--help'.\n",
-        ),
-        (
-            &["worldd", "create", "--dir", "world", "--cells", "1048577"],
-            "error: invalid value '1048577' for '--cells <N>': 1048577 is not in 1..=1048576\n\nFor more information, try '--help'.\n",
-        ),
-        (
-            &["worldd", "create", "--dir", "world", "--cells", "two"],
-            "error: invalid value 'two' for '--cells <N>': invalid digit found in string\n\nFor more information, try '--help'.\n",
-        ),
-        (
-            &["worldd", "recover"],
-            "error: the following required arguments were not provided:\n  --dir <FOLDER>\n\nUsage: worldd recover --dir <FOLDER>\n\nFor more information, try '--help'.\n",
-        ),
-        (
-            &["worldd", "inspect", "--words"],
-            "error: the following required arguments were not provided:\n  --dir <FOLDER>\n\nUsage: worldd inspect --dir <FOLDER> --words\n\nFor more information, try '--help'.\n",
-        ),
-        (
-            &["worldd", "serve", "--dir", "world"],
-            "error: the following required arguments were not provided:\n  --method <METHOD>\n  --port <P>\n  --clients <K>\n\nUsage: worldd serve --dir <FOLDER> --method <METHOD> --port <P> --clients <K>\n\nFor more information, try '--help'.\n",
-        ),
-        (
-            &["worldd", "serve", "--method", "plain"],
-            "error: invalid value 'plain' for '--method <METHOD>'\n  [possible values: zigzag, pingpong]\n\nFor more information, try '--help'.\n",
-        ),
-        (
-            &["worldd", "serve", "--every", "0"],
-            "error: invalid value '0' for '--every <E>': 0 is not in 1..=65536\n\nFor more information, try '--help'.\n",
-        ),
-        (
-            &["worldd", "serve", "--every", "65537"],
-            "error: invalid value '65537' for '--every <E>': 65537 is not in 1..=65536\n\nFor more information, try '--help'.\n",
-        ),
-        (
-            &["worldd", "serve", "--port", "65536"],
-            "error: invalid value '65536' for '--port <P>': 65536 is not in 0..=65535\n\nFor more information, try '--help'.\n",
-        ),
-        (
-            &["worldd", "serve", "--clients", "100001"],
-            "error: invalid value '100001' for '--clients <K>': 100001 is not in 1..=100000\n\nFor more information, try '--help'.\n",
-        ),
-    ];
-    for (line, text) in cases {
-        let desk = Desk::new(&rt, b"", false);
-        let line = words(&rt, line)?;
-        let ending = answer(&desk, &line);
+        let (status, errors) = reported(rt.alloc(), Ending::Fault(refusal));
         assert!(rt;
-            matches!(ending, Ending::Mistaken) && ending.report(&desk) == ExitCode::from(2)
+            status == ExitCode::from(1) && errors.as_str() == text,
+            "{errors}"
         );
-        assert_eq!(rt; desk.output.into_inner().as_str(), "");
-        assert_eq!(rt; desk.errors.into_inner().as_str(), text);
     }
-    Ok(())
 }
 
 #[test]
-fn unreadable_words_end_with_two(rt: HostRuntime) {
-    let desk = Desk::new(&rt, b"", false);
+fn what_is_down_is_told_by_the_status(rt: HostRuntime) {
+    for (ending, code) in [(Ending::ImagesDown, 11), (Ending::LogDown, 12)] {
+        let (status, errors) = reported(rt.alloc(), ending);
+        assert!(rt;
+            status == ExitCode::from(code) && errors.is_empty(),
+            "{errors}"
+        );
+    }
+}
+
+// What is printed for words that can't be read, and whether they end as mistaken.
+fn unread(alloc: Global) -> (bool, String) {
+    let desk = Desk::new(alloc);
     let ending = not_run(unreadable(&desk, &io::Error::from(ErrorKind::InvalidData)));
-    assert!(rt; matches!(ending, Ending::Mistaken) && ending.report(&desk) == ExitCode::from(2));
-    assert_eq!(rt;
-        desk.errors.into_inner().as_str(),
-        "error: the command line can't be read: invalid data\n"
-    );
+    let (_, errors) = desk.printed();
+    (matches!(ending, Ending::Mistaken), errors)
 }
 
 #[test]
-fn the_version_is_told(rt: HostRuntime) -> Result<(), Fail> {
-    for flag in ["--version", "-V"] {
-        let desk = Desk::new(&rt, b"", false);
-        let line = words(&rt, &["worldd", flag])?;
-        let ending = answer(&desk, &line);
-        assert!(rt; matches!(ending, Ending::Told) && ending.report(&desk) == ExitCode::SUCCESS);
-        assert_eq!(rt; desk.output.into_inner().as_str(), "worldd 0.1.0\n");
-        assert_eq!(rt; desk.errors.into_inner().as_str(), "");
-    }
-    Ok(())
+fn unreadable_words_are_mistaken(rt: HostRuntime) {
+    let (is_mistaken, errors) = unread(rt.alloc());
+    let text = "error: the command line can't be read: invalid data\n";
+    assert!(rt; is_mistaken && errors.as_str() == text, "{errors}");
 }
 
-#[test]
-fn help_ends_well(rt: HostRuntime) -> Result<(), Fail> {
-    let cases: [(&[&str], &str, &str); 6] = [
-        (
-            &["worldd", "--help"],
-            "A main-memory world server with asynchronous checkpoints\n\nUsage: worldd <COMMAND>\n",
-            "  -V, --version  Print version\n",
-        ),
-        (
-            &["worldd", "steps", "--help"],
-            "Runs the script on standard input, over a world in memory\n\nUsage: worldd steps\n",
-            "21 no tick numbers are left\n",
-        ),
-        (
-            &["worldd", "create", "--help"],
-            "Makes the files of a new world in a folder\n\nUsage: worldd create --dir <FOLDER> --cells <N>\n",
-            "\n  writes this world, 22 a file isn't closed: no file is written then\n",
-        ),
-        (
-            &["worldd", "recover", "--help"],
-            "Tells which world stands in the files of a folder\n\nUsage: worldd recover --dir <FOLDER>\n",
-            "  17 there is no memory, 18 a file is missing or can't be read\n",
-        ),
-        (
-            &["worldd", "inspect", "--help"],
-            "Tells what each file of a folder holds, and which world stands in them\n\nUsage: worldd inspect [OPTIONS] --dir <FOLDER>\n",
-            "\nfrom the image of tick T. Where none stands it ends as `recover` does.\n",
-        ),
-        (
-            &["worldd", "serve", "--help"],
-            "Serves the world in the files of a folder to clients of a port\n\nUsage: worldd serve [OPTIONS] --dir <FOLDER> --method <METHOD> --port <P> --clients <K>\n",
-            "\n  another program writes this world, or the port can't be listened on\n",
-        ),
-    ];
-    for (line, start, end) in cases {
-        let desk = Desk::new(&rt, b"", false);
-        let line = words(&rt, line)?;
-        let ending = answer(&desk, &line);
-        assert!(rt; matches!(ending, Ending::Told) && ending.report(&desk) == ExitCode::SUCCESS);
-        let output = desk.output.into_inner();
-        assert!(rt; output.as_str().starts_with(start), "{output}");
-        assert!(rt; output.as_str().ends_with(end), "{output}");
-    }
-    Ok(())
+// How a program ends that has no memory for its words or their meaning, and what it prints.
+fn without_memory(alloc: Global) -> ([Ending; 2], String) {
+    let desk = Desk::new(alloc);
+    let in_line = not_run(refused(&desk, &Error::from(AllocError)));
+    let in_words = not_run(unreadable(&desk, &io::Error::from(AllocError)));
+    let (_, errors) = desk.printed();
+    ([in_line, in_words], errors)
 }
 
 #[test]
 fn want_of_memory_is_a_fault(rt: HostRuntime) {
-    let desk = Desk::new(&rt, b"", false);
-    let in_line = not_run(refused(&desk, &Error::from(AllocError)));
-    let in_words = not_run(unreadable(&desk, &io::Error::from(AllocError)));
+    let (endings, errors) = without_memory(rt.alloc());
+    let [in_line, in_words] = &endings;
     assert!(rt; matches!(in_line, Ending::Fault(Refusal::NoMemory)));
     assert!(rt; matches!(in_words, Ending::Fault(Refusal::NoMemory)));
-    assert_eq!(rt; desk.errors.into_inner().as_str(), "");
+    assert!(rt; errors.is_empty(), "{errors}");
+}
+
+// The words of a command line.
+fn words(alloc: Global, line: &[&str]) -> Result<Vec<String>, Fail> {
+    let mut words = Vec::new(alloc);
+    for word in line {
+        words.push(String::from_str(alloc, word)?)?;
+    }
+    Ok(words)
+}
+
+// What a command line asks of `serve`: the folder, whether the method is Ping-Pong, and the numbers of ticks, port and clients.
+fn asked(alloc: Global, line: &[&str]) -> Result<Option<(String, bool, u32, u16, u32)>, Fail> {
+    let words = words(alloc, line)?;
+    let matches = matches_of(alloc, &words)?;
+    let Some(service) = service_of(&matches) else {
+        return Ok(None);
+    };
+    let folder = String::from_str(alloc, service.folder)?;
+    let is_ping_pong = service.method == Kind::PingPong;
+    Ok(Some((
+        folder,
+        is_ping_pong,
+        service.every,
+        service.port,
+        service.clients,
+    )))
+}
+
+const LEAST: [&str; 10] = [
+    "worldd",
+    "serve",
+    "--dir",
+    "world",
+    "--method",
+    "pingpong",
+    "--port",
+    "0",
+    "--clients",
+    "100000",
+];
+
+const ALL: [&str; 12] = [
+    "worldd",
+    "serve",
+    "--method",
+    "zigzag",
+    "--every",
+    "65536",
+    "--port",
+    "65535",
+    "--clients",
+    "1",
+    "--dir",
+    "other",
+];
+
+#[test]
+fn flags_of_serve_are_read(rt: HostRuntime) -> Result<(), Fail> {
+    let Some((folder, is_ping_pong, every, port, clients)) = asked(rt.alloc(), &LEAST)? else {
+        return Err(Fail::new("not understood"));
+    };
+    assert!(rt; folder.as_str() == "world" && is_ping_pong);
+    assert_eq!(rt; (every, port, clients), (64, 0, 100_000));
+    let Some((folder, is_ping_pong, every, port, clients)) = asked(rt.alloc(), &ALL)? else {
+        return Err(Fail::new("not understood"));
+    };
+    assert!(rt; folder.as_str() == "other" && !is_ping_pong);
+    assert_eq!(rt; (every, port, clients), (65_536, 65_535, 1));
+    Ok(())
+}
+
+#[test]
+fn other_commands_do_not_serve(rt: HostRuntime) -> Result<(), Fail> {
+    let other = asked(rt.alloc(), &["worldd", "recover", "--dir", "world"])?;
+    assert!(rt; other.is_none());
+    Ok(())
+}
+
+#[test]
+fn steps_is_a_command(rt: HostRuntime) -> Result<(), Fail> {
+    let line = words(rt.alloc(), &["worldd", "steps"])?;
+    let matches = matches_of(rt.alloc(), &line)?;
+    assert_eq!(rt; matches.subcommand_name(), Some("steps"));
+    Ok(())
 }

@@ -1,5 +1,5 @@
+use crate::percentile::of_thousandths;
 use std::marker::Model;
-use trial_kit::of_thousandths;
 
 /// How long batches waited for their answers, in nanoseconds, the shortest first.
 #[derive(Drop)]

@@ -1,8 +1,8 @@
 use Rattle.std.proofs.Common.{leb, rules, subst, sym, ◌∙◌, ◌≡◌, true, false}
 use Rattle.std.specs.List.Sorted.{IsNonDecreasing, IsPartitionPoint}
 use Rattle.std.proofs.lemmas.List.Sorted.{IsPartitionPoint-from_clause, IsPartitionedBy-leb}
-use Rattle.world_load.proofs.LatencyLemmas.{none_above, all_above}
-use Rattle.world_load.proofs.latencies.Latencies.up_to.Goals as goal
+use Rattle.trial_kit.proofs.LatencyLemmas.{none_above, all_above}
+use Rattle.trial_kit.proofs.latencies.Latencies.up_to.Goals as goal
 
 -- the place where the test turns
 point : (c : goal.After-partition_point) → IsPartitionPoint (λ x. leb x c.args.bound ≡ true) (λ x. leb x c.args.bound ≡ false) c.args.self.now c.partition_point.result

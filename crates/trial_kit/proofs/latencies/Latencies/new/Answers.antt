@@ -1,5 +1,5 @@
 use Rattle.std.proofs.lemmas.List.Sorted.{IsNonDecreasingBy-from_sort}
-use Rattle.world_load.proofs.latencies.Latencies.new.Goals as goal
+use Rattle.trial_kit.proofs.latencies.Latencies.new.Goals as goal
 
 pub invariant_of-result : goal.invariant_of-result
 invariant_of-result c = IsNonDecreasingBy-from_sort (λ x. x) _ c.sort_unstable.ensures.sorted

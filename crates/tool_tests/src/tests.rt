@@ -1,0 +1,3 @@
+mod command_lines;
+mod latencies;
+mod times;

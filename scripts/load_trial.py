@@ -1,0 +1,178 @@
+#!/usr/bin/env python3
+"""Runs the built world_load against servers that answer rightly, wrongly or not at all, and compares what it reports.
+
+    scripts/load_trial.py crates/world_load/out/world_load
+
+A stand-in for worldd takes each client and gives prepared answers. Each run has its wanted error and exit status. It prints how
+often each way to end was seen, and fails where a run ended otherwise, or where a way to end was never seen.
+"""
+import argparse
+import collections
+import pathlib
+import re
+import socket
+import subprocess
+import sys
+import threading
+
+SECONDS = 60
+LINES = 2
+CELLS = 3
+WRONG = "a wrong answer after tick "
+CLOSED = "the server closed a connection: it may have served as many clients as its --clients"
+CUT_OFF = "the server closed a connection in the midst of an answer: "
+REFUSED = "the server refused a batch: "
+
+
+class Server:
+    """A stand-in for worldd on a port, in a thread of its own."""
+
+    def __init__(self, answers, lines: int):
+        self.listener = socket.create_server(("127.0.0.1", 0))
+        self.port = self.listener.getsockname()[1]
+        self.lines = lines
+        self.batches: list[list[bytes]] = []
+        self.thread = threading.Thread(target=answers, args=(self,))
+        self.thread.start()
+
+    def read_batch(self, reader) -> bool:
+        """Reads a batch, and keeps its lines. False: the client has gone."""
+        batch = [reader.readline() for _ in range(self.lines + 1)]
+        self.batches.append(batch)
+        return batch[-1] == b"end\n"
+
+    def end(self) -> None:
+        """Waits for the thread."""
+        self.thread.join(SECONDS)
+        self.listener.close()
+
+
+def giving(answers):
+    """A server's work: it takes a client, and answers its batches so."""
+
+    def serve(server: Server) -> None:
+        client, _ = server.listener.accept()
+        with client, client.makefile("rb") as reader:
+            for answer in answers:
+                if not server.read_batch(reader):
+                    return
+                client.sendall(answer.encode())
+
+    return serve
+
+
+def one_wrong(server: Server) -> None:
+    """A server's work: the second client gets a wrong answer, the first one right ones until it goes."""
+    right, _ = server.listener.accept()
+    wrong, _ = server.listener.accept()
+    with right, wrong, right.makefile("rb") as reader:
+        wrong.sendall(b"no\n")
+        tick = 0
+        try:
+            while server.read_batch(reader):
+                tick += 1
+                right.sendall(f"tick {tick}: + +\n".encode())
+        except OSError:
+            return
+
+
+class Trial:
+    """Runs of one program, and what was seen of them."""
+
+    def __init__(self, program: str):
+        self.program = program
+        self.wrong = 0
+        self.runs = 0
+        self.seen: collections.Counter[str] = collections.Counter()
+
+    def run(self, *words: str) -> subprocess.CompletedProcess:
+        """Runs the program with these words."""
+        self.runs += 1
+        return subprocess.run([self.program, *words], capture_output=True, text=True, timeout=SECONDS)
+
+    def check(self, what: str, got, want) -> None:
+        """Compares what was got, and prints what is wrong."""
+        if got != want:
+            self.wrong += 1
+            print(f"WRONG: {what}:\n  got  {got!r}\n  want {want!r}", file=sys.stderr)
+
+    def load(self, what: str, serve, want: str, kind: str, lines: int = LINES, more: tuple[str, ...] = ("--batches", "2")) -> None:
+        """Loads a server, and compares the error, or the count of ticks where the load ends well."""
+        server = Server(serve, lines)
+        words = ("--port", str(server.port), "--lines", str(lines), "--cells", str(CELLS), *more)
+        run = self.run(*words)
+        server.end()
+        self.seen[kind] += 1
+        if want.endswith(" ticks"):
+            ticks = re.search(r"^(\d+ ticks), \d+ a second$", run.stdout, re.M)
+            self.check(what, (ticks and ticks[1], run.stderr, run.returncode), (want, "", 0))
+            for batch in server.batches:
+                cells = [re.fullmatch(rb"set (\d+) \d+\n", line) for line in batch[:-1]]
+                self.check(f"{what}: a batch", [bool(cell and int(cell[1]) < CELLS) for cell in cells], [True] * lines)
+        else:
+            self.check(what, (run.stdout, run.stderr, run.returncode), ("", f"error: {want}\n", 1))
+
+
+def try_answers(trial: Trial) -> None:
+    """Answers that are right, wrong, cut off, or refusals."""
+    for answers, want, kind in (
+        (("tick 1: + +\n", "tick 5: + +\n"), "2 ticks", "right"),
+        (("tick 2: + +\n", "tick 2: + +\n"), f"{WRONG}2: tick 2: + +", "wrong"),
+        (("tick 0: + +\n",), f"{WRONG}0: tick 0: + +", "wrong"),
+        (("tick 1: +\n",), f"{WRONG}0: tick 1: +", "wrong"),
+        (("tick 1: + -12\n",), f"{WRONG}0: tick 1: + -12", "wrong"),
+        (("tick 01: + +\n",), f"{WRONG}0: tick 01: + +", "wrong"),
+        (("fault 99\n",), f"{WRONG}0: fault 99", "wrong"),
+        (("fault 12\n",), f"{REFUSED}the log can't be written since the device failed: restart", "refused"),
+        (("tick 1: + +\n", "fault 17\n"), f"{REFUSED}there is no memory left", "refused"),
+        (("tick 1: + -1\n",), f"the world has fewer than {CELLS} cells: --cells is to be at most that of `worldd create`", "too few cells"),
+        ((), CLOSED, "closed"),
+        (("tick 1: + +\n", ""), CLOSED, "closed"),
+        (("tick 1: +",), f"{CUT_OFF}tick 1: +", "cut off"),
+        (("tick 1: + +",), f"{CUT_OFF}tick 1: + +", "cut off"),
+    ):
+        trial.load(f"answers {answers}", giving(answers), want, kind)
+    trial.load("batches without lines", giving(("tick 1:\n", "tick 2:\n")), "2 ticks", "right", lines=0)
+    trial.load("one client of two", one_wrong, f"{WRONG}0: no", "wrong", more=("--connections", "2", "--seconds", "86400"))
+
+
+def try_no_server(trial: Trial) -> None:
+    """A port on which nobody listens."""
+    with socket.create_server(("127.0.0.1", 0)) as listener:
+        port = listener.getsockname()[1]
+    run = trial.run("--port", str(port))
+    want = f"error: can't connect to port {port} of 127.0.0.1: Connection refused (os error 111)\n"
+    trial.check("no server", (run.stdout, run.stderr, run.returncode), ("", want, 1))
+    trial.seen["no server"] += 1
+
+
+def try_command_lines(trial: Trial) -> None:
+    """Wrong command lines, and the defaults that help shows."""
+    for words in ("", "--port 0", "--port 7070 --lines 257", "--port 7070 --connections 0"):
+        run = trial.run(*words.split())
+        trial.check(f"world_load {words}", (run.stdout, run.returncode), ("", 2))
+        trial.seen["mistaken"] += 1
+    run = trial.run("--help")
+    for flag, default in (("--connections <K>", "1"), ("--lines <L>", "1"), ("--cells <N>", "1"), ("--seconds <S>", "10")):
+        found = re.search(rf"{flag}.*\[default: (\d+)\]", run.stdout)
+        trial.check(f"the default of {flag}", found and found[1], default)
+    trial.check("world_load --help", (run.stderr, run.returncode), ("", 0))
+    trial.seen["help"] += 1
+
+
+def main() -> int:
+    """Runs all, and prints what was seen."""
+    parser = argparse.ArgumentParser(description=__doc__.splitlines()[0])
+    parser.add_argument("program", type=pathlib.Path, help="the built world_load")
+    trial = Trial(str(parser.parse_args().program.resolve()))
+    for part in (try_answers, try_no_server, try_command_lines):
+        part(trial)
+    kinds = ("right", "wrong", "refused", "too few cells", "closed", "cut off", "no server", "mistaken", "help")
+    never = [kind for kind in kinds if not trial.seen[kind]]
+    print("  " + ", ".join(f"{kind}: {trial.seen[kind]}" for kind in kinds))
+    print(f"load trial: {trial.runs} runs, {trial.wrong} wrong" + (f", never seen: {never}" if never else ""))
+    return 1 if trial.wrong or never else 0
+
+
+if __name__ == "__main__":
+    sys.exit(main())

@@ -1,0 +1,391 @@
+#!/usr/bin/env python3
+"""Runs the built worldd on command lines, scripts and folders, and compares what it prints and how it ends.
+
+    scripts/program_trial.py crates/worldd/out/worldd
+
+Each run has its wanted output, errors and exit status. It prints how often each way to end was seen, and fails where a run
+ended otherwise, or where a way to end was never seen.
+"""
+import argparse
+import collections
+import contextlib
+import fcntl
+import pathlib
+import struct
+import subprocess
+import sys
+import tempfile
+
+NAMES = ("image.a", "image.b", "log.a", "log.b")
+METHODS = ("zigzag", "pingpong")
+SECONDS = 60
+
+# Images of two cells: new ones of both words 0, and of 5 7 at tick 3 in format 1, of 5 9 at tick 2 in format 2.
+NEW_IMAGE = b"\1" + struct.pack("<QQQQ", 2 + (0x20 << 56), 0, 0, 0)
+IMAGE_OF_3 = b"\1" + struct.pack("<QQQQ", 2, 3, 5, 7)
+IMAGE_OF_2 = b"\1" + struct.pack("<QQQQ", 2 + (0x20 << 56), 2, 5, 9)
+# An image of one cell, 0, at tick 0, and an open one of too many cells.
+SMALL_IMAGE = b"\1" + struct.pack("<QQQ", 1, 0, 0)
+BAD_IMAGE = b"\1" * 17
+# Segments: of no group (format 2 and base 0, format 1 and base 3), and one whose group is cut off.
+NEW_LOG = b"\1" + struct.pack("<QB", 0x20 << 56, 0)
+NEW_LOG_OF_3 = b"\1" + struct.pack("<QB", 3, 0)
+BAD_LOG = b"\1" + struct.pack("<QB", 0, 1)
+# Of tick 3, which adds -2 to cell 1; of tick 4, which moves 2 from cell 0 to cell 1; of tick 1, which takes 1 from cell 0.
+LOG_OF_3 = b"\1" + struct.pack("<QBHHBIqB", 2, 1, 1, 1, 2, 1, -2, 0)
+LOG_OF_4 = b"\1" + struct.pack("<QBHHBIIQB", 3 + (0x20 << 56), 1, 1, 1, 3, 0, 1, 2, 0)
+TAKING_LOG = b"\1" + struct.pack("<QBHHBIqB", 0, 1, 1, 1, 2, 0, -1, 0)
+# A group of tick 1, one of ticks 2 and 3, with no actions, and a closed group behind them.
+LOG_OF_GROUPS = b"\1" + struct.pack("<QBHHBHHHB", 0, 1, 1, 0, 1, 2, 0, 0, 0)
+# An open gate, and no header that it could have.
+GARBAGE = b"\1" * 20
+
+NO_FILE = "No such file or directory (os error 2)"
+NOT_A_FILE = "not a regular file"
+HELD = "another program writes this world"
+HOLDS_A_WORLD = "a file already holds a world: choose an empty folder"
+DEVICE = "fault 18\nworldd: the device failed\n"
+MORE = "For more information, try '--help'.\n"
+
+Outcome = collections.namedtuple("Outcome", "output errors status")
+
+
+class Trial:
+    """Runs of one program, and what was seen of them."""
+
+    def __init__(self, program: str):
+        self.program = program
+        self.wrong = 0
+        self.runs = 0
+        self.seen: collections.Counter[str] = collections.Counter()
+
+    def run(self, *words, closed: bool = False, script: bytes = b"") -> Outcome:
+        """Runs the program with these words. A closed output takes no byte."""
+        with open("/dev/full", "wb") as full:
+            output = full if closed else subprocess.PIPE
+            command = [self.program, *words]
+            run = subprocess.run(command, input=script, stdout=output, stderr=subprocess.PIPE, timeout=SECONDS)
+        outcome = Outcome((run.stdout or b"").decode(), run.stderr.decode(), run.returncode)
+        self.runs += 1
+        first = outcome.errors.partition("\n")[0]
+        self.seen[f"status {outcome.status}" + (f", {first}" if first.startswith("fault ") else "")] += 1
+        return outcome
+
+    def check(self, what: str, got, want) -> None:
+        """Compares what was got, and prints what is wrong."""
+        if got != want:
+            self.wrong += 1
+            print(f"WRONG: {what}:\n  got  {got!r}\n  want {want!r}", file=sys.stderr)
+
+    def ends(self, what: str, got: Outcome, output: str, errors: str, status: int) -> None:
+        """Compares a whole outcome."""
+        self.check(what, got, Outcome(output, errors, status))
+
+
+@contextlib.contextmanager
+def new_folder(*files: bytes):
+    """A folder with these bytes in the files of a world, in their order; with none, no file."""
+    with tempfile.TemporaryDirectory(prefix="worldd-trial-") as name:
+        folder = pathlib.Path(name)
+        put(folder, *files)
+        yield folder
+
+
+def put(folder: pathlib.Path, *files: bytes) -> None:
+    """Writes the files of a world, in their order."""
+    for name, data in zip(NAMES, files):
+        (folder / name).write_bytes(data)
+
+
+def files_of(folder: pathlib.Path) -> tuple[bytes, ...]:
+    """The bytes of the files of a world."""
+    return tuple((folder / name).read_bytes() for name in NAMES)
+
+
+def fault_of(folder: pathlib.Path, code: int, name: str, why: str) -> str:
+    """The errors of a fault that names a file."""
+    return f"fault {code}\nworldd: {folder}/{name}: {why}\n"
+
+
+def try_command_lines(trial: Trial) -> None:
+    """Wrong command lines, help, the version, and words that aren't text."""
+    serve = "Usage: worldd serve --dir <FOLDER> --method <METHOD> --port <P> --clients <K>"
+    lacking = "the following required arguments were not provided:\n  "
+    for words, text in (
+        ("", "'worldd' requires a subcommand but one was not provided\n  [subcommands: steps, create, recover, inspect, serve, help]\n\nUsage: worldd <COMMAND>\n\n"),
+        ("stepz", "unrecognized subcommand 'stepz'\n\n  tip: a similar subcommand exists: 'steps'\n\nUsage: worldd <COMMAND>\n\n"),
+        ("steps extra", "unexpected argument 'extra' found\n\nUsage: worldd steps\n\n"),
+        ("create --cells 1", f"{lacking}--dir <FOLDER>\n\nUsage: worldd create --dir <FOLDER> --cells <N>\n\n"),
+        ("create --dir world", f"{lacking}--cells <N>\n\nUsage: worldd create --dir <FOLDER> --cells <N>\n\n"),
+        ("create --dir world --cells 0", "invalid value '0' for '--cells <N>': 0 is not in 1..=1048576\n\n"),
+        ("create --dir world --cells 1048577", "invalid value '1048577' for '--cells <N>': 1048577 is not in 1..=1048576\n\n"),
+        ("create --dir world --cells two", "invalid value 'two' for '--cells <N>': invalid digit found in string\n\n"),
+        ("recover", f"{lacking}--dir <FOLDER>\n\nUsage: worldd recover --dir <FOLDER>\n\n"),
+        ("inspect --words", f"{lacking}--dir <FOLDER>\n\nUsage: worldd inspect --dir <FOLDER> --words\n\n"),
+        ("serve --dir world", f"{lacking}--method <METHOD>\n  --port <P>\n  --clients <K>\n\n{serve}\n\n"),
+        ("serve --method plain", "invalid value 'plain' for '--method <METHOD>'\n  [possible values: zigzag, pingpong]\n\n"),
+        ("serve --every 0", "invalid value '0' for '--every <E>': 0 is not in 1..=65536\n\n"),
+        ("serve --every 65537", "invalid value '65537' for '--every <E>': 65537 is not in 1..=65536\n\n"),
+        ("serve --port 65536", "invalid value '65536' for '--port <P>': 65536 is not in 0..=65535\n\n"),
+        ("serve --clients 100001", "invalid value '100001' for '--clients <K>': 100001 is not in 1..=100000\n\n"),
+    ):
+        trial.ends(f"worldd {words}", trial.run(*words.split()), "", f"error: {text}{MORE}", 2)
+    trial.ends("bytes that are no text", trial.run(b"\xff"), "", "error: the command line can't be read: invalid data\n", 2)
+    for flag in ("--version", "-V"):
+        trial.ends(flag, trial.run(flag), "worldd 0.1.0\n", "", 0)
+    for words, start, end in (
+        ("", "A main-memory world server with asynchronous checkpoints\n\nUsage: worldd <COMMAND>\n", "  -V, --version  Print version\n"),
+        ("steps", "Runs the script on standard input, over a world in memory\n\nUsage: worldd steps\n", "21 no tick numbers are left\n"),
+        (
+            "create",
+            "Makes the files of a new world in a folder\n\nUsage: worldd create --dir <FOLDER> --cells <N>\n",
+            "\n  writes this world, 22 a file isn't closed: no file is written then\n",
+        ),
+        (
+            "recover",
+            "Tells which world stands in the files of a folder\n\nUsage: worldd recover --dir <FOLDER>\n",
+            "  17 there is no memory, 18 a file is missing or can't be read\n",
+        ),
+        (
+            "inspect",
+            "Tells what each file of a folder holds, and which world stands in them\n\nUsage: worldd inspect [OPTIONS] --dir <FOLDER>\n",
+            "\nfrom the image of tick T. Where none stands it ends as `recover` does.\n",
+        ),
+        (
+            "serve",
+            f"Serves the world in the files of a folder to clients of a port\n\n{serve.replace('serve --dir', 'serve [OPTIONS] --dir')}\n",
+            "\n  another program writes this world, or the port can't be listened on\n",
+        ),
+    ):
+        got = trial.run(*words.split(), "--help")
+        trial.check(f"worldd {words} --help", (got.output[: len(start)], got.output[-len(end) :]), (start, end))
+        trial.check(f"worldd {words} --help", got[1:], ("", 0))
+
+
+def try_scripts(trial: Trial) -> None:
+    """A script, and one whose output is closed."""
+    trial.ends("a script", trial.run("steps", script=b"open plain 1\nget 0\n"), "ready 0\n= 0\n", "", 0)
+    trial.ends("a closed output", trial.run("steps", script=b"open plain 1\n", closed=True), "", DEVICE, 1)
+
+
+def create(trial: Trial, folder: pathlib.Path, cells: int = 2, closed: bool = False) -> Outcome:
+    """Makes a world in a folder."""
+    return trial.run("create", "--dir", str(folder), "--cells", str(cells), closed=closed)
+
+
+def check_made(trial: Trial, what: str, got: Outcome, folder: pathlib.Path) -> None:
+    """A world of two cells was made, and these are its files."""
+    trial.ends(what, got, "created 2\n", "", 0)
+    trial.check(what, files_of(folder), (NEW_IMAGE, b"", NEW_LOG, b"\0"))
+
+
+def try_creating(trial: Trial) -> None:
+    """Worlds that are made: what is made, and what stays."""
+    with new_folder() as folder:
+        check_made(trial, "a new world", create(trial, folder), folder)
+        trial.ends("the new world", trial.run("recover", "--dir", str(folder)), "recovered 0 from 0\n", "", 0)
+        trial.ends("made again", create(trial, folder), "", fault_of(folder, 22, "image.a", HOLDS_A_WORLD), 1)
+        trial.check("made again", files_of(folder), (NEW_IMAGE, b"", NEW_LOG, b"\0"))
+    with new_folder() as folder:
+        trial.ends("the most cells", create(trial, folder, 1_048_576), "created 1048576\n", "", 0)
+        lines = (
+            "image.a: open, format 2, 1048576 cells, tick 0, 8388625 bytes\n"
+            "image.b: closed, 0 bytes\n"
+            "log.a: open, format 2, base 0, 0 groups, 0 ticks, 10 bytes\n"
+            "log.b: closed, 1 byte\n"
+            "recovered 0 from 0 in image.a\n"
+        )
+        trial.ends("the most cells", trial.run("inspect", "--dir", str(folder)), lines, "", 0)
+    with new_folder() as folder:
+        (folder / "notes").write_bytes(b"of another program")
+        (folder / "image.c").write_bytes(GARBAGE)
+        check_made(trial, "beside other files", create(trial, folder), folder)
+        others = (folder / "notes").read_bytes(), (folder / "image.c").read_bytes()
+        trial.check("other files", others, (b"of another program", GARBAGE))
+    for missing in NAMES:
+        with new_folder(b"", b"", b"", b"") as folder:
+            (folder / missing).unlink()
+            check_made(trial, f"{missing} is missing", create(trial, folder), folder)
+    with new_folder() as folder:
+        trial.ends("a closed output", create(trial, folder, closed=True), "", DEVICE, 1)
+        trial.check("a closed output", files_of(folder), (NEW_IMAGE, b"", NEW_LOG, b"\0"))
+
+
+def try_not_creating(trial: Trial) -> None:
+    """Worlds that aren't made: the file is named, and nothing is written."""
+    for files, name in (
+        ((GARBAGE, b"", b"", b""), "image.a"),
+        ((b"", GARBAGE, b"", b""), "image.b"),
+        ((b"", b"", GARBAGE, b""), "log.a"),
+        ((b"", b"", b"", GARBAGE), "log.b"),
+        ((b"", NEW_IMAGE, b"", b""), "image.b"),
+        ((b"", b"", NEW_LOG, b""), "log.a"),
+        ((b"\0", b"", GARBAGE, NEW_LOG), "log.a"),
+    ):
+        with new_folder(*files) as folder:
+            trial.ends(f"over {name}", create(trial, folder), "", fault_of(folder, 22, name, HOLDS_A_WORLD), 1)
+            trial.check(f"over {name}", files_of(folder), files)
+    for name in NAMES:
+        with new_folder() as folder:
+            (folder / name).mkdir()
+            trial.ends(f"a folder {name}", create(trial, folder), "", fault_of(folder, 18, name, NOT_A_FILE), 1)
+    with new_folder() as folder:
+        none = folder / "none"
+        trial.ends("no folder", create(trial, none), "", fault_of(none, 18, "image.a", NO_FILE), 1)
+        trial.check("no folder", none.exists(), False)
+    files = b"", b"\0", b"\0\7", b""
+    with new_folder(*files) as folder:
+        with open(folder / "image.a", "r+b") as held:
+            fcntl.flock(held, fcntl.LOCK_EX | fcntl.LOCK_NB)
+            trial.ends("a held world", create(trial, folder), "", fault_of(folder, 18, "image.a", HELD), 1)
+            trial.check("a held world", files_of(folder), files)
+        trial.check("a world that was held", create(trial, folder).status, 0)
+    with new_folder() as folder:
+        line = "create", "--dir", str(folder)
+        for more in ((), ("--cells", "0"), ("--cells", "1048577"), ("--cells", "4294967296")):
+            got = trial.run(*line, *more)
+            trial.check(f"create {more}", (got.output, got.status), ("", 2))
+        trial.check("a wrong number of cells", list(folder.iterdir()), [])
+
+
+def both(trial: Trial, folder: pathlib.Path, closed: bool = False) -> tuple[Outcome, Outcome]:
+    """`recover` and `inspect` of a folder."""
+    return tuple(trial.run(command, "--dir", str(folder), closed=closed) for command in ("recover", "inspect"))
+
+
+def check_found(trial: Trial, what: str, folder: pathlib.Path, recovered: str, lines: str) -> None:
+    """Both end well, recover with this line and inspect with these."""
+    trial.check(what, both(trial, folder), (Outcome(recovered, "", 0), Outcome(lines, "", 0)))
+
+
+def check_fault(trial: Trial, what: str, folder: pathlib.Path, fault: str, lines: str) -> None:
+    """Both end with this fault, inspect behind these lines."""
+    trial.check(what, both(trial, folder), (Outcome("", fault, 1), Outcome(lines, fault, 1)))
+
+
+def try_found(trial: Trial) -> None:
+    """Folders in which a world stands."""
+    with new_folder(IMAGE_OF_3, IMAGE_OF_2, LOG_OF_3, LOG_OF_4) as folder:
+        lines = (
+            "image.a: open, format 1, 2 cells, tick 3, 33 bytes\n"
+            "image.b: open, format 2, 2 cells, tick 2, 33 bytes\n"
+            "log.a: open, format 1, base 2, 1 group, 1 tick, 28 bytes\n"
+            "log.b: open, format 2, base 3, 1 group, 1 tick, 32 bytes\n"
+            "recovered 4 from 3 in image.a\n"
+        )
+        check_found(trial, "a world", folder, "recovered 4 from 3\n", lines)
+        words = trial.run("inspect", "--words", "--dir", str(folder))
+        trial.ends("the words of a world", words, f"{lines}3 9\n", "", 0)
+        trial.check("nothing is written", files_of(folder), (IMAGE_OF_3, IMAGE_OF_2, LOG_OF_3, LOG_OF_4))
+    with new_folder(b"", NEW_IMAGE, b"", b"\0") as folder:
+        lines = (
+            "image.a: closed, 0 bytes\n"
+            "image.b: open, format 2, 2 cells, tick 0, 33 bytes\n"
+            "log.a: closed, 0 bytes\n"
+            "log.b: closed, 1 byte\n"
+            "recovered 0 from 0 in image.b\n"
+        )
+        check_found(trial, "a world in image.b", folder, "recovered 0 from 0\n", lines)
+    with new_folder(NEW_IMAGE, b"", LOG_OF_GROUPS, NEW_LOG_OF_3) as folder:
+        lines = (
+            "image.a: open, format 2, 2 cells, tick 0, 33 bytes\n"
+            "image.b: closed, 0 bytes\n"
+            "log.a: open, format 1, base 0, 2 groups, 3 ticks, 22 bytes\n"
+            "log.b: open, format 1, base 3, 0 groups, 0 ticks, 10 bytes\n"
+            "recovered 3 from 0 in image.a\n"
+        )
+        check_found(trial, "groups and ticks", folder, "recovered 3 from 0\n", lines)
+
+
+def try_missing(trial: Trial) -> None:
+    """Folders in which a file is missing, or isn't one."""
+    unreadable = "".join(f"{name}: unreadable: {NO_FILE}\n" for name in NAMES)
+    rest = "image.a: open, format 2, 2 cells, tick 0, 33 bytes\nimage.b: closed, 0 bytes\nlog.a: closed, 0 bytes\n"
+    with new_folder() as folder:
+        none = fault_of(folder, 18, "image.a", NO_FILE)
+        check_fault(trial, "an empty folder", folder, none, unreadable)
+        (folder / "notes").write_bytes(b"of another program")
+        check_fault(trial, "a folder of another program", folder, none, unreadable)
+        put(folder, NEW_IMAGE, b"", b"")
+        one = fault_of(folder, 18, "log.b", NO_FILE)
+        check_fault(trial, "log.b is missing", folder, one, f"{rest}log.b: unreadable: {NO_FILE}\n")
+        (folder / "log.b").mkdir()
+        other = fault_of(folder, 18, "log.b", NOT_A_FILE)
+        check_fault(trial, "a folder log.b", folder, other, f"{rest}log.b: unreadable: {NOT_A_FILE}\n")
+        gone = trial.run("recover", "--dir", str(folder / "gone"))
+        trial.check("no folder", (gone.errors[:17], gone.status), ("fault 18\nworldd: ", 1))
+    with new_folder(NEW_IMAGE, b"", b"", b"") as folder:
+        closed = both(trial, folder, closed=True)
+        trial.check("a closed output", closed, (Outcome("", DEVICE, 1),) * 2)
+
+
+def try_damaged(trial: Trial) -> None:
+    """Folders in which files are damaged: each is named."""
+    new = "open, format 2, 2 cells, tick 0, 33 bytes"
+    closed, damaged = "closed, 0 bytes", "damaged, 20 bytes"
+    for files, lines, fault in (
+        ((b"", b"", b"", b""), (closed,) * 4, "13\nworldd: there is no image to recover from"),
+        ((GARBAGE, NEW_IMAGE, b"", b""), (damaged, new, closed, closed), "14\nworldd: an image file is damaged: image.a"),
+        ((NEW_IMAGE, b"", b"", GARBAGE), (new, closed, closed, damaged), "15\nworldd: a log file is damaged: log.b"),
+        ((GARBAGE,) * 4, (damaged,) * 4, "14\nworldd: an image file is damaged: image.a and image.b"),
+    ):
+        with new_folder(*files) as folder:
+            told = "".join(f"{name}: {line}\n" for name, line in zip(NAMES, lines))
+            check_fault(trial, f"fault {fault}", folder, f"fault {fault}\n", told)
+    for files, fault in (
+        ((b"", b"", b"", b""), "13\nworldd: there is no image to recover from"),
+        ((BAD_IMAGE, SMALL_IMAGE, b"", b""), "14\nworldd: an image file is damaged: image.a"),
+        ((SMALL_IMAGE, BAD_IMAGE, BAD_LOG, b""), "14\nworldd: an image file is damaged: image.b"),
+        ((BAD_IMAGE, BAD_IMAGE, b"", b""), "14\nworldd: an image file is damaged: image.a and image.b"),
+        ((SMALL_IMAGE, b"", BAD_LOG, b""), "15\nworldd: a log file is damaged: log.a"),
+        ((SMALL_IMAGE, b"", TAKING_LOG, BAD_LOG), "15\nworldd: a log file is damaged: log.b"),
+        ((b"", b"", BAD_LOG, BAD_LOG), "15\nworldd: a log file is damaged: log.a and log.b"),
+        ((b"", SMALL_IMAGE, TAKING_LOG, b""), "15\nworldd: a log file is damaged: an action of the log is refused in replay"),
+    ):
+        with new_folder(*files) as folder:
+            got = trial.run("recover", "--dir", str(folder))
+            trial.ends(f"fault {fault}", got, "", f"fault {fault}\n", 1)
+
+
+def try_not_serving(trial: Trial) -> None:
+    """Worlds that aren't served: the reason is told, and no file is made."""
+
+    def refused(what: str, folder: pathlib.Path, fault: str) -> None:
+        for method in METHODS:
+            line = f"serve --dir {folder} --method {method} --port 0 --clients 1".split()
+            trial.ends(f"{what}, {method}", trial.run(*line), "", fault, 1)
+
+    for missing in NAMES:
+        with new_folder(NEW_IMAGE, b"", b"", b"") as folder:
+            (folder / missing).unlink()
+            refused(f"{missing} is missing", folder, fault_of(folder, 18, missing, NO_FILE))
+            trial.check(f"{missing} is missing", (folder / missing).exists(), False)
+    with new_folder(NEW_IMAGE, b"", b"", b"") as folder, open(folder / "image.a", "r+b") as held:
+        fcntl.flock(held, fcntl.LOCK_EX | fcntl.LOCK_NB)
+        refused("a held world", folder, fault_of(folder, 18, "image.a", HELD))
+    for files, fault in (
+        ((b"", b"", b"", b""), "13\nworldd: there is no image to recover from"),
+        ((b"", GARBAGE, b"", b""), "14\nworldd: an image file is damaged: image.b"),
+        ((NEW_IMAGE, b"", GARBAGE, b""), "15\nworldd: a log file is damaged: log.a"),
+    ):
+        with new_folder(*files) as folder:
+            refused(f"fault {fault}", folder, f"fault {fault}\n")
+
+
+def main() -> int:
+    """Runs all, and prints what was seen."""
+    parser = argparse.ArgumentParser(description=__doc__.splitlines()[0])
+    parser.add_argument("program", type=pathlib.Path, help="the built worldd")
+    trial = Trial(str(parser.parse_args().program.resolve()))
+    for part in (try_command_lines, try_scripts, try_creating, try_not_creating, try_found, try_missing, try_damaged, try_not_serving):
+        part(trial)
+    wanted = ["status 0", "status 2", *(f"status 1, fault {code}" for code in (13, 14, 15, 18, 22))]
+    never = [kind for kind in wanted if not trial.seen[kind]]
+    for kind, count in sorted(trial.seen.items()):
+        print(f"  {kind}: {count}")
+    print(f"program trial: {trial.runs} runs, {trial.wrong} wrong" + (f", never seen: {never}" if never else ""))
+    return 1 if trial.wrong or never else 0
+
+
+if __name__ == "__main__":
+    sys.exit(main())
