@@ -20,7 +20,9 @@ import sys
 import time
 
 TOP = pathlib.Path(__file__).resolve().parent.parent
+# Written by a run of the gate: seconds by crate and kind, and the seconds of the whole run.
 TIMES = TOP / "out" / "gate_times"
+TOTAL = TOP / "out" / "gate_total"
 UNIT_CRATE = "packed_marks"
 BOUND_UNITS = 144
 TICKS = os.sysconf("SC_CLK_TCK")
@@ -133,15 +135,14 @@ def total(pid: int, log: pathlib.Path) -> None:
     uptime = float(pathlib.Path("/proc/uptime").read_text().split()[0])
     wall = uptime - int(fields[19]) / TICKS
     processor = sum(int(ticks) for ticks in fields[13:15]) / TICKS
-    with TIMES.open("a") as times:
-        times.write(f"all\tall\t{processor:.1f}\n")
+    TOTAL.parent.mkdir(exist_ok=True)
+    TOTAL.write_text(f"{processor:.1f}\n")
     print(f"gate: {wall / 60:.1f} minutes, {processor / 60:.1f} processor minutes; {kept_of(log.read_text())}")
 
 
 def dearest(most: int) -> None:
     """Prints the dearest crates of the last run."""
     found = read_times()
-    found.pop("all", None)
     print(f"{'crate':16}" + "".join(f"{kind:>14}" for kind in (*KINDS, "all")))
     sums = collections.Counter({crate: sum(kinds.values()) for crate, kinds in found.items()})
     for crate, seconds in sums.most_common(most):
@@ -160,8 +161,8 @@ def unit() -> int:
         return 1
     seconds = ended.ru_utime + ended.ru_stime - begun.ru_utime - begun.ru_stime
     print(f"the unit is {seconds:.0f} processor seconds here; {BOUND_UNITS} units are {BOUND_UNITS * seconds / 60:.0f} processor minutes")
-    cost = read_times().get("all", {}).get("all") if TIMES.exists() else None
-    if cost is not None:
+    if TOTAL.exists():
+        cost = float(TOTAL.read_text())
         print(f"the last run took {cost / 60:.1f} processor minutes, {cost / seconds:.0f} units")
     return 0
 

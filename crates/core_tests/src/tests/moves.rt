@@ -58,20 +58,26 @@ fn ones(alloc: Global, count: usize) -> Result<Remains, Refusal> {
     })
 }
 
-fn check_start<C: Capture>(rt: &impl Abort, mut core: Core<C>) {
-    answers(rt, &mut core, &START[..3]);
-    answers(rt, &mut core, &[(7, LOG, Told::LogWorking)]);
+fn check_start<C: Capture>(rt: &impl Abort, core: &mut Core<C>) {
+    answers(rt, core, &START[..3]);
+    answers(rt, core, &[(7, LOG, Told::LogWorking)]);
     assert!(rt; core.starting());
-    answers(rt, &mut core, &[(1, LOG, Told::LogWorking)]);
+    answers(rt, core, &[(1, LOG, Told::LogWorking)]);
     assert!(rt; !core.starting());
-    answers(rt, &mut core, &[(1, Asked::Get(0), Told::Word(0))]);
+    answers(rt, core, &[(1, Asked::Get(0), Told::Word(0))]);
+}
+
+fn start_fresh<C: Capture>(rt: &impl Abort, alloc: Global) -> Result<(), Refusal> {
+    let mut core = Core::<C>::fresh(alloc, 1)?;
+    check_start(rt, &mut core);
+    Ok(())
 }
 
 #[test]
 fn starts(rt: HostRuntime) -> Result<(), Fail> {
-    check_start(&rt, Core::<PlainCopy>::fresh(rt.alloc(), 1)?);
-    check_start(&rt, Core::<Zigzag>::fresh(rt.alloc(), 1)?);
-    check_start(&rt, Core::<PingPong>::fresh(rt.alloc(), 1)?);
+    start_fresh::<PlainCopy>(&rt, rt.alloc())?;
+    start_fresh::<Zigzag>(&rt, rt.alloc())?;
+    start_fresh::<PingPong>(&rt, rt.alloc())?;
     Ok(())
 }
 
@@ -82,17 +88,32 @@ const FAILED_START: [Line; 4] = [
     (1, Asked::End, Told::Refused(Refusal::Starting)),
 ];
 
+fn fail_and_crash<C: Capture>(
+    rt: &impl Abort,
+    alloc: Global,
+    core: &mut Core<C>,
+) -> Result<(), Refusal> {
+    answers(rt, core, &FAILED_START);
+    crash(rt, core, ones(alloc, 0)?, Told::Blank);
+    assert!(rt; core.starting());
+    crash(
+        rt,
+        core,
+        ones(alloc, 1)?,
+        Told::Refused(Refusal::Impossible),
+    );
+    answers(rt, core, &START);
+    Ok(())
+}
+
+fn fail_a_start<C: Capture>(rt: &impl Abort, alloc: Global) -> Result<(), Refusal> {
+    let mut core = Core::<C>::fresh(alloc, 1)?;
+    fail_and_crash(rt, alloc, &mut core)
+}
+
 #[test]
 fn fails_and_crashes_in_a_start(rt: HostRuntime) -> Result<(), Fail> {
-    let none = ones(rt.alloc(), 0)?;
-    let one = ones(rt.alloc(), 1)?;
-    let mut core = Core::<Zigzag>::fresh(rt.alloc(), 1)?;
-    answers(&rt, &mut core, &FAILED_START);
-    crash(&rt, &mut core, none, Told::Blank);
-    assert!(rt; core.starting());
-    crash(&rt, &mut core, one, Told::Refused(Refusal::Impossible));
-    answers(&rt, &mut core, &START);
-    Ok(())
+    Ok(fail_a_start::<Zigzag>(&rt, rt.alloc())?)
 }
 
 fn ends<C: Capture>(core: &mut Core<C>, times: u32) {
@@ -116,14 +137,18 @@ const MARKS: [Line; 8] = [
     (1, Asked::Mark, Told::Refused(Refusal::LogDown)),
 ];
 
+fn mark_in_order<C: Capture>(rt: &impl Abort, alloc: Global) -> Result<(), Refusal> {
+    let mut core = Core::<C>::fresh(alloc, 1)?;
+    answers(rt, &mut core, &START);
+    answers(rt, &mut core, &[NOTHING_NEW]);
+    ends(&mut core, 63);
+    answers(rt, &mut core, &MARKS);
+    Ok(())
+}
+
 #[test]
 fn refuses_marks_in_order(rt: HostRuntime) -> Result<(), Fail> {
-    let mut core = Core::<PingPong>::fresh(rt.alloc(), 1)?;
-    answers(&rt, &mut core, &START);
-    answers(&rt, &mut core, &[NOTHING_NEW]);
-    ends(&mut core, 63);
-    answers(&rt, &mut core, &MARKS);
-    Ok(())
+    Ok(mark_in_order::<PingPong>(&rt, rt.alloc())?)
 }
 
 // The log is down, and a mark is refused by the start.
@@ -142,45 +167,57 @@ const ROUND: [Line; 4] = [
     (1, IMAGE, Told::ImageIdle),
 ];
 
+fn mark_in_a_start<C: Capture>(rt: &impl Abort, alloc: Global) -> Result<(), Refusal> {
+    let mut core = Core::<C>::fresh(alloc, 1)?;
+    answers(rt, &mut core, &DOWN_IN_A_START);
+    Ok(())
+}
+
 #[test]
 fn refuses_marks_in_starts(rt: HostRuntime) -> Result<(), Fail> {
-    let mut core = Core::<PlainCopy>::fresh(rt.alloc(), 1)?;
-    answers(&rt, &mut core, &DOWN_IN_A_START);
+    Ok(mark_in_a_start::<PlainCopy>(&rt, rt.alloc())?)
+}
+
+const FULL_FOR_A_MARK: [Line; 1] = [(1, Asked::Mark, Told::Refused(Refusal::QueueFull))];
+
+const FULL_FOR_A_TICK: [Line; 1] = [(1, Asked::End, Told::Refused(Refusal::QueueFull))];
+
+fn log_all<C: Capture>(core: &mut Core<C>) {
+    for _ in 0..20 {
+        core.step(Move::Log(Fate::Done));
+    }
+}
+
+fn mark_on_full_queue<C: Capture>(rt: &impl Abort, alloc: Global) -> Result<(), Refusal> {
+    let mut core = Core::<C>::fresh(alloc, 1)?;
+    answers(rt, &mut core, &START);
+    ends(&mut core, 63);
+    answers(rt, &mut core, &ROUND);
+    answers(rt, &mut core, &[NOTHING_NEW]);
+    // The log takes the ticks from the queue, and its switch, and then 64 ticks wait.
+    log_all(&mut core);
+    ends(&mut core, 64);
+    answers(rt, &mut core, &FULL_FOR_A_MARK);
     Ok(())
 }
 
 #[test]
 fn refuses_marks_on_full_queues(rt: HostRuntime) -> Result<(), Fail> {
-    let mut core = Core::<PlainCopy>::fresh(rt.alloc(), 1)?;
-    answers(&rt, &mut core, &START);
-    ends(&mut core, 63);
-    answers(&rt, &mut core, &ROUND);
-    answers(&rt, &mut core, &[NOTHING_NEW]);
-    // The log takes the ticks from the queue, and its switch, and then 64 ticks wait.
-    for _ in 0..20 {
-        core.step(Move::Log(Fate::Done));
-    }
+    Ok(mark_on_full_queue::<PlainCopy>(&rt, rt.alloc())?)
+}
+
+fn fill_the_queue<C: Capture>(rt: &impl Abort, alloc: Global) -> Result<(), Refusal> {
+    let mut core = Core::<C>::fresh(alloc, 1)?;
+    answers(rt, &mut core, &START);
     ends(&mut core, 64);
-    answers(
-        &rt,
-        &mut core,
-        &[(1, Asked::Mark, Told::Refused(Refusal::QueueFull))],
-    );
+    answers(rt, &mut core, &FULL_FOR_A_TICK);
+    answers(rt, &mut core, &DRAINED);
     Ok(())
 }
 
 #[test]
 fn fills_the_queue(rt: HostRuntime) -> Result<(), Fail> {
-    let mut core = Core::<Zigzag>::fresh(rt.alloc(), 1)?;
-    answers(&rt, &mut core, &START);
-    ends(&mut core, 64);
-    answers(
-        &rt,
-        &mut core,
-        &[(1, Asked::End, Told::Refused(Refusal::QueueFull))],
-    );
-    answers(&rt, &mut core, &DRAINED);
-    Ok(())
+    Ok(fill_the_queue::<Zigzag>(&rt, rt.alloc())?)
 }
 
 // Two groups of 32, and the next tick.
@@ -215,10 +252,9 @@ fn some_moves(alloc: Global) -> Result<Vec<Move>, Refusal> {
 }
 
 // What a fresh core tells, asked one by one.
-fn stepped(alloc: Global) -> Result<Vec<Told>, Refusal> {
-    let moves = some_moves(alloc)?;
-    let mut core = Core::<Zigzag>::fresh(alloc, 1)?;
-    step_all(alloc, &mut core, moves)
+fn stepped<C: Capture>(alloc: Global) -> Result<Vec<Told>, Refusal> {
+    let mut core = Core::<C>::fresh(alloc, 1)?;
+    step_all(alloc, &mut core, some_moves(alloc)?)
 }
 
 fn step_all<C: Capture>(
@@ -234,9 +270,8 @@ fn step_all<C: Capture>(
 }
 
 // What a run of the same moves tells.
-fn ran(alloc: Global) -> Result<Vec<Told>, Refusal> {
-    let moves = some_moves(alloc)?;
-    let (answers, _) = run::<Zigzag>(alloc, 1, moves)?;
+fn ran<C: Capture>(alloc: Global) -> Result<Vec<Told>, Refusal> {
+    let (answers, _) = run::<C>(alloc, 1, some_moves(alloc)?)?;
     told_by(alloc, &answers)
 }
 
@@ -250,9 +285,9 @@ fn told_by(alloc: Global, answers: &[Answer]) -> Result<Vec<Told>, Refusal> {
 
 #[test]
 fn runs_as_it_steps(rt: HostRuntime) -> Result<(), Fail> {
-    let wanted = stepped(rt.alloc())?;
+    let wanted = stepped::<Zigzag>(rt.alloc())?;
     assert_eq!(rt; wanted.len(), 32);
-    let given = ran(rt.alloc())?;
+    let given = ran::<Zigzag>(rt.alloc())?;
     assert!(rt; given.as_slice() == wanted.as_slice());
     Ok(())
 }

@@ -60,54 +60,65 @@ enum Part<'a> {
     LeavesOnes(usize, Told),
 }
 
-// A core that was asked all moves so far, which tells what a crash leaves; the moves; their answers.
+// Moves, and the answer that each is to have.
 #[derive(Drop)]
-struct Row<C: Capture> {
+struct Row {
     alloc: Global,
-    core: Core<C>,
     moves: Vec<Move>,
     told: Vec<Told>,
 }
 
-fn add_part<C: Capture>(row: &mut Row<C>, part: Part<'_>) -> Result<(), Refusal> {
+impl Row {
+    fn push(&mut self, asked: Move, told: Told) -> Result<(), Refusal> {
+        self.moves.push(asked)?;
+        self.told.push(told)?;
+        Ok(())
+    }
+}
+
+// Adds the moves of a part, and asks the core for them: it tells what a crash leaves.
+fn add_part<C: Capture>(row: &mut Row, core: &mut Core<C>, part: Part<'_>) -> Result<(), Refusal> {
     match part {
-        Part::Lines(lines) => add_lines(row, lines),
+        Part::Lines(lines) => add_lines(row, core, lines),
         Part::Crash(leaving, told) => {
-            let one = row.core.remains(leaving)?;
-            let same = row.core.remains(leaving)?;
-            add_crash(row, one, same, told)
+            row.push(Move::Crash(core.remains(leaving)?), told)?;
+            crash(core, core.remains(leaving)?);
+            Ok(())
         }
         Part::LeavesOnes(count, told) => {
-            let one = ones(row.alloc, count)?;
-            let same = ones(row.alloc, count)?;
-            add_crash(row, one, same, told)
+            row.push(Move::Crash(ones(row.alloc, count)?), told)?;
+            crash(core, ones(row.alloc, count)?);
+            Ok(())
         }
     }
 }
 
-fn add_lines<C: Capture>(row: &mut Row<C>, lines: &[Line]) -> Result<(), Refusal> {
+fn crash<C: Capture>(core: &mut Core<C>, left: Remains) {
+    core.step(Move::Crash(left));
+}
+
+fn add_lines<C: Capture>(row: &mut Row, core: &mut Core<C>, lines: &[Line]) -> Result<(), Refusal> {
     for (times, asked, told) in lines {
         for _ in 0..*times {
-            if let (Some(one), Some(same)) = (asked.as_move(), asked.as_move()) {
-                row.core.step(one);
-                row.moves.push(same)?;
-                row.told.push(*told)?;
-            }
+            add_line(row, core, asked, *told)?;
         }
     }
     Ok(())
 }
 
-fn add_crash<C: Capture>(
-    row: &mut Row<C>,
-    one: Remains,
-    same: Remains,
+fn add_line<C: Capture>(
+    row: &mut Row,
+    core: &mut Core<C>,
+    asked: &Asked,
     told: Told,
 ) -> Result<(), Refusal> {
-    row.core.step(Move::Crash(one));
-    row.moves.push(Move::Crash(same))?;
-    row.told.push(told)?;
-    Ok(())
+    if let Some(one) = asked.as_move() {
+        core.step(one);
+    }
+    match asked.as_move() {
+        Some(same) => row.push(same, told),
+        None => Ok(()),
+    }
 }
 
 fn ran<C: Capture>(alloc: Global, cells: u32, moves: Vec<Move>) -> Result<Vec<Told>, Refusal> {
@@ -115,20 +126,29 @@ fn ran<C: Capture>(alloc: Global, cells: u32, moves: Vec<Move>) -> Result<Vec<To
     told_by(alloc, &answers)
 }
 
-fn add_parts<C: Capture>(row: &mut Row<C>, parts: &[Part<'_>]) -> Result<(), Refusal> {
+fn add_parts<C: Capture>(
+    row: &mut Row,
+    core: &mut Core<C>,
+    parts: &[Part<'_>],
+) -> Result<(), Refusal> {
     for part in parts {
-        add_part(row, *part)?;
+        add_part(row, core, *part)?;
     }
     Ok(())
 }
 
-fn new_row<C: Capture>(alloc: Global, cells: u32) -> Result<Row<C>, Refusal> {
-    Ok(Row {
-        alloc,
-        core: Core::fresh(alloc, cells.clamp(1, 65536))?,
-        moves: Vec::new(alloc),
-        told: Vec::new(alloc),
-    })
+// Adds the moves of these parts, as a fresh core is asked for them.
+fn fill<C: Capture>(row: &mut Row, cells: u32, parts: &[Part<'_>]) -> Result<(), Refusal> {
+    let mut core = Core::<C>::fresh(row.alloc, cells.clamp(1, 65536))?;
+    add_parts(row, &mut core, parts)
+}
+
+// A run of a fresh world answers the moves of a row so.
+fn compare<C: Capture>(rt: &impl Abort, cells: u32, row: Row) -> Result<(), Refusal> {
+    let Row { alloc, moves, told } = row;
+    let given = ran::<C>(alloc, cells, moves)?;
+    assert!(rt; given.as_slice() == told.as_slice());
+    Ok(())
 }
 
 // A run of a fresh world answers the moves of these parts so.
@@ -137,12 +157,14 @@ fn check<C: Capture>(
     cells: u32,
     parts: &[Part<'_>],
 ) -> Result<(), Refusal> {
-    let mut row = new_row::<C>(rt.alloc(), cells)?;
-    add_parts(&mut row, parts)?;
-    let Row { moves, told, .. } = row;
-    let given = ran::<C>(rt.alloc(), cells, moves)?;
-    assert!(rt; given.as_slice() == told.as_slice());
-    Ok(())
+    let alloc = rt.alloc();
+    let mut row = Row {
+        alloc,
+        moves: Vec::new(alloc),
+        told: Vec::new(alloc),
+    };
+    fill::<C>(&mut row, cells, parts)?;
+    compare::<C>(rt, cells, row)
 }
 
 fn check_all<R: Abort + AllocGlobal>(
