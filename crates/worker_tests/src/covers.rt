@@ -1,10 +1,11 @@
 //! A log that has fallen behind leaves out what an image has.
-ghost use Rattle.std.specs.Prelude.{◌≡◌, ◌≤◌, false, IfOk};
+ghost use Rattle.std.specs.Prelude.{◌≡◌, ◌≤◌, false};
 ghost use Rattle.workers.specs.Logging.{IsAtRest};
 
 use crate::held::Held;
-use crate::serial::{Serial, begin, is_posted, send};
-use crate::worlds::{found_in, fused_files, open_files};
+use crate::same::same;
+use crate::serial::{Serial, begin, is_posted, log_on, send};
+use crate::worlds::{fused_files, open_files, stands_in_fused};
 use action_log::{LogState, read_log};
 use crossbeam_channel::Receiver;
 use disk_model::{Fused, ModelFile};
@@ -12,9 +13,8 @@ use shared_capture::{Method, Pong, Zig};
 use std::alloc::Global;
 use std::process::Abort;
 use std::sync::Wait;
-use std::test::Fail;
 use tcp_service::Seats;
-use workers::{Checkpointer, LogWriter, Open, Reply};
+use workers::{Checkpointer, Log, Reply};
 use world_actions::Refusal;
 
 type File = Fused<ModelFile>;
@@ -29,7 +29,12 @@ fn write_image<M: Method>(
     tick: u64,
 ) {
     assert!(rt; !checkpointer.is_over());
-    assert_eq!(rt; checkpointer.turn(rt), Some(tick));
+    same(
+        rt,
+        "an image that is opened",
+        checkpointer.turn(rt),
+        Some(tick),
+    );
 }
 
 // Three ticks are played, and images opened of the first two, while nothing is logged.
@@ -37,106 +42,93 @@ fn fall_behind<M: Method>(
     rt: &(impl Wait + Abort),
     alloc: Global,
     world: &mut Serial<M, File>,
-) -> Result<Vec<Receiver<Reply>>, Fail>
-    ensures { IfOk result (λ _. world.new.log_writer ≡ world.old.log_writer) }
+) -> [Receiver<Reply>; 3]
+    ensures { world.new.log_writer ≡ world.old.log_writer }
 {
-    let mut answers = Vec::with_capacity(alloc, 3)?;
-    answers.push(send(rt, alloc, &mut world.mutator)?)?;
-    answers.push(send(rt, alloc, &mut world.mutator)?)?;
+    let first = send(rt, alloc, &mut world.mutator);
+    let second = send(rt, alloc, &mut world.mutator);
     write_image(rt, &mut world.checkpointer, 1);
-    answers.push(send(rt, alloc, &mut world.mutator)?)?;
+    let third = send(rt, alloc, &mut world.mutator);
     write_image(rt, &mut world.checkpointer, 2);
-    Ok(answers)
+    [first, second, third]
 }
 
-fn catch_up(rt: &(impl Wait + Abort), log_writer: &mut LogWriter<File, Open>)
-    requires { IsAtRest log_writer.old }
-{
-    assert!(rt; !log_writer.is_over());
-    log_writer.turn(rt);
-}
-
-// The first two ticks are answered, and the third one where the log has it.
-fn check_answers(rt: &(impl Wait + Abort), answers: &[Receiver<Reply>], whole: bool) {
-    let [first, second, third] = answers else {
-        panic!(rt; "other answers");
-    };
-    is_posted(rt, first, b"tick 1: + =1\n");
-    is_posted(rt, second, b"tick 2: + =2\n");
-    if whole {
-        is_posted(rt, third, b"tick 3: + =3\n");
-        return;
-    }
-    match third.recv(rt) {
-        Ok(Reply::Fault(refusal)) => assert_eq!(rt; refusal, Refusal::LogDown),
+fn is_refused(rt: &(impl Wait + Abort), answer: &Receiver<Reply>) {
+    match answer.recv(rt) {
+        Ok(Reply::Fault(refusal)) => same(rt, "a refusal", refusal, Refusal::LogDown),
         _ => panic!(rt; "no fault"),
     }
 }
 
-// The bytes are an open segment of this base and of so many ticks.
-fn check_segment(
-    rt: &impl Abort,
-    alloc: Global,
-    bytes: &[u8],
-    base: u64,
-    count: usize,
-) -> Result<(), Fail> {
-    match read_log(alloc, bytes)? {
-        LogState::Open { base: from, ticks } => assert_eq!(rt; (from, ticks.len()), (base, count)),
-        LogState::Closed => panic!(rt; "a closed segment"),
+// The first two ticks are answered, and the third one where the log has it.
+fn check_answers(rt: &(impl Wait + Abort), answers: &[Receiver<Reply>; 3], whole: bool) {
+    let [first, second, third] = answers;
+    is_posted(rt, first, b"tick 1: + =1\n");
+    is_posted(rt, second, b"tick 2: + =2\n");
+    if whole {
+        is_posted(rt, third, b"tick 3: + =3\n");
+    } else {
+        is_refused(rt, third);
     }
-    Ok(())
 }
 
-// The log goes on at the second image, whose ticks it doesn't have.
-fn check_files<M: Method>(
-    rt: &impl Abort,
-    alloc: Global,
-    world: &Serial<M, File>,
-    whole: bool,
-) -> Result<(), Fail> {
-    let (images, log) = (world.checkpointer.images(), world.log_writer.log());
-    let (log_a, log_b) = (log.a.inner().durable(), log.b.inner().durable());
-    let (image_a, image_b) = (
-        images.image_a.inner().durable(),
-        images.image_b.inner().durable(),
-    );
-    let acked = if whole { 3 } else { 2 };
-    assert_eq!(rt; world.log_writer.acked(), acked);
-    assert_eq!(rt; world.log_writer.is_down(), !whole);
-    assert_eq!(rt;
-        found_in(alloc, image_a, image_b, log_a, log_b)?,
-        (acked, 2, acked)
-    );
-    check_segment(rt, alloc, log_a, 0, 0)?;
-    if whole {
-        check_segment(rt, alloc, log_b, 2, 1)?;
+// The base of an open segment with these bytes, and how many ticks are in it.
+fn segment_of(rt: &impl Abort, alloc: Global, bytes: &[u8]) -> Option<(u64, usize)> {
+    match read_log(alloc, bytes).expect(rt, "a segment") {
+        LogState::Open { base, ticks } => Some((base, ticks.len())),
+        LogState::Closed => None,
     }
-    Ok(())
+}
+
+// The first segment has no tick, and the second one goes on at the second image, whose ticks it doesn't have.
+fn check_log(rt: &impl Abort, alloc: Global, log: &Log<File>, whole: bool) {
+    let first = segment_of(rt, alloc, log.a.inner().durable());
+    same(rt, "the first segment", first, Some((0, 0)));
+    if whole {
+        let second = segment_of(rt, alloc, log.b.inner().durable());
+        same(rt, "the second segment", second, Some((2, 1)));
+    }
+}
+
+fn check_files<M: Method>(rt: &impl Abort, alloc: Global, world: &Serial<M, File>, whole: bool) {
+    let (log_writer, images) = (&world.log_writer, world.checkpointer.images());
+    let acked = if whole { 3 } else { 2 };
+    same(rt, "ticks acknowledged", log_writer.acked(), acked);
+    same(rt, "the log is down", log_writer.is_down(), !whole);
+    let found = stands_in_fused(rt, alloc, images, log_writer.log());
+    same(rt, "what stands", found, (acked, 2, acked));
+    check_log(rt, alloc, log_writer.log(), whole);
+}
+
+// Workers in a new world, of which the second segment's file fails at this call.
+fn begin_broken<M: Seats>(rt: &(impl Wait + Abort), alloc: Global, call: u64) -> Serial<M, File>
+    requires { 1 ≤ call }
+    ensures { IsAtRest result.log_writer }
+{
+    let mut opened = open_files::<M, File>(rt, alloc, fused_files(rt, alloc));
+    opened.log.b.arm(call);
+    begin(rt, alloc, opened, Held::nothing())
 }
 
 // With this call of the second segment's file failing, if it is made.
-fn try_call<M: Seats>(rt: &(impl Wait + Abort), alloc: Global, call: u64) -> Result<(), Fail>
+fn try_call<M: Seats>(rt: &(impl Wait + Abort), alloc: Global, call: u64)
     requires { 1 ≤ call }
 {
-    let mut opened = open_files::<M, File>(alloc, fused_files(alloc)?)?;
-    opened.log.b.arm(call);
-    let mut world = begin(rt, alloc, opened, Held::nothing())?;
-    let answers = fall_behind(rt, alloc, &mut world)?;
-    catch_up(rt, &mut world.log_writer);
+    let mut world = begin_broken::<M>(rt, alloc, call);
+    let answers = fall_behind(rt, alloc, &mut world);
+    log_on(rt, &mut world.log_writer);
     check_answers(rt, &answers, call > CALLS);
-    check_files(rt, alloc, &world, call > CALLS)
+    check_files(rt, alloc, &world, call > CALLS);
 }
 
-fn try_calls<M: Seats>(rt: &(impl Wait + Abort), alloc: Global) -> Result<(), Fail> {
+fn try_calls<M: Seats>(rt: &(impl Wait + Abort), alloc: Global) {
     for call in 1..CALLS + 2 {
-        try_call::<M>(rt, alloc, call)?;
+        try_call::<M>(rt, alloc, call);
     }
-    Ok(())
 }
 
 #[test]
-fn what_an_image_has_is_not_logged(rt: HostRuntime) -> Result<(), Fail> {
-    try_calls::<Zig>(&rt, rt.alloc())?;
-    try_calls::<Pong>(&rt, rt.alloc())
+fn what_an_image_has_is_not_logged(rt: HostRuntime) {
+    try_calls::<Zig>(&rt, rt.alloc());
+    try_calls::<Pong>(&rt, rt.alloc());
 }

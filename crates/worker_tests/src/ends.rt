@@ -1,17 +1,18 @@
 //! Workers that have ended and met: whatever a crash leaves of their files, what was answered is there.
-use crate::worlds::{Teller, Told, found_in, new_files, open_files};
+use crate::running::{begin, end};
+use crate::same::same;
+use crate::worlds::{found_in, new_files};
 use crossbeam_channel::{Sender, unbounded};
 use disk_model::{Leaving, ModelFile};
 use line_service::World;
 use sessions::{Batch, Request};
 use shared_capture::{Method, Pong, Zig};
-use std::alloc::{AllocError, Global};
+use std::alloc::Global;
 use std::process::Abort;
 use std::sync::Wait;
-use std::test::Fail;
 use std::thread::{self, JoinHandle, Threads};
 use tcp_service::{Remote, Seats};
-use worker_threads::{Ends, Gates, Workers, ends_meet, start, stop};
+use worker_threads::{Ends, Gates};
 use workers::{Ask, Gate, Pass, Place};
 use world_actions::{Action, Refusal};
 
@@ -61,34 +62,53 @@ fn one_more(alloc: Global) -> Result<Batch, Refusal> {
     Ok(batch)
 }
 
+// How many batches are answered by a tick where one is sent: it, or none.
+fn play_one<R: Wait + Copy>(alloc: Global, world: &mut Remote<R>) -> u64 {
+    match one_more(alloc) {
+        Ok(batch) => u64::from(world.batch(&batch).is_ok()),
+        Err(_) => 0,
+    }
+}
+
 // How many batches of a session are answered by a tick.
 fn play<R: Wait + Copy>(rt: &R, alloc: Global, requests: Sender<Ask>) -> u64 {
     let mut world = Remote::new(*rt, alloc, requests);
     let mut answered = 0u64;
     for _ in 0..BATCHES {
-        let Ok(batch) = one_more(alloc) else {
-            return answered;
-        };
-        if world.batch(&batch).is_ok() {
-            answered = answered.saturating_add(1);
-        }
+        answered = answered.saturating_add(play_one(alloc, &mut world));
     }
     answered
 }
 
-// How many batches of all sessions are, at once.
-fn play_sessions<R: Threads + Wait + Copy + Send + 'static>(
+fn start_session<R: Threads + Wait + Abort + Copy + Send + 'static>(
     rt: &R,
     alloc: Global,
-    requests: Sender<Ask>,
-) -> u64 {
+    requests: &Sender<Ask>,
+) -> JoinHandle<u64> {
+    let requests = requests.clone().expect(rt, "a sender");
+    let here = *rt;
+    match thread::spawn(rt, move || play(&here, alloc, requests)) {
+        Ok(session) => session,
+        Err(_) => panic!(rt; "no thread"),
+    }
+}
+
+// All sessions, which send their batches on this channel.
+fn start_sessions<R: Threads + Wait + Abort + Copy + Send + 'static>(
+    rt: &R,
+    alloc: Global,
+    requests: &Sender<Ask>,
+) -> Vec<JoinHandle<u64>> {
     let mut sessions = Vec::new(alloc);
     for _ in 0..SESSIONS {
-        if start_session(rt, alloc, &requests, &mut sessions).is_err() {
-            break;
-        }
+        sessions
+            .push(start_session(rt, alloc, requests))
+            .expect(rt, "memory");
     }
-    drop(requests);
+    sessions
+}
+
+fn join_sessions(rt: &impl Threads, sessions: Vec<JoinHandle<u64>>) -> u64 {
     let mut answered = 0u64;
     for session in sessions {
         answered = answered.saturating_add(session.join(rt));
@@ -96,93 +116,73 @@ fn play_sessions<R: Threads + Wait + Copy + Send + 'static>(
     answered
 }
 
-fn start_session<R: Threads + Wait + Copy + Send + 'static>(
+// How many batches of all sessions are answered by a tick, at once.
+fn play_sessions<R: Threads + Wait + Abort + Copy + Send + 'static>(
     rt: &R,
     alloc: Global,
-    requests: &Sender<Ask>,
-    sessions: &mut Vec<JoinHandle<u64>>,
-) -> Result<(), AllocError> {
-    let requests = requests.clone()?;
-    let here = *rt;
-    match thread::spawn(rt, move || play(&here, alloc, requests)) {
-        Ok(session) => Ok(sessions.push(session)?),
-        Err(_) => Err(AllocError),
-    }
+    requests: Sender<Ask>,
+) -> u64 {
+    let sessions = start_sessions(rt, alloc, &requests);
+    drop(requests);
+    join_sessions(rt, sessions)
 }
 
-// Starts workers in a new world of two cells, of which the checkpointer makes so many steps.
-fn begin<M: Seats + Send + 'static, R: Threads + Wait + Copy + Send + 'static>(
+// Runs workers in a new world of two cells, of which the checkpointer makes so many steps, and brings their ends
+// together. It tells how many batches were answered by a tick, too.
+fn run<M: Seats + Send + 'static, R: Threads + Wait + Abort + Copy + Send + 'static>(
     rt: &R,
     alloc: Global,
     steps: Option<u64>,
-    to: Sender<Told>,
-) -> Result<(Workers<M, ModelFile, Steps>, Sender<Ask>), Fail> {
-    let opened = open_files::<M, ModelFile>(alloc, new_files(alloc, 2)?)?;
+) -> (Ends<M, ModelFile, Steps>, u64) {
     let gates = Gates {
         mutator: Steps { left: None },
         checkpointer: Steps { left: steps },
         log_writer: Steps { left: None },
     };
-    let begun = start(rt, alloc, gates, Teller { rt: *rt, to }, opened, EVERY)?;
-    Ok(begun)
-}
-
-// Runs such workers, and brings their ends together.
-fn run<M: Seats + Send + 'static, R: Threads + Wait + Abort + Copy + Send + 'static>(
-    rt: &R,
-    alloc: Global,
-    steps: Option<u64>,
-) -> Result<Ends<M, ModelFile, Steps>, Fail> {
-    let (to, _heard) = unbounded(alloc)?;
-    let (workers, requests) = begin::<M, R>(rt, alloc, steps, to)?;
+    let (to, _heard) = unbounded(alloc).expect(rt, "a channel");
+    let files = new_files(rt, alloc, 2);
+    let (workers, requests) = begin(rt, alloc, files, gates, to, EVERY);
     let answered = play_sessions(rt, alloc, requests);
-    let mut ends = stop(rt, workers);
-    ends_meet(&mut ends);
-    assert_eq!(rt; answered, TICKS, "each tick is answered");
-    Ok(ends)
+    (end(rt, workers), answered)
 }
 
-// Whatever a crash leaves, the last tick that was answered is there. It tells whether no image was opened.
-fn check_ends<M: Method>(
-    rt: &impl Abort,
-    alloc: Global,
-    ends: &Ends<M, ModelFile, Steps>,
-) -> Result<bool, Fail> {
-    assert_eq!(rt; (ends.mutator.ended(), ends.acked()), (TICKS, TICKS));
+// Whatever a crash leaves, the last tick that was answered is there.
+fn check_ends<M: Method>(rt: &impl Abort, alloc: Global, ends: &Ends<M, ModelFile, Steps>) {
+    let ticks = (ends.mutator.ended(), ends.acked());
+    same(rt, "ticks ended and acknowledged", ticks, (TICKS, TICKS));
     for leaving in [Leaving::Lose, Leaving::Keep, Leaving::Fill(1)] {
-        assert_eq!(rt; found_after(alloc, ends, leaving)?, (TICKS, TICKS));
+        let found = found_after(rt, alloc, ends, leaving);
+        same(rt, "what stands after a crash", found, (TICKS, TICKS));
     }
-    Ok(newest(ends) == Some(0))
 }
 
 // What recovery finds after a crash that leaves so: the tick, and the word of the first cell.
 fn found_after<M: Method>(
+    rt: &impl Abort,
     alloc: Global,
     ends: &Ends<M, ModelFile, Steps>,
     leaving: Leaving,
-) -> Result<(u64, u64), Fail> {
+) -> (u64, u64) {
     let (images, log) = (ends.checkpointer.images(), ends.log_writer.log());
-    let (image_a, image_b) = left_of(alloc, &images.image_a, &images.image_b, leaving)?;
-    let (log_a, log_b) = left_of(alloc, &log.a, &log.b, leaving)?;
-    let (tick, _, word) = found_in(alloc, &image_a, &image_b, &log_a, &log_b)?;
-    Ok((tick, word))
+    let image_a = left_of(rt, alloc, &images.image_a, leaving);
+    let image_b = left_of(rt, alloc, &images.image_b, leaving);
+    let log_a = left_of(rt, alloc, &log.a, leaving);
+    let log_b = left_of(rt, alloc, &log.b, leaving);
+    let (tick, _, word) = found_in(rt, alloc, &image_a, &image_b, &log_a, &log_b);
+    (tick, word)
 }
 
-// What such a crash leaves of two files.
-fn left_of(
-    alloc: Global,
-    a: &ModelFile,
-    b: &ModelFile,
-    leaving: Leaving,
-) -> Result<(Vec<u8>, Vec<u8>), Fail> {
-    let left = a.left_by(alloc, leaving)?;
-    Ok((left, b.left_by(alloc, leaving)?))
+// What such a crash leaves of a file.
+fn left_of(rt: &impl Abort, alloc: Global, file: &ModelFile, leaving: Leaving) -> Vec<u8> {
+    file.left_by(alloc, leaving).expect(rt, "memory")
 }
 
-// The tick of the newest image.
-fn newest<M: Method>(ends: &Ends<M, ModelFile, Steps>) -> Option<u64> {
-    let (_, tick) = ends.checkpointer.images().keeper.newest()?;
-    Some(tick)
+// Whether the newest image is that of the new world.
+fn has_first_image<M: Method>(ends: &Ends<M, ModelFile, Steps>) -> bool {
+    match ends.checkpointer.images().keeper.newest() {
+        Some((_, tick)) => tick == 0,
+        None => false,
+    }
 }
 
 // Runs workers of which the checkpointer makes so many steps, and looks at what they leave. It tells whether no image was
@@ -191,31 +191,42 @@ fn try_steps<M: Seats + Send + 'static, R: Threads + Wait + Abort + Copy + Send 
     rt: &R,
     alloc: Global,
     steps: Option<u64>,
-) -> Result<bool, Fail> {
-    let ends = run::<M, R>(rt, alloc, steps)?;
-    check_ends(rt, alloc, &ends)
+) -> bool {
+    let (ends, answered) = run::<M, R>(rt, alloc, steps);
+    same(rt, "each tick is answered", answered, TICKS);
+    check_ends(rt, alloc, &ends);
+    has_first_image(&ends)
+}
+
+// How many rounds are left open where one is after each of its steps.
+fn count_open<M: Seats + Send + 'static, R: Threads + Wait + Abort + Copy + Send + 'static>(
+    rt: &R,
+    alloc: Global,
+) -> u64 {
+    let mut left_open = 0u64;
+    for steps in 0..STEPS {
+        let is_open = try_steps::<M, R>(rt, alloc, Some(steps));
+        left_open = left_open.saturating_add(u64::from(is_open));
+    }
+    left_open
 }
 
 // With every round to its end, and with one left open after each of its steps.
 fn try_ends<M: Seats + Send + 'static, R: Threads + Wait + Abort + Copy + Send + 'static>(
     rt: &R,
     alloc: Global,
-) -> Result<(), Fail> {
-    assert!(rt; !try_steps::<M, R>(rt, alloc, None)?, "an image was opened");
-    let mut left_open = 0u32;
-    for steps in 0..STEPS {
-        let is_open = try_steps::<M, R>(rt, alloc, Some(steps))?;
-        left_open = left_open.saturating_add(u32::from(is_open));
-    }
+) {
+    let is_open = try_steps::<M, R>(rt, alloc, None);
+    same(rt, "no image was opened", is_open, false);
+    let left_open = count_open::<M, R>(rt, alloc);
     assert!(rt;
-        left_open > 0 && u64::from(left_open) < STEPS,
+        left_open > 0 && left_open < STEPS,
         "a round was left open {left_open} times"
     );
-    Ok(())
 }
 
 #[test]
-fn what_was_answered_is_there_once_the_ends_have_met(rt: HostRuntime) -> Result<(), Fail> {
-    try_ends::<Zig, HostRuntime>(&rt, rt.alloc())?;
-    try_ends::<Pong, HostRuntime>(&rt, rt.alloc())
+fn what_was_answered_is_there_once_the_ends_have_met(rt: HostRuntime) {
+    try_ends::<Zig, HostRuntime>(&rt, rt.alloc());
+    try_ends::<Pong, HostRuntime>(&rt, rt.alloc());
 }

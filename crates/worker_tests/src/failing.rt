@@ -1,20 +1,19 @@
 //! Workers in threads, of which a file fails at one of its calls.
 ghost use Rattle.std.specs.Prelude.{◌≤◌};
 
-use crate::worlds::{Teller, Told, found_in, fused_files, open_files};
-use crossbeam_channel::{Receiver, Sender, unbounded};
+use crate::running::{Page, begin, end, is_page, play};
+use crate::same::same;
+use crate::worlds::{Told, fused_files, stands_in_fused};
+use crossbeam_channel::{Receiver, unbounded};
 use disk_model::{FourFiles, Fused, ModelFile};
-use line_service::serve_lines;
 use shared_capture::{Method, Pong, Zig};
 use std::alloc::Global;
 use std::process::Abort;
 use std::sync::Wait;
-use std::test::Fail;
 use std::thread::Threads;
-use tcp_service::{Remote, Seats, open_world};
-use worker_threads::{Ends, Gates, Workers, ends_meet, start, stop};
-use workers::{Ask, Open};
-use world_actions::Refusal;
+use tcp_service::{Seats, open_world};
+use worker_threads::{Ends, Gates};
+use workers::Open;
 
 const BATCHES: &[u8] =
     b"add 0 1\nget 0\nend\nadd 0 1\nget 0\nend\nadd 0 1\nget 0\nend\nadd 0 1\nget 0\nend\n";
@@ -41,173 +40,178 @@ enum Broken {
 type BrokenFile = Fused<ModelFile>;
 
 // The files of a new world of two cells, of which one fails at its call of this number.
-fn broken_files(alloc: Global, broken: Broken, call: u64) -> Result<FourFiles<BrokenFile>, Fail>
+fn broken_files(rt: &impl Abort, alloc: Global, broken: Broken, call: u64) -> FourFiles<BrokenFile>
     requires { 1 ≤ call }
 {
-    let mut files = fused_files(alloc)?;
+    let mut files = fused_files(rt, alloc);
     match broken {
         Broken::ImageB => files.image_b.arm(call),
         Broken::LogA => files.log_a.arm(call),
     }
-    Ok(files)
+    files
+}
+
+fn is_opened<M: Seats>(alloc: Global, files: FourFiles<BrokenFile>) -> bool {
+    open_world::<M, BrokenFile>(alloc, files).is_ok()
 }
 
 // The number of the first call of a file that is made by the workers, and not where the world is opened.
-fn first_call<M: Seats>(alloc: Global, broken: Broken) -> Result<u64, Fail> {
+fn first_call<M: Seats>(rt: &impl Abort, alloc: Global, broken: Broken) -> u64 {
     for call in 1..100 {
-        let opened = open_world::<M, BrokenFile>(alloc, broken_files(alloc, broken, call)?);
-        if opened.is_ok() {
-            return Ok(call);
+        if is_opened::<M>(alloc, broken_files(rt, alloc, broken, call)) {
+            return call;
         }
     }
-    Err(Fail::new("no world was opened"))
-}
-
-// The answers to a session of four batches.
-fn play(rt: &(impl Wait + Copy), alloc: Global, requests: Sender<Ask>) -> Result<Vec<u8>, Refusal> {
-    let mut world = Remote::new(*rt, alloc, requests);
-    let mut input = BATCHES;
-    let mut page = Vec::new(alloc);
-    serve_lines(alloc, &mut input, &mut page, &mut world)?;
-    Ok(page)
+    panic!(rt; "no world was opened")
 }
 
 // What workers leave who play in files of which one fails.
 #[derive(Drop)]
 struct Left<M: Method> {
     ends: Ends<M, BrokenFile, Open>,
-    page: Result<Vec<u8>, Refusal>,
+    page: Page,
     heard: Receiver<Told>,
 }
 
-// Runs workers in files of which one fails so many calls after their first one.
-fn begin<M: Seats + Send + 'static, R: Threads + Wait + Copy + Send + 'static>(
+// Runs a session of four batches.
+fn play_broken<M: Seats + Send + 'static, R: Threads + Wait + Abort + Copy + Send + 'static>(
     rt: &R,
     alloc: Global,
     files: FourFiles<BrokenFile>,
-    to: Sender<Told>,
     every: u32,
-) -> Result<(Workers<M, BrokenFile, Open>, Sender<Ask>), Fail> {
-    let opened = open_files::<M, BrokenFile>(alloc, files)?;
+) -> Left<M> {
     let gates = Gates {
         mutator: Open,
         checkpointer: Open,
         log_writer: Open,
     };
-    let begun = start(rt, alloc, gates, Teller { rt: *rt, to }, opened, every)?;
-    Ok(begun)
-}
-
-// Runs a session where a file fails so many calls after the first one of the workers.
-fn play_broken<M: Seats + Send + 'static, R: Threads + Wait + Copy + Send + 'static>(
-    rt: &R,
-    alloc: Global,
-    broken: Broken,
-    after: u64,
-    every: u32,
-) -> Result<Left<M>, Fail> {
-    let call = first_call::<M>(alloc, broken)?.saturating_add(after).max(1);
-    let files = broken_files(alloc, broken, call)?;
-    let (to, heard) = unbounded(alloc)?;
-    let (workers, requests) = begin::<M, R>(rt, alloc, files, to, every)?;
-    let page = play(rt, alloc, requests);
-    let mut ends = stop(rt, workers);
-    ends_meet(&mut ends);
-    Ok(Left { ends, page, heard })
-}
-
-// What stands in the durable bytes: the tick, that of the image, and the word of the first cell.
-fn found<M: Method>(
-    alloc: Global,
-    ends: &Ends<M, BrokenFile, Open>,
-) -> Result<(u64, u64, u64), Fail> {
-    let (images, log) = (ends.checkpointer.images(), ends.log_writer.log());
-    found_in(
-        alloc,
-        images.image_a.inner().durable(),
-        images.image_b.inner().durable(),
-        log.a.inner().durable(),
-        log.b.inner().durable(),
-    )
-}
-
-// The page of a session of four batches, of which so many were acknowledged.
-fn is_answered(rt: &impl Abort, page: &Result<Vec<u8>, Refusal>, acked: u64) {
-    match page {
-        Ok(page) => assert_eq!(rt; Some(&page.as_slice()), ANSWERED.get(acked as usize)),
-        Err(refusal) => panic!(rt; "no page: {refusal}"),
+    let (to, heard) = unbounded(alloc).expect(rt, "a channel");
+    let (workers, requests) = begin(rt, alloc, files, gates, to, every);
+    let page = play(rt, alloc, requests, BATCHES);
+    Left {
+        ends: end(rt, workers),
+        page,
+        heard,
     }
 }
 
-// This was told, and nothing else.
-fn is_told(rt: &(impl Wait + Abort), heard: &Receiver<Told>, told: Told) {
-    assert_eq!(rt; heard.recv(rt).ok(), Some(told));
-    assert_eq!(rt; heard.recv(rt).ok(), None, "it is told once");
+// The page of a session of four batches, of which so many were acknowledged.
+fn answered(acked: u64) -> &'static [u8] {
+    match ANSWERED.get(acked as usize) {
+        Some(text) => text,
+        None => b"no such page",
+    }
 }
 
-// The log went down behind so many ticks, which stay acknowledged.
-fn is_log_down<M: Method>(
-    rt: &(impl Wait + Abort),
-    alloc: Global,
-    left: &Left<M>,
+// What is to come of four batches: how many ticks end and are acknowledged, whether the log goes down or the images
+// do, and what is told, and nothing else.
+#[derive(Clone, Copy)]
+struct Outcome {
+    ended: u64,
     acked: u64,
-) -> Result<(), Fail> {
-    is_answered(rt, &left.page, acked);
-    assert_eq!(rt; left.ends.mutator.ended(), acked.saturating_add(1));
-    assert_eq!(rt; left.ends.log_writer.acked(), acked);
-    assert!(rt; left.ends.log_writer.is_down() && !left.ends.checkpointer.is_down());
-    is_told(rt, &left.heard, Told::LogDown(acked));
-    assert_eq!(rt; found(alloc, &left.ends)?, (acked, 0, acked));
-    Ok(())
+    is_log_down: bool,
+    told: Told,
+}
+
+fn is_told(rt: &(impl Wait + Abort), heard: &Receiver<Told>, told: Told) {
+    same(rt, "what is told", heard.recv(rt).ok(), Some(told));
+    same(rt, "what is told then", heard.recv(rt).ok(), None);
+}
+
+fn are_ends<M: Method>(rt: &impl Abort, ends: &Ends<M, BrokenFile, Open>, outcome: Outcome) {
+    let (mutator, log_writer) = (&ends.mutator, &ends.log_writer);
+    same(rt, "ticks ended", mutator.ended(), outcome.ended);
+    same(rt, "ticks acknowledged", log_writer.acked(), outcome.acked);
+    let are_down = (log_writer.is_down(), ends.checkpointer.is_down());
+    let is_down = outcome.is_log_down;
+    same(rt, "log and images down", are_down, (is_down, !is_down));
+}
+
+// No image is written, and what is acknowledged stands.
+fn is_left<M: Method>(rt: &(impl Wait + Abort), alloc: Global, left: &Left<M>, outcome: Outcome) {
+    let acked = outcome.acked;
+    is_page(rt, &left.page, answered(acked));
+    are_ends(rt, &left.ends, outcome);
+    is_told(rt, &left.heard, outcome.told);
+    let ends = &left.ends;
+    let found = stands_in_fused(rt, alloc, ends.checkpointer.images(), ends.log_writer.log());
+    same(rt, "what stands", found, (acked, 0, acked));
+}
+
+// Runs workers in files of which one fails at its call of this number.
+fn try_broken<M: Seats + Send + 'static, R: Threads + Wait + Abort + Copy + Send + 'static>(
+    rt: &R,
+    alloc: Global,
+    broken: Broken,
+    call: u64,
+    every: u32,
+    outcome: Outcome,
+)
+    requires { 1 ≤ call }
+{
+    let files = broken_files(rt, alloc, broken, call);
+    let left = play_broken::<M, R>(rt, alloc, files, every);
+    is_left(rt, alloc, &left, outcome);
+}
+
+// So many calls after the first one of the workers.
+fn later_call(first: u64, after: u64) -> u64
+    ensures { 1 ≤ result }
+{
+    first.saturating_add(after).max(1)
+}
+
+// The log goes down behind so many ticks, which stay acknowledged.
+fn log_down(acked: u64) -> Outcome {
+    Outcome {
+        ended: acked.saturating_add(1),
+        acked,
+        is_log_down: true,
+        told: Told::LogDown(acked),
+    }
 }
 
 // With each of the calls of a tick.
 fn try_log<M: Seats + Send + 'static, R: Threads + Wait + Abort + Copy + Send + 'static>(
     rt: &R,
     alloc: Global,
-) -> Result<(), Fail> {
+) {
+    let first = first_call::<M>(rt, alloc, Broken::LogA);
     for after in 0..4 * TICK_CALLS {
-        let left = play_broken::<M, R>(rt, alloc, Broken::LogA, after, 64)?;
-        is_log_down(rt, alloc, &left, after / TICK_CALLS)?;
+        let call = later_call(first, after);
+        let outcome = log_down(after / TICK_CALLS);
+        try_broken::<M, R>(rt, alloc, Broken::LogA, call, 64, outcome);
     }
-    Ok(())
 }
 
 #[test]
-fn sessions_are_refused_once_the_log_is_down(rt: HostRuntime) -> Result<(), Fail> {
-    try_log::<Zig, HostRuntime>(&rt, rt.alloc())?;
-    try_log::<Pong, HostRuntime>(&rt, rt.alloc())
+fn sessions_are_refused_once_the_log_is_down(rt: HostRuntime) {
+    try_log::<Zig, HostRuntime>(&rt, rt.alloc());
+    try_log::<Pong, HostRuntime>(&rt, rt.alloc());
 }
 
 // The first round, whose image goes to image.b, isn't written, and play goes on.
-fn are_images_down<M: Method>(
-    rt: &(impl Wait + Abort),
-    alloc: Global,
-    left: &Left<M>,
-) -> Result<(), Fail> {
-    is_answered(rt, &left.page, 4);
-    assert_eq!(rt; left.ends.mutator.ended(), 4);
-    assert_eq!(rt; left.ends.log_writer.acked(), 4);
-    assert!(rt; !left.ends.log_writer.is_down() && left.ends.checkpointer.is_down());
-    is_told(rt, &left.heard, Told::ImagesDown);
-    assert_eq!(rt; found(alloc, &left.ends)?, (4, 0, 4));
-    Ok(())
-}
+const IMAGES_DOWN: Outcome = Outcome {
+    ended: 4,
+    acked: 4,
+    is_log_down: false,
+    told: Told::ImagesDown,
+};
 
 // With the first calls of an image.
 fn try_images<M: Seats + Send + 'static, R: Threads + Wait + Abort + Copy + Send + 'static>(
     rt: &R,
     alloc: Global,
-) -> Result<(), Fail> {
+) {
+    let first = first_call::<M>(rt, alloc, Broken::ImageB);
     for after in 0..4 {
-        let left = play_broken::<M, R>(rt, alloc, Broken::ImageB, after, 1)?;
-        are_images_down(rt, alloc, &left)?;
+        let call = later_call(first, after);
+        try_broken::<M, R>(rt, alloc, Broken::ImageB, call, 1, IMAGES_DOWN);
     }
-    Ok(())
 }
 
 #[test]
-fn play_goes_on_once_the_images_are_down(rt: HostRuntime) -> Result<(), Fail> {
-    try_images::<Zig, HostRuntime>(&rt, rt.alloc())?;
-    try_images::<Pong, HostRuntime>(&rt, rt.alloc())
+fn play_goes_on_once_the_images_are_down(rt: HostRuntime) {
+    try_images::<Zig, HostRuntime>(&rt, rt.alloc());
+    try_images::<Pong, HostRuntime>(&rt, rt.alloc());
 }

@@ -14,6 +14,10 @@ mod held;
 #[cfg(test)]
 mod rounds;
 #[cfg(test)]
+mod running;
+#[cfg(test)]
+mod same;
+#[cfg(test)]
 mod serial;
 #[cfg(test)]
 mod tcp;

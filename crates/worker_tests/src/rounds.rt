@@ -1,6 +1,8 @@
 //! Workers in threads, of which the checkpointer is held while ticks are answered.
 use crate::held::{HELD, Held};
-use crate::worlds::{Teller, Told, new_files, open_files, stands_in};
+use crate::running::{Page, begin, is_page};
+use crate::same::same;
+use crate::worlds::{Told, new_files, stands_in};
 use crossbeam_channel::{Receiver, Sender, unbounded};
 use disk_model::ModelFile;
 use line_service::serve_lines;
@@ -9,10 +11,9 @@ use std::alloc::Global;
 use std::process::Abort;
 use std::sync::atomic::{AtomicU64, Ordering};
 use std::sync::{Arc, Wait};
-use std::test::Fail;
 use std::thread::Threads;
 use tcp_service::{Remote, Seats};
-use worker_threads::{Ends, Gates, Workers, start, stop};
+use worker_threads::{Ends, Gates, stop};
 use workers::Ask;
 use world_actions::Refusal;
 
@@ -20,96 +21,115 @@ const BATCH: &[u8] = b"add 0 1\nget 0\nend\n";
 
 const ANSWERS: &[u8] = b"tick 1: + =1\ntick 2: + =2\ntick 3: + =3\ntick 4: + =4\n";
 
-// Runs workers in a new world of two cells, an image of which is due after each tick.
-fn begin<M: Seats + Send + 'static, R: Threads + Wait + Copy + Send + 'static>(
-    rt: &R,
+fn play_batch<R: Wait + Copy>(
     alloc: Global,
-    answered: Arc<AtomicU64, Global>,
-    to: Sender<Told>,
-) -> Result<(Workers<M, ModelFile, Held>, Sender<Ask>), Fail> {
-    let gates = Gates {
-        mutator: Held::nothing(),
-        checkpointer: Held::until(answered),
-        log_writer: Held::nothing(),
-    };
-    let opened = open_files::<M, ModelFile>(alloc, new_files(alloc, 2)?)?;
-    let begun = start(rt, alloc, gates, Teller { rt: *rt, to }, opened, 1)?;
-    Ok(begun)
+    world: &mut Remote<R>,
+    text: &mut Vec<u8>,
+) -> Result<(), Refusal> {
+    let mut input = BATCH;
+    serve_lines(alloc, &mut input, text, world)
 }
 
-// The answers to as many batches as hold the round of the first one open.
+// As many batches as hold the round of the first one open.
+fn play_batches<R: Wait + Abort + Copy>(
+    rt: &R,
+    alloc: Global,
+    world: &mut Remote<R>,
+    text: &mut Vec<u8>,
+    answered: &AtomicU64,
+    heard: &Receiver<Told>,
+) -> Result<(), Refusal> {
+    for _ in 0..HELD {
+        play_batch(alloc, world, text)?;
+        same(rt, "no image is opened", heard.is_empty(), true);
+        answered.fetch_add(1, Ordering::SeqCst);
+    }
+    Ok(())
+}
+
+// The answers to them.
 fn play_held(
     rt: &(impl Wait + Abort + Copy),
     alloc: Global,
     requests: Sender<Ask>,
     answered: &AtomicU64,
     heard: &Receiver<Told>,
-) -> Result<Vec<u8>, Refusal> {
+) -> Page {
     let mut world = Remote::new(*rt, alloc, requests);
-    let mut page = Vec::new(alloc);
-    for _ in 0..HELD {
-        let mut input = BATCH;
-        serve_lines(alloc, &mut input, &mut page, &mut world)?;
-        assert!(rt; heard.is_empty(), "the round is open");
-        answered.fetch_add(1, Ordering::SeqCst);
-    }
-    Ok(page)
+    let mut text = Vec::new(alloc);
+    let ends = play_batches(rt, alloc, &mut world, &mut text, answered, heard);
+    Page { ends, text }
 }
 
-// No worker is down, and all four ticks are acknowledged.
-fn check_ends<M: Method>(
-    rt: &impl Abort,
+// What is left, told and answered once the rounds are over.
+#[derive(Drop)]
+struct Left<M: Method> {
+    ends: Ends<M, ModelFile, Held>,
+    heard: Receiver<Told>,
+    page: Page,
+}
+
+fn held_until(rt: &impl Abort, answered: &Arc<AtomicU64, Global>) -> Gates<Held> {
+    let answered = answered.clone().expect(rt, "a share");
+    Gates {
+        mutator: Held::nothing(),
+        checkpointer: Held::until(answered),
+        log_writer: Held::nothing(),
+    }
+}
+
+// Plays on a new world of two cells, an image of which is due after each tick.
+fn play_round<M: Seats + Send + 'static, R: Threads + Wait + Abort + Copy + Send + 'static>(
+    rt: &R,
     alloc: Global,
-    ends: &Ends<M, ModelFile, Held>,
-) -> Result<(), Fail> {
-    assert_eq!(rt; ends.mutator.ended(), 4);
-    assert_eq!(rt; ends.log_writer.acked(), 4);
-    assert!(rt; !ends.log_writer.is_down() && !ends.checkpointer.is_down());
-    let (tick, from, word) = stands_in(alloc, ends.checkpointer.images(), ends.log_writer.log())?;
-    assert_eq!(rt; (tick, word), (4, 4));
+) -> Left<M> {
+    let answered = Arc::new(alloc, AtomicU64::new(0)).expect(rt, "a count");
+    let gates = held_until(rt, &answered);
+    let (to, heard) = unbounded(alloc).expect(rt, "a channel");
+    let files = new_files(rt, alloc, 2);
+    let (workers, requests) = begin(rt, alloc, files, gates, to, 1);
+    let page = play_held(rt, alloc, requests, &answered, &heard);
+    Left {
+        ends: stop(rt, workers),
+        heard,
+        page,
+    }
+}
+
+// No worker is down, and all four ticks are acknowledged and stand in the files.
+fn check_ends<M: Method>(rt: &impl Abort, alloc: Global, ends: &Ends<M, ModelFile, Held>) {
+    let (mutator, log_writer) = (&ends.mutator, &ends.log_writer);
+    let checkpointer = &ends.checkpointer;
+    let ticks = (mutator.ended(), log_writer.acked());
+    same(rt, "ticks ended and acknowledged", ticks, (4, 4));
+    let are_down = (log_writer.is_down(), checkpointer.is_down());
+    same(rt, "log and images down", are_down, (false, false));
+    let (tick, from, word) = stands_in(rt, alloc, checkpointer.images(), log_writer.log());
+    same(rt, "what stands", (tick, word), (4, 4));
     assert!(rt; from == 1 || from == 4, "recovered from {from}");
-    Ok(())
 }
 
 // The image of the first round was opened, and then at most that of the last.
 fn check_heard(rt: &(impl Wait + Abort), heard: &Receiver<Told>) {
-    assert_eq!(rt; heard.recv(rt).ok(), Some(Told::ImageOpened(1)));
+    let first = heard.recv(rt).ok();
+    same(rt, "what is told", first, Some(Told::ImageOpened(1)));
     for told in heard.iter(rt) {
-        assert_eq!(rt; told, Told::ImageOpened(4));
+        same(rt, "what is told then", told, Told::ImageOpened(4));
     }
 }
 
 fn try_open_round<M: Seats + Send + 'static, R: Threads + Wait + Abort + Copy + Send + 'static>(
     rt: &R,
     alloc: Global,
-) -> Result<(), Fail> {
-    let answered = Arc::new(alloc, AtomicU64::new(0))?;
-    let (to, heard) = unbounded(alloc)?;
-    let (workers, requests) = begin::<M, R>(rt, alloc, answered.clone()?, to)?;
-    let page = play_held(rt, alloc, requests, &answered, &heard);
-    let ends = stop(rt, workers);
-    check_round(rt, alloc, &ends, &heard, &page)
-}
-
-// What is left, told and answered once the rounds are over.
-fn check_round<M: Method>(
-    rt: &(impl Wait + Abort),
-    alloc: Global,
-    ends: &Ends<M, ModelFile, Held>,
-    heard: &Receiver<Told>,
-    page: &Result<Vec<u8>, Refusal>,
-) -> Result<(), Fail> {
-    check_ends(rt, alloc, ends)?;
-    check_heard(rt, heard);
-    match page {
-        Ok(page) => assert_eq!(rt; page.as_slice(), ANSWERS),
-        Err(refusal) => panic!(rt; "no page: {refusal}"),
-    }
-    Ok(())
+) {
+    let left = play_round::<M, R>(rt, alloc);
+    check_ends(rt, alloc, &left.ends);
+    check_heard(rt, &left.heard);
+    is_page(rt, &left.page, ANSWERS);
 }
 
 #[test]
-fn round_open_while_ticks_are_answered(rt: HostRuntime) -> Result<(), Fail> {
-    try_open_round::<Zig, HostRuntime>(&rt, rt.alloc())?;
-    try_open_round::<Pong, HostRuntime>(&rt, rt.alloc())
+fn round_open_while_ticks_are_answered(rt: HostRuntime) {
+    try_open_round::<Zig, HostRuntime>(&rt, rt.alloc());
+    try_open_round::<Pong, HostRuntime>(&rt, rt.alloc());
 }

@@ -1,23 +1,25 @@
 //! Workers that take their turns in one thread.
-ghost use Rattle.std.specs.Prelude.{IfOk};
+ghost use Rattle.std.specs.Prelude.{◌≡◌, ◌≤◌, ◌∷◌, []};
+ghost use Rattle.world_ticks.specs.declared.tick.TheConstants.{TICK_MAX};
+ghost use Rattle.workers.specs.declared.item.Item.TheVariants.{Start};
 ghost use Rattle.workers.specs.Logging.{IsAtRest};
 ghost use Rattle.worker_threads.specs.Begun.{IsWhole};
 
 use crate::held::Held;
+use crate::same::same;
 use crate::worlds::{new_files, open_files, stands_in};
 use crossbeam_channel::{Receiver, Sender, bounded};
 use disk_model::{Disk, ModelFile};
 use sessions::{Batch, Request};
-use shared_capture::{Method, Pong, Zig, cover_pair};
+use shared_capture::{CoverIn, CoverOut, Method, Pong, Zig, cover_pair};
 use std::alloc::Global;
 use std::process::Abort;
 use std::sync::atomic::{AtomicBool, AtomicU64, Ordering};
 use std::sync::{Arc, Wait};
-use std::test::Fail;
 use tcp_service::Seats;
 use worker_threads::Opened;
-use workers::{Ask, Checkpointer, LogWriter, Mutator, Open, Reply, open};
-use world_actions::{Action, Refusal};
+use workers::{Ask, Checkpointer, ItemReceiver, ItemSender, LogWriter, Mutator, Open, Reply, open};
+use world_actions::Action;
 
 /// The workers of a world.
 #[derive(Drop)]
@@ -27,20 +29,81 @@ pub struct Serial<M: Method, D: Disk + Drop> {
     pub checkpointer: Checkpointer<M, D, Held>,
 }
 
+// What the workers tell one another beside the items.
+#[derive(Drop)]
+struct Signals {
+    bell: Sender<()>,
+    rung: Receiver<()>,
+    is_down: Arc<AtomicBool, Global>,
+    told_down: Arc<AtomicBool, Global>,
+}
+
+fn new_signals(rt: &impl Abort, alloc: Global) -> Signals {
+    let (bell, rung) = bounded(alloc, 1).expect(rt, "a channel");
+    let is_down = Arc::new(alloc, AtomicBool::new(false)).expect(rt, "a flag");
+    let told_down = is_down.clone().expect(rt, "a share");
+    Signals {
+        bell,
+        rung,
+        is_down,
+        told_down,
+    }
+}
+
+// The ends of the items' channel and those of the word of open images.
+#[derive(Drop)]
+struct Channel {
+    to: ItemSender,
+    from: ItemReceiver,
+    out: CoverOut,
+    told: CoverIn,
+}
+
+fn new_channel(rt: &(impl Wait + Abort), alloc: Global, ended: u64) -> Channel
+    requires { ended ≤ TICK_MAX }
+    ensures to { result.to.items ≡ Start ended ∷ [] }
+    ensures from { result.from.items ≡ Start ended ∷ [] }
+    ensures out { result.out.ticks ≡ [] }
+{
+    let (out, told) = cover_pair(alloc).expect(rt, "a word");
+    let (to, from) = open(rt, alloc, ended).expect(rt, "a channel");
+    Channel {
+        to,
+        from,
+        out,
+        told,
+    }
+}
+
 /// The workers of this world, an image of which is due after each tick.
 pub fn begin<M: Method, D: Disk + Drop>(
-    rt: &impl Wait,
+    rt: &(impl Wait + Abort),
     alloc: Global,
     opened: Opened<M, D>,
     held: Held,
-) -> Result<Serial<M, D>, Fail>
+) -> Serial<M, D>
     requires { IsWhole D.honest D.content opened.front opened.back opened.images opened.log opened.ended }
-    ensures { IfOk result (λ world. IsAtRest world.log_writer) }
+    ensures { IsAtRest result.log_writer }
 {
-    let (bell, rung) = bounded(alloc, 1)?;
-    let is_down = Arc::new(alloc, AtomicBool::new(false))?;
-    let told_down = is_down.clone()?;
-    let (out, told) = cover_pair(alloc)?;
+    let signals = new_signals(rt, alloc);
+    let channel = new_channel(rt, alloc, opened.ended);
+    joined(rt, alloc, opened, held, signals, channel)
+}
+
+fn joined<M: Method, D: Disk + Drop>(
+    rt: &impl Abort,
+    alloc: Global,
+    opened: Opened<M, D>,
+    held: Held,
+    signals: Signals,
+    channel: Channel,
+) -> Serial<M, D>
+    requires whole { IsWhole D.honest D.content opened.front opened.back opened.images opened.log opened.ended }
+    requires to { channel.to.items ≡ Start opened.ended ∷ [] }
+    requires from { channel.from.items ≡ Start opened.ended ∷ [] }
+    requires out { channel.out.ticks ≡ [] }
+    ensures { IsAtRest result.log_writer }
+{
     let Opened {
         front,
         back,
@@ -48,31 +111,56 @@ pub fn begin<M: Method, D: Disk + Drop>(
         log,
         ended,
     } = opened;
-    let (to, from) = open(rt, alloc, ended)?;
-    let log_writer = LogWriter::new(alloc, Open, from, told, log, is_down, ended)?;
-    Ok(Serial {
-        mutator: Mutator::new(Open, alloc, front, to, ended, 1, bell, told_down),
+    let Signals {
+        bell,
+        rung,
+        is_down,
+        told_down,
+    } = signals;
+    let Channel {
+        to,
+        from,
+        out,
+        told,
+    } = channel;
+    let mutator = Mutator::new(Open, alloc, front, to, ended, 1, bell, told_down);
+    let checkpointer = Checkpointer::new(held, back, out, images, rung);
+    let log_writer = LogWriter::new(alloc, Open, from, told, log, is_down, ended).expect(
+        rt, "memory",
+    );
+    Serial {
+        mutator,
         log_writer,
-        checkpointer: Checkpointer::new(held, back, out, images, rung),
-    })
+        checkpointer,
+    }
 }
 
 /// Runs a batch, whose answer comes later.
 pub fn send<M: Method>(
-    rt: &impl Wait,
+    rt: &(impl Wait + Abort),
     alloc: Global,
     mutator: &mut Mutator<M, Open>,
-) -> Result<Receiver<Reply>, Fail> {
-    let (to, from) = bounded(alloc, 1)?;
-    mutator.turn(rt, ask_for(alloc, to)?)?;
-    Ok(from)
+) -> Receiver<Reply> {
+    let (to, from) = bounded(alloc, 1).expect(rt, "a channel");
+    let ask = ask_for(rt, alloc, to);
+    mutator.turn(rt, ask).expect(rt, "a batch that is run");
+    from
 }
 
-fn ask_for(alloc: Global, to: Sender<Reply>) -> Result<Ask, Refusal> {
-    let mut batch = Batch::new(alloc)?;
+fn ask_for(rt: &impl Abort, alloc: Global, to: Sender<Reply>) -> Ask {
+    let mut batch = Batch::new(alloc).expect(rt, "a batch");
     batch.push_reserved(Request::Act(Action::Add { cell: 0, by: 1 }));
     batch.push_reserved(Request::Get(0));
-    Ok(Ask { batch, to })
+    Ask { batch, to }
+}
+
+/// Logs what was played.
+pub fn log_on<D: Disk + Drop>(rt: &(impl Wait + Abort), log_writer: &mut LogWriter<D, Open>)
+    requires { IsAtRest log_writer.old }
+    ensures { IsAtRest log_writer.new }
+{
+    assert!(rt; !log_writer.is_over());
+    log_writer.turn(rt);
 }
 
 // Runs and logs a batch, whose answer is a post of this text.
@@ -81,21 +169,19 @@ fn answer<M: Method>(
     alloc: Global,
     world: &mut Serial<M, ModelFile>,
     text: &[u8],
-) -> Result<(), Fail>
+)
     requires rest { IsAtRest world.old.log_writer }
     ensures rest { IsAtRest world.new.log_writer }
 {
-    let from = send(rt, alloc, &mut world.mutator)?;
-    assert!(rt; !world.log_writer.is_over());
-    world.log_writer.turn(rt);
+    let from = send(rt, alloc, &mut world.mutator);
+    log_on(rt, &mut world.log_writer);
     is_posted(rt, &from, text);
-    Ok(())
 }
 
 /// The answer is a post of this text.
 pub fn is_posted(rt: &(impl Wait + Abort), from: &Receiver<Reply>, text: &[u8]) {
     match from.recv(rt) {
-        Ok(Reply::Post(post)) => assert_eq!(rt; post.into_text().as_slice(), text),
+        Ok(Reply::Post(post)) => same(rt, "a post", post.into_text().as_slice(), text),
         _ => panic!(rt; "no post"),
     }
 }
@@ -106,36 +192,38 @@ fn is_stuck<M: Method>(
     checkpointer: &mut Checkpointer<M, ModelFile, Held>,
 ) {
     assert!(rt; !checkpointer.is_over());
-    assert_eq!(rt; checkpointer.turn(rt), None);
-    assert!(rt; checkpointer.is_over() && !checkpointer.is_down());
+    same(rt, "an image that is opened", checkpointer.turn(rt), None);
+    let stops = (checkpointer.is_over(), checkpointer.is_down());
+    same(rt, "it is over, and down", stops, (true, false));
 }
 
-fn try_serial_round<M: Seats>(rt: &(impl Wait + Abort), alloc: Global) -> Result<(), Fail> {
-    let answered = Arc::new(alloc, AtomicU64::new(0))?;
-    let opened = open_files::<M, ModelFile>(alloc, new_files(alloc, 2)?)?;
-    let mut world = begin(rt, alloc, opened, Held::until(answered.clone()?))?;
-    play_round(rt, alloc, &mut world, &answered)
-}
-
-fn play_round<M: Method>(
+// Whose checkpointer is held.
+fn begin_held<M: Seats>(
     rt: &(impl Wait + Abort),
     alloc: Global,
-    world: &mut Serial<M, ModelFile>,
-    answered: &AtomicU64,
-) -> Result<(), Fail>
-    requires { IsAtRest world.old.log_writer }
+    answered: &Arc<AtomicU64, Global>,
+) -> Serial<M, ModelFile>
+    ensures { IsAtRest result.log_writer }
 {
-    answer(rt, alloc, world, b"tick 1: + =1\n")?;
+    let held = Held::until(answered.clone().expect(rt, "a share"));
+    let opened = open_files::<M, ModelFile>(rt, alloc, new_files(rt, alloc, 2));
+    begin(rt, alloc, opened, held)
+}
+
+fn try_serial_round<M: Seats>(rt: &(impl Wait + Abort), alloc: Global) {
+    let answered = Arc::new(alloc, AtomicU64::new(0)).expect(rt, "a count");
+    let mut world = begin_held::<M>(rt, alloc, &answered);
+    answer(rt, alloc, &mut world, b"tick 1: + =1\n");
     answered.fetch_add(1, Ordering::SeqCst);
     is_stuck(rt, &mut world.checkpointer);
-    answer(rt, alloc, world, b"tick 2: + =2\n")?;
+    answer(rt, alloc, &mut world, b"tick 2: + =2\n");
     let (images, log) = (world.checkpointer.images(), world.log_writer.log());
-    assert_eq!(rt; stands_in(alloc, images, log)?, (2, 0, 2));
-    Ok(())
+    let found = stands_in(rt, alloc, images, log);
+    same(rt, "what stands", found, (2, 0, 2));
 }
 
 #[test]
-fn serial_rounds_are_stuck(rt: HostRuntime) -> Result<(), Fail> {
-    try_serial_round::<Zig>(&rt, rt.alloc())?;
-    try_serial_round::<Pong>(&rt, rt.alloc())
+fn serial_rounds_are_stuck(rt: HostRuntime) {
+    try_serial_round::<Zig>(&rt, rt.alloc());
+    try_serial_round::<Pong>(&rt, rt.alloc());
 }

@@ -1,13 +1,14 @@
-use crossbeam_channel::{Receiver, unbounded};
-use line_service::serve_lines;
+use crate::running::{is_page, play};
+use crate::same::same;
+use crossbeam_channel::{Receiver, Sender, unbounded};
 use sessions::Request;
 use std::alloc::Global;
 use std::io::{self, Read, Write};
 use std::net::{Net, Shutdown, SocketAddr, TcpListener, TcpStream};
+use std::process::Abort;
 use std::sync::Wait;
-use std::test::Fail;
-use std::thread;
-use tcp_service::{Accepted, Door, Remote, Unserved, accept_sessions};
+use std::thread::{self, JoinHandle, Threads};
+use tcp_service::{Accepted, Door, Unserved, accept_sessions};
 use workers::{Ask, Reply};
 use world_actions::Refusal;
 
@@ -42,82 +43,99 @@ fn refuse<R: Wait>(rt: &R, asks: Receiver<Ask>) -> u64 {
     count
 }
 
-#[test]
-fn answers_each_batch_of_a_session(rt: HostRuntime) -> Result<(), Fail> {
-    let alloc = rt.alloc();
-    let (requests, asks) = unbounded(alloc)?;
-    let here = rt;
-    let Ok(worker) = thread::spawn(&rt, move || refuse(&here, asks)) else {
-        return Err(Fail::new("no thread"));
-    };
-    let mut world = Remote::new(rt, alloc, requests);
-    let mut input = BATCHES;
-    let mut page = Vec::new(alloc);
-    let ends = serve_lines(alloc, &mut input, &mut page, &mut world);
-    drop(world);
-    assert_eq!(rt; worker.join(&rt), 3);
-    assert_eq!(rt; ends, Ok(()));
-    assert_eq!(rt; page.as_slice(), FAULTS);
-    Ok(())
+fn start_refusing<R: Threads + Wait + Abort + Copy + Send + 'static>(
+    rt: &R,
+    asks: Receiver<Ask>,
+) -> JoinHandle<u64> {
+    let here = *rt;
+    match thread::spawn(rt, move || refuse(&here, asks)) {
+        Ok(worker) => worker,
+        Err(_) => panic!(rt; "no thread"),
+    }
+}
+
+// A session whose batches are refused.
+fn try_refusals<R: Threads + Wait + Abort + Copy + Send + 'static>(rt: &R, alloc: Global) {
+    let (requests, asks) = unbounded(alloc).expect(rt, "a channel");
+    let worker = start_refusing(rt, asks);
+    let page = play(rt, alloc, requests, BATCHES);
+    is_page(rt, &page, FAULTS);
+    same(rt, "batches that are refused", worker.join(rt), 3);
 }
 
 #[test]
-fn tells_workers_that_are_gone(rt: HostRuntime) -> Result<(), Fail> {
-    let alloc = rt.alloc();
-    let (requests, asks) = unbounded::<Ask, Global>(alloc)?;
+fn answers_each_batch_of_a_session(rt: HostRuntime) {
+    try_refusals(&rt, rt.alloc());
+}
+
+#[test]
+fn tells_workers_that_are_gone(rt: HostRuntime) {
+    let (requests, asks) = unbounded::<Ask, Global>(rt.alloc()).expect(&rt, "a channel");
     drop(asks);
-    let mut world = Remote::new(rt, alloc, requests);
-    let mut input = BATCHES;
-    let mut page = Vec::new(alloc);
-    let ends = serve_lines(alloc, &mut input, &mut page, &mut world);
-    assert_eq!(rt; ends, Ok(()));
-    assert_eq!(rt;
-        page.as_slice(),
-        b"fault 12\nfault 12\nfault 12\n".as_slice()
-    );
+    let page = play(&rt, rt.alloc(), requests, BATCHES);
+    is_page(&rt, &page, b"fault 12\nfault 12\nfault 12\n");
+}
+
+// Writes all the input at once, and takes the answer to its end.
+fn talk(stream: &mut TcpStream, input: &[u8], page: &mut Vec<u8>) -> io::Result<()> {
+    stream.write_all(input)?;
+    stream.shutdown(Shutdown::Write)?;
+    stream.read_to_end(page)?;
     Ok(())
 }
 
-// What a client is answered that writes all its input at once.
-fn try_client<R: Net<Stream = TcpStream>>(
+// A client that writes this is answered so.
+fn try_client<R: Net<Stream = TcpStream> + Abort>(
     rt: &R,
     alloc: Global,
     to: SocketAddr,
     input: &[u8],
-) -> Result<Vec<u8>, Fail> {
-    let mut stream = TcpStream::connect(rt, to)?;
-    stream.write_all(input)?;
-    stream.shutdown(Shutdown::Write)?;
+    text: &[u8],
+) {
+    let mut stream = TcpStream::connect(rt, to).expect(rt, "a connection");
     let mut page = Vec::new(alloc);
-    stream.read_to_end(&mut page)?;
-    Ok(page)
+    talk(&mut stream, input, &mut page).expect(rt, "an answer");
+    same(rt, "what a client is answered", page.as_slice(), text);
+}
+
+fn start_accepting<R: Threads + Wait + Abort + Copy + Send + 'static>(
+    rt: &R,
+    alloc: Global,
+    listener: TcpListener,
+    requests: Sender<Ask>,
+) -> JoinHandle<Accepted> {
+    let here = *rt;
+    let accept = move || accept_sessions(&here, alloc, &listener, 3, requests, Nobody);
+    match thread::spawn(rt, accept) {
+        Ok(server) => server,
+        Err(_) => panic!(rt; "no thread"),
+    }
+}
+
+const ALL: Accepted = Accepted {
+    connections: 3,
+    fault: None,
+};
+
+fn try_port<R: Net<Stream = TcpStream> + Threads + Wait + Abort + Copy + Send + 'static>(
+    rt: &R,
+    alloc: Global,
+    listener: TcpListener,
+) {
+    let to = listener.local_addr().expect(rt, "an address");
+    let (requests, asks) = unbounded(alloc).expect(rt, "a channel");
+    let worker = start_refusing(rt, asks);
+    let server = start_accepting(rt, alloc, listener, requests);
+    try_client(rt, alloc, to, b"set 0", b"");
+    for _ in 0..2 {
+        try_client(rt, alloc, to, BATCHES, FAULTS);
+    }
+    same(rt, "how the sessions end", server.join(rt), ALL);
+    same(rt, "batches that are refused", worker.join(rt), 6);
 }
 
 #[test]
-fn serves_clients_of_a_port(rt: HostRuntime) -> Result<(), Fail> {
-    let alloc = rt.alloc();
-    let listener = TcpListener::bind(&rt, "127.0.0.1:0")?;
-    let to = listener.local_addr()?;
-    let (requests, asks) = unbounded(alloc)?;
-    let here = rt;
-    let Ok(worker) = thread::spawn(&rt, move || refuse(&here, asks)) else {
-        return Err(Fail::new("no thread"));
-    };
-    let accept = move || accept_sessions(&here, alloc, &listener, 3, requests, Nobody);
-    let Ok(server) = thread::spawn(&rt, accept) else {
-        return Err(Fail::new("no thread"));
-    };
-    let left = try_client(&rt, alloc, to, b"set 0")?;
-    assert_eq!(rt; left.as_slice(), b"".as_slice());
-    for _ in 0..2 {
-        let page = try_client(&rt, alloc, to, BATCHES)?;
-        assert_eq!(rt; page.as_slice(), FAULTS);
-    }
-    let all = Accepted {
-        connections: 3,
-        fault: None,
-    };
-    assert_eq!(rt; server.join(&rt), all);
-    assert_eq!(rt; worker.join(&rt), 6);
-    Ok(())
+fn serves_clients_of_a_port(rt: HostRuntime) {
+    let listener = TcpListener::bind(&rt, "127.0.0.1:0").expect(&rt, "a port");
+    try_port(&rt, rt.alloc(), listener);
 }

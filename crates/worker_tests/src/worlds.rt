@@ -1,4 +1,4 @@
-ghost use Rattle.std.specs.Prelude.{◌≤◌, IfOk};
+ghost use Rattle.std.specs.Prelude.{◌≤◌};
 ghost use Rattle.world_actions.specs.declared.world.TheConstants.{CELLS};
 ghost use Rattle.worker_threads.specs.Begun.{IsWhole};
 
@@ -8,12 +8,11 @@ use recovery::recover;
 use served::fresh_files;
 use std::alloc::{AllocError, Global};
 use std::io;
+use std::process::Abort;
 use std::sync::Wait;
-use std::test::Fail;
 use tcp_service::{Door, Seats, Unserved, open_world};
 use worker_threads::{Opened, Watch};
 use workers::{ImageWriter, Log};
-use world_actions::Refusal;
 
 /// What a running world tells.
 #[derive(Clone, Copy, Debug, PartialEq, Eq)]
@@ -71,83 +70,108 @@ impl<R: Wait + Copy> Door for Teller<R> {
     }
 }
 
-fn empty_file(alloc: Global) -> Result<ModelFile, Refusal> {
-    ModelFile::new(alloc, Vec::new(alloc))
+fn file_of(rt: &impl Abort, alloc: Global, bytes: &[u8]) -> ModelFile {
+    let bytes = Vec::from_slice(alloc, bytes).expect(rt, "memory for bytes");
+    ModelFile::new(alloc, bytes).expect(rt, "memory for a file")
+}
+
+/// Four files of which image.a has these bytes, and the others none.
+pub fn files_of(rt: &impl Abort, alloc: Global, image: &[u8]) -> FourFiles<ModelFile> {
+    FourFiles {
+        image_a: file_of(rt, alloc, image),
+        image_b: file_of(rt, alloc, &[]),
+        log_a: file_of(rt, alloc, &[]),
+        log_b: file_of(rt, alloc, &[]),
+    }
 }
 
 /// The files of a new world.
-pub fn new_files(alloc: Global, cells: u32) -> Result<FourFiles<ModelFile>, Fail>
+pub fn new_files(rt: &impl Abort, alloc: Global, cells: u32) -> FourFiles<ModelFile>
     requires { (1 ≤ cells) × (cells ≤ CELLS) }
 {
-    let files = FourFiles {
-        image_a: empty_file(alloc)?,
-        image_b: empty_file(alloc)?,
-        log_a: empty_file(alloc)?,
-        log_b: empty_file(alloc)?,
-    };
-    match fresh_files(alloc, cells, files) {
-        Ok(files) => Ok(files),
-        Err((_, refusal)) => Err(Fail::from(refusal)),
+    match fresh_files(alloc, cells, files_of(rt, alloc, &[])) {
+        Ok(files) => files,
+        Err((_, refusal)) => panic!(rt; "no new world: {refusal}"),
     }
 }
 
 /// The files of a new world of two cells, each of which may be let fail.
-pub fn fused_files(alloc: Global) -> Result<FourFiles<Fused<ModelFile>>, Fail> {
+pub fn fused_files(rt: &impl Abort, alloc: Global) -> FourFiles<Fused<ModelFile>> {
     let FourFiles {
         image_a,
         image_b,
         log_a,
         log_b,
-    } = new_files(alloc, 2)?;
-    Ok(FourFiles {
+    } = new_files(rt, alloc, 2);
+    FourFiles {
         image_a: Fused::new(image_a),
         image_b: Fused::new(image_b),
         log_a: Fused::new(log_a),
         log_b: Fused::new(log_b),
-    })
+    }
 }
 
 /// The world in these files, for its workers.
 pub fn open_files<M: Seats, D: Disk + Drop>(
+    rt: &impl Abort,
     alloc: Global,
     files: FourFiles<D>,
-) -> Result<Opened<M, D>, Fail>
-    ensures { IfOk result (λ opened.
-        IsWhole D.honest D.content opened.front opened.back opened.images opened.log opened.ended) }
+) -> Opened<M, D>
+    ensures { IsWhole D.honest D.content result.front result.back result.images result.log result.ended }
 {
     match open_world::<M, D>(alloc, files) {
-        Ok((opened, _)) => Ok(opened),
-        Err((_, refusal)) => Err(Fail::from(refusal)),
+        Ok((opened, _)) => opened,
+        Err((_, refusal)) => panic!(rt; "no world: {refusal}"),
     }
 }
 
 /// What recovery finds in these bytes of a world of two cells, of which the second is 0: the tick, that of the image,
 /// and the word of the first cell.
 pub fn found_in(
+    rt: &impl Abort,
     alloc: Global,
     image_a: &[u8],
     image_b: &[u8],
     log_a: &[u8],
     log_b: &[u8],
-) -> Result<(u64, u64, u64), Fail> {
-    let found = recover(alloc, image_a, image_b, log_a, log_b)?;
+) -> (u64, u64, u64) {
+    let found = recover(alloc, image_a, image_b, log_a, log_b).expect(rt, "a world that stands");
     match found.words.as_slice() {
-        [word, 0] => Ok((found.tick, found.from, *word)),
-        _ => Err(Fail::new("another world")),
+        [word, 0] => (found.tick, found.from, *word),
+        _ => panic!(rt; "another world"),
     }
 }
 
 /// What recovery finds in the durable bytes of the files of workers.
 pub fn stands_in(
+    rt: &impl Abort,
     alloc: Global,
     images: &ImageWriter<ModelFile>,
     log: &Log<ModelFile>,
-) -> Result<(u64, u64, u64), Fail> {
+) -> (u64, u64, u64) {
     found_in(
+        rt,
         alloc,
         images.image_a.durable(),
         images.image_b.durable(),
         log.a.durable(),
         log.b.durable(),
+    )
+}
+
+/// The same where each file may be let fail.
+pub fn stands_in_fused(
+    rt: &impl Abort,
+    alloc: Global,
+    images: &ImageWriter<Fused<ModelFile>>,
+    log: &Log<Fused<ModelFile>>,
+) -> (u64, u64, u64) {
+    found_in(
+        rt,
+        alloc,
+        images.image_a.inner().durable(),
+        images.image_b.inner().durable(),
+        log.a.inner().durable(),
+        log.b.inner().durable(),
     )
 }

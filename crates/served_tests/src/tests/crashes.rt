@@ -1,18 +1,17 @@
 ghost use Rattle.std.specs.Prelude.{◌≤◌};
 
-use super::{NONE, bytes_of, fresh, serve};
+use super::disks::{Disks, LEAVINGS, after_crash, disks_of, has_failed, may_stand};
+use super::same::same;
+use super::worlds::{NONE, bytes_of, fresh, serve};
 use capture_core::{Capture, PlainCopy};
-use disk_model::{Disk, FourFiles, Fused, Leaving, ModelFile};
+use disk_model::{Fused, Leaving, ModelFile};
 use ping_pong::PingPong;
-use recovery::{Recovered, recover};
+use recovery::Recovered;
 use served::{Served, fresh_files};
 use std::alloc::Global;
 use std::process::Abort;
-use std::test::Fail;
 use world_actions::Refusal;
 use zigzag::Zigzag;
-
-type Disks = FourFiles<Fused<ModelFile>>;
 
 // More calls than a file has in a trial.
 const CALLS: u64 = 200;
@@ -31,201 +30,221 @@ const TEXTS: [&[u8]; 4] = [
     b"tick 1: +\ntick 2: +\ntick 3: +\n",
 ];
 
-// The place of a refusal beside the counts of the texts.
+// What came of the batches: so many ticks were acknowledged, or the world wasn't opened.
 const REFUSED: usize = 4;
 
-const LEAVINGS: [Leaving; 5] = [
-    Leaving::Lose,
-    Leaving::Keep,
-    Leaving::Fill(0),
-    Leaving::Fill(1),
-    Leaving::Fill(0xff),
-];
-
-fn disk_of(alloc: Global, bytes: &[u8]) -> Result<Fused<ModelFile>, Refusal> {
-    let file = ModelFile::new(alloc, Vec::from_slice(alloc, bytes)?)?;
-    Ok(Fused::new(file))
-}
-
-// Disks with these bytes, of which this one fails its k-th call.
-fn disks_of(alloc: Global, bytes: [&[u8]; 4], place: usize, k: u64) -> Result<Disks, Refusal>
-    requires { 1 ≤ k }
-{
-    let [image_a, image_b, log_a, log_b] = bytes;
-    let mut disks = FourFiles {
-        image_a: disk_of(alloc, image_a)?,
-        image_b: disk_of(alloc, image_b)?,
-        log_a: disk_of(alloc, log_a)?,
-        log_b: disk_of(alloc, log_b)?,
-    };
-    disk_at(&mut disks, place).arm(k);
-    Ok(disks)
-}
-
-fn disk_at(disks: &mut Disks, place: usize) -> &mut Fused<ModelFile> {
-    match place {
-        0 => &mut disks.image_a,
-        1 => &mut disks.image_b,
-        2 => &mut disks.log_a,
-        _ => &mut disks.log_b,
+// Whether it is a world that has ended, and one of so many ticks at least.
+fn is_safe(found: &Recovered, acked: u64) -> bool {
+    match WORLDS.get(found.tick as usize) {
+        Some(words) => acked <= found.tick && found.words.as_slice() == words.as_slice(),
+        None => false,
     }
 }
 
-// Whether a disk that was to fail its k-th call did.
-fn has_failed(disks: &mut Disks, place: usize, k: u64) -> bool {
-    let disk = disk_at(disks, place);
-    for _ in 0..k {
-        if disk.len().is_err() {
-            return false;
-        }
-    }
-    true
+fn try_crash(rt: &impl Abort, alloc: Global, disks: &Disks, leaving: Leaving, acked: u64) {
+    let found = after_crash(rt, alloc, disks, leaving).expect(rt, "a world that stands");
+    may_stand(rt, leaving, &found, is_safe(&found, acked));
 }
 
-// What stands in the files after a crash that leaves so.
-fn after_crash(alloc: Global, disks: &Disks, leaving: Leaving) -> Result<Recovered, Refusal> {
-    let image_a = disks.image_a.inner().left_by(alloc, leaving)?;
-    let image_b = disks.image_b.inner().left_by(alloc, leaving)?;
-    let log_a = disks.log_a.inner().left_by(alloc, leaving)?;
-    let log_b = disks.log_b.inner().left_by(alloc, leaving)?;
-    recover(alloc, &image_a, &image_b, &log_a, &log_b)
-}
-
-// Whatever a crash leaves, it is a world that has ended, and one of so many ticks at least.
-fn try_crashes(rt: &impl Abort, alloc: Global, disks: &Disks, acked: u64) -> Result<(), Fail> {
+// Whatever a crash leaves is safe.
+fn try_crashes(rt: &impl Abort, alloc: Global, disks: &Disks, acked: u64) {
     for leaving in LEAVINGS {
-        let found = after_crash(alloc, disks, leaving)?;
-        assert!(rt;
-            acked <= found.tick,
-            "{leaving:?}: {} of {acked}",
-            found.tick
-        );
-        let Some(words) = WORLDS.get(found.tick as usize) else {
-            return Err(Fail::new("a tick that never ended"));
-        };
-        assert_eq!(rt; found.words.as_slice(), words.as_slice(), "{leaving:?}");
+        try_crash(rt, alloc, disks, leaving, acked);
     }
-    Ok(())
 }
 
-// Opens a world and serves the batches. It gives the files, how many ticks are acknowledged, and which
-// answer was met.
-fn play<C: Capture>(
+// The text where so many ticks are acknowledged.
+fn text_of(acked: u64) -> &'static [u8] {
+    match TEXTS.get(acked as usize) {
+        Some(text) => text,
+        None => b"no such text",
+    }
+}
+
+// Serves the batches, and tells how many ticks are acknowledged.
+fn serve_batches<C: Capture>(
     rt: &impl Abort,
     alloc: Global,
-    disks: Disks,
-) -> Result<(Disks, u64, usize), Fail> {
+    served: &mut Served<C, Fused<ModelFile>>,
+) -> u64 {
+    same(rt, "what is recovered", served.recovered(), (0, 0));
+    let (ends, text) = serve(alloc, served, INPUT, usize::MAX);
+    let acked = served.acked();
+    same(rt, "how the session ends", ends, Ok(()));
+    same(rt, "its text", text.as_slice(), text_of(acked));
+    acked
+}
+
+// Opens a world and serves the batches. It gives the files, and what came of the batches.
+fn play<C: Capture>(rt: &impl Abort, alloc: Global, disks: Disks) -> (Disks, usize) {
     match Served::<C, Fused<ModelFile>>::open(alloc, disks, 2) {
         Ok(mut served) => {
-            assert_eq!(rt; served.recovered(), (0, 0));
-            let (ends, text) = serve(alloc, &mut served, INPUT, usize::MAX);
-            assert_eq!(rt; ends, Ok(()));
-            let acked = served.acked();
-            let answer = acked as usize;
-            assert_eq!(rt; TEXTS.get(answer).copied(), Some(text.as_slice()));
-            Ok((served.into_files(), acked, answer))
+            let acked = serve_batches(rt, alloc, &mut served);
+            (served.into_files(), acked as usize)
         }
         Err((disks, refusal)) => {
-            assert_eq!(rt; refusal, Refusal::Device);
-            Ok((disks, 0, REFUSED))
+            same(rt, "a refusal", refusal, Refusal::Device);
+            (disks, REFUSED)
         }
     }
 }
 
-// Lets each call of a file fail in turn, and counts the answers.
+fn acked_by(answer: usize) -> u64 {
+    if answer == REFUSED { 0 } else { answer as u64 }
+}
+
+// Lets the k-th call of a file fail. It tells what came of the batches, and whether the call was made.
+fn fail_call<C: Capture>(
+    rt: &impl Abort,
+    alloc: Global,
+    bytes: [&[u8]; 4],
+    place: usize,
+    k: u64,
+) -> (usize, bool)
+    requires { 1 ≤ k }
+{
+    let (mut disks, answer) = play::<C>(rt, alloc, disks_of(rt, alloc, bytes, place, k));
+    try_crashes(rt, alloc, &disks, acked_by(answer));
+    (answer, has_failed(&mut disks, place, k))
+}
+
+fn count(met: &mut [u64], answer: usize) {
+    if let Some(count) = met.get_mut(answer) {
+        *count = count.saturating_add(1);
+    }
+}
+
+fn all_are_met(rt: &impl Abort, met: &[u64]) {
+    for answer in 0..met.len() {
+        same(
+            rt,
+            "an answer is met",
+            (answer, met[answer] > 0),
+            (answer, true),
+        );
+    }
+}
+
+// Lets each call of a file fail in turn, and counts the answers. It tells whether there are no more.
 fn fail_each_call<C: Capture>(
     rt: &impl Abort,
     alloc: Global,
     bytes: [&[u8]; 4],
     place: usize,
     met: &mut [u64],
-) -> Result<(), Fail> {
+) -> bool {
     for k in 1..CALLS {
-        let disks = disks_of(alloc, bytes, place, k)?;
-        let (mut disks, acked, answer) = play::<C>(rt, alloc, disks)?;
-        try_crashes(rt, alloc, &disks, acked)?;
-        if !has_failed(&mut disks, place, k) {
-            assert_eq!(rt; acked, 3, "file {place}");
-            return Ok(());
+        let (answer, has_failed) = fail_call::<C>(rt, alloc, bytes, place, k);
+        if !has_failed {
+            same(
+                rt,
+                "a file and its last answer",
+                (place, answer),
+                (place, 3),
+            );
+            return true;
         }
-        if let Some(count) = met.get_mut(answer) {
-            *count = count.saturating_add(1);
-        }
+        count(met, answer);
     }
-    Err(Fail::new("a file has more calls"))
+    false
 }
 
-fn fail_each_file<C: Capture>(rt: &impl Abort, alloc: Global) -> Result<(), Fail> {
-    let made = fresh(alloc, 2)?;
-    let mut met = [0; 5];
+fn fail_files<C: Capture>(rt: &impl Abort, alloc: Global, bytes: [&[u8]; 4], met: &mut [u64]) {
     for place in 0..4 {
-        fail_each_call::<C>(rt, alloc, bytes_of(&made), place, &mut met)?;
+        let is_over = fail_each_call::<C>(rt, alloc, bytes, place, met);
+        same(
+            rt,
+            "a file has no more calls",
+            (place, is_over),
+            (place, true),
+        );
     }
-    for answer in 0..met.len() {
-        assert!(rt; met[answer] > 0, "answer {answer} was never met");
-    }
-    Ok(())
+}
+
+fn fail_each_file<C: Capture>(rt: &impl Abort, alloc: Global) {
+    let made = fresh(rt, alloc, 2);
+    let mut met = [0; 5];
+    fail_files::<C>(rt, alloc, bytes_of(&made), &mut met);
+    all_are_met(rt, &met);
 }
 
 #[test]
-fn keeps_what_is_acknowledged(rt: HostRuntime) -> Result<(), Fail> {
-    fail_each_file::<PlainCopy>(&rt, rt.alloc())?;
-    fail_each_file::<Zigzag>(&rt, rt.alloc())?;
-    fail_each_file::<PingPong>(&rt, rt.alloc())
+fn keeps_what_is_acknowledged(rt: HostRuntime) {
+    fail_each_file::<PlainCopy>(&rt, rt.alloc());
+    fail_each_file::<Zigzag>(&rt, rt.alloc());
+    fail_each_file::<PingPong>(&rt, rt.alloc());
 }
 
-// Whatever a crash leaves of files of which no world was made, it is no world yet, or a new one. It counts
-// both.
-fn try_unmade(
-    rt: &impl Abort,
-    alloc: Global,
-    disks: &Disks,
-    met: &mut [u64; 2],
-) -> Result<(), Fail> {
-    for leaving in LEAVINGS {
-        match after_crash(alloc, disks, leaving) {
-            Ok(found) => {
-                assert_eq!(rt; (found.tick, found.from), (0, 0), "{leaving:?}");
-                assert_eq!(rt; found.words.as_slice(), [0, 0].as_slice(), "{leaving:?}");
-                met[0] = met[0].saturating_add(1);
-            }
-            Err(refusal) => {
-                assert_eq!(rt; refusal, Refusal::NoImage, "{leaving:?}");
-                met[1] = met[1].saturating_add(1);
-            }
+fn is_new(found: &Recovered) -> bool {
+    (found.tick, found.from) == (0, 0) && found.words.as_slice() == [0, 0].as_slice()
+}
+
+// Whatever a crash leaves of files of which no world was made, it is a new world, or none yet. It tells which.
+fn new_or_none(rt: &impl Abort, alloc: Global, disks: &Disks, leaving: Leaving) -> usize {
+    match after_crash(rt, alloc, disks, leaving) {
+        Ok(found) => {
+            may_stand(rt, leaving, &found, is_new(&found));
+            0
+        }
+        Err(refusal) => {
+            same(rt, "a refusal", refusal, Refusal::NoImage);
+            1
         }
     }
-    Ok(())
 }
 
-// Lets each call of a file fail in turn while a new world is made.
+// It counts both.
+fn try_unmade(rt: &impl Abort, alloc: Global, disks: &Disks, met: &mut [u64]) {
+    for leaving in LEAVINGS {
+        let answer = new_or_none(rt, alloc, disks, leaving);
+        count(met, answer);
+    }
+}
+
+// Makes a new world, of which a file fails its k-th call. It tells whether one is made, and whether the call failed.
 fn fail_making(
     rt: &impl Abort,
     alloc: Global,
     place: usize,
-    met: &mut [u64; 2],
-) -> Result<(), Fail> {
-    for k in 1..CALLS {
-        match fresh_files(alloc, 2, disks_of(alloc, [NONE; 4], place, k)?) {
-            Ok(mut disks) => {
-                assert!(rt; !has_failed(&mut disks, place, k), "file {place}, call {k}");
-                return Ok(());
-            }
-            Err((disks, refusal)) => {
-                assert_eq!(rt; refusal, Refusal::Device, "file {place}, call {k}");
-                try_unmade(rt, alloc, &disks, met)?;
-            }
+    k: u64,
+    met: &mut [u64],
+) -> (bool, bool)
+    requires { 1 ≤ k }
+{
+    match fresh_files(alloc, 2, disks_of(rt, alloc, [NONE; 4], place, k)) {
+        Ok(mut disks) => (true, has_failed(&mut disks, place, k)),
+        Err((disks, refusal)) => {
+            same(rt, "a refusal", refusal, Refusal::Device);
+            try_unmade(rt, alloc, &disks, met);
+            (false, true)
         }
     }
-    Err(Fail::new("a file has more calls"))
+}
+
+// Lets each call of a file fail in turn. It tells whether there are no more.
+fn fail_each_making(rt: &impl Abort, alloc: Global, place: usize, met: &mut [u64]) -> bool {
+    for k in 1..CALLS {
+        let (is_made, has_failed) = fail_making(rt, alloc, place, k, met);
+        let call = (place, k, has_failed);
+        same(rt, "a call that fails", call, (place, k, !is_made));
+        if is_made {
+            return true;
+        }
+    }
+    false
 }
 
 #[test]
-fn makes_a_new_world_or_none(rt: HostRuntime) -> Result<(), Fail> {
+fn makes_a_new_world_or_none(rt: HostRuntime) {
     let mut met = [0; 2];
     for place in 0..4 {
-        fail_making(&rt, rt.alloc(), place, &mut met)?;
+        let is_over = fail_each_making(&rt, rt.alloc(), place, &mut met);
+        same(
+            &rt,
+            "a file has no more calls",
+            (place, is_over),
+            (place, true),
+        );
     }
-    assert!(rt; met[0] > 0 && met[1] > 0, "{met:?}");
-    Ok(())
+    all_are_met(&rt, &met);
 }

@@ -1,45 +1,36 @@
+use crate::same::same;
+use crate::worlds::{files_of, new_files};
 use capture_core::PlainCopy;
 use disk_model::{FourFiles, ModelFile};
 use line_service::serve_lines;
-use recovery::recover;
-use served::{Served, fresh_files};
+use recovery::{Recovered, recover};
+use served::Served;
 use shared_capture::{Front, Method, Pong, Zig};
 use std::alloc::Global;
 use std::process::Abort;
-use std::test::Fail;
 use tcp_service::{Seats, open_world};
+use worker_threads::Opened;
 use world_actions::Refusal;
 use world_ticks::Cells;
 
 const BATCHES: &[u8] = b"set 0 5\nset 1 6\nend\nmove 0 1 2\nend\n";
 
-// A file of these bytes.
-fn file_of(alloc: Global, bytes: &[u8]) -> Result<ModelFile, Refusal> {
-    ModelFile::new(alloc, Vec::from_slice(alloc, bytes)?)
-}
+type World = Served<PlainCopy, ModelFile>;
 
-// Four files of which image.a has these bytes.
-fn files_of(alloc: Global, image: &[u8]) -> Result<FourFiles<ModelFile>, Refusal> {
-    Ok(FourFiles {
-        image_a: file_of(alloc, image)?,
-        image_b: file_of(alloc, &[])?,
-        log_a: file_of(alloc, &[])?,
-        log_b: file_of(alloc, &[])?,
-    })
+fn opened(rt: &impl Abort, alloc: Global, files: FourFiles<ModelFile>) -> World {
+    match World::open(alloc, files, 64) {
+        Ok(served) => served,
+        Err((_, refusal)) => panic!(rt; "no world: {refusal}"),
+    }
 }
 
 // The files of a world of two cells after two ticks, with an image of tick 0.
-fn played(alloc: Global) -> Result<FourFiles<ModelFile>, Fail> {
-    let Ok(files) = fresh_files(alloc, 2, files_of(alloc, &[])?) else {
-        return Err(Fail::new("no world was made"));
-    };
-    let Ok(mut served) = Served::<PlainCopy, ModelFile>::open(alloc, files, 64) else {
-        return Err(Fail::new("no world was opened"));
-    };
+fn played(rt: &impl Abort, alloc: Global) -> FourFiles<ModelFile> {
+    let mut served = opened(rt, alloc, new_files(rt, alloc, 2));
     let mut input = BATCHES;
     let mut page = Vec::new(alloc);
-    serve_lines(alloc, &mut input, &mut page, &mut served)?;
-    Ok(served.into_files())
+    serve_lines(alloc, &mut input, &mut page, &mut served).expect(rt, "a session");
+    served.into_files()
 }
 
 // The word of a cell, if there is one.
@@ -51,49 +42,75 @@ fn word_of<M: Method>(front: &mut Front<M>, cell: usize) -> Option<u64> {
     }
 }
 
-fn try_open<M: Seats>(rt: &impl Abort, alloc: Global) -> Result<(), Fail> {
-    let Ok((mut opened, from)) = open_world::<M, ModelFile>(alloc, played(alloc)?) else {
-        return Err(Fail::new("no world was opened"));
-    };
-    assert_eq!(rt; (opened.ended, from), (2, 0));
-    for (cell, word) in [(0, Some(3)), (1, Some(8)), (2, None)] {
-        assert_eq!(rt; word_of(&mut opened.front, cell), word);
+// The world in these files, opened for its workers.
+fn seated<M: Seats>(
+    rt: &impl Abort,
+    alloc: Global,
+    files: FourFiles<ModelFile>,
+) -> (Opened<M, ModelFile>, u64) {
+    match open_world::<M, ModelFile>(alloc, files) {
+        Ok(opened) => opened,
+        Err((_, refusal)) => panic!(rt; "no world: {refusal}"),
     }
-    let found = recover(
+}
+
+fn has_words<M: Method>(rt: &impl Abort, front: &mut Front<M>) {
+    for (cell, word) in [(0, Some(3)), (1, Some(8)), (2, None)] {
+        same(rt, "a word", word_of(front, cell), word);
+    }
+}
+
+// What recovery finds in the durable bytes.
+fn found<M: Method>(alloc: Global, opened: &Opened<M, ModelFile>) -> Result<Recovered, Refusal> {
+    recover(
         alloc,
         opened.images.image_a.durable(),
         opened.images.image_b.durable(),
         opened.log.a.durable(),
         opened.log.b.durable(),
-    )?;
-    assert_eq!(rt; (found.tick, found.from), (2, 2), "the start has ended");
-    assert_eq!(rt; found.words.as_slice(), [3, 8].as_slice());
-    Ok(())
+    )
+}
+
+// The start has ended.
+fn is_started<M: Method>(rt: &impl Abort, alloc: Global, opened: &Opened<M, ModelFile>) {
+    let found = found(alloc, opened).expect(rt, "a world that stands");
+    let ticks = (found.tick, found.from);
+    same(rt, "the tick and that of the image", ticks, (2, 2));
+    same(rt, "the words", found.words.as_slice(), &[3, 8]);
+}
+
+fn try_open<M: Seats>(rt: &impl Abort, alloc: Global) {
+    let (mut opened, from) = seated::<M>(rt, alloc, played(rt, alloc));
+    same(rt, "the ticks", (opened.ended, from), (2, 0));
+    has_words(rt, &mut opened.front);
+    is_started(rt, alloc, &opened);
 }
 
 #[test]
-fn opens_worlds_for_their_workers(rt: HostRuntime) -> Result<(), Fail> {
-    try_open::<Zig>(&rt, rt.alloc())?;
-    try_open::<Pong>(&rt, rt.alloc())
+fn opens_worlds_for_their_workers(rt: HostRuntime) {
+    try_open::<Zig>(&rt, rt.alloc());
+    try_open::<Pong>(&rt, rt.alloc());
 }
 
-fn try_refused<M: Seats>(
-    rt: &impl Abort,
+// The refusal of these files, and whether image.a still has these bytes.
+fn refused<M: Seats>(
     alloc: Global,
+    files: FourFiles<ModelFile>,
     image: &[u8],
-    reason: Refusal,
-) -> Result<(), Fail> {
-    let Err((files, refusal)) = open_world::<M, ModelFile>(alloc, files_of(alloc, image)?) else {
-        return Err(Fail::new("a world was opened"));
-    };
-    assert_eq!(rt; refusal, reason);
-    assert_eq!(rt; files.image_a.now(), image);
-    Ok(())
+) -> Option<(Refusal, bool)> {
+    match open_world::<M, ModelFile>(alloc, files) {
+        Ok(_) => None,
+        Err((files, refusal)) => Some((refusal, files.image_a.now() == image)),
+    }
+}
+
+fn try_refused<M: Seats>(rt: &impl Abort, alloc: Global, image: &[u8], reason: Refusal) {
+    let answer = refused::<M>(alloc, files_of(rt, alloc, image), image);
+    same(rt, "a refusal", answer, Some((reason, true)));
 }
 
 #[test]
-fn gives_files_back_that_hold_no_world(rt: HostRuntime) -> Result<(), Fail> {
-    let alloc = rt.alloc();
-    try_refused::<Zig>(&rt, alloc, &[], Refusal::NoImage)?;
-    try_refused::<Pong>(&rt, alloc, &[1; 17], Refusal::BadImage)
+fn gives_files_back_that_hold_no_world(rt: HostRuntime) {
+    try_refused::<Zig>(&rt, rt.alloc(), &[], Refusal::NoImage);
+    try_refused::<Pong>(&rt, rt.alloc(), &[1; 17], Refusal::BadImage);
 }

@@ -1,0 +1,95 @@
+//! Files in which no world is made or opened.
+use super::same::same;
+use super::worlds::{IMAGE, NONE, bytes_of, files_of, fresh, stands, told};
+use capture_core::PlainCopy;
+use disk_model::{FourFiles, ModelFile};
+use served::{Served, fresh_files};
+use std::alloc::Global;
+use std::process::Abort;
+use world_actions::Refusal;
+
+// An open image of too many cells.
+const BAD_IMAGE: &[u8] = &[1; 17];
+
+// An open segment of base 0 without ticks.
+const LOG: &[u8] = &[1, 0, 0, 0, 0, 0, 0, 0, 0, 0];
+
+// An open segment whose group is cut off.
+const BAD_LOG: &[u8] = &[1, 0, 0, 0, 0, 0, 0, 0, 0, 1];
+
+// A closed image or segment.
+const SHUT: &[u8] = &[0, 1, 2];
+
+// The refusal's number, and whether the files are given back with these bytes.
+fn refused<T: Drop>(
+    answer: Result<T, (FourFiles<ModelFile>, Refusal)>,
+    bytes: [&[u8]; 4],
+) -> Option<(u8, bool)> {
+    match answer {
+        Ok(_) => None,
+        Err((files, refusal)) => Some((refusal.code(), bytes_of(&files) == bytes)),
+    }
+}
+
+// No new world is made of these files, which are given back as they were.
+fn try_not_empty(rt: &impl Abort, alloc: Global, bytes: [&[u8]; 4]) {
+    let answer = fresh_files(alloc, 1, files_of(rt, alloc, bytes));
+    let code = Refusal::NotEmpty.code();
+    same(rt, "a refusal", refused(answer, bytes), Some((code, true)));
+}
+
+const OPEN: [[&[u8]; 4]; 8] = [
+    [IMAGE, SHUT, NONE, SHUT],
+    [NONE, IMAGE, SHUT, NONE],
+    [BAD_IMAGE, SHUT, NONE, SHUT],
+    [NONE, BAD_IMAGE, SHUT, NONE],
+    [SHUT, NONE, LOG, NONE],
+    [NONE, SHUT, NONE, LOG],
+    [SHUT, NONE, BAD_LOG, NONE],
+    [NONE, SHUT, NONE, BAD_LOG],
+];
+
+/// Files of which one is open.
+pub fn try_open_files(rt: &impl Abort, alloc: Global) {
+    for bytes in &OPEN {
+        try_not_empty(rt, alloc, *bytes);
+    }
+}
+
+/// Files of a new world.
+pub fn try_made_files(rt: &impl Abort, alloc: Global) {
+    let made = fresh(rt, alloc, 1);
+    try_not_empty(rt, alloc, bytes_of(&made));
+}
+
+/// Files that are closed, of which a new world is made.
+pub fn try_closed_files(rt: &impl Abort, alloc: Global) {
+    let shut = files_of(rt, alloc, [SHUT; 4]);
+    let files = told(fresh_files(alloc, 2, shut)).expect(rt, "a new world");
+    stands(rt, alloc, &files, (0, 0), &[0, 0]);
+}
+
+const DAMAGED: [([&[u8]; 4], u8); 8] = [
+    ([NONE; 4], 13),
+    ([SHUT; 4], 13),
+    ([NONE, SHUT, LOG, NONE], 13),
+    ([BAD_IMAGE, IMAGE, NONE, NONE], 14),
+    ([IMAGE, BAD_IMAGE, BAD_LOG, NONE], 14),
+    ([IMAGE, NONE, BAD_LOG, NONE], 15),
+    ([NONE, IMAGE, LOG, BAD_LOG], 15),
+    ([NONE, NONE, NONE, BAD_LOG], 15),
+];
+
+// No world is opened in these files, which are given back as they were.
+fn try_damaged(rt: &impl Abort, alloc: Global, bytes: [&[u8]; 4], code: u8) {
+    let files = files_of(rt, alloc, bytes);
+    let answer = Served::<PlainCopy, ModelFile>::open(alloc, files, 64);
+    same(rt, "a refusal", refused(answer, bytes), Some((code, true)));
+}
+
+/// Each of the damaged worlds.
+pub fn try_damaged_files(rt: &impl Abort, alloc: Global) {
+    for (bytes, code) in &DAMAGED {
+        try_damaged(rt, alloc, *bytes, *code);
+    }
+}

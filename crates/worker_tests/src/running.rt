@@ -1,0 +1,66 @@
+//! Workers in threads, and sessions on them.
+use crate::same::same;
+use crate::worlds::{Teller, Told, open_files};
+use crossbeam_channel::Sender;
+use disk_model::{Disk, FourFiles};
+use line_service::serve_lines;
+use shared_capture::Method;
+use std::alloc::Global;
+use std::process::Abort;
+use std::sync::Wait;
+use std::thread::Threads;
+use tcp_service::{Remote, Seats};
+use worker_threads::{Ends, Gates, Workers, ends_meet, start, stop};
+use workers::{Ask, Gate};
+use world_actions::Refusal;
+
+/// Starts workers on the world in these files, where a round is due after so many ticks.
+pub fn begin<
+    R: Threads + Wait + Abort + Copy + Send + 'static,
+    M: Seats + Send + 'static,
+    D: Disk + Drop + Send + 'static,
+    G: Gate + Drop + Send + 'static,
+>(
+    rt: &R,
+    alloc: Global,
+    files: FourFiles<D>,
+    gates: Gates<G>,
+    to: Sender<Told>,
+    every: u32,
+) -> (Workers<M, D, G>, Sender<Ask>) {
+    let opened = open_files::<M, D>(rt, alloc, files);
+    let watch = Teller { rt: *rt, to };
+    start(rt, alloc, gates, watch, opened, every).expect(rt, "workers")
+}
+
+/// Waits until the workers have ended, and brings their ends together.
+pub fn end<R: Threads, M: Method, D: Disk + Drop, G: Gate + Drop>(
+    rt: &R,
+    workers: Workers<M, D, G>,
+) -> Ends<M, D, G> {
+    let mut ends = stop(rt, workers);
+    ends_meet(&mut ends);
+    ends
+}
+
+/// What a session ended with, and its text.
+#[derive(Drop)]
+pub struct Page {
+    pub ends: Result<(), Refusal>,
+    pub text: Vec<u8>,
+}
+
+/// Serves a session on this input, behind which no other begins.
+pub fn play(rt: &(impl Wait + Copy), alloc: Global, requests: Sender<Ask>, input: &[u8]) -> Page {
+    let mut world = Remote::new(*rt, alloc, requests);
+    let mut text = Vec::new(alloc);
+    let mut rest = input;
+    let ends = serve_lines(alloc, &mut rest, &mut text, &mut world);
+    Page { ends, text }
+}
+
+/// The session came to its end with this text.
+pub fn is_page(rt: &impl Abort, page: &Page, text: &[u8]) {
+    same(rt, "how the session ends", page.ends, Ok(()));
+    same(rt, "its text", page.text.as_slice(), text);
+}
