@@ -1,6 +1,8 @@
 mod bits;
 mod capture;
+mod listed;
 mod marks;
+mod moves;
 mod ping_pong;
 mod plain_copy;
 mod rounds;

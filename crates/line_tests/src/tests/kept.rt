@@ -1,4 +1,4 @@
-use super::*;
+use line_grammar::KeptLine;
 use std::test::Fail;
 
 #[test]

@@ -1,4 +1,4 @@
-use super::*;
+use line_grammar::{read_cell, read_difference, read_number};
 
 #[test]
 fn numbers(rt: HostRuntime) {

@@ -1,5 +1,6 @@
-use super::*;
 use std::test::Fail;
+use world_actions::Action;
+use world_ticks::Tick;
 
 #[test]
 fn keeps_actions_in_order(rt: HostRuntime) -> Result<(), Fail> {

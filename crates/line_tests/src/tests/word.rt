@@ -1,4 +1,4 @@
-use super::*;
+use line_grammar::after;
 
 #[test]
 fn words_at_the_front(rt: HostRuntime) {

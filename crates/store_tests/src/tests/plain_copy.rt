@@ -1,20 +1,18 @@
-use super::*;
+use super::moves::{follow, two_rounds};
+use super::rounds::copied;
+use capture_core::{Capture, PlainCopy, Taken};
 use std::test::Fail;
 
 #[test]
 fn hands_out_words_of_marks(rt: HostRuntime) -> Result<(), Fail> {
     let mut store = PlainCopy::build(rt.alloc(), &[5, 7])?;
-    assert!(rt; !store.open_round());
-    store.mark();
-    assert!(rt; store.open_round());
-    assert_eq!(rt; store.take(), Some(Taken::Word(5)));
-    assert_eq!(rt; store.take(), Some(Taken::Word(7)));
-    assert_eq!(rt; store.take(), None);
-    assert!(rt; !store.open_round() && store.len() == 2);
-    store.write(1, 9);
-    assert_eq!(rt; store.read(1), 9);
-    store.mark();
-    assert_eq!(rt; store.take(), Some(Taken::Word(5)));
-    assert_eq!(rt; store.take(), Some(Taken::Word(9)));
+    follow(&rt, &mut store, &two_rounds(Taken::Word(5)));
+    Ok(())
+}
+
+#[test]
+fn copies_words_of_mark(rt: HostRuntime) -> Result<(), Fail> {
+    let images = copied::<PlainCopy>(rt.alloc(), &[(1, 9), (0, 4)])?;
+    assert_eq!(rt; images, ([5, 7], [4, 9]));
     Ok(())
 }

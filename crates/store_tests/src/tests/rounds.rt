@@ -1,14 +1,23 @@
-use super::*;
-use crate::plain_copy::PlainCopy;
-use std::test::Fail;
+// Images of rounds.
+ghost use Rattle.std.specs.Prelude.{◌≤◌, length, All};
+ghost use Rattle.capture_core.specs.Rounds.{IsChange};
 
-#[test]
-fn copies_words_of_mark(rt: HostRuntime) -> Result<(), Fail> {
-    let mut store = PlainCopy::build(rt.alloc(), &[5, 7])?;
+use capture_core::{Capture, copy_round};
+use std::alloc::Global;
+use world_actions::Refusal;
+
+// The image of a round over 5 and 7 in which some cells change, and the image of the next round.
+pub fn copied<C: Capture>(
+    alloc: Global,
+    changes: &[(usize, u64)],
+) -> Result<([u64; 2], [u64; 2]), Refusal>
+    requires changes { All (IsChange 2) changes.now }
+    requires few { length changes.now ≤ 2 }
+{
+    let mut store = C::build(alloc, &[5, 7])?;
     let mut image = [0, 0];
-    copy_round(&mut store, &mut image, &[(1, 9), (0, 4)]);
-    assert_eq!(rt; image, [5, 7]);
+    copy_round(&mut store, &mut image, changes);
+    let first = image;
     copy_round(&mut store, &mut image, &[]);
-    assert_eq!(rt; image, [4, 9]);
-    Ok(())
+    Ok((first, image))
 }

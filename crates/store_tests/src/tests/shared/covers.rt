@@ -2,7 +2,7 @@
 ghost use Rattle.std.specs.Prelude.{◌≡◌, []};
 ghost use Rattle.shared_capture.specs.CoverWord.{AreStored};
 
-use crate::{CoverIn, CoverOut, cover_pair, meet_cover};
+use shared_capture::{CoverIn, CoverOut, cover_pair, meet_cover};
 use std::test::Fail;
 use std::thread::{Threads, join, yield_now};
 

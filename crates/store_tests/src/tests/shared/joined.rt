@@ -1,0 +1,132 @@
+// Both seats in one store.
+ghost use Rattle.std.specs.Prelude.{◌≡◌, ◌<◌, [], IsTrue, All};
+ghost use Rattle.shared_capture.specs.declared.view.Round.{Round};
+
+use super::super::moves::{Move, follow, mark, word, write};
+use capture_core::{Capture, PlainCopy, Taken, Taker};
+use shared_capture::{Back, Front, Joined, Method, Pong, Zig};
+use std::alloc::Global;
+use std::process::Abort;
+use std::test::Fail;
+use world_actions::Refusal;
+
+// A store beside the plain copy, and an image of what its takes give.
+#[derive(Drop)]
+struct Beside<C: Capture> {
+    store: C,
+    plain: PlainCopy,
+    image: Vec<u64>,
+}
+
+impl<C: Capture> Beside<C> {
+    fn new(alloc: Global, cells: usize) -> Result<Self, Refusal> {
+        let image = vec![in alloc; 3; cells]?;
+        Ok(Beside {
+            store: C::build(alloc, &image)?,
+            plain: PlainCopy::build(alloc, &image)?,
+            image,
+        })
+    }
+
+    // Writes some cells, marks, and takes the round while others are written.
+    fn check_round(&mut self, rt: &impl Abort, round: usize)
+        requires { round < 4 }
+    {
+        for i in 0..self.image.len() {
+            if i % (7 + round) == round {
+                assert!(rt; self.write(i, 10 + round as u64), "cell {i}");
+            }
+        }
+        assert!(rt; mark(&mut self.store) && mark(&mut self.plain));
+        for i in 0..self.image.len() {
+            let word = (50 + i % 900) as u64;
+            assert!(rt;
+                self.write(i % (round + 1), word) && self.takes_same(i),
+                "cell {i}"
+            );
+        }
+        assert!(rt; self.store.take().is_none() && self.plain.take().is_none());
+    }
+
+    fn write(&mut self, cell: usize, word: u64) -> bool {
+        write(&mut self.store, cell, word) && write(&mut self.plain, cell, word)
+    }
+
+    // Takes a cell of both, and tells whether they have the same word. The store's is as the image
+    // says where it is unchanged.
+    fn takes_same(&mut self, i: usize) -> bool {
+        let taken = self.store.take();
+        if let Some(Taken::Word(word)) = taken
+            && i < self.image.len()
+        {
+            self.image[i] = word;
+        }
+        let word = self.image.get(i).copied();
+        taken.is_some() && self.plain.take() == word.map(Taken::Word)
+    }
+}
+
+// One list of writes and marks on a store and on the plain copy.
+fn check_beside_plain_copy<C: Capture>(
+    rt: &impl Abort,
+    alloc: Global,
+    cells: usize,
+) -> Result<(), Refusal> {
+    let mut both: Beside<C> = Beside::new(alloc, cells)?;
+    for round in 0..4 {
+        both.check_round(rt, round);
+    }
+    Ok(())
+}
+
+#[test]
+fn stands_for_plain_copy(rt: HostRuntime) -> Result<(), Fail> {
+    for cells in [0, 1, 63, 64, 65, 130] {
+        check_beside_plain_copy::<Joined<Zig>>(&rt, rt.alloc(), cells)?;
+        check_beside_plain_copy::<Joined<Pong>>(&rt, rt.alloc(), cells)?;
+    }
+    Ok(())
+}
+
+// Whether no cell is left.
+fn is_ended<C: Capture>(store: &C) -> bool
+    ensures { IsTrue result → (C.content store.now).left ≡ [] }
+{
+    !store.open_round()
+}
+
+// The seats of a store of which no cell is left.
+fn split<M: Method>(rt: &impl Abort, joined: Joined<M>) -> (Front<M>, Back<M>)
+    ensures { All (λ (r : Round). r.tick < 2) result.0.rounds }
+{
+    assert!(rt; is_ended(&joined));
+    joined.split()
+}
+
+// Marks a round of the seats, in which only the second cell was written, and takes it.
+fn check_seats<M: Method>(rt: &impl Abort, front: &mut Front<M>, back: &mut Back<M>)
+    requires { All (λ (r : Round). r.tick < 2) front.old.rounds }
+{
+    assert!(rt; back.look().is_none());
+    assert!(rt; front.mark(2).is_ok());
+    assert_eq!(rt; back.look(), Some(2));
+    assert_eq!(rt; back.take(), Some(Taken::Same));
+    assert_eq!(rt; back.take(), Some(Taken::Word(8)));
+    assert_eq!(rt; back.take(), None);
+}
+
+#[test]
+fn splits_where_no_cell_is_left(rt: HostRuntime) -> Result<(), Fail> {
+    let mut joined: Joined<Pong> = Joined::build(rt.alloc(), &[5, 7])?;
+    let moves = [
+        Move::Mark,
+        word(5),
+        word(7),
+        Move::Write(1, 8),
+        Move::IsOpen(false),
+    ];
+    follow(&rt, &mut joined, &moves);
+    let (mut front, mut back) = split(&rt, joined);
+    check_seats(&rt, &mut front, &mut back);
+    Ok(())
+}

@@ -1,0 +1,78 @@
+// For each method a pair over 5 and 7, step by step.
+ghost use Rattle.std.specs.Prelude.{◌≡◌, ◌<◌, [], true, length, All};
+ghost use Rattle.shared_capture.specs.declared.view.Round.{Round};
+
+use capture_core::{Taken, Taker};
+use shared_capture::{Back, Front, Method, meet, ping_pong_pair, zigzag_pair};
+use std::process::Abort;
+use std::test::Fail;
+use world_actions::Refusal;
+use world_ticks::Cells;
+
+// Writes 6 into the first cell, marks the first round, and writes 9.
+fn mark_first<M: Method>(rt: &impl Abort, front: &mut Front<M>)
+    requires cells { 0 < length front.old.live }
+    requires rounds { front.old.rounds ≡ [] }
+    ensures pair { front.new.pair ≡ front.old.pair }
+    ensures rounds { All (λ (r : Round). r.tick < 2) front.new.rounds }
+{
+    front.write(0, 6);
+    assert!(rt; front.mark(1).is_ok());
+    front.write(0, 9);
+    assert_eq!(rt; front.read(0), 9);
+}
+
+// Takes the first round.
+fn take_first<M: Method>(rt: &impl Abort, back: &mut Back<M>)
+    ensures pair { back.new.pair ≡ back.old.pair }
+    ensures taken { (back.new.working ≡ true) × (length back.new.now.taken ≡ back.new.cells) }
+{
+    assert_eq!(rt; back.look(), Some(1));
+    assert_eq!(rt; back.take(), Some(Taken::Word(6)));
+    assert_eq!(rt; back.take(), Some(Taken::Word(7)));
+    assert_eq!(rt; back.take(), None);
+}
+
+// Marks the second round and takes it. Its last cell was not written since the first.
+fn second_round<M: Method>(
+    rt: &impl Abort,
+    front: &mut Front<M>,
+    back: &mut Back<M>,
+    untouched: Taken,
+)
+    requires pair { front.old.pair ≡ back.old.pair }
+    requires rounds { All (λ (r : Round). r.tick < 2) front.old.rounds }
+{
+    assert!(rt; front.mark(2).is_ok());
+    assert_eq!(rt; back.look(), Some(2));
+    assert_eq!(rt; back.take(), Some(Taken::Word(9)));
+    meet(front, back);
+    assert_eq!(rt; back.take(), Some(untouched));
+}
+
+fn check_row<M: Method>(rt: &impl Abort, front: &mut Front<M>, back: &mut Back<M>, untouched: Taken)
+    requires pair { front.old.pair ≡ back.old.pair }
+    requires cells { 0 < length front.old.live }
+    requires rounds { front.old.rounds ≡ [] }
+{
+    assert!(rt; back.look().is_none());
+    mark_first(rt, front);
+    take_first(rt, back);
+    assert_eq!(rt; front.mark(2), Err(Refusal::Busy));
+    back.finish();
+    second_round(rt, front, back, untouched);
+}
+
+#[test]
+fn zigzag_row(rt: HostRuntime) -> Result<(), Fail> {
+    let (mut front, mut back) = zigzag_pair(rt.alloc(), &[5, 7])?;
+    check_row(&rt, &mut front, &mut back, Taken::Word(7));
+    Ok(())
+}
+
+#[test]
+fn ping_pong_row(rt: HostRuntime) -> Result<(), Fail> {
+    let (mut front, mut back) = ping_pong_pair(rt.alloc(), &[5, 7])?;
+    check_row(&rt, &mut front, &mut back, Taken::Same);
+    Ok(())
+}
