@@ -2,7 +2,8 @@ ghost use Rattle.std.specs.Prelude.{◌≡◌, OnOk, OnErr};
 ghost use Rattle.world_actions.specs.Effect.{writes_of};
 ghost use Rattle.capture_core.specs.Content.{content_after};
 
-use super::moves::{Move, follow, word};
+use super::moves::{Move, follow};
+use super::same::same;
 use capture_core::{Capture, PlainCopy, accesses_write};
 use std::test::Fail;
 use world_actions::{Action, Refusal};
@@ -19,18 +20,26 @@ fn act_on<C: Capture>(store: &mut C, tick: &mut Tick, action: Action) -> Result<
     Ok(())
 }
 
+const MARK: [Move; 1] = [Move::Mark];
+
+const TAKES: [Move; 5] = [
+    Move::TakeWord(5),
+    Move::TakeWord(7),
+    Move::IsOpen(false),
+    Move::Mark,
+    Move::TakeWord(9),
+];
+
 #[test]
 fn acts_in_open_round(rt: HostRuntime) -> Result<(), Fail> {
     let mut store = PlainCopy::build(rt.alloc(), &[5, 7])?;
     let mut tick = Tick::new(rt.alloc());
-    follow(&rt, &mut store, &[Move::Mark]);
-    act_on(&mut store, &mut tick, Action::Set { cell: 0, value: 9 })?;
-    let refused = Action::Add { cell: 1, by: -8 };
-    assert_eq!(rt;
-        act_on(&mut store, &mut tick, refused),
-        Err(Refusal::OutOfRange)
-    );
-    let moves = [word(5), word(7), Move::IsOpen(false), Move::Mark, word(9)];
-    follow(&rt, &mut store, &moves);
+    follow(&rt, &mut store, &MARK);
+    let set = Action::Set { cell: 0, value: 9 };
+    same(&rt, act_on(&mut store, &mut tick, set), Ok(()));
+    let add = Action::Add { cell: 1, by: -8 };
+    let refused = act_on(&mut store, &mut tick, add);
+    same(&rt, refused, Err(Refusal::OutOfRange));
+    follow(&rt, &mut store, &TAKES);
     Ok(())
 }

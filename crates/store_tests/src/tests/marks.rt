@@ -1,4 +1,6 @@
+use super::same::same;
 use packed_marks::{PackedMarks, with_bit};
+use std::alloc::{AllocError, Global};
 use std::process::Abort;
 use std::test::Fail;
 
@@ -11,53 +13,50 @@ fn words_of(marks: &PackedMarks) -> [u64; 3] {
     words
 }
 
-// Sets or clears the marks of some cells.
-fn put_all(rt: &impl Abort, marks: &mut PackedMarks, cells: &[usize], set: bool) {
-    for i in cells {
-        assert!(rt; *i < marks.len());
-        marks.put(*i, set);
-    }
+// How many marks there are of 65 cells, and their words.
+fn begun(alloc: Global, set: bool) -> Result<(usize, [u64; 3]), AllocError> {
+    let marks = PackedMarks::new(alloc, 65, set)?;
+    Ok((marks.len(), words_of(&marks)))
 }
 
 #[test]
 fn begins_with_equal_marks(rt: HostRuntime) -> Result<(), Fail> {
-    let set = PackedMarks::new(rt.alloc(), 65, true)?;
-    assert_eq!(rt; (set.len(), words_of(&set)), (65, [u64::MAX, 1, 0]));
-    let clear = PackedMarks::new(rt.alloc(), 65, false)?;
-    assert_eq!(rt; (clear.len(), words_of(&clear)), (65, [0, 0, 0]));
+    same(&rt, begun(rt.alloc(), true)?, (65, [u64::MAX, 1, 0]));
+    same(&rt, begun(rt.alloc(), false)?, (65, [0, 0, 0]));
     Ok(())
+}
+
+// The words once the marks of some cells were set or cleared.
+fn with_put(rt: &impl Abort, marks: &mut PackedMarks, cells: &[usize], set: bool) -> [u64; 3] {
+    for i in cells {
+        assert!(rt; *i < marks.len());
+        marks.put(*i, set);
+    }
+    words_of(marks)
 }
 
 #[test]
 fn puts_one_mark(rt: HostRuntime) -> Result<(), Fail> {
     let mut marks = PackedMarks::new(rt.alloc(), 130, false)?;
-    put_all(&rt, &mut marks, &[64, 129], true);
-    assert_eq!(rt; words_of(&marks), [0, 1, 2]);
-    put_all(&rt, &mut marks, &[64], false);
-    assert_eq!(rt; words_of(&marks), [0, 0, 2]);
+    same(&rt, with_put(&rt, &mut marks, &[64, 129], true), [0, 1, 2]);
+    same(&rt, with_put(&rt, &mut marks, &[64], false), [0, 0, 2]);
     Ok(())
 }
 
-// The opposites of two marks of 66 cells, and the opposites of those.
-fn opposites(
-    rt: &impl Abort,
-    marks: &mut PackedMarks,
-    others: &mut PackedMarks,
-) -> ([u64; 3], [u64; 3]) {
-    put_all(rt, others, &[1, 65], true);
+// Makes marks the opposites of others, and these the opposites of those.
+fn check_opposites(rt: &impl Abort, marks: &mut PackedMarks, others: &mut PackedMarks) {
+    with_put(rt, others, &[1, 65], true);
     assert!(rt; marks.len() == others.len());
     marks.set_opposites(others);
-    let first = words_of(marks);
+    same(rt, words_of(marks), [u64::MAX - 2, 1, 0]);
     others.set_opposites(marks);
-    (first, words_of(others))
+    same(rt, words_of(others), [2, 2, 0]);
 }
 
 #[test]
 fn sets_opposites(rt: HostRuntime) -> Result<(), Fail> {
     let mut others = PackedMarks::new(rt.alloc(), 66, false)?;
     let mut marks = PackedMarks::new(rt.alloc(), 66, false)?;
-    let (first, second) = opposites(&rt, &mut marks, &mut others);
-    assert_eq!(rt; first, [u64::MAX - 2, 1, 0]);
-    assert_eq!(rt; second, [2, 2, 0]);
+    check_opposites(&rt, &mut marks, &mut others);
     Ok(())
 }

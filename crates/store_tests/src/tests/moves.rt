@@ -9,14 +9,11 @@ pub enum Move {
     Len(usize),
     IsOpen(bool),
     Mark,
-    Take(Option<Taken>),
+    TakeWord(u64),
+    TakeSame,
+    TakeNone,
     Write(usize, u64),
     Read(usize, u64),
-}
-
-// A take that gives a word.
-pub fn word(word: u64) -> Move {
-    Move::Take(Some(Taken::Word(word)))
 }
 
 // Makes the calls, each of which gives its answer.
@@ -32,9 +29,11 @@ fn gives<C: Capture>(store: &mut C, next: Move) -> bool {
         Move::Len(cells) => store.len() == cells,
         Move::IsOpen(is_open) => store.open_round() == is_open,
         Move::Mark => mark(store),
-        Move::Take(taken) => store.take() == taken,
+        Move::TakeWord(word) => store.take() == Some(Taken::Word(word)),
+        Move::TakeSame => store.take() == Some(Taken::Same),
+        Move::TakeNone => store.take().is_none(),
         Move::Write(cell, word) => write(store, cell, word),
-        Move::Read(cell, word) => cell < store.len() && store.read(cell) == word,
+        Move::Read(cell, word) => read(store, cell) == Some(word),
     }
 }
 
@@ -56,22 +55,30 @@ pub fn write<C: Capture>(store: &mut C, cell: usize, word: u64) -> bool {
     true
 }
 
-// The moves of a store over 5 and 7 that is marked, taken and written, marked again and taken. The
-// last takes give `untouched` and the word that was written.
-pub fn two_rounds(untouched: Taken) -> [Move; 13] {
-    [
-        Move::IsOpen(false),
-        Move::Mark,
-        Move::IsOpen(true),
-        word(5),
-        word(7),
-        Move::Take(None),
-        Move::IsOpen(false),
-        Move::Len(2),
-        Move::Write(1, 9),
-        Move::Read(1, 9),
-        Move::Mark,
-        Move::Take(Some(untouched)),
-        word(9),
-    ]
+// The word of a cell, if there is such a cell.
+pub fn read<C: Capture>(store: &mut C, cell: usize) -> Option<u64> {
+    if cell >= store.len() {
+        return None;
+    }
+    Some(store.read(cell))
 }
+
+// The moves of a store over 5 and 7 that is marked, taken and written.
+pub const FIRST_ROUND: [Move; 10] = [
+    Move::IsOpen(false),
+    Move::Mark,
+    Move::IsOpen(true),
+    Move::TakeWord(5),
+    Move::TakeWord(7),
+    Move::TakeNone,
+    Move::IsOpen(false),
+    Move::Len(2),
+    Move::Write(1, 9),
+    Move::Read(1, 9),
+];
+
+// The next round, whose takes tell the word of an untouched cell.
+pub const NEXT_WORDS: [Move; 3] = [Move::Mark, Move::TakeWord(5), Move::TakeWord(9)];
+
+// The same with takes that tell that a cell is untouched.
+pub const NEXT_CHANGES: [Move; 3] = [Move::Mark, Move::TakeSame, Move::TakeWord(9)];

@@ -4,10 +4,12 @@ ghost use Rattle.capture_core.specs.Rounds.{IsChange};
 
 use capture_core::{Capture, copy_round};
 use std::alloc::Global;
+use std::process::Abort;
 use world_actions::Refusal;
 
 // The image of a round over 5 and 7 in which some cells change, and the image of the next round.
 pub fn copied<C: Capture>(
+    rt: &impl Abort,
     alloc: Global,
     changes: &[(usize, u64)],
 ) -> Result<([u64; 2], [u64; 2]), Refusal>
@@ -18,6 +20,7 @@ pub fn copied<C: Capture>(
     let mut image = [0, 0];
     copy_round(&mut store, &mut image, changes);
     let first = image;
+    assert!(rt; store.len() == image.len());
     copy_round(&mut store, &mut image, &[]);
     Ok((first, image))
 }

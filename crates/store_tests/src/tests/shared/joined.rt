@@ -2,7 +2,8 @@
 ghost use Rattle.std.specs.Prelude.{◌≡◌, ◌<◌, [], IsTrue, All};
 ghost use Rattle.shared_capture.specs.declared.view.Round.{Round};
 
-use super::super::moves::{Move, follow, mark, word, write};
+use super::super::moves::{Move, follow, mark, write};
+use super::super::same::same;
 use capture_core::{Capture, PlainCopy, Taken, Taker};
 use shared_capture::{Back, Front, Joined, Method, Pong, Zig};
 use std::alloc::Global;
@@ -32,12 +33,25 @@ impl<C: Capture> Beside<C> {
     fn check_round(&mut self, rt: &impl Abort, round: usize)
         requires { round < 4 }
     {
+        self.write_some(rt, round);
+        assert!(rt; mark(&mut self.store) && mark(&mut self.plain));
+        self.check_takes(rt, round);
+        assert!(rt; self.store.take().is_none() && self.plain.take().is_none());
+    }
+
+    fn write_some(&mut self, rt: &impl Abort, round: usize)
+        requires { round < 4 }
+    {
         for i in 0..self.image.len() {
             if i % (7 + round) == round {
                 assert!(rt; self.write(i, 10 + round as u64), "cell {i}");
             }
         }
-        assert!(rt; mark(&mut self.store) && mark(&mut self.plain));
+    }
+
+    fn check_takes(&mut self, rt: &impl Abort, round: usize)
+        requires { round < 4 }
+    {
         for i in 0..self.image.len() {
             let word = (50 + i % 900) as u64;
             assert!(rt;
@@ -45,7 +59,6 @@ impl<C: Capture> Beside<C> {
                 "cell {i}"
             );
         }
-        assert!(rt; self.store.take().is_none() && self.plain.take().is_none());
     }
 
     fn write(&mut self, cell: usize, word: u64) -> bool {
@@ -67,24 +80,20 @@ impl<C: Capture> Beside<C> {
 }
 
 // One list of writes and marks on a store and on the plain copy.
-fn check_beside_plain_copy<C: Capture>(
-    rt: &impl Abort,
-    alloc: Global,
-    cells: usize,
-) -> Result<(), Refusal> {
-    let mut both: Beside<C> = Beside::new(alloc, cells)?;
-    for round in 0..4 {
-        both.check_round(rt, round);
+fn check_beside_plain_copy<C: Capture>(rt: &impl Abort, alloc: Global) -> Result<(), Refusal> {
+    for cells in [0, 1, 63, 64, 65, 130] {
+        let mut both: Beside<C> = Beside::new(alloc, cells)?;
+        for round in 0..4 {
+            both.check_round(rt, round);
+        }
     }
     Ok(())
 }
 
 #[test]
 fn stands_for_plain_copy(rt: HostRuntime) -> Result<(), Fail> {
-    for cells in [0, 1, 63, 64, 65, 130] {
-        check_beside_plain_copy::<Joined<Zig>>(&rt, rt.alloc(), cells)?;
-        check_beside_plain_copy::<Joined<Pong>>(&rt, rt.alloc(), cells)?;
-    }
+    check_beside_plain_copy::<Joined<Zig>>(&rt, rt.alloc())?;
+    check_beside_plain_copy::<Joined<Pong>>(&rt, rt.alloc())?;
     Ok(())
 }
 
@@ -107,25 +116,26 @@ fn split<M: Method>(rt: &impl Abort, joined: Joined<M>) -> (Front<M>, Back<M>)
 fn check_seats<M: Method>(rt: &impl Abort, front: &mut Front<M>, back: &mut Back<M>)
     requires { All (λ (r : Round). r.tick < 2) front.old.rounds }
 {
-    assert!(rt; back.look().is_none());
-    assert!(rt; front.mark(2).is_ok());
-    assert_eq!(rt; back.look(), Some(2));
-    assert_eq!(rt; back.take(), Some(Taken::Same));
-    assert_eq!(rt; back.take(), Some(Taken::Word(8)));
-    assert_eq!(rt; back.take(), None);
+    same(rt, back.look(), None);
+    same(rt, front.mark(2), Ok(()));
+    same(rt, back.look(), Some(2));
+    same(rt, back.take(), Some(Taken::Same));
+    same(rt, back.take(), Some(Taken::Word(8)));
+    same(rt, back.take(), None);
 }
+
+const MOVES: [Move; 5] = [
+    Move::Mark,
+    Move::TakeWord(5),
+    Move::TakeWord(7),
+    Move::Write(1, 8),
+    Move::IsOpen(false),
+];
 
 #[test]
 fn splits_where_no_cell_is_left(rt: HostRuntime) -> Result<(), Fail> {
     let mut joined: Joined<Pong> = Joined::build(rt.alloc(), &[5, 7])?;
-    let moves = [
-        Move::Mark,
-        word(5),
-        word(7),
-        Move::Write(1, 8),
-        Move::IsOpen(false),
-    ];
-    follow(&rt, &mut joined, &moves);
+    follow(&rt, &mut joined, &MOVES);
     let (mut front, mut back) = split(&rt, joined);
     check_seats(&rt, &mut front, &mut back);
     Ok(())

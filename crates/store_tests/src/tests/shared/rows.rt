@@ -2,6 +2,7 @@
 ghost use Rattle.std.specs.Prelude.{◌≡◌, ◌<◌, [], true, length, All};
 ghost use Rattle.shared_capture.specs.declared.view.Round.{Round};
 
+use super::super::same::same;
 use capture_core::{Taken, Taker};
 use shared_capture::{Back, Front, Method, meet, ping_pong_pair, zigzag_pair};
 use std::process::Abort;
@@ -17,9 +18,9 @@ fn mark_first<M: Method>(rt: &impl Abort, front: &mut Front<M>)
     ensures rounds { All (λ (r : Round). r.tick < 2) front.new.rounds }
 {
     front.write(0, 6);
-    assert!(rt; front.mark(1).is_ok());
+    same(rt, front.mark(1), Ok(()));
     front.write(0, 9);
-    assert_eq!(rt; front.read(0), 9);
+    same(rt, front.read(0), 9);
 }
 
 // Takes the first round.
@@ -27,10 +28,10 @@ fn take_first<M: Method>(rt: &impl Abort, back: &mut Back<M>)
     ensures pair { back.new.pair ≡ back.old.pair }
     ensures taken { (back.new.working ≡ true) × (length back.new.now.taken ≡ back.new.cells) }
 {
-    assert_eq!(rt; back.look(), Some(1));
-    assert_eq!(rt; back.take(), Some(Taken::Word(6)));
-    assert_eq!(rt; back.take(), Some(Taken::Word(7)));
-    assert_eq!(rt; back.take(), None);
+    assert!(rt; back.look() == Some(1));
+    same(rt, back.take(), Some(Taken::Word(6)));
+    same(rt, back.take(), Some(Taken::Word(7)));
+    assert!(rt; back.take().is_none());
 }
 
 // Marks the second round and takes it. Its last cell was not written since the first.
@@ -43,11 +44,11 @@ fn second_round<M: Method>(
     requires pair { front.old.pair ≡ back.old.pair }
     requires rounds { All (λ (r : Round). r.tick < 2) front.old.rounds }
 {
-    assert!(rt; front.mark(2).is_ok());
-    assert_eq!(rt; back.look(), Some(2));
-    assert_eq!(rt; back.take(), Some(Taken::Word(9)));
+    same(rt, front.mark(2), Ok(()));
+    same(rt, back.look(), Some(2));
+    same(rt, back.take(), Some(Taken::Word(9)));
     meet(front, back);
-    assert_eq!(rt; back.take(), Some(untouched));
+    same(rt, back.take(), Some(untouched));
 }
 
 fn check_row<M: Method>(rt: &impl Abort, front: &mut Front<M>, back: &mut Back<M>, untouched: Taken)
@@ -55,10 +56,10 @@ fn check_row<M: Method>(rt: &impl Abort, front: &mut Front<M>, back: &mut Back<M
     requires cells { 0 < length front.old.live }
     requires rounds { front.old.rounds ≡ [] }
 {
-    assert!(rt; back.look().is_none());
+    same(rt, back.look(), None);
     mark_first(rt, front);
     take_first(rt, back);
-    assert_eq!(rt; front.mark(2), Err(Refusal::Busy));
+    assert!(rt; front.mark(2) == Err(Refusal::Busy));
     back.finish();
     second_round(rt, front, back, untouched);
 }

@@ -4,6 +4,7 @@ ghost use Rattle.shared_capture.specs.declared.view.Round.{Round};
 ghost use Rattle.shared_capture.specs.Rounds.{Agree};
 ghost use Rattle.shared_capture.specs.States.{snapshots};
 
+use super::super::same::same;
 use capture_core::Taker;
 use shared_capture::{Back, Front, Method, meet, ping_pong_pair, zigzag_pair};
 use std::process::Abort;
@@ -105,19 +106,26 @@ fn run_both<M: Method + Send + 'static, R: Threads + Sync>(
     (front, back)
 }
 
-// At the end no round is open.
-fn check_end<M: Method>(rt: &impl Abort, front: &Front<M>, back: &mut Back<M>) {
-    assert!(rt; back.look().is_none() && front.len() == 65);
+// Both seats in a thread of their own. At the end no round is open.
+fn check_pair<M: Method + Send + 'static, R: Threads + Sync + Abort>(
+    rt: &R,
+    front: Front<M>,
+    back: Back<M>,
+)
+    requires pair { front.pair ≡ back.pair }
+    requires cells { 0 < length front.live }
+    requires rounds { front.rounds ≡ [] }
+{
+    let (front, mut back) = run_both(rt, front, back);
+    same(rt, back.look(), None);
+    same(rt, front.len(), 65);
 }
 
 #[test]
 fn two_threads(rt: HostRuntime) -> Result<(), Fail> {
-    let words = [7; 65];
-    let (front, back) = zigzag_pair(rt.alloc(), &words)?;
-    let (front, mut back) = run_both(&rt, front, back);
-    check_end(&rt, &front, &mut back);
-    let (front, back) = ping_pong_pair(rt.alloc(), &words)?;
-    let (front, mut back) = run_both(&rt, front, back);
-    check_end(&rt, &front, &mut back);
+    let (front, back) = zigzag_pair(rt.alloc(), &[7; 65])?;
+    check_pair(&rt, front, back);
+    let (front, back) = ping_pong_pair(rt.alloc(), &[7; 65])?;
+    check_pair(&rt, front, back);
     Ok(())
 }
