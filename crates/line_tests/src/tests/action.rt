@@ -1,3 +1,4 @@
+use super::same::{same, same_for};
 use std::process::Abort;
 use world_actions::{Action, Change, LIMIT, Refusal, check};
 
@@ -5,16 +6,16 @@ const GREATEST: u64 = 999_999_999_999_999_999;
 
 #[test]
 fn names_cells(rt: HostRuntime) {
-    assert_eq!(rt; Action::Set { cell: 3, value: 9 }.cells(), (3, 3));
-    assert_eq!(rt; Action::Add { cell: 4, by: -9 }.cells(), (4, 4));
+    same(&rt, Action::Set { cell: 3, value: 9 }.cells(), (3, 3));
+    same(&rt, Action::Add { cell: 4, by: -9 }.cells(), (4, 4));
     let transfer = Action::Transfer {
         from: 5,
         to: 6,
         amount: 9,
     };
-    assert_eq!(rt; transfer.cells(), (5, 6));
-    assert_eq!(rt; Action::Swap { a: 7, b: 8 }.cells(), (7, 8));
-    assert_eq!(rt; Action::Cap { cell: 9, value: 1 }.cells(), (9, 9));
+    same(&rt, transfer.cells(), (5, 6));
+    same(&rt, Action::Swap { a: 7, b: 8 }.cells(), (7, 8));
+    same(&rt, Action::Cap { cell: 9, value: 1 }.cells(), (9, 9));
 }
 
 // The new words of the first cell and of the second, or why they are refused.
@@ -55,22 +56,23 @@ const CAPS: [(u32, u64, u64, Decided); 5] = [
 fn decides_on_one_cell(rt: HostRuntime) {
     for (cell, value, want) in SETS {
         let action = Action::Set { cell, value };
-        assert_eq!(rt; decided(&rt, action, 1, (0, 0)), want, "{action:?}");
+        same_for(&rt, action, decided(&rt, action, 1, (0, 0)), want);
     }
     for (by, word, want) in ADDS {
         let action = Action::Add { cell: 0, by };
-        assert_eq!(rt; decided(&rt, action, 1, (word, word)), want, "{action:?}");
+        same_for(&rt, action, decided(&rt, action, 1, (word, word)), want);
     }
     for (cell, value, word, want) in CAPS {
         let action = Action::Cap { cell, value };
-        assert_eq!(rt; decided(&rt, action, 1, (word, word)), want, "{action:?}");
+        same_for(&rt, action, decided(&rt, action, 1, (word, word)), want);
     }
     let transfer = Action::Transfer {
         from: 0,
         to: 0,
         amount: GREATEST + 1,
     };
-    assert_eq!(rt; decided(&rt, transfer, 1, (5, 5)), Err(Refusal::BadValue));
+    let refused = decided(&rt, transfer, 1, (5, 5));
+    same(&rt, refused, Err(Refusal::BadValue));
 }
 
 // Two cells and an amount in a world of two cells, and the words of the cells.
@@ -96,15 +98,16 @@ const SWAPS: [((u32, u32), (u64, u64), Decided); 5] = [
 fn decides_on_two_cells(rt: HostRuntime) {
     for ((from, to, amount), words, want) in TRANSFERS {
         let action = Action::Transfer { from, to, amount };
-        assert_eq!(rt; decided(&rt, action, 2, words), want, "{action:?}");
+        same_for(&rt, action, decided(&rt, action, 2, words), want);
     }
     for ((a, b), words, want) in SWAPS {
         let action = Action::Swap { a, b };
-        assert_eq!(rt; decided(&rt, action, 2, words), want, "{action:?}");
+        same_for(&rt, action, decided(&rt, action, 2, words), want);
     }
     let set = Action::Set {
         cell: 2,
         value: 1_000_000_000_000_000_000,
     };
-    assert_eq!(rt; decided(&rt, set, 2, (0, 0)), Err(Refusal::BadCell));
+    let refused = decided(&rt, set, 2, (0, 0));
+    same(&rt, refused, Err(Refusal::BadCell));
 }

@@ -1,3 +1,4 @@
+use super::same::{same, same_for};
 use line_grammar::{Command, read_command};
 use world_actions::Action;
 
@@ -50,8 +51,8 @@ const GOOD_LINES: [(&str, Command); 11] = [
 
 #[test]
 fn good_lines(rt: HostRuntime) {
-    for (line, command) in GOOD_LINES {
-        assert_eq!(rt; read_command(line.as_bytes()), Some(command), "{line}");
+    for (line, command) in &GOOD_LINES {
+        same_for(&rt, *line, read_command(line.as_bytes()), Some(*command));
     }
 }
 
@@ -87,8 +88,8 @@ const BAD_LINES: [&str; 27] = [
 
 #[test]
 fn bad_lines(rt: HostRuntime) {
-    for line in BAD_LINES {
-        assert_eq!(rt; read_command(line.as_bytes()), None, "{line:?}");
+    for line in &BAD_LINES {
+        same_for(&rt, *line, read_command(line.as_bytes()), None);
     }
-    assert_eq!(rt; read_command(b"get \xff"), None);
+    same(&rt, read_command(b"get \xff"), None);
 }
