@@ -1,7 +1,7 @@
 use super::same::same;
 use packed_marks::{chunks_of, full_marks, has_bit, with_bit};
-use std::alloc::{AllocError, Global};
-use std::test::Fail;
+use std::alloc::Global;
+use std::process::Abort;
 
 // Numbers of cells, and of the words of their marks.
 const COUNTS: [(usize, usize); 7] = [
@@ -16,8 +16,8 @@ const COUNTS: [(usize, usize); 7] = [
 
 #[test]
 fn counts_words_of_cells(rt: HostRuntime) {
-    for (cells, words) in COUNTS {
-        assert_eq!(rt; chunks_of(cells), words, "{cells} cells");
+    for (cells, words) in &COUNTS {
+        same(&rt, chunks_of(*cells), *words);
     }
 }
 
@@ -33,16 +33,15 @@ fn reads_and_changes_one_bit(rt: HostRuntime) {
 // Numbers of cells, and their full marks.
 const FULL: [(usize, &[u64]); 3] = [(0, &[]), (64, &[u64::MAX]), (130, &[u64::MAX, u64::MAX, 3])];
 
-// Whether the full marks of so many cells are these words.
-fn are_full(alloc: Global, cells: usize, words: &[u64]) -> Result<bool, AllocError> {
-    let full = full_marks(alloc, cells)?;
-    Ok(full.as_slice() == words)
+#[test]
+fn full_marks_end_with_last_cell(rt: HostRuntime) {
+    for (cells, words) in &FULL {
+        check_full(&rt, rt.alloc(), *cells, words);
+    }
 }
 
-#[test]
-fn full_marks_end_with_last_cell(rt: HostRuntime) -> Result<(), Fail> {
-    for (cells, words) in FULL {
-        assert!(rt; are_full(rt.alloc(), cells, words)?, "{cells} cells");
-    }
-    Ok(())
+// The full marks of so many cells are these words.
+fn check_full(rt: &impl Abort, alloc: Global, cells: usize, words: &[u64]) {
+    let full = full_marks(alloc, cells).expect(rt, "memory");
+    same(rt, full.as_slice(), words);
 }

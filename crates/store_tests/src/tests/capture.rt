@@ -5,7 +5,8 @@ ghost use Rattle.capture_core.specs.Content.{content_after};
 use super::moves::{Move, follow};
 use super::same::same;
 use capture_core::{Capture, PlainCopy, accesses_write};
-use std::test::Fail;
+use std::alloc::Global;
+use std::process::Abort;
 use world_actions::{Action, Refusal};
 use world_ticks::{Tick, act};
 
@@ -30,16 +31,20 @@ const TAKES: [Move; 5] = [
     Move::TakeWord(9),
 ];
 
-#[test]
-fn acts_in_open_round(rt: HostRuntime) -> Result<(), Fail> {
-    let mut store = PlainCopy::build(rt.alloc(), &[5, 7])?;
-    let mut tick = Tick::new(rt.alloc());
-    follow(&rt, &mut store, &MARK);
+// An action of an open round, and one that is refused.
+fn check_actions<C: Capture>(rt: &impl Abort, alloc: Global) {
+    let mut store = C::build(alloc, &[5, 7]).expect(rt, "memory");
+    let mut tick = Tick::new(alloc);
+    follow(rt, &mut store, &MARK);
     let set = Action::Set { cell: 0, value: 9 };
-    same(&rt, act_on(&mut store, &mut tick, set), Ok(()));
+    same(rt, act_on(&mut store, &mut tick, set), Ok(()));
     let add = Action::Add { cell: 1, by: -8 };
     let refused = act_on(&mut store, &mut tick, add);
-    same(&rt, refused, Err(Refusal::OutOfRange));
-    follow(&rt, &mut store, &TAKES);
-    Ok(())
+    same(rt, refused, Err(Refusal::OutOfRange));
+    follow(rt, &mut store, &TAKES);
+}
+
+#[test]
+fn acts_in_open_round(rt: HostRuntime) {
+    check_actions::<PlainCopy>(&rt, rt.alloc());
 }

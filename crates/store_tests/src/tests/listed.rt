@@ -3,22 +3,16 @@ ghost use Rattle.std.specs.Prelude.{◌<◌};
 
 use super::moves::{mark, read, write};
 use capture_core::{Capture, Taken};
-use std::alloc::{AllocError, Global};
+use std::alloc::Global;
 use std::process::Abort;
-use world_actions::Refusal;
 
 // Rounds over some numbers of cells, with writes between them and between their takes. It is said
 // whether takes give `Same` for the cells that were not written since the mark before.
-pub fn check_list<C: Capture>(
-    rt: &impl Abort,
-    alloc: Global,
-    tells_same: bool,
-) -> Result<(), Refusal> {
+pub fn check_list<C: Capture>(rt: &impl Abort, alloc: Global, tells_same: bool) {
     for cells in [1, 63, 64, 65, 130] {
-        let mut listed: Listed<C> = Listed::new(alloc, cells, tells_same)?;
-        listed.check_rounds(rt, alloc)?;
+        let mut listed: Listed<C> = Listed::new(rt, alloc, cells, tells_same);
+        listed.check_rounds(rt, alloc);
     }
-    Ok(())
 }
 
 // A store, its words, and for each whether it was written since the last mark.
@@ -32,24 +26,23 @@ struct Listed<C: Capture> {
 
 impl<C: Capture> Listed<C> {
     // So many cells that are 0.
-    fn new(alloc: Global, cells: usize, tells_same: bool) -> Result<Self, Refusal> {
-        let words = vec![in alloc; 0; cells]?;
-        Ok(Listed {
-            store: C::build(alloc, &words)?,
+    fn new(rt: &impl Abort, alloc: Global, cells: usize, tells_same: bool) -> Self {
+        let words = Vec::from_elem(alloc, 0, cells).expect(rt, "memory");
+        Listed {
+            store: C::build(alloc, &words).expect(rt, "memory"),
             words,
-            touched: vec![in alloc; true; cells]?,
+            touched: Vec::from_elem(alloc, true, cells).expect(rt, "memory"),
             tells_same,
-        })
+        }
     }
 
     // A round, and one after each batch of writes.
-    fn check_rounds(&mut self, rt: &impl Abort, alloc: Global) -> Result<(), AllocError> {
-        self.check_round(rt, alloc)?;
+    fn check_rounds(&mut self, rt: &impl Abort, alloc: Global) {
+        self.check_round(rt, alloc);
         for step in 1..4 {
             self.write_each(rt, step);
-            self.check_round(rt, alloc)?;
+            self.check_round(rt, alloc);
         }
-        Ok(())
     }
 
     // Writes each cell of which the step is a divisor.
@@ -64,22 +57,27 @@ impl<C: Capture> Listed<C> {
     }
 
     // A round takes the words of the mark, whatever is written between its takes.
-    fn check_round(&mut self, rt: &impl Abort, alloc: Global) -> Result<(), AllocError> {
-        let words = Vec::from_slice(alloc, &self.words)?;
-        let touched = Vec::from_slice(alloc, &self.touched)?;
+    fn check_round(&mut self, rt: &impl Abort, alloc: Global) {
+        let words = Vec::from_slice(alloc, &self.words).expect(rt, "memory");
+        let touched = Vec::from_slice(alloc, &self.touched).expect(rt, "memory");
         self.check_takes(rt, &words, &touched);
-        Ok(())
     }
 
     // Marks, and takes these words where they are touched.
     fn check_takes(&mut self, rt: &impl Abort, words: &[u64], touched: &[bool]) {
         self.touched.fill(false);
         assert!(rt; mark(&mut self.store));
-        for (i, (word, touched)) in words.iter().zip(touched).enumerate() {
-            assert!(rt; self.writes_opposite(i, *word), "cell {i}");
-            assert!(rt; self.takes(*word, *touched) && self.reads(i), "cell {i}");
+        for i in 0..words.len() {
+            assert!(rt;
+                i < touched.len() && self.takes_cell(i, words[i], touched[i]),
+                "cell {i}"
+            );
         }
         assert!(rt; self.store.take().is_none());
+    }
+
+    fn takes_cell(&mut self, i: usize, word: u64, touched: bool) -> bool {
+        self.writes_opposite(i, word) && self.takes(word, touched) && self.reads(i)
     }
 
     // Writes the cell as far from the end as this one is from the front. If takes tell what is the

@@ -1,8 +1,7 @@
 use super::same::same;
 use packed_marks::{PackedMarks, with_bit};
-use std::alloc::{AllocError, Global};
+use std::alloc::Global;
 use std::process::Abort;
-use std::test::Fail;
 
 // The marks of at most 192 cells, 64 to a word.
 fn words_of(marks: &PackedMarks) -> [u64; 3] {
@@ -13,17 +12,17 @@ fn words_of(marks: &PackedMarks) -> [u64; 3] {
     words
 }
 
-// How many marks there are of 65 cells, and their words.
-fn begun(alloc: Global, set: bool) -> Result<(usize, [u64; 3]), AllocError> {
-    let marks = PackedMarks::new(alloc, 65, set)?;
-    Ok((marks.len(), words_of(&marks)))
+// The marks of 65 cells, all set or all clear, have these words.
+fn check_equal(rt: &impl Abort, alloc: Global, set: bool, words: [u64; 3]) {
+    let marks = PackedMarks::new(alloc, 65, set).expect(rt, "memory");
+    same(rt, marks.len(), 65);
+    same(rt, words_of(&marks), words);
 }
 
 #[test]
-fn begins_with_equal_marks(rt: HostRuntime) -> Result<(), Fail> {
-    same(&rt, begun(rt.alloc(), true)?, (65, [u64::MAX, 1, 0]));
-    same(&rt, begun(rt.alloc(), false)?, (65, [0, 0, 0]));
-    Ok(())
+fn begins_with_equal_marks(rt: HostRuntime) {
+    check_equal(&rt, rt.alloc(), true, [u64::MAX, 1, 0]);
+    check_equal(&rt, rt.alloc(), false, [0, 0, 0]);
 }
 
 // The words once the marks of some cells were set or cleared.
@@ -36,11 +35,10 @@ fn with_put(rt: &impl Abort, marks: &mut PackedMarks, cells: &[usize], set: bool
 }
 
 #[test]
-fn puts_one_mark(rt: HostRuntime) -> Result<(), Fail> {
-    let mut marks = PackedMarks::new(rt.alloc(), 130, false)?;
+fn puts_one_mark(rt: HostRuntime) {
+    let mut marks = PackedMarks::new(rt.alloc(), 130, false).expect(&rt, "memory");
     same(&rt, with_put(&rt, &mut marks, &[64, 129], true), [0, 1, 2]);
     same(&rt, with_put(&rt, &mut marks, &[64], false), [0, 0, 2]);
-    Ok(())
 }
 
 // Makes marks the opposites of others, and these the opposites of those.
@@ -54,9 +52,8 @@ fn check_opposites(rt: &impl Abort, marks: &mut PackedMarks, others: &mut Packed
 }
 
 #[test]
-fn sets_opposites(rt: HostRuntime) -> Result<(), Fail> {
-    let mut others = PackedMarks::new(rt.alloc(), 66, false)?;
-    let mut marks = PackedMarks::new(rt.alloc(), 66, false)?;
+fn sets_opposites(rt: HostRuntime) {
+    let mut others = PackedMarks::new(rt.alloc(), 66, false).expect(&rt, "memory");
+    let mut marks = PackedMarks::new(rt.alloc(), 66, false).expect(&rt, "memory");
     check_opposites(&rt, &mut marks, &mut others);
-    Ok(())
 }

@@ -1,5 +1,6 @@
 // Calls of a store in order, and what each gives.
 use capture_core::{Capture, Taken};
+use std::alloc::Global;
 use std::process::Abort;
 use world_actions::LIMIT;
 
@@ -14,6 +15,12 @@ pub enum Move {
     TakeNone,
     Write(usize, u64),
     Read(usize, u64),
+}
+
+// Makes the calls of a new store over 5 and 7.
+pub fn follow_new<C: Capture>(rt: &impl Abort, alloc: Global, moves: &[Move]) {
+    let mut store = C::build(alloc, &[5, 7]).expect(rt, "memory");
+    follow(rt, &mut store, moves);
 }
 
 // Makes the calls, each of which gives its answer.
@@ -63,8 +70,9 @@ pub fn read<C: Capture>(store: &mut C, cell: usize) -> Option<u64> {
     Some(store.read(cell))
 }
 
-// The moves of a store over 5 and 7 that is marked, taken and written.
-pub const FIRST_ROUND: [Move; 10] = [
+// The moves of a store over 5 and 7 that is marked, taken and written, and marked and taken again. A take
+// of an untouched cell gives its word.
+pub const TWO_ROUNDS: [Move; 13] = [
     Move::IsOpen(false),
     Move::Mark,
     Move::IsOpen(true),
@@ -75,10 +83,24 @@ pub const FIRST_ROUND: [Move; 10] = [
     Move::Len(2),
     Move::Write(1, 9),
     Move::Read(1, 9),
+    Move::Mark,
+    Move::TakeWord(5),
+    Move::TakeWord(9),
 ];
 
-// The next round, whose takes tell the word of an untouched cell.
-pub const NEXT_WORDS: [Move; 3] = [Move::Mark, Move::TakeWord(5), Move::TakeWord(9)];
-
 // The same with takes that tell that a cell is untouched.
-pub const NEXT_CHANGES: [Move; 3] = [Move::Mark, Move::TakeSame, Move::TakeWord(9)];
+pub const TWO_CHANGES: [Move; 13] = [
+    Move::IsOpen(false),
+    Move::Mark,
+    Move::IsOpen(true),
+    Move::TakeWord(5),
+    Move::TakeWord(7),
+    Move::TakeNone,
+    Move::IsOpen(false),
+    Move::Len(2),
+    Move::Write(1, 9),
+    Move::Read(1, 9),
+    Move::Mark,
+    Move::TakeSame,
+    Move::TakeWord(9),
+];

@@ -1,20 +1,14 @@
-use super::moves::{FIRST_ROUND, NEXT_WORDS, follow};
-use super::rounds::copied;
-use super::same::same;
-use capture_core::{Capture, PlainCopy};
-use std::test::Fail;
+use super::moves::{TWO_ROUNDS, follow_new};
+use super::rounds::check_images;
+use capture_core::PlainCopy;
 
 #[test]
-fn hands_out_words_of_marks(rt: HostRuntime) -> Result<(), Fail> {
-    let mut store = PlainCopy::build(rt.alloc(), &[5, 7])?;
-    follow(&rt, &mut store, &FIRST_ROUND);
-    follow(&rt, &mut store, &NEXT_WORDS);
-    Ok(())
+fn hands_out_words_of_marks(rt: HostRuntime) {
+    follow_new::<PlainCopy>(&rt, rt.alloc(), &TWO_ROUNDS);
 }
 
 #[test]
-fn copies_words_of_mark(rt: HostRuntime) -> Result<(), Fail> {
-    let images = copied::<PlainCopy>(&rt, rt.alloc(), &[(1, 9), (0, 4)])?;
-    same(&rt, images, ([5, 7], [4, 9]));
-    Ok(())
+fn copies_words_of_mark(rt: HostRuntime) {
+    let images = ([5, 7], [4, 9]);
+    check_images::<PlainCopy>(&rt, rt.alloc(), &[(1, 9), (0, 4)], images);
 }

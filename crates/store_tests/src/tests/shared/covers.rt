@@ -5,7 +5,6 @@ ghost use Rattle.shared_capture.specs.CoverWord.{AreStored};
 use super::super::same::same;
 use shared_capture::{CoverIn, CoverOut, cover_pair, meet_cover};
 use std::process::Abort;
-use std::test::Fail;
 use std::thread::{Threads, join, yield_now};
 
 const TICKS: u64 = 1000;
@@ -74,17 +73,15 @@ fn check_newest(rt: &impl Abort, out: &mut CoverOut, from: &mut CoverIn)
 }
 
 #[test]
-fn the_newest_image_is_told(rt: HostRuntime) -> Result<(), Fail> {
-    let (mut out, mut from) = cover_pair(rt.alloc())?;
+fn the_newest_image_is_told(rt: HostRuntime) {
+    let (mut out, mut from) = cover_pair(rt.alloc()).expect(&rt, "memory");
     check_newest(&rt, &mut out, &mut from);
-    Ok(())
 }
 
 #[test]
-fn ticks_rise_between_threads(rt: HostRuntime) -> Result<(), Fail> {
-    let (out, from) = cover_pair(rt.alloc())?;
+fn ticks_rise_between_threads(rt: HostRuntime) {
+    let (out, from) = cover_pair(rt.alloc()).expect(&rt, "memory");
     let (_out, mut from, rises) = run_both(&rt, out, from);
     assert!(rt; rises);
     same(&rt, from.latest(), TICKS);
-    Ok(())
 }

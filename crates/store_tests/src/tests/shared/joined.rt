@@ -8,8 +8,6 @@ use capture_core::{Capture, PlainCopy, Taken, Taker};
 use shared_capture::{Back, Front, Joined, Method, Pong, Zig};
 use std::alloc::Global;
 use std::process::Abort;
-use std::test::Fail;
-use world_actions::Refusal;
 
 // A store beside the plain copy, and an image of what its takes give.
 #[derive(Drop)]
@@ -20,13 +18,13 @@ struct Beside<C: Capture> {
 }
 
 impl<C: Capture> Beside<C> {
-    fn new(alloc: Global, cells: usize) -> Result<Self, Refusal> {
-        let image = vec![in alloc; 3; cells]?;
-        Ok(Beside {
-            store: C::build(alloc, &image)?,
-            plain: PlainCopy::build(alloc, &image)?,
+    fn new(rt: &impl Abort, alloc: Global, cells: usize) -> Self {
+        let image = Vec::from_elem(alloc, 3, cells).expect(rt, "memory");
+        Beside {
+            store: C::build(alloc, &image).expect(rt, "memory"),
+            plain: PlainCopy::build(alloc, &image).expect(rt, "memory"),
             image,
-        })
+        }
     }
 
     // Writes some cells, marks, and takes the round while others are written.
@@ -80,21 +78,19 @@ impl<C: Capture> Beside<C> {
 }
 
 // One list of writes and marks on a store and on the plain copy.
-fn check_beside_plain_copy<C: Capture>(rt: &impl Abort, alloc: Global) -> Result<(), Refusal> {
+fn check_beside_plain_copy<C: Capture>(rt: &impl Abort, alloc: Global) {
     for cells in [0, 1, 63, 64, 65, 130] {
-        let mut both: Beside<C> = Beside::new(alloc, cells)?;
+        let mut both: Beside<C> = Beside::new(rt, alloc, cells);
         for round in 0..4 {
             both.check_round(rt, round);
         }
     }
-    Ok(())
 }
 
 #[test]
-fn stands_for_plain_copy(rt: HostRuntime) -> Result<(), Fail> {
-    check_beside_plain_copy::<Joined<Zig>>(&rt, rt.alloc())?;
-    check_beside_plain_copy::<Joined<Pong>>(&rt, rt.alloc())?;
-    Ok(())
+fn stands_for_plain_copy(rt: HostRuntime) {
+    check_beside_plain_copy::<Joined<Zig>>(&rt, rt.alloc());
+    check_beside_plain_copy::<Joined<Pong>>(&rt, rt.alloc());
 }
 
 // Whether no cell is left.
@@ -102,14 +98,6 @@ fn is_ended<C: Capture>(store: &C) -> bool
     ensures { IsTrue result → (C.content store.now).left ≡ [] }
 {
     !store.open_round()
-}
-
-// The seats of a store of which no cell is left.
-fn split<M: Method>(rt: &impl Abort, joined: Joined<M>) -> (Front<M>, Back<M>)
-    ensures { All (λ (r : Round). r.tick < 2) result.0.rounds }
-{
-    assert!(rt; is_ended(&joined));
-    joined.split()
 }
 
 // Marks a round of the seats, in which only the second cell was written, and takes it.
@@ -132,11 +120,16 @@ const MOVES: [Move; 5] = [
     Move::IsOpen(false),
 ];
 
+// Parts a store of which no cell is left.
+fn check_split<M: Method>(rt: &impl Abort, alloc: Global) {
+    let mut joined: Joined<M> = Joined::build(alloc, &[5, 7]).expect(rt, "memory");
+    follow(rt, &mut joined, &MOVES);
+    assert!(rt; is_ended(&joined));
+    let (mut front, mut back) = joined.split();
+    check_seats(rt, &mut front, &mut back);
+}
+
 #[test]
-fn splits_where_no_cell_is_left(rt: HostRuntime) -> Result<(), Fail> {
-    let mut joined: Joined<Pong> = Joined::build(rt.alloc(), &[5, 7])?;
-    follow(&rt, &mut joined, &MOVES);
-    let (mut front, mut back) = split(&rt, joined);
-    check_seats(&rt, &mut front, &mut back);
-    Ok(())
+fn splits_where_no_cell_is_left(rt: HostRuntime) {
+    check_split::<Pong>(&rt, rt.alloc());
 }

@@ -6,7 +6,6 @@ use super::super::same::same;
 use capture_core::{Taken, Taker};
 use shared_capture::{Back, Front, Method, meet, ping_pong_pair, zigzag_pair};
 use std::process::Abort;
-use std::test::Fail;
 use world_actions::Refusal;
 use world_ticks::Cells;
 
@@ -51,29 +50,28 @@ fn second_round<M: Method>(
     same(rt, back.take(), Some(untouched));
 }
 
-fn check_row<M: Method>(rt: &impl Abort, front: &mut Front<M>, back: &mut Back<M>, untouched: Taken)
-    requires pair { front.old.pair ≡ back.old.pair }
-    requires cells { 0 < length front.old.live }
-    requires rounds { front.old.rounds ≡ [] }
+fn check_row<M: Method>(rt: &impl Abort, seats: (Front<M>, Back<M>), untouched: Taken)
+    requires pair { seats.0.pair ≡ seats.1.pair }
+    requires cells { 0 < length seats.0.live }
+    requires rounds { seats.0.rounds ≡ [] }
 {
+    let (mut front, mut back) = seats;
     same(rt, back.look(), None);
-    mark_first(rt, front);
-    take_first(rt, back);
+    mark_first(rt, &mut front);
+    take_first(rt, &mut back);
     assert!(rt; front.mark(2) == Err(Refusal::Busy));
     back.finish();
-    second_round(rt, front, back, untouched);
+    second_round(rt, &mut front, &mut back, untouched);
 }
 
 #[test]
-fn zigzag_row(rt: HostRuntime) -> Result<(), Fail> {
-    let (mut front, mut back) = zigzag_pair(rt.alloc(), &[5, 7])?;
-    check_row(&rt, &mut front, &mut back, Taken::Word(7));
-    Ok(())
+fn zigzag_row(rt: HostRuntime) {
+    let seats = zigzag_pair(rt.alloc(), &[5, 7]).expect(&rt, "memory");
+    check_row(&rt, seats, Taken::Word(7));
 }
 
 #[test]
-fn ping_pong_row(rt: HostRuntime) -> Result<(), Fail> {
-    let (mut front, mut back) = ping_pong_pair(rt.alloc(), &[5, 7])?;
-    check_row(&rt, &mut front, &mut back, Taken::Same);
-    Ok(())
+fn ping_pong_row(rt: HostRuntime) {
+    let seats = ping_pong_pair(rt.alloc(), &[5, 7]).expect(&rt, "memory");
+    check_row(&rt, seats, Taken::Same);
 }

@@ -8,7 +8,6 @@ use super::super::same::same;
 use capture_core::Taker;
 use shared_capture::{Back, Front, Method, meet, ping_pong_pair, zigzag_pair};
 use std::process::Abort;
-use std::test::Fail;
 use std::thread::{Threads, join, yield_now};
 use world_ticks::Cells;
 
@@ -106,26 +105,26 @@ fn run_both<M: Method + Send + 'static, R: Threads + Sync>(
     (front, back)
 }
 
-// Both seats in a thread of their own. At the end no round is open.
+// Each seat in a thread of its own. At the end no round is open.
 fn check_pair<M: Method + Send + 'static, R: Threads + Sync + Abort>(
     rt: &R,
-    front: Front<M>,
-    back: Back<M>,
+    seats: (Front<M>, Back<M>),
 )
-    requires pair { front.pair ≡ back.pair }
-    requires cells { 0 < length front.live }
-    requires rounds { front.rounds ≡ [] }
+    requires pair { seats.0.pair ≡ seats.1.pair }
+    requires cells { 0 < length seats.0.live }
+    requires rounds { seats.0.rounds ≡ [] }
 {
+    let (front, back) = seats;
     let (front, mut back) = run_both(rt, front, back);
     same(rt, back.look(), None);
     same(rt, front.len(), 65);
 }
 
 #[test]
-fn two_threads(rt: HostRuntime) -> Result<(), Fail> {
-    let (front, back) = zigzag_pair(rt.alloc(), &[7; 65])?;
-    check_pair(&rt, front, back);
-    let (front, back) = ping_pong_pair(rt.alloc(), &[7; 65])?;
-    check_pair(&rt, front, back);
-    Ok(())
+fn two_threads(rt: HostRuntime) {
+    let words = [7; 65];
+    let seats = zigzag_pair(rt.alloc(), &words).expect(&rt, "memory");
+    check_pair(&rt, seats);
+    let seats = ping_pong_pair(rt.alloc(), &words).expect(&rt, "memory");
+    check_pair(&rt, seats);
 }
