@@ -6,6 +6,7 @@ mod number;
 mod play;
 mod reader;
 mod refusal;
+mod same;
 mod serve;
 mod tick;
 mod word;

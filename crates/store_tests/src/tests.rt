@@ -1,8 +1,12 @@
 mod bits;
 mod capture;
+mod entries;
+mod listed;
 mod marks;
-mod ping_pong;
+mod moves;
+mod ping_pong_store;
 mod plain_copy;
 mod rounds;
+mod same;
 mod shared;
-mod zigzag;
+mod zigzag_store;

@@ -1,83 +1,113 @@
-use super::*;
+use super::same::{same, same_for};
+use std::process::Abort;
+use world_actions::{Action, Change, LIMIT, Refusal, check};
 
-fn set(cell: u32, value: u64) -> Action {
-    Action::Set { cell, value }
-}
-
-fn add(cell: u32, by: i64) -> Action {
-    Action::Add { cell, by }
-}
-
-fn transfer(from: u32, to: u32, amount: u64) -> Action {
-    Action::Transfer { from, to, amount }
-}
-
-fn swap(a: u32, b: u32) -> Action {
-    Action::Swap { a, b }
-}
-
-fn cap(cell: u32, value: u64) -> Action {
-    Action::Cap { cell, value }
-}
-
-fn change(first: u64, second: Option<u64>) -> Result<Change, Refusal> {
-    Ok(Change { first, second })
-}
+const GREATEST: u64 = 999_999_999_999_999_999;
 
 #[test]
 fn names_cells(rt: HostRuntime) {
-    assert_eq!(rt; set(3, 9).cells(), (3, 3));
-    assert_eq!(rt; add(4, -9).cells(), (4, 4));
-    assert_eq!(rt; transfer(5, 6, 9).cells(), (5, 6));
-    assert_eq!(rt; swap(7, 8).cells(), (7, 8));
-    assert_eq!(rt; cap(9, 1).cells(), (9, 9));
+    same(&rt, Action::Set { cell: 3, value: 9 }.cells(), (3, 3));
+    same(&rt, Action::Add { cell: 4, by: -9 }.cells(), (4, 4));
+    let transfer = Action::Transfer {
+        from: 5,
+        to: 6,
+        amount: 9,
+    };
+    same(&rt, transfer.cells(), (5, 6));
+    same(&rt, Action::Swap { a: 7, b: 8 }.cells(), (7, 8));
+    same(&rt, Action::Cap { cell: 9, value: 1 }.cells(), (9, 9));
 }
+
+// The new words of the first cell and of the second, or why they are refused.
+type Decided = Result<(u64, Option<u64>), Refusal>;
+
+// What is decided on an action in a world of so many cells, by the words of its cells.
+fn decided(rt: &impl Abort, action: Action, cells: usize, words: (u64, u64)) -> Decided {
+    assert!(rt; words.0 <= LIMIT && words.1 <= LIMIT);
+    let Change { first, second } = check(&action, cells, words.0, words.1)?;
+    Ok((first, second))
+}
+
+// Cells and values that are set in a world of one cell.
+const SETS: [(u32, u64, Decided); 3] = [
+    (0, GREATEST, Ok((GREATEST, None))),
+    (0, GREATEST + 1, Err(Refusal::BadValue)),
+    (1, GREATEST + 1, Err(Refusal::BadCell)),
+];
+
+// Differences, and the words that they are added to.
+const ADDS: [(i64, u64, Decided); 4] = [
+    (1, GREATEST, Err(Refusal::OutOfRange)),
+    (-999_999_999_999_999_999, GREATEST, Ok((0, None))),
+    (-1, 0, Err(Refusal::OutOfRange)),
+    (i64::MIN, GREATEST, Err(Refusal::BadValue)),
+];
+
+// Cells and values that lower a word.
+const CAPS: [(u32, u64, u64, Decided); 5] = [
+    (0, 3, 5, Ok((3, None))),
+    (0, 5, 3, Ok((3, None))),
+    (0, GREATEST, 3, Ok((3, None))),
+    (0, GREATEST + 1, 3, Err(Refusal::BadValue)),
+    (1, GREATEST + 1, 3, Err(Refusal::BadCell)),
+];
 
 #[test]
 fn decides_on_one_cell(rt: HostRuntime) {
-    let greatest = 999_999_999_999_999_999;
-    for (action, word, want) in [
-        (set(0, greatest), 0, change(greatest, None)),
-        (set(0, greatest + 1), 0, Err(Refusal::BadValue)),
-        (set(1, greatest + 1), 0, Err(Refusal::BadCell)),
-        (add(0, 1), greatest, Err(Refusal::OutOfRange)),
-        (add(0, -999_999_999_999_999_999), greatest, change(0, None)),
-        (add(0, -1), 0, Err(Refusal::OutOfRange)),
-        (add(0, i64::MIN), greatest, Err(Refusal::BadValue)),
-        (transfer(0, 0, greatest + 1), 5, Err(Refusal::BadValue)),
-        (cap(0, 3), 5, change(3, None)),
-        (cap(0, 5), 3, change(3, None)),
-        (cap(0, greatest), 3, change(3, None)),
-        (cap(0, greatest + 1), 3, Err(Refusal::BadValue)),
-        (cap(1, greatest + 1), 3, Err(Refusal::BadCell)),
-    ] {
-        assert!(rt; word <= LIMIT);
-        assert_eq!(rt; check(&action, 1, word, word), want, "{action:?}");
+    for (cell, value, want) in SETS {
+        let action = Action::Set { cell, value };
+        same_for(&rt, action, decided(&rt, action, 1, (0, 0)), want);
     }
+    for (by, word, want) in ADDS {
+        let action = Action::Add { cell: 0, by };
+        same_for(&rt, action, decided(&rt, action, 1, (word, word)), want);
+    }
+    for (cell, value, word, want) in CAPS {
+        let action = Action::Cap { cell, value };
+        same_for(&rt, action, decided(&rt, action, 1, (word, word)), want);
+    }
+    let transfer = Action::Transfer {
+        from: 0,
+        to: 0,
+        amount: GREATEST + 1,
+    };
+    let refused = decided(&rt, transfer, 1, (5, 5));
+    same(&rt, refused, Err(Refusal::BadValue));
 }
+
+// Two cells and an amount in a world of two cells, and the words of the cells.
+const TRANSFERS: [((u32, u32, u64), (u64, u64), Decided); 6] = [
+    ((0, 0, 1), (0, 0), Err(Refusal::SameCell)),
+    ((0, 1, 1), (0, 0), Err(Refusal::OutOfRange)),
+    ((0, 2, 1), (0, 0), Err(Refusal::BadCell)),
+    ((0, 1, 0), (0, 0), Ok((0, Some(0)))),
+    ((1, 0, 30), (100, 7), Ok((70, Some(37)))),
+    ((0, 1, 1), (1, LIMIT), Err(Refusal::OutOfRange)),
+];
+
+// Two cells, and their words.
+const SWAPS: [((u32, u32), (u64, u64), Decided); 5] = [
+    ((0, 1), (5, 7), Ok((7, Some(5)))),
+    ((1, 0), (0, LIMIT), Ok((LIMIT, Some(0)))),
+    ((0, 0), (5, 5), Err(Refusal::SameCell)),
+    ((2, 2), (0, 0), Err(Refusal::BadCell)),
+    ((0, 2), (5, 0), Err(Refusal::BadCell)),
+];
 
 #[test]
 fn decides_on_two_cells(rt: HostRuntime) {
-    for (action, first, second, want) in [
-        (transfer(0, 0, 1), 0, 0, Err(Refusal::SameCell)),
-        (transfer(0, 1, 1), 0, 0, Err(Refusal::OutOfRange)),
-        (transfer(0, 2, 1), 0, 0, Err(Refusal::BadCell)),
-        (
-            set(2, 1_000_000_000_000_000_000),
-            0,
-            0,
-            Err(Refusal::BadCell),
-        ),
-        (transfer(0, 1, 0), 0, 0, change(0, Some(0))),
-        (transfer(1, 0, 30), 100, 7, change(70, Some(37))),
-        (transfer(0, 1, 1), 1, LIMIT, Err(Refusal::OutOfRange)),
-        (swap(0, 1), 5, 7, change(7, Some(5))),
-        (swap(1, 0), 0, LIMIT, change(LIMIT, Some(0))),
-        (swap(0, 0), 5, 5, Err(Refusal::SameCell)),
-        (swap(2, 2), 0, 0, Err(Refusal::BadCell)),
-        (swap(0, 2), 5, 0, Err(Refusal::BadCell)),
-    ] {
-        assert!(rt; first <= LIMIT && second <= LIMIT);
-        assert_eq!(rt; check(&action, 2, first, second), want, "{action:?}");
+    for ((from, to, amount), words, want) in TRANSFERS {
+        let action = Action::Transfer { from, to, amount };
+        same_for(&rt, action, decided(&rt, action, 2, words), want);
     }
+    for ((a, b), words, want) in SWAPS {
+        let action = Action::Swap { a, b };
+        same_for(&rt, action, decided(&rt, action, 2, words), want);
+    }
+    let set = Action::Set {
+        cell: 2,
+        value: 1_000_000_000_000_000_000,
+    };
+    let refused = decided(&rt, set, 2, (0, 0));
+    same(&rt, refused, Err(Refusal::BadCell));
 }

@@ -1,15 +1,21 @@
-use super::*;
+use super::same::same;
+use line_grammar::KeptLine;
+use std::process::Abort;
 use std::test::Fail;
+
+fn push_100(rt: &impl Abort, line: &mut KeptLine) {
+    for count in 1..=100 {
+        line.push(b'7');
+        same(rt, line.bytes().len(), count.min(81));
+    }
+}
 
 #[test]
 fn keeps_81_bytes_of_a_line(rt: HostRuntime) -> Result<(), Fail> {
     let mut line = KeptLine::new(rt.alloc())?;
-    for count in 1..=100 {
-        line.push(b'7');
-        assert_eq!(rt; line.bytes().len(), count.min(81));
-    }
+    push_100(&rt, &mut line);
     line.clear();
     line.push(b'9');
-    assert_eq!(rt; line.bytes(), b"9".as_slice());
+    same(&rt, line.bytes(), b"9".as_slice());
     Ok(())
 }

@@ -1,43 +1,81 @@
-use super::*;
-use crate::words::Words;
+ghost use Rattle.std.specs.Prelude.{◌≡◌, []};
+
+use super::same::same;
+use std::process::Abort;
 use std::test::Fail;
-use world_actions::LIMIT;
+use world_actions::{Action, LIMIT, Refusal};
+use world_ticks::{Tick, Words, act, replay};
+
+const DONE: [Action; 3] = [
+    Action::Set { cell: 0, value: 7 },
+    Action::Add { cell: 1, by: -5 },
+    Action::Transfer {
+        from: 2,
+        to: 1,
+        amount: 4,
+    },
+];
+
+fn do_actions(rt: &impl Abort, memory: &mut Words, tick: &mut Tick) {
+    for action in DONE {
+        same(rt, act(memory, tick, action), Ok(()));
+    }
+    same(rt, memory.as_slice(), [7, 19, LIMIT - 4].as_slice());
+    let refused = act(memory, tick, Action::Add { cell: 3, by: 1 });
+    same(rt, refused, Err(Refusal::BadCell));
+    same(rt, tick.actions(), DONE.as_slice());
+}
 
 #[test]
 fn does_actions(rt: HostRuntime) -> Result<(), Fail> {
     let mut memory = Words::new(vec![in rt.alloc(); 0, 20, LIMIT]?);
     let mut tick = Tick::new(rt.alloc());
-    let set = Action::Set { cell: 0, value: 7 };
-    let add = Action::Add { cell: 1, by: -5 };
-    let transfer = Action::Transfer {
-        from: 2,
-        to: 1,
-        amount: 4,
-    };
-    act(&mut memory, &mut tick, set)?;
-    act(&mut memory, &mut tick, add)?;
-    act(&mut memory, &mut tick, transfer)?;
-    assert_eq!(rt; memory.as_slice(), [7, 19, LIMIT - 4].as_slice());
-    let refused = Action::Add { cell: 3, by: 1 };
-    assert_eq!(rt; act(&mut memory, &mut tick, refused), Err(Refusal::BadCell));
-    assert_eq!(rt; tick.actions(), [set, add, transfer].as_slice());
+    do_actions(&rt, &mut memory, &mut tick);
     Ok(())
+}
+
+fn fill_tick(rt: &impl Abort, memory: &mut Words, tick: &mut Tick) {
+    let add = Action::Add { cell: 0, by: 2 };
+    for _ in 0..256 {
+        same(rt, act(memory, tick, add), Ok(()));
+    }
+    assert!(rt; tick.is_full());
+    same(rt, act(memory, tick, add), Err(Refusal::TickFull));
+    same(rt, memory.as_slice(), [512].as_slice());
+    tick.clear();
+    same(rt, act(memory, tick, add), Ok(()));
+    same(rt, memory.as_slice(), [514].as_slice());
 }
 
 #[test]
 fn takes_256_actions(rt: HostRuntime) -> Result<(), Fail> {
     let mut memory = Words::new(vec![in rt.alloc(); 0]?);
     let mut tick = Tick::new(rt.alloc());
-    let add = Action::Add { cell: 0, by: 2 };
-    for _ in 0..256 {
-        act(&mut memory, &mut tick, add)?;
+    fill_tick(&rt, &mut memory, &mut tick);
+    Ok(())
+}
+
+fn transfer(amount: u64) -> Action {
+    Action::Transfer {
+        from: 0,
+        to: 1,
+        amount,
     }
-    assert!(rt; tick.is_full());
-    assert_eq!(rt; act(&mut memory, &mut tick, add), Err(Refusal::TickFull));
-    assert_eq!(rt; memory.as_slice(), [512].as_slice());
-    tick.clear();
-    act(&mut memory, &mut tick, add)?;
-    assert_eq!(rt; memory.as_slice(), [514].as_slice());
+}
+
+// Replays two actions, and then these and one that is refused.
+fn replay_both(rt: &impl Abort, memory: &mut Words, tick: &mut Tick) -> Result<(), Refusal>
+    requires { tick.old.list ≡ [] }
+{
+    tick.reserve(3)?;
+    tick.push_reserved(Action::Set { cell: 0, value: 5 });
+    tick.push_reserved(transfer(2));
+    same(rt, replay(memory, tick.actions()), Ok(()));
+    same(rt, memory.as_slice(), [3, 2].as_slice());
+    tick.push_reserved(transfer(4));
+    let refused = replay(memory, tick.actions());
+    same(rt, refused, Err(Refusal::BadLog));
+    same(rt, memory.as_slice(), [3, 4].as_slice());
     Ok(())
 }
 
@@ -45,21 +83,6 @@ fn takes_256_actions(rt: HostRuntime) -> Result<(), Fail> {
 fn replays_up_to_a_refused_action(rt: HostRuntime) -> Result<(), Fail> {
     let mut memory = Words::new(vec![in rt.alloc(); 0, 0]?);
     let mut tick = Tick::new(rt.alloc());
-    tick.reserve(3)?;
-    tick.push_reserved(Action::Set { cell: 0, value: 5 });
-    tick.push_reserved(Action::Transfer {
-        from: 0,
-        to: 1,
-        amount: 2,
-    });
-    replay(&mut memory, tick.actions())?;
-    assert_eq!(rt; memory.as_slice(), [3, 2].as_slice());
-    tick.push_reserved(Action::Transfer {
-        from: 0,
-        to: 1,
-        amount: 4,
-    });
-    assert_eq!(rt; replay(&mut memory, tick.actions()), Err(Refusal::BadLog));
-    assert_eq!(rt; memory.as_slice(), [3, 4].as_slice());
+    replay_both(&rt, &mut memory, &mut tick)?;
     Ok(())
 }

@@ -1,75 +1,112 @@
-use super::*;
-use crate::batch::BATCH_LINES;
+use super::same::{same, same_for};
+use sessions::{BATCH_LINES, Batch, BatchReader, Fed, Request};
+use std::alloc::Global;
+use std::process::Abort;
 use std::test::Fail;
-use world_actions::Action;
+use world_actions::{Action, Refusal};
 
 const BATCH: &[u8] = b"set 0 5\nget 0\nmove 0 1 9\nfoo\nend\n";
 
-fn requests() -> [Request; 4] {
-    [
-        Request::Act(Action::Set { cell: 0, value: 5 }),
-        Request::Get(0),
-        Request::Act(Action::Transfer {
-            from: 0,
-            to: 1,
-            amount: 9,
-        }),
-        Request::Bad,
-    ]
+const REQUESTS: [Request; 4] = [
+    Request::Act(Action::Set { cell: 0, value: 5 }),
+    Request::Get(0),
+    Request::Act(Action::Transfer {
+        from: 0,
+        to: 1,
+        amount: 9,
+    }),
+    Request::Bad,
+];
+
+// Takes the batch byte by byte.
+fn take_bytes(rt: &impl Abort, reader: &mut BatchReader) {
+    for (i, byte) in BATCH.iter().enumerate() {
+        let last = i == BATCH.len() - 1;
+        let fed = if last { Fed::Whole } else { Fed::More };
+        same_for(rt, i, reader.take(&[*byte]), (1, fed));
+    }
+}
+
+// Takes the batch in one piece and then byte by byte.
+fn take_twice(rt: &impl Abort, reader: &mut BatchReader) {
+    same(rt, reader.take(BATCH), (BATCH.len(), Fed::Whole));
+    same(rt, reader.batch().requests(), REQUESTS.as_slice());
+    reader.clear();
+    assert!(rt; reader.batch().requests().is_empty());
+    take_bytes(rt, reader);
+    same(rt, reader.batch().requests(), REQUESTS.as_slice());
+}
+
+// Whether a copy of the batch has its requests.
+fn copies(alloc: Global, batch: &Batch) -> Result<bool, Refusal> {
+    let copy = batch.try_copy(alloc)?;
+    Ok(copy.requests() == REQUESTS.as_slice())
 }
 
 #[test]
 fn reads_a_batch_in_one_piece_and_byte_by_byte(rt: HostRuntime) -> Result<(), Fail> {
     let mut reader = BatchReader::new(rt.alloc())?;
-    assert_eq!(rt; reader.take(BATCH), (BATCH.len(), Fed::Whole));
-    assert_eq!(rt; reader.batch().requests(), requests().as_slice());
-    reader.clear();
-    assert!(rt; reader.batch().requests().is_empty());
-    for (i, byte) in BATCH.iter().enumerate() {
-        let last = i == BATCH.len() - 1;
-        let fed = if last { Fed::Whole } else { Fed::More };
-        assert_eq!(rt; reader.take(&[*byte]), (1, fed), "byte {i}");
-    }
-    assert_eq!(rt; reader.batch().requests(), requests().as_slice());
-    let copy = reader.batch().try_copy(rt.alloc())?;
-    assert_eq!(rt; copy.requests(), requests().as_slice());
+    take_twice(&rt, &mut reader);
+    assert!(rt; copies(rt.alloc(), reader.batch())?);
     Ok(())
+}
+
+const THREE_LINES: &[u8] = b"get 1\nend\nget 2\nend\nget 3";
+
+// Takes a batch from the front of an input.
+fn take_batch(rt: &impl Abort, reader: &mut BatchReader, input: &[u8], cell: u32) {
+    same(rt, reader.take(input), (10, Fed::Whole));
+    let requests = [Request::Get(cell)];
+    same(rt, reader.batch().requests(), requests.as_slice());
+    reader.clear();
+}
+
+// Takes a line that has not ended, and then nothing.
+fn take_line(rt: &impl Abort, reader: &mut BatchReader, input: &[u8]) {
+    same(rt, reader.take(input), (5, Fed::More));
+    assert!(rt;
+        reader.batch().requests().is_empty(),
+        "the last line has not ended"
+    );
+    same(rt, reader.take(b""), (0, Fed::More));
 }
 
 #[test]
 fn takes_no_byte_behind_an_end(rt: HostRuntime) -> Result<(), Fail> {
     let mut reader = BatchReader::new(rt.alloc())?;
-    let input = b"get 1\nend\nget 2\nend\nget 3";
-    assert_eq!(rt; reader.take(input), (10, Fed::Whole));
-    assert_eq!(rt; reader.batch().requests(), [Request::Get(1)].as_slice());
-    reader.clear();
-    assert_eq!(rt; reader.take(&input[10..]), (10, Fed::Whole));
-    assert_eq!(rt; reader.batch().requests(), [Request::Get(2)].as_slice());
-    reader.clear();
-    assert_eq!(rt; reader.take(&input[20..]), (5, Fed::More));
-    assert!(rt;
-        reader.batch().requests().is_empty(),
-        "the last line has not ended"
-    );
-    assert_eq!(rt; reader.take(b""), (0, Fed::More));
+    take_batch(&rt, &mut reader, THREE_LINES, 1);
+    take_batch(&rt, &mut reader, &THREE_LINES[10..], 2);
+    take_line(&rt, &mut reader, &THREE_LINES[20..]);
     Ok(())
+}
+
+// Takes as many lines as a batch may have, and one more.
+fn take_too_many(rt: &impl Abort, reader: &mut BatchReader) {
+    for line in 0..BATCH_LINES {
+        same_for(rt, line, reader.take(b"get 0\n"), (6, Fed::More));
+    }
+    same(rt, reader.take(b"get 0\nend\n"), (6, Fed::TooLong));
+}
+
+// Takes as many empty lines as a batch may have.
+fn take_most(rt: &impl Abort, reader: &mut BatchReader) {
+    for _ in 0..BATCH_LINES {
+        reader.take(b"\n");
+    }
+    same(rt, reader.take(b"end\n"), (4, Fed::Whole));
+    same(rt, reader.batch().requests().len(), BATCH_LINES);
 }
 
 #[test]
 fn takes_1024_lines_and_no_more(rt: HostRuntime) -> Result<(), Fail> {
     let mut reader = BatchReader::new(rt.alloc())?;
-    for line in 0..BATCH_LINES {
-        assert_eq!(rt; reader.take(b"get 0\n"), (6, Fed::More), "line {line}");
-    }
-    assert_eq!(rt; reader.take(b"get 0\nend\n"), (6, Fed::TooLong));
+    take_too_many(&rt, &mut reader);
     reader.clear();
-    for _ in 0..BATCH_LINES {
-        reader.take(b"\n");
-    }
-    assert_eq!(rt; reader.take(b"end\n"), (4, Fed::Whole));
-    assert_eq!(rt; reader.batch().requests().len(), BATCH_LINES);
+    take_most(&rt, &mut reader);
     Ok(())
 }
+
+const LAST_GOOD: [Request; 4] = [Request::Bad, Request::Bad, Request::Bad, Request::Get(0)];
 
 #[test]
 fn a_long_line_means_nothing(rt: HostRuntime) -> Result<(), Fail> {
@@ -78,9 +115,6 @@ fn a_long_line_means_nothing(rt: HostRuntime) -> Result<(), Fail> {
         reader.take(b"get 0 ");
     }
     reader.take(b"\nget 0\r\nget \xff\nget 0\n");
-    assert_eq!(rt;
-        reader.batch().requests(),
-        [Request::Bad, Request::Bad, Request::Bad, Request::Get(0)].as_slice()
-    );
+    same(&rt, reader.batch().requests(), LAST_GOOD.as_slice());
     Ok(())
 }

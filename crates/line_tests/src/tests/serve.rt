@@ -1,11 +1,15 @@
-use super::*;
-use sessions::answer_text;
-use std::io::{self, ErrorKind};
+use line_service::{World, serve_lines};
+use sessions::{Batch, answer_text};
+use std::alloc::{AllocError, Global};
+use std::io::{self, ErrorKind, Read, Write};
 use std::process::Abort;
 use std::test::Fail;
+use world_actions::Refusal;
 use world_ticks::{Tick, Words};
 
 const BATCH: &[u8] = b"set 0 5\nget 0\nmove 0 1 9\nfoo\nend\n";
+
+const ANSWER: &[u8] = b"tick 1: + =5 -3 -16\n";
 
 // A world in memory of which nothing is lost. What its batches do is `answer_text`'s contract.
 #[derive(Drop)]
@@ -72,101 +76,118 @@ impl Write for Page {
     }
 }
 
-// What a session ended with, its text, and how many ticks ended in it, for a world of two cells.
-fn serve(
+// What a session ends with: its result, its text, and how many ticks ended in it.
+#[derive(Clone, Copy)]
+struct End<'a> {
+    result: Result<(), Refusal>,
+    text: &'a [u8],
+    ticks: u64,
+}
+
+// Whether a session with a world of two cells ends so.
+fn ends_so(
     alloc: Global,
-    input: &mut Pieces<'_>,
+    mut input: Pieces<'_>,
     room: usize,
-) -> Result<(Result<(), Refusal>, Vec<u8>, u64), Fail> {
-    let words = Words::new(vec![in alloc; 0, 0]?);
+    end: End<'_>,
+) -> Result<bool, Refusal> {
     let mut world = Memory {
         alloc,
-        words,
+        words: Words::new(vec![in alloc; 0, 0]?),
         ended: 0,
     };
     let mut page = Page {
         bytes: Vec::new(alloc),
         room,
     };
-    let result = serve_lines(alloc, input, &mut page, &mut world);
-    Ok((result, page.bytes, world.ended))
+    let result = serve_lines(alloc, &mut input, &mut page, &mut world);
+    Ok(result == end.result && page.bytes.as_slice() == end.text && world.ended == end.ticks)
 }
 
 // Serves an input in pieces of one byte, of seven and in one.
-fn try_pieces(
-    rt: &impl Abort,
-    alloc: Global,
-    input: &[u8],
-    ends: Result<(), Refusal>,
-    text: &[u8],
-    ticks: u64,
-) -> Result<(), Fail> {
+fn try_pieces(rt: &impl Abort, alloc: Global, bytes: &[u8], end: End<'_>) -> Result<(), Refusal> {
     for most in [1, 7, usize::MAX] {
-        let mut pieces = Pieces {
-            bytes: input,
+        let input = Pieces {
+            bytes,
             most,
             fails: false,
         };
-        let (given, written, ended) = serve(alloc, &mut pieces, usize::MAX)?;
-        assert_eq!(rt; given, ends, "pieces of {most}");
-        assert_eq!(rt; written.as_slice(), text, "pieces of {most}");
-        assert_eq!(rt; ended, ticks, "pieces of {most}");
+        assert!(rt; ends_so(alloc, input, usize::MAX, end)?, "pieces of {most}");
+    }
+    Ok(())
+}
+
+// Inputs, what is answered to each, and how many ticks end.
+const SESSIONS: [(&[u8], &[u8], u64); 5] = [
+    (BATCH, ANSWER, 1),
+    (b"set 0 5\nget 0\nmove 0 1 9\nfoo\n", b"", 0),
+    (b"end\n", b"tick 1:\n", 1),
+    (
+        b"set 0 5\nend\nget 0\nset 0 6\nend\nset 0 7\nend",
+        b"tick 1: +\ntick 2: =5 +\n",
+        2,
+    ),
+    (b"", b"", 0),
+];
+
+#[test]
+fn answers_whole_batches(rt: HostRuntime) -> Result<(), Fail> {
+    for (bytes, text, ticks) in SESSIONS {
+        let end = End {
+            result: Ok(()),
+            text,
+            ticks,
+        };
+        try_pieces(&rt, rt.alloc(), bytes, end)?;
+    }
+    Ok(())
+}
+
+// Some bytes, and then a batch of 1025 lines.
+fn too_many_lines(alloc: Global, before: &[u8]) -> Result<Vec<u8>, AllocError> {
+    let mut input = Vec::from_slice(alloc, before)?;
+    for _ in 0..1025 {
+        input.extend_from_slice(b"get 0\n")?;
+    }
+    input.extend_from_slice(b"end\nend\n")?;
+    Ok(input)
+}
+
+// What comes before a batch that is too long, what is answered, and how many ticks end.
+const BEFORE: [(&[u8], &[u8], u64); 2] = [
+    (b"", b"fault 16\n", 0),
+    (BATCH, b"tick 1: + =5 -3 -16\nfault 16\n", 1),
+];
+
+#[test]
+fn a_batch_of_1025_lines_ends_the_session(rt: HostRuntime) -> Result<(), Fail> {
+    for (before, text, ticks) in BEFORE {
+        let input = too_many_lines(rt.alloc(), before)?;
+        let end = End {
+            result: Err(Refusal::BadLine),
+            text,
+            ticks,
+        };
+        try_pieces(&rt, rt.alloc(), &input, end)?;
     }
     Ok(())
 }
 
 #[test]
-fn answers_whole_batches(rt: HostRuntime) -> Result<(), Fail> {
-    try_pieces(&rt, rt.alloc(), BATCH, Ok(()), b"tick 1: + =5 -3 -16\n", 1)?;
-    try_pieces(&rt, rt.alloc(), &BATCH[..BATCH.len() - 4], Ok(()), b"", 0)?;
-    try_pieces(&rt, rt.alloc(), b"end\n", Ok(()), b"tick 1:\n", 1)?;
-    let two = b"set 0 5\nend\nget 0\nset 0 6\nend\nset 0 7\nend";
-    try_pieces(
-        &rt,
-        rt.alloc(),
-        two,
-        Ok(()),
-        b"tick 1: +\ntick 2: =5 +\n",
-        2,
-    )?;
-    try_pieces(&rt, rt.alloc(), b"", Ok(()), b"", 0)
-}
-
-#[test]
-fn a_batch_of_1025_lines_ends_the_session(rt: HostRuntime) -> Result<(), Fail> {
-    let mut input = Vec::new(rt.alloc());
-    for _ in 0..1024 {
-        input.extend_from_slice(b"get 0\n")?;
-    }
-    input.extend_from_slice(b"get 0\nend\nend\n")?;
-    let refused = Err(Refusal::BadLine);
-    try_pieces(&rt, rt.alloc(), &input, refused, b"fault 16\n", 0)?;
-    let mut later = Vec::from_slice(rt.alloc(), BATCH)?;
-    later.extend_from_slice(&input)?;
-    try_pieces(
-        &rt,
-        rt.alloc(),
-        &later,
-        refused,
-        b"tick 1: + =5 -3 -16\nfault 16\n",
-        1,
-    )
-}
-
-#[test]
 fn a_writer_that_fails_has_a_front(rt: HostRuntime) -> Result<(), Fail> {
-    let input = b"set 0 5\nend\nget 0\nend\n";
     let whole = b"tick 1: +\ntick 2: =5\n";
     for room in 0..whole.len() {
-        let mut pieces = Pieces {
-            bytes: input,
+        let input = Pieces {
+            bytes: b"set 0 5\nend\nget 0\nend\n",
             most: 5,
             fails: false,
         };
-        let (given, written, ended) = serve(rt.alloc(), &mut pieces, room)?;
-        assert_eq!(rt; given, Err(Refusal::Device), "room for {room}");
-        assert_eq!(rt; written.as_slice(), &whole[..room]);
-        assert_eq!(rt; ended, if room < 10 { 1 } else { 2 }, "room for {room}");
+        let end = End {
+            result: Err(Refusal::Device),
+            text: &whole[..room],
+            ticks: if room < 10 { 1 } else { 2 },
+        };
+        assert!(rt; ends_so(rt.alloc(), input, room, end)?, "room for {room}");
     }
     Ok(())
 }
@@ -174,16 +195,22 @@ fn a_writer_that_fails_has_a_front(rt: HostRuntime) -> Result<(), Fail> {
 #[test]
 fn a_reader_that_fails_leaves_whole_answers(rt: HostRuntime) -> Result<(), Fail> {
     for length in 0..BATCH.len() + 1 {
-        let mut pieces = Pieces {
+        let input = Pieces {
             bytes: &BATCH[..length],
             most: 5,
             fails: true,
         };
-        let (given, written, ended) = serve(rt.alloc(), &mut pieces, usize::MAX)?;
-        assert_eq!(rt; given, Err(Refusal::Device), "{length} bytes");
         let is_whole = length == BATCH.len();
-        assert_eq!(rt; ended, u64::from(is_whole), "{length} bytes");
-        assert_eq!(rt; written.is_empty(), !is_whole, "{length} bytes");
+        let text = if is_whole { ANSWER } else { b"" };
+        let end = End {
+            result: Err(Refusal::Device),
+            text,
+            ticks: u64::from(is_whole),
+        };
+        assert!(rt;
+            ends_so(rt.alloc(), input, usize::MAX, end)?,
+            "{length} bytes"
+        );
     }
     Ok(())
 }

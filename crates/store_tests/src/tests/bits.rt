@@ -1,31 +1,47 @@
-use super::*;
-use std::test::Fail;
+use super::same::same;
+use packed_marks::{chunks_of, full_marks, has_bit, with_bit};
+use std::alloc::Global;
+use std::process::Abort;
+
+// Numbers of cells, and of the words of their marks.
+const COUNTS: [(usize, usize); 7] = [
+    (0, 0),
+    (1, 1),
+    (63, 1),
+    (64, 1),
+    (65, 2),
+    (130, 3),
+    (usize::MAX, 1 << 58),
+];
 
 #[test]
-fn counts_words_of_cells(rt: HostRuntime) -> Result<(), Fail> {
-    let counts = [0, 1, 63, 64, 65, 130, usize::MAX].map(chunks_of);
-    assert_eq!(rt; counts, [0, 1, 1, 1, 2, 3, 1 << 58]);
-    Ok(())
+fn counts_words_of_cells(rt: HostRuntime) {
+    for (cells, words) in &COUNTS {
+        same(&rt, chunks_of(*cells), *words);
+    }
 }
 
 #[test]
-fn reads_and_changes_one_bit(rt: HostRuntime) -> Result<(), Fail> {
+fn reads_and_changes_one_bit(rt: HostRuntime) {
     assert!(rt; has_bit(6, 1) && !has_bit(6, 0) && has_bit(1 << 63, 63));
-    assert_eq!(rt; with_bit(6, 0, true), 7);
-    assert_eq!(rt; with_bit(6, 2, false), 2);
-    assert_eq!(rt; with_bit(6, 2, true), 6);
-    assert_eq!(rt; with_bit(0, 63, true), 1 << 63);
-    Ok(())
+    same(&rt, with_bit(6, 0, true), 7);
+    same(&rt, with_bit(6, 2, false), 2);
+    same(&rt, with_bit(6, 2, true), 6);
+    same(&rt, with_bit(0, 63, true), 1 << 63);
 }
 
+// Numbers of cells, and their full marks.
+const FULL: [(usize, &[u64]); 3] = [(0, &[]), (64, &[u64::MAX]), (130, &[u64::MAX, u64::MAX, 3])];
+
 #[test]
-fn full_marks_end_with_last_cell(rt: HostRuntime) -> Result<(), Fail> {
-    assert_eq!(rt; full_marks(rt.alloc(), 0)?.len(), 0);
-    assert_eq!(rt;
-        full_marks(rt.alloc(), 64)?.as_slice(),
-        [u64::MAX].as_slice()
-    );
-    let full = full_marks(rt.alloc(), 130)?;
-    assert_eq!(rt; full.as_slice(), [u64::MAX, u64::MAX, 3].as_slice());
-    Ok(())
+fn full_marks_end_with_last_cell(rt: HostRuntime) {
+    for (cells, words) in &FULL {
+        check_full(&rt, rt.alloc(), *cells, words);
+    }
+}
+
+// The full marks of so many cells are these words.
+fn check_full(rt: &impl Abort, alloc: Global, cells: usize, words: &[u64]) {
+    let full = full_marks(alloc, cells).expect(rt, "memory");
+    same(rt, full.as_slice(), words);
 }

@@ -2,11 +2,12 @@ ghost use Rattle.std.specs.Prelude.{◌≡◌, OnOk, OnErr};
 ghost use Rattle.world_actions.specs.Effect.{writes_of};
 ghost use Rattle.capture_core.specs.Content.{content_after};
 
-use super::*;
-use crate::plain_copy::PlainCopy;
-use crate::taker::Taken;
-use std::test::Fail;
-use world_actions::Action;
+use super::moves::{Move, follow};
+use super::same::same;
+use capture_core::{Capture, PlainCopy, accesses_write};
+use std::alloc::Global;
+use std::process::Abort;
+use world_actions::{Action, Refusal};
 use world_ticks::{Tick, act};
 
 // An action, by what `act` says of any cells.
@@ -20,21 +21,30 @@ fn act_on<C: Capture>(store: &mut C, tick: &mut Tick, action: Action) -> Result<
     Ok(())
 }
 
+const MARK: [Move; 1] = [Move::Mark];
+
+const TAKES: [Move; 5] = [
+    Move::TakeWord(5),
+    Move::TakeWord(7),
+    Move::IsOpen(false),
+    Move::Mark,
+    Move::TakeWord(9),
+];
+
+// An action of an open round, and one that is refused.
+fn check_actions<C: Capture>(rt: &impl Abort, alloc: Global) {
+    let mut store = C::build(alloc, &[5, 7]).expect(rt, "memory");
+    let mut tick = Tick::new(alloc);
+    follow(rt, &mut store, &MARK);
+    let set = Action::Set { cell: 0, value: 9 };
+    same(rt, act_on(&mut store, &mut tick, set), Ok(()));
+    let add = Action::Add { cell: 1, by: -8 };
+    let refused = act_on(&mut store, &mut tick, add);
+    same(rt, refused, Err(Refusal::OutOfRange));
+    follow(rt, &mut store, &TAKES);
+}
+
 #[test]
-fn acts_in_open_round(rt: HostRuntime) -> Result<(), Fail> {
-    let mut store = PlainCopy::build(rt.alloc(), &[5, 7])?;
-    let mut tick = Tick::new(rt.alloc());
-    store.mark();
-    act_on(&mut store, &mut tick, Action::Set { cell: 0, value: 9 })?;
-    let refused = Action::Add { cell: 1, by: -8 };
-    assert_eq!(rt;
-        act_on(&mut store, &mut tick, refused),
-        Err(Refusal::OutOfRange)
-    );
-    assert_eq!(rt; store.take(), Some(Taken::Word(5)));
-    assert_eq!(rt; store.take(), Some(Taken::Word(7)));
-    assert!(rt; !store.open_round());
-    store.mark();
-    assert_eq!(rt; store.take(), Some(Taken::Word(9)));
-    Ok(())
+fn acts_in_open_round(rt: HostRuntime) {
+    check_actions::<PlainCopy>(&rt, rt.alloc());
 }

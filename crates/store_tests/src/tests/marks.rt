@@ -1,40 +1,59 @@
-use super::*;
-use std::test::Fail;
+use super::same::same;
+use packed_marks::{PackedMarks, with_bit};
+use std::alloc::Global;
+use std::process::Abort;
 
-#[test]
-fn begins_with_equal_marks(rt: HostRuntime) -> Result<(), Fail> {
-    let set = PackedMarks::new(rt.alloc(), 65, true)?;
-    assert!(rt; set.len() == 65 && set.is_set(0) && set.is_set(64));
-    assert_eq!(rt; set.words.as_slice(), [u64::MAX, 1].as_slice());
-    let clear = PackedMarks::new(rt.alloc(), 65, false)?;
-    assert!(rt; clear.len() == 65 && !clear.is_set(0) && !clear.is_set(64));
-    assert_eq!(rt; clear.words.as_slice(), [0, 0].as_slice());
-    Ok(())
+// The marks of at most 192 cells, 64 to a word.
+fn words_of(marks: &PackedMarks) -> [u64; 3] {
+    let mut words = [0; 3];
+    for i in 0..marks.len().min(192) {
+        words[i / 64] = with_bit(words[i / 64], i % 64, marks.is_set(i));
+    }
+    words
+}
+
+// The marks of 65 cells, all set or all clear, have these words.
+fn check_equal(rt: &impl Abort, alloc: Global, set: bool, words: [u64; 3]) {
+    let marks = PackedMarks::new(alloc, 65, set).expect(rt, "memory");
+    same(rt, marks.len(), 65);
+    same(rt, words_of(&marks), words);
 }
 
 #[test]
-fn puts_one_mark(rt: HostRuntime) -> Result<(), Fail> {
-    let mut marks = PackedMarks::new(rt.alloc(), 130, false)?;
-    marks.put(64, true);
-    marks.put(129, true);
-    assert!(rt; marks.is_set(64) && marks.is_set(129));
-    assert!(rt; !marks.is_set(0) && !marks.is_set(63) && !marks.is_set(65));
-    assert_eq!(rt; marks.words.as_slice(), [0, 1, 2].as_slice());
-    marks.put(64, false);
-    assert_eq!(rt; marks.words.as_slice(), [0, 0, 2].as_slice());
-    Ok(())
+fn begins_with_equal_marks(rt: HostRuntime) {
+    check_equal(&rt, rt.alloc(), true, [u64::MAX, 1, 0]);
+    check_equal(&rt, rt.alloc(), false, [0, 0, 0]);
+}
+
+// The words once the marks of some cells were set or cleared.
+fn with_put(rt: &impl Abort, marks: &mut PackedMarks, cells: &[usize], set: bool) -> [u64; 3] {
+    for i in cells {
+        assert!(rt; *i < marks.len());
+        marks.put(*i, set);
+    }
+    words_of(marks)
 }
 
 #[test]
-fn sets_opposites(rt: HostRuntime) -> Result<(), Fail> {
-    let mut others = PackedMarks::new(rt.alloc(), 66, false)?;
-    others.put(1, true);
-    others.put(65, true);
-    let mut marks = PackedMarks::new(rt.alloc(), 66, false)?;
-    marks.set_opposites(&others);
-    assert!(rt; marks.is_set(0) && !marks.is_set(1) && marks.is_set(64) && !marks.is_set(65));
-    assert_eq!(rt; marks.words.as_slice(), [u64::MAX - 2, 1].as_slice());
-    others.set_opposites(&marks);
-    assert_eq!(rt; others.words.as_slice(), [2, 2].as_slice());
-    Ok(())
+fn puts_one_mark(rt: HostRuntime) {
+    let mut marks = PackedMarks::new(rt.alloc(), 130, false).expect(&rt, "memory");
+    same(&rt, with_put(&rt, &mut marks, &[64, 129], true), [0, 1, 2]);
+    same(&rt, with_put(&rt, &mut marks, &[64], false), [0, 0, 2]);
+}
+
+// Makes marks the opposites of others, and these the opposites of those.
+fn check_opposites(rt: &impl Abort, marks: &mut PackedMarks, others: &mut PackedMarks) {
+    with_put(rt, others, &[1, 65], true);
+    assert!(rt; marks.len() == others.len());
+    marks.set_opposites(others);
+    same(rt, words_of(marks), [u64::MAX - 2, 1, 0]);
+    others.set_opposites(marks);
+    same(rt, words_of(others), [2, 2, 0]);
+}
+
+#[test]
+fn sets_opposites(rt: HostRuntime) {
+    let mut others = PackedMarks::new(rt.alloc(), 66, false).expect(&rt, "memory");
+    let mut marks = PackedMarks::new(rt.alloc(), 66, false).expect(&rt, "memory");
+    check_opposites(&rt, &mut marks, &mut others);
 }

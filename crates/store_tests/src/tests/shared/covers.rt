@@ -2,8 +2,9 @@
 ghost use Rattle.std.specs.Prelude.{◌≡◌, []};
 ghost use Rattle.shared_capture.specs.CoverWord.{AreStored};
 
-use crate::{CoverIn, CoverOut, cover_pair, meet_cover};
-use std::test::Fail;
+use super::super::same::same;
+use shared_capture::{CoverIn, CoverOut, cover_pair, meet_cover};
+use std::process::Abort;
 use std::thread::{Threads, join, yield_now};
 
 const TICKS: u64 = 1000;
@@ -58,23 +59,29 @@ fn run_both<R: Threads + Sync>(rt: &R, out: CoverOut, from: CoverIn) -> (CoverOu
     (out, from, rises)
 }
 
-#[test]
-fn the_newest_image_is_told(rt: HostRuntime) -> Result<(), Fail> {
-    let (mut out, mut from) = cover_pair(rt.alloc())?;
-    assert_eq!(rt; from.latest(), 0);
+// Publishes a tick, and looks for it before and after a meeting.
+fn check_newest(rt: &impl Abort, out: &mut CoverOut, from: &mut CoverIn)
+    requires pair { out.old.pair ≡ from.old.pair }
+    requires fresh { out.old.ticks ≡ [] }
+{
+    same(rt, from.latest(), 0);
     out.publish(3);
-    assert_eq!(rt; from.latest(), 3);
-    assert_eq!(rt; from.latest(), 3);
-    meet_cover(&mut out, &mut from);
-    assert_eq!(rt; from.latest(), 3);
-    Ok(())
+    same(rt, from.latest(), 3);
+    same(rt, from.latest(), 3);
+    meet_cover(out, from);
+    same(rt, from.latest(), 3);
 }
 
 #[test]
-fn ticks_rise_between_threads(rt: HostRuntime) -> Result<(), Fail> {
-    let (out, from) = cover_pair(rt.alloc())?;
+fn the_newest_image_is_told(rt: HostRuntime) {
+    let (mut out, mut from) = cover_pair(rt.alloc()).expect(&rt, "memory");
+    check_newest(&rt, &mut out, &mut from);
+}
+
+#[test]
+fn ticks_rise_between_threads(rt: HostRuntime) {
+    let (out, from) = cover_pair(rt.alloc()).expect(&rt, "memory");
     let (_out, mut from, rises) = run_both(&rt, out, from);
     assert!(rt; rises);
-    assert_eq!(rt; from.latest(), TICKS);
-    Ok(())
+    same(&rt, from.latest(), TICKS);
 }

@@ -1,11 +1,13 @@
 // One thread writes and marks while another takes, and what is known once both are joined.
-ghost use Rattle.std.specs.Prelude.{◌≡◌, ◌<◌, true, false, length};
+ghost use Rattle.std.specs.Prelude.{◌≡◌, ◌+◌, ◌<◌, [], true, length, All};
+ghost use Rattle.shared_capture.specs.declared.view.Round.{Round};
 ghost use Rattle.shared_capture.specs.Rounds.{Agree};
 ghost use Rattle.shared_capture.specs.States.{snapshots};
 
-use crate::{Back, Front, Method, meet, ping_pong_pair, zigzag_pair};
+use super::super::same::same;
 use capture_core::Taker;
-use std::test::Fail;
+use shared_capture::{Back, Front, Method, meet, ping_pong_pair, zigzag_pair};
+use std::process::Abort;
 use std::thread::{Threads, join, yield_now};
 use world_ticks::Cells;
 
@@ -15,7 +17,8 @@ const TRIES: u64 = 1_000_000_000;
 
 // Marks a round after each batch of writes where none is open.
 fn mark_rounds<M: Method>(mut front: Front<M>) -> Front<M>
-    requires { 0 < length front.live }
+    requires cells { 0 < length front.live }
+    requires rounds { front.rounds ≡ [] }
     ensures { result.pair ≡ front.pair }
 {
     let mut marked = 0;
@@ -25,16 +28,28 @@ fn mark_rounds<M: Method>(mut front: Front<M>) -> Front<M>
         }
         let cells = front.len();
         front.write((n % cells as u64) as usize, n % 1000);
-        if front.mark_words(marked + 1).is_ok() {
-            marked += 1;
-        }
+        marked = mark_next(&mut front, marked);
     }
     front
 }
 
+// Marks one more round, if none is open. It gives the number of those that are marked.
+fn mark_next<M: Method>(front: &mut Front<M>, marked: u64) -> u64
+    requires few { marked < ROUNDS }
+    requires rounds { All (λ (r : Round). r.tick < marked + 1) front.old.rounds }
+    ensures pair { front.new.pair ≡ front.old.pair }
+    ensures cells { length front.new.live ≡ length front.old.live }
+    ensures rounds { All (λ (r : Round). r.tick < result + 1) front.new.rounds }
+{
+    if front.mark(marked + 1).is_ok() {
+        marked + 1
+    } else {
+        marked
+    }
+}
+
 // Takes rounds up to the last one.
 fn take_rounds<M: Method>(mut back: Back<M>) -> Back<M>
-    requires { back.working ≡ false }
     ensures { result.pair ≡ back.pair }
 {
     for _ in 0..TRIES {
@@ -51,14 +66,17 @@ fn take_rounds<M: Method>(mut back: Back<M>) -> Back<M>
     back
 }
 
+// Takes all cells of the round in work, and ends it.
 fn take_round<M: Method>(back: &mut Back<M>)
-    requires { (back.old.working ≡ true) × (length back.old.now.taken ≡ 0) }
-    ensures { (back.new.pair ≡ back.old.pair) × (back.new.working ≡ false) }
+    requires { back.old.working ≡ true }
+    ensures { back.new.pair ≡ back.old.pair }
 {
-    while back.has_left() {
-        let _ = back.take();
+    for _ in 0..TRIES {
+        if back.take().is_none() {
+            back.finish();
+            return;
+        }
     }
-    back.finish();
 }
 
 // The rounds that one thread marked are those that the other took.
@@ -69,17 +87,17 @@ fn run_both<M: Method + Send + 'static, R: Threads + Sync>(
 ) -> (Front<M>, Back<M>)
     requires pair { front.pair ≡ back.pair }
     requires cells { 0 < length front.live }
-    requires idle { back.working ≡ false }
+    requires rounds { front.rounds ≡ [] }
     ensures { Agree result.0.rounds (snapshots result.1) }
 {
     let (mut front, mut back) = join(
         rt,
         move || -> Front<M>
-            requires { 0 < length front.live }
+            requires cells { 0 < length front.live }
+            requires rounds { front.rounds ≡ [] }
             ensures { result.pair ≡ front.pair }
         { mark_rounds(front) },
         move || -> Back<M>
-            requires { back.working ≡ false }
             ensures { result.pair ≡ back.pair }
         { take_rounds(back) },
     );
@@ -87,14 +105,26 @@ fn run_both<M: Method + Send + 'static, R: Threads + Sync>(
     (front, back)
 }
 
+// Each seat in a thread of its own. At the end no round is open.
+fn check_pair<M: Method + Send + 'static, R: Threads + Sync + Abort>(
+    rt: &R,
+    seats: (Front<M>, Back<M>),
+)
+    requires pair { seats.0.pair ≡ seats.1.pair }
+    requires cells { 0 < length seats.0.live }
+    requires rounds { seats.0.rounds ≡ [] }
+{
+    let (front, back) = seats;
+    let (front, mut back) = run_both(rt, front, back);
+    same(rt, back.look(), None);
+    same(rt, front.len(), 65);
+}
+
 #[test]
-fn two_threads(rt: HostRuntime) -> Result<(), Fail> {
+fn two_threads(rt: HostRuntime) {
     let words = [7; 65];
-    let (front, back) = zigzag_pair(rt.alloc(), &words)?;
-    let (front, back) = run_both(&rt, front, back);
-    assert!(rt; !back.is_working() && front.len() == 65);
-    let (front, back) = ping_pong_pair(rt.alloc(), &words)?;
-    let (front, back) = run_both(&rt, front, back);
-    assert!(rt; !back.is_working() && front.len() == 65);
-    Ok(())
+    let seats = zigzag_pair(rt.alloc(), &words).expect(&rt, "memory");
+    check_pair(&rt, seats);
+    let seats = ping_pong_pair(rt.alloc(), &words).expect(&rt, "memory");
+    check_pair(&rt, seats);
 }

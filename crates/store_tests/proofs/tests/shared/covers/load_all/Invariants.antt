@@ -1,5 +1,5 @@
 use Rattle.std.proofs.Common.{◌≡◌}
-use Rattle.shared_capture.proofs.tests.covers.load_all.Given as goal
+use Rattle.store_tests.proofs.tests.shared.covers.load_all.Given as goal
 
 abbrev pub invariant-loop : goal.invariant-loop
 invariant-loop l = l.from.pair ≡ l.fn.from.pair

@@ -1,6 +1,6 @@
 use Rattle.std.proofs.Common.{◌≡◌, ◌≤◌, ℕ, Some}
 use Rattle.std.specs.List.{slice_get}
-use Rattle.shared_capture.proofs.tests.covers.publish_all.Given as goal
+use Rattle.store_tests.proofs.tests.shared.covers.publish_all.Given as goal
 
 -- the ticks so far are stored
 abbrev pub invariant-loop-tick : goal.invariant-loop-tick
