@@ -1,6 +1,7 @@
 mod file_disk;
 mod format;
 mod four_files;
+mod fused_files;
 mod image_keeper;
 mod image_reader;
 mod log_keeper;
@@ -8,4 +9,5 @@ mod log_reader;
 mod model_file;
 mod number;
 mod recovered;
+mod segments;
 mod whole_file;

@@ -1,5 +1,5 @@
-use super::FileDisk;
-use crate::{Disk, read_all};
+use disk_model::{Disk, FileDisk, read_all};
+use std::alloc::Global;
 use std::fs::OpenOptions;
 use std::io::{self, ErrorKind};
 use std::path::PathBuf;
@@ -8,10 +8,15 @@ use std::test::Fail;
 use std::{env, fs, process};
 use world_actions::Refusal;
 
+// Where a test of this name has its folder.
+fn folder_of(rt: &HostRuntime, test: &str) -> Result<PathBuf, Fail> {
+    let name = format!(in rt.alloc(); "disk_model-{test}-{}", process::id(rt.process()))?;
+    Ok(env::temp_dir(rt)?.join(rt.alloc(), name.as_str())?)
+}
+
 // A new folder for a test of this name.
 fn new_folder(rt: &HostRuntime, test: &str) -> Result<PathBuf, Fail> {
-    let name = format!(in rt.alloc(); "disk_model-{test}-{}", process::id(rt.process()))?;
-    let folder = env::temp_dir(rt)?.join(rt.alloc(), name.as_str())?;
+    let folder = folder_of(rt, test)?;
     fs::create_dir(rt, folder.as_path())?;
     Ok(folder)
 }
@@ -25,67 +30,136 @@ fn open(rt: &HostRuntime, folder: &PathBuf, to_write: bool) -> Result<FileDisk, 
     Ok(FileDisk::open(file)?)
 }
 
-#[test]
-fn what_was_written_is_read(rt: HostRuntime) -> Result<(), Fail> {
-    let folder = new_folder(&rt, "written")?;
-    let mut disk = open(&rt, &folder, true)?;
-    assert_eq!(rt; disk.len()?, 0);
+// Whether all bytes of a disk are these.
+fn reads(alloc: Global, disk: &mut FileDisk, bytes: &[u8]) -> Result<bool, Refusal> {
+    let read = read_all(alloc, disk)?;
+    Ok(read.as_slice() == bytes)
+}
+
+fn remove(rt: &HostRuntime, folder: &PathBuf) -> Result<(), Fail> {
+    Ok(fs::remove_dir_all(rt, folder.as_path())?)
+}
+
+// Writes 1 7 8 4, in pieces.
+fn write_pieces(disk: &mut FileDisk) -> Result<(), Refusal> {
     disk.write_at(0, &[1, 2, 3])?;
     disk.write_at(3, &[4])?;
     disk.write_at(1, &[7, 8])?;
     disk.write_at(4, &[])?;
-    disk.sync()?;
-    assert_eq!(rt; disk.len()?, 4);
+    disk.sync()
+}
+
+// The length before and after the pieces are written.
+fn lengths(disk: &mut FileDisk) -> Result<(u64, u64), Refusal> {
+    let before = disk.len()?;
+    write_pieces(disk)?;
+    Ok((before, disk.len()?))
+}
+
+// The bytes at 1 and 2.
+fn middle(disk: &mut FileDisk) -> Result<[u8; 2], Refusal> {
     let mut middle = [0; 2];
     disk.read_at(1, &mut middle)?;
-    assert_eq!(rt; middle, [7, 8]);
-    assert_eq!(rt; disk.faults, 0);
-    let mut again = open(&rt, &folder, false)?;
-    assert_eq!(rt; again.known_length, 4);
-    let read = read_all(rt.alloc(), &mut again)?;
-    assert_eq!(rt; read.as_slice(), [1, 7, 8, 4].as_slice());
-    fs::remove_dir_all(&rt, folder.as_path())?;
+    Ok(middle)
+}
+
+// Writes the pieces into an empty file. No call fails.
+fn check_written(rt: &impl Abort, disk: &mut FileDisk) -> Result<(), Refusal> {
+    assert_eq!(rt; lengths(disk)?, (0, 4));
+    assert_eq!(rt; middle(disk)?, [7, 8]);
+    assert!(rt; disk.failure().is_none());
     Ok(())
 }
 
-// Whether this is the reason of a failure of this kind.
-fn check_failure(rt: &impl Abort, failure: Option<&io::Error>, kind: ErrorKind) {
-    let Some(error) = failure else {
-        panic!(rt; "no failure is kept");
-    };
-    assert_eq!(rt; error.kind(), kind);
+// Whether a write to a disk that is open for reading alone is tried, and fails so. One behind the
+// known length isn't tried.
+fn is_tried(disk: &mut FileDisk, at: u64) -> Option<bool> {
+    if disk.write_at(at, &[9]) != Err(Refusal::Device) {
+        return None;
+    }
+    let error = disk.take_failure()?;
+    Some(error.kind() != ErrorKind::InvalidInput)
+}
+
+// Reads the pieces from the disk, of which four bytes are known.
+fn check_read(rt: &impl Abort, alloc: Global, disk: &mut FileDisk) -> Result<(), Refusal> {
+    assert!(rt; reads(alloc, disk, &[1, 7, 8, 4])?);
+    let tried = [is_tried(disk, 4), is_tried(disk, 5)];
+    assert_eq!(rt; tried, [Some(true), Some(false)]);
+    Ok(())
+}
+
+#[test]
+fn what_was_written_is_read(rt: HostRuntime) -> Result<(), Fail> {
+    let folder = new_folder(&rt, "written")?;
+    check_written(&rt, &mut open(&rt, &folder, true)?)?;
+    check_read(&rt, rt.alloc(), &mut open(&rt, &folder, false)?)?;
+    remove(&rt, &folder)
+}
+
+// Whether a call that was answered so was refused by the device, and a reason is kept.
+fn is_fault(disk: &FileDisk, answer: Result<(), Refusal>) -> bool {
+    answer == Err(Refusal::Device) && disk.failure().is_some()
+}
+
+// How many reads fail: past the end, at the end, and far behind it.
+fn faults_of_reads(disk: &mut FileDisk) -> u32 {
+    let mut faults = 0u32;
+    for at in [2, 3, u64::MAX] {
+        let _ = disk.take_failure();
+        let answer = disk.read_at(at, &mut [0; 2]);
+        faults = faults.saturating_add(u32::from(is_fault(disk, answer)));
+    }
+    faults
+}
+
+// How many writes fail: behind the end, and far behind it.
+fn faults_of_writes(disk: &mut FileDisk) -> u32 {
+    let mut faults = 0u32;
+    for at in [4, u64::MAX] {
+        let _ = disk.take_failure();
+        let answer = disk.write_at(at, &[9]);
+        faults = faults.saturating_add(u32::from(is_fault(disk, answer)));
+    }
+    faults
+}
+
+fn is_invalid(failure: Option<&io::Error>) -> bool {
+    match failure {
+        Some(error) => error.kind() == ErrorKind::InvalidInput,
+        None => false,
+    }
+}
+
+// Whether a failure is kept, is taken, and is kept no more. It is one of invalid input.
+fn takes_failure(disk: &mut FileDisk) -> [bool; 3] {
+    [
+        is_invalid(disk.failure()),
+        is_invalid(disk.take_failure().as_ref()),
+        disk.failure().is_none(),
+    ]
+}
+
+fn check_faults(rt: &impl Abort, alloc: Global, disk: &mut FileDisk) -> Result<(), Refusal> {
+    disk.write_at(0, &[1, 2, 3])?;
+    assert_eq!(rt; (faults_of_reads(disk), faults_of_writes(disk)), (3, 2));
+    assert_eq!(rt; takes_failure(disk), [true; 3]);
+    assert!(rt; reads(alloc, disk, &[1, 2, 3])?);
+    Ok(())
 }
 
 #[test]
 fn what_is_not_whole_is_a_fault(rt: HostRuntime) -> Result<(), Fail> {
     let folder = new_folder(&rt, "faults")?;
-    let mut disk = open(&rt, &folder, true)?;
-    disk.write_at(0, &[1, 2, 3])?;
-    let mut pair = [0; 2];
-    assert_eq!(rt;
-        disk.read_at(2, &mut pair),
-        Err(Refusal::Device),
-        "past the end"
-    );
-    assert_eq!(rt;
-        disk.read_at(3, &mut pair),
-        Err(Refusal::Device),
-        "at the end"
-    );
-    assert_eq!(rt; disk.read_at(u64::MAX, &mut pair), Err(Refusal::Device));
-    assert_eq!(rt;
-        disk.write_at(4, &[9]),
-        Err(Refusal::Device),
-        "behind the end"
-    );
-    assert_eq!(rt; disk.write_at(u64::MAX, &[9]), Err(Refusal::Device));
-    assert_eq!(rt; disk.faults, 5);
-    check_failure(&rt, disk.failure(), ErrorKind::InvalidInput);
-    check_failure(&rt, disk.take_failure().as_ref(), ErrorKind::InvalidInput);
-    assert!(rt; disk.failure().is_none());
-    let read = read_all(rt.alloc(), &mut disk)?;
-    assert_eq!(rt; read.as_slice(), [1, 2, 3].as_slice());
-    fs::remove_dir_all(&rt, folder.as_path())?;
+    check_faults(&rt, rt.alloc(), &mut open(&rt, &folder, true)?)?;
+    remove(&rt, &folder)
+}
+
+// Tries to write to a disk of 1 2 3 that is open for reading alone. Three bytes are known of it.
+fn check_read_only(rt: &impl Abort, alloc: Global, disk: &mut FileDisk) -> Result<(), Refusal> {
+    let tried = [is_tried(disk, 0), is_tried(disk, 3), is_tried(disk, 4)];
+    assert_eq!(rt; tried, [Some(true), Some(true), Some(false)]);
+    assert!(rt; reads(alloc, disk, &[1, 2, 3])?);
     Ok(())
 }
 
@@ -93,24 +167,24 @@ fn what_is_not_whole_is_a_fault(rt: HostRuntime) -> Result<(), Fail> {
 fn a_write_that_fails_is_a_fault(rt: HostRuntime) -> Result<(), Fail> {
     let folder = new_folder(&rt, "read-only")?;
     open(&rt, &folder, true)?.write_at(0, &[1, 2, 3])?;
-    let mut disk = open(&rt, &folder, false)?;
-    assert_eq!(rt; disk.write_at(0, &[9]), Err(Refusal::Device));
-    assert_eq!(rt; disk.write_at(3, &[9]), Err(Refusal::Device));
-    assert_eq!(rt; disk.faults, 2);
-    assert_eq!(rt; disk.known_length, 3);
-    let read = read_all(rt.alloc(), &mut disk)?;
-    assert_eq!(rt; read.as_slice(), [1, 2, 3].as_slice());
-    fs::remove_dir_all(&rt, folder.as_path())?;
-    Ok(())
+    check_read_only(&rt, rt.alloc(), &mut open(&rt, &folder, false)?)?;
+    remove(&rt, &folder)
+}
+
+fn open_folder(rt: &HostRuntime, folder: &PathBuf) -> Result<FileDisk, Fail> {
+    let file = OpenOptions::new().read(true).open(rt, folder.as_path())?;
+    Ok(FileDisk::open(file)?)
+}
+
+// Whether a read of one byte fails.
+fn fails_read(disk: &mut FileDisk) -> bool {
+    let answer = disk.read_at(0, &mut [0]);
+    is_fault(disk, answer)
 }
 
 #[test]
 fn a_folder_is_not_read(rt: HostRuntime) -> Result<(), Fail> {
     let folder = new_folder(&rt, "folder")?;
-    let file = OpenOptions::new().read(true).open(&rt, folder.as_path())?;
-    let mut disk = FileDisk::open(file)?;
-    assert_eq!(rt; disk.read_at(0, &mut [0]), Err(Refusal::Device));
-    assert_eq!(rt; disk.faults, 1);
-    fs::remove_dir_all(&rt, folder.as_path())?;
-    Ok(())
+    assert!(rt; fails_read(&mut open_folder(&rt, &folder)?));
+    remove(&rt, &folder)
 }

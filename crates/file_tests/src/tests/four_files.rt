@@ -1,48 +1,71 @@
-use crate::{FourFiles, Fused, ModelFile};
+ghost use Rattle.std.specs.Prelude.{◌≤◌};
+
+use super::fused_files::four_disks;
+use disk_model::{FourFiles, Fused, ModelFile};
 use std::alloc::Global;
 use std::test::Fail;
 use world_actions::Refusal;
 
-fn disk(alloc: Global, bytes: &[u8]) -> Result<Fused<ModelFile>, Fail> {
-    let file = ModelFile::new(alloc, bytes.to_vec(alloc)?)?;
-    Ok(Fused::new(file))
+// Whether each file has the bytes of its disk.
+fn are_whole(read: &FourFiles<Vec<u8>>) -> [bool; 4] {
+    [
+        read.image_a.as_slice() == [1].as_slice(),
+        read.image_b.is_empty(),
+        read.log_a.as_slice() == [2, 3].as_slice(),
+        read.log_b.as_slice() == [4, 5, 6].as_slice(),
+    ]
 }
 
-fn disks(alloc: Global) -> Result<FourFiles<Fused<ModelFile>>, Fail> {
-    Ok(FourFiles {
-        image_a: disk(alloc, &[1])?,
-        image_b: disk(alloc, &[])?,
-        log_a: disk(alloc, &[2, 3])?,
-        log_b: disk(alloc, &[4, 5, 6])?,
-    })
+// Whether all bytes of each disk are read.
+fn reads(alloc: Global, disks: &mut FourFiles<Fused<ModelFile>>) -> Result<[bool; 4], Refusal> {
+    let read = disks.read_all(alloc)?;
+    Ok(are_whole(&read))
 }
 
 #[test]
 fn each_file_is_read(rt: HostRuntime) -> Result<(), Fail> {
-    let read = disks(rt.alloc())?.read_all(rt.alloc())?;
-    let none: &[u8] = &[];
-    assert_eq!(rt; read.image_a.as_slice(), [1].as_slice());
-    assert_eq!(rt; read.image_b.as_slice(), none);
-    assert_eq!(rt; read.log_a.as_slice(), [2, 3].as_slice());
-    assert_eq!(rt; read.log_b.as_slice(), [4, 5, 6].as_slice());
+    let mut disks = four_disks(rt.alloc())?;
+    assert_eq!(rt; reads(rt.alloc(), &mut disks)?, [true; 4]);
     Ok(())
+}
+
+// Lets this call of one of the disks fail.
+fn arm(disks: &mut FourFiles<Fused<ModelFile>>, place: u32, call: u64)
+    requires { 1 ≤ call }
+{
+    match place {
+        0 => disks.image_a.arm(call),
+        1 => disks.image_b.arm(call),
+        2 => disks.log_a.arm(call),
+        _ => disks.log_b.arm(call),
+    }
+}
+
+// The code of what reading is refused with, 0 for none.
+fn refused(alloc: Global, disks: &mut FourFiles<Fused<ModelFile>>) -> u8 {
+    match disks.read_all(alloc) {
+        Ok(_) => 0,
+        Err(refusal) => refusal.code(),
+    }
+}
+
+// The code of what reading is refused with where this call of one of the disks fails, and what is
+// read the next time.
+fn fails_once(alloc: Global, place: u32, call: u64) -> Result<(u8, [bool; 4]), Refusal>
+    requires { 1 ≤ call }
+{
+    let mut disks = four_disks(alloc)?;
+    arm(&mut disks, place, call);
+    let code = refused(alloc, &mut disks);
+    Ok((code, reads(alloc, &mut disks)?))
 }
 
 #[test]
 fn each_file_may_fail(rt: HostRuntime) -> Result<(), Fail> {
     for call in 1..=2 {
         for place in 0..4 {
-            let mut disks = disks(rt.alloc())?;
-            match place {
-                0 => disks.image_a.arm(call),
-                1 => disks.image_b.arm(call),
-                2 => disks.log_a.arm(call),
-                _ => disks.log_b.arm(call),
-            }
-            let refusal = disks.read_all(rt.alloc()).err();
-            assert_eq!(rt; refusal, Some(Refusal::Device), "file {place}, call {call}");
-            let read = disks.read_all(rt.alloc())?;
-            assert_eq!(rt; read.log_b.as_slice(), [4, 5, 6].as_slice());
+            let answers = fails_once(rt.alloc(), place, call)?;
+            assert_eq!(rt; answers, (18, [true; 4]), "file {place}, call {call}");
         }
     }
     Ok(())

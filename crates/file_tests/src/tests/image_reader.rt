@@ -1,35 +1,58 @@
 use image_files::{ImageState, is_shut, read_image};
 use std::alloc::Global;
+use std::process::Abort;
 use std::test::Fail;
+use world_actions::Refusal;
 use world_ticks::TICK_MAX;
 
 const ONE: [u8; 8] = [1, 0, 0, 0, 0, 0, 0, 0];
 
 const NOTHING: [u8; 8] = [0; 8];
 
+// 5 + 256 as a word.
+const SMALL: [u8; 8] = [5, 1, 0, 0, 0, 0, 0, 0];
+
 // LIMIT + 1 as a word, TICK_MAX as a tick.
 const MUCH: [u8; 8] = [0x00, 0x00, 0x64, 0xa7, 0xb3, 0xb6, 0xe0, 0x0d];
 
-// Closed, the refusal's code, or the tick and the words.
-fn told(alloc: Global, bytes: &[u8]) -> Result<String, Fail> {
+// What an image reads as, where the code isn't that of a refusal.
+const CLOSED: u8 = 100;
+
+const AS_WANTED: u8 = 101;
+
+const OTHER: u8 = 102;
+
+// Whether an image is closed, is open with this tick and these words, or is open with others; else
+// the code of the refusal.
+fn outcome(alloc: Global, bytes: &[u8], want_tick: u64, want: &[u64]) -> u8 {
     match read_image(alloc, bytes) {
-        Ok(ImageState::Closed) => Ok(format!(in alloc; "closed")?),
-        Ok(ImageState::Open { tick, words }) => Ok(format!(in alloc; "{tick}: {words:?}")?),
-        Err(refusal) => Ok(format!(in alloc; "{}", refusal.code())?),
+        Ok(ImageState::Closed) => CLOSED,
+        Ok(ImageState::Open { tick, words }) => {
+            if tick == want_tick && words.as_slice() == want {
+                AS_WANTED
+            } else {
+                OTHER
+            }
+        }
+        Err(refusal) => refusal.code(),
     }
 }
 
-// A file of one cell with this header and word, and a byte after it.
-fn file(alloc: Global, cells: &[u8], tick: &[u8], word: &[u8]) -> Result<Vec<u8>, Fail> {
-    let mut file = vec![in alloc; 1]?;
-    for part in [cells, tick, word, &[9]] {
-        file.extend_from_slice(part)?;
+// The outcomes of an image of two words that is cut anywhere.
+fn assert_cut(rt: &impl Abort, alloc: Global, image: &[u8; 33]) {
+    for length in 0..=33 {
+        let want = match length {
+            0..=16 => CLOSED,
+            17..=32 => 14,
+            _ => AS_WANTED,
+        };
+        let read = outcome(alloc, &image[..length], 3, &[5, 7]);
+        assert_eq!(rt; read, want, "{length} bytes, mark {}", image[8]);
     }
-    Ok(file)
 }
 
 #[test]
-fn reads_image_of_two_words(rt: HostRuntime) -> Result<(), Fail> {
+fn reads_image_of_two_words(rt: HostRuntime) {
     let alloc = rt.alloc();
     let mut image = [
         1, 2, 0, 0, 0, 0, 0, 0, 0, 3, 0, 0, 0, 0, 0, 0, 0, 5, 0, 0, 0, 0, 0, 0, 0, 7, 0, 0, 0, 0,
@@ -37,24 +60,21 @@ fn reads_image_of_two_words(rt: HostRuntime) -> Result<(), Fail> {
     ];
     for mark in [0x00, 0x20] {
         image[8] = mark;
-        for length in 0..=33 {
-            let want = match length {
-                0..=16 => "closed",
-                17..=32 => "14",
-                _ => "3: [5, 7]",
-            };
-            assert_eq!(rt;
-                told(alloc, &image[..length])?.as_str(),
-                want,
-                "{length} bytes, mark {mark}"
-            );
-        }
+        assert_cut(&rt, alloc, &image);
     }
     for mark in [0x01, 0x10, 0x1f, 0x21, 0x30, 0xff] {
         image[8] = mark;
-        assert_eq!(rt; told(alloc, &image)?.as_str(), "14", "mark {mark}");
+        assert_eq!(rt; outcome(alloc, &image, 3, &[5, 7]), 14, "mark {mark}");
     }
-    Ok(())
+}
+
+// A file of one cell with this header and word, and a byte after it.
+fn file(alloc: Global, cells: &[u8], tick: &[u8], word: &[u8]) -> Result<Vec<u8>, Refusal> {
+    let mut file = vec![in alloc; 1]?;
+    for part in [cells, tick, word, &[9]] {
+        file.extend_from_slice(part)?;
+    }
+    Ok(file)
 }
 
 #[test]
@@ -65,44 +85,38 @@ fn judges_header_and_words(rt: HostRuntime) -> Result<(), Fail> {
     let none_in_second = [0, 0, 0, 0, 0, 0, 0, 0x20];
     let above_most_in_second = [1, 0, 0x10, 0, 0, 0, 0, 0x20];
     let above_last_tick = [0x01, 0x00, 0x64, 0xa7, 0xb3, 0xb6, 0xe0, 0x0d];
-    for (cells, tick, word, want) in [
-        (&ONE, &NOTHING, &[5, 1, 0, 0, 0, 0, 0, 0], "0: [261]"),
-        (&ONE, &MUCH, &NOTHING, "1000000000000000000: [0]"),
-        (&ONE, &NOTHING, &MUCH, "14"),
-        (&ONE, &above_last_tick, &NOTHING, "14"),
-        (&NOTHING, &ONE, &ONE, "14"),
-        (&above_most_cells, &ONE, &ONE, "14"),
-        (
-            &one_in_second,
-            &NOTHING,
-            &[5, 1, 0, 0, 0, 0, 0, 0],
-            "0: [261]",
-        ),
-        (&none_in_second, &ONE, &ONE, "14"),
-        (&above_most_in_second, &ONE, &ONE, "14"),
-        (&[0xff; 8], &ONE, &ONE, "14"),
+    for (cells, tick, word, want, (want_tick, want_word)) in [
+        (&ONE, &NOTHING, &SMALL, AS_WANTED, (0, 261)),
+        (&ONE, &MUCH, &NOTHING, AS_WANTED, (TICK_MAX, 0)),
+        (&ONE, &NOTHING, &MUCH, 14, (0, 0)),
+        (&ONE, &above_last_tick, &NOTHING, 14, (0, 0)),
+        (&NOTHING, &ONE, &ONE, 14, (0, 0)),
+        (&above_most_cells, &ONE, &ONE, 14, (0, 0)),
+        (&one_in_second, &NOTHING, &SMALL, AS_WANTED, (0, 261)),
+        (&none_in_second, &ONE, &ONE, 14, (0, 0)),
+        (&above_most_in_second, &ONE, &ONE, 14, (0, 0)),
+        (&[0xff; 8], &ONE, &ONE, 14, (0, 0)),
     ] {
         let file = file(alloc, cells, tick, word)?;
-        assert_eq!(rt; told(alloc, &file)?.as_str(), want);
+        assert_eq!(rt; outcome(alloc, &file, want_tick, &[want_word]), want);
     }
     Ok(())
 }
 
 #[test]
 fn other_gates_are_closed(rt: HostRuntime) -> Result<(), Fail> {
-    let alloc = rt.alloc();
-    let mut bytes = file(alloc, &ONE, &ONE, &ONE)?;
+    let mut bytes = file(rt.alloc(), &ONE, &ONE, &ONE)?;
     for gate in [0, 2, 0xff] {
         bytes.as_mut_slice().fill(gate);
-        assert_eq!(rt; told(alloc, &bytes)?.as_str(), "closed");
-        assert!(rt; is_shut(&bytes));
+        let read = outcome(rt.alloc(), &bytes, 0, &[]);
+        assert_eq!(rt; (read, is_shut(&bytes)), (CLOSED, true));
     }
     assert!(rt; !is_shut(&[]) && !is_shut(&[1]));
     Ok(())
 }
 
 // An open image of so many cells, whose words are their numbers, at the last tick.
-fn numbered(alloc: Global, header: &[u8], cells: u32) -> Result<Vec<u8>, Fail> {
+fn numbered(alloc: Global, header: &[u8], cells: u32) -> Result<Vec<u8>, Refusal> {
     let mut image = header.to_vec(alloc)?;
     image.extend_from_slice(&MUCH)?;
     for cell in 0..cells {
@@ -111,9 +125,34 @@ fn numbered(alloc: Global, header: &[u8], cells: u32) -> Result<Vec<u8>, Fail> {
     Ok(image)
 }
 
+// Whether the words are their cells' numbers.
+fn are_numbered(words: &[u64]) -> bool {
+    for cell in 0..words.len() {
+        if words[cell] != cell as u64 {
+            return false;
+        }
+    }
+    true
+}
+
+// The tick, the number of the words, and whether they are their cells' numbers; or the code of the
+// refusal.
+fn told(alloc: Global, header: &[u8], cells: u32) -> Result<(u64, usize, bool), Refusal> {
+    let image = numbered(alloc, header, cells)?;
+    match read_image(alloc, &image)? {
+        ImageState::Open { tick, words } => Ok((tick, words.len(), are_numbered(&words))),
+        ImageState::Closed => Ok((0, 0, false)),
+    }
+}
+
+// The code of what an image of so many words is refused with.
+fn refused(alloc: Global, header: &[u8], cells: u32) -> Result<u8, Refusal> {
+    let image = numbered(alloc, header, cells)?;
+    Ok(outcome(alloc, &image, 0, &[]))
+}
+
 #[test]
 fn reads_largest_image_of_each_format(rt: HostRuntime) -> Result<(), Fail> {
-    let alloc = rt.alloc();
     for (header, larger, cells) in [
         (
             [1, 0, 0, 1, 0, 0, 0, 0, 0x00],
@@ -126,22 +165,10 @@ fn reads_largest_image_of_each_format(rt: HostRuntime) -> Result<(), Fail> {
             1_048_576,
         ),
     ] {
-        match read_image(alloc, &numbered(alloc, &header, cells)?)? {
-            ImageState::Open { tick, words } => {
-                assert_eq!(rt; tick, TICK_MAX);
-                assert_eq!(rt; words.len(), cells as usize);
-                for (cell, word) in words.iter().enumerate() {
-                    assert_eq!(rt; *word, cell as u64);
-                }
-            }
-            ImageState::Closed => panic!(rt; "the image is open"),
-        }
-        let image = numbered(alloc, &larger, cells.saturating_add(1))?;
-        assert_eq!(rt;
-            told(alloc, &image)?.as_str(),
-            "14",
-            "{cells} cells and one"
-        );
+        let read = told(rt.alloc(), &header, cells)?;
+        assert_eq!(rt; read, (TICK_MAX, cells as usize, true));
+        let code = refused(rt.alloc(), &larger, cells.saturating_add(1))?;
+        assert_eq!(rt; code, 14, "{cells} cells and one");
     }
     Ok(())
 }

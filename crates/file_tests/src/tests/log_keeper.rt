@@ -1,10 +1,8 @@
 ghost use Rattle.std.specs.Prelude.{◌≡◌, ◌+◌, ◌<◌, ◌≤◌, [], IfOk, OnOk};
 ghost use Rattle.world_ticks.specs.declared.tick.TheConstants.{TICK_MAX};
-ghost use Rattle.disk_model.specs.CrashOutcome.{IsCrashOutcome};
 ghost use Rattle.action_log.specs.declared.format.TheConstants.{SEGMENT_TICKS};
 ghost use Rattle.action_log.specs.Progress.{QueueFollows, end_of};
-ghost use Rattle.action_log.specs.Logs.{LogPlace};
-ghost use Rattle.action_log.specs.Stands.{Stands};
+ghost use Rattle.action_log.specs.Files.{FitsFiles};
 
 use action_log::{LogAnswer, LogKeeper, Record, log_outcomes, log_queues};
 use circular_buffer::HeapCircularBuffer;
@@ -12,7 +10,7 @@ use disk_model::ModelFile;
 use std::alloc::Global;
 use std::process::Abort;
 use std::test::Fail;
-use world_actions::Action;
+use world_actions::{Action, Refusal};
 use world_ticks::Tick;
 
 fn queue_tick(
@@ -21,7 +19,7 @@ fn queue_tick(
     keeper: &LogKeeper,
     queue: &mut HeapCircularBuffer<Record>,
     action: Action,
-) -> Result<(), Fail>
+) -> Result<(), Refusal>
     requires follows { QueueFollows keeper.now queue.old.items }
     requires few { (end_of keeper.now queue.old.items).count < SEGMENT_TICKS }
     requires numbered { (end_of keeper.now queue.old.items).base + (end_of keeper.now queue.old.items).count < TICK_MAX }
@@ -44,7 +42,7 @@ fn queue_ticks(
     keeper: &LogKeeper,
     queue: &mut HeapCircularBuffer<Record>,
     n: u64,
-) -> Result<(), Fail>
+) -> Result<(), Refusal>
     requires follows { QueueFollows keeper.now queue.old.items }
     requires first { end_of keeper.now queue.old.items ≡ record { base = 0; count = 0 } }
     requires few { n ≤ SEGMENT_TICKS }
@@ -72,34 +70,45 @@ fn queue_switch(
     assert!(rt; queue.try_push_back(Record::Switch(tick)).is_ok());
 }
 
-// Counts the steps that are answered Working, and gives the first other answer.
+// An answer other than of a tick that is acknowledged.
+const IDLE: u64 = 1_000;
+
+const OTHER: u64 = 1_001;
+
+// The tick that an answer acknowledges.
+fn acked(answer: LogAnswer) -> u64 {
+    match answer {
+        LogAnswer::Acked(receipt) => receipt.tick(),
+        LogAnswer::Idle => IDLE,
+        LogAnswer::Working | LogAnswer::Down => OTHER,
+    }
+}
+
+// Counts the steps that are answered Working, and gives what the first other answer acknowledges.
 fn run(
     keeper: &mut LogKeeper,
     queue: &mut HeapCircularBuffer<Record>,
     a: &mut ModelFile,
     b: &mut ModelFile,
-) -> (u64, LogAnswer)
-    requires stands { (place : LogPlace) × Stands keeper.old a.old.content b.old.content (IsCrashOutcome a.old)
-        (IsCrashOutcome b.old) place }
+) -> (u64, u64)
+    requires fits { FitsFiles keeper.old a.old.content b.old.content }
     requires follows { QueueFollows keeper.old queue.old.items }
-    ensures stands { (place : LogPlace) × Stands keeper.new a.new.content b.new.content (IsCrashOutcome a.new)
-        (IsCrashOutcome b.new) place }
+    ensures fits { FitsFiles keeper.new a.new.content b.new.content }
     ensures follows { QueueFollows keeper.new queue.new.items }
     ensures end { end_of keeper.new queue.new.items ≡ end_of keeper.old queue.old.items }
 {
     for steps in 0..100 {
         let answer = keeper.step(queue, a, b);
         if answer != LogAnswer::Working {
-            return (steps, answer);
+            return (steps, acked(answer));
         }
     }
-    (100, LogAnswer::Working)
+    (100, OTHER)
 }
 
 // A keeper of a log that begins at tick 0, and its empty files.
-fn begin(alloc: Global) -> Result<(LogKeeper, ModelFile, ModelFile), Fail>
-    ensures stands { IfOk result (λ log. (place : LogPlace) × Stands log.0 log.1.content log.2.content
-        (IsCrashOutcome log.1) (IsCrashOutcome log.2) place) }
+fn begin(alloc: Global) -> Result<(LogKeeper, ModelFile, ModelFile), Refusal>
+    ensures fits { IfOk result (λ log. FitsFiles log.0 log.1.content log.2.content) }
     ensures follows { IfOk result (λ log. QueueFollows log.0 []) }
     ensures end { IfOk result (λ log. end_of log.0 [] ≡ record { base = 0; count = 0 }) }
 {
@@ -111,56 +120,57 @@ fn begin(alloc: Global) -> Result<(LogKeeper, ModelFile, ModelFile), Fail>
     Ok((keeper, a, b))
 }
 
+// A queue of two ticks, with a switch between them.
+fn two_ticks(
+    rt: &impl Abort,
+    alloc: Global,
+    keeper: &LogKeeper,
+) -> Result<HeapCircularBuffer<Record>, Refusal>
+    requires follows { QueueFollows keeper.now [] }
+    requires first { end_of keeper.now [] ≡ record { base = 0; count = 0 } }
+    ensures follows { IfOk result (λ queue. QueueFollows keeper.now queue.items) }
+    ensures end { IfOk result (λ queue. end_of keeper.now queue.items ≡ record { base = 1; count = 1 }) }
+{
+    let mut queue = HeapCircularBuffer::with_capacity(alloc, 8)?;
+    let set = Action::Set { cell: 0, value: 5 };
+    queue_tick(rt, alloc, keeper, &mut queue, set)?;
+    queue_switch(rt, keeper, &mut queue, 1);
+    let add = Action::Add { cell: 0, by: 2 };
+    queue_tick(rt, alloc, keeper, &mut queue, add)?;
+    Ok(queue)
+}
+
+// Whether log.a has tick 1 behind base 0.
+fn has_first(a: &ModelFile) -> bool {
+    let segment = [
+        1, 0, 0, 0, 0, 0, 0, 0, 0x20, 1, 1, 0, 1, 0, 1, 0, 0, 0, 0, 5, 0, 0, 0, 0, 0, 0, 0, 0,
+    ];
+    a.durable() == segment.as_slice()
+}
+
+// Whether log.b has tick 2 behind base 1.
+fn has_second(b: &ModelFile) -> bool {
+    let segment = [
+        1, 1, 0, 0, 0, 0, 0, 0, 0x20, 1, 1, 0, 1, 0, 2, 0, 0, 0, 0, 2, 0, 0, 0, 0, 0, 0, 0, 0,
+    ];
+    b.durable() == segment.as_slice()
+}
+
 #[test]
 fn writes_ticks_and_switches(rt: HostRuntime) -> Result<(), Fail> {
     let alloc = rt.alloc();
     let (mut keeper, mut a, mut b) = begin(alloc)?;
-    let mut queue = HeapCircularBuffer::with_capacity(alloc, 8)?;
-    queue_tick(
-        &rt,
-        alloc,
-        &keeper,
-        &mut queue,
-        Action::Set { cell: 0, value: 5 },
-    )?;
-    queue_switch(&rt, &keeper, &mut queue, 1);
-    queue_tick(
-        &rt,
-        alloc,
-        &keeper,
-        &mut queue,
-        Action::Add { cell: 0, by: 2 },
-    )?;
-    assert!(rt; queue.len() == 3);
-    assert_eq!(rt; keeper.work(&queue), 22);
+    let mut queue = two_ticks(&rt, alloc, &keeper)?;
+    assert_eq!(rt; (queue.len(), keeper.work(&queue)), (3, 22));
     // The start, and tick 1.
-    let (steps, answer) = run(&mut keeper, &mut queue, &mut a, &mut b);
-    assert_eq!(rt; steps, 11);
-    assert!(rt; matches!(answer, LogAnswer::Acked(receipt) if receipt.tick() == 1));
-    assert!(rt; !keeper.starting());
-    assert_eq!(rt;
-        a.durable(),
-        [
-            1, 0, 0, 0, 0, 0, 0, 0, 0x20, 1, 1, 0, 1, 0, 1, 0, 0, 0, 0, 5, 0, 0, 0, 0, 0, 0, 0, 0,
-        ]
-        .as_slice()
-    );
+    assert_eq!(rt; run(&mut keeper, &mut queue, &mut a, &mut b), (11, 1));
+    assert!(rt; !keeper.starting() && has_first(&a));
     // The switch to log.b, which the start has shut, and tick 2.
-    let (steps, answer) = run(&mut keeper, &mut queue, &mut a, &mut b);
-    assert_eq!(rt; steps, 7);
-    assert!(rt; matches!(answer, LogAnswer::Acked(receipt) if receipt.tick() == 2));
-    assert_eq!(rt;
-        b.durable(),
-        [
-            1, 1, 0, 0, 0, 0, 0, 0, 0x20, 1, 1, 0, 1, 0, 2, 0, 0, 0, 0, 2, 0, 0, 0, 0, 0, 0, 0, 0,
-        ]
-        .as_slice()
-    );
+    assert_eq!(rt; run(&mut keeper, &mut queue, &mut a, &mut b), (7, 2));
+    assert!(rt; has_second(&b));
     // The switch back to log.a, which isn't shut.
     queue_switch(&rt, &keeper, &mut queue, 2);
-    let (steps, answer) = run(&mut keeper, &mut queue, &mut a, &mut b);
-    assert_eq!(rt; steps, 6);
-    assert!(rt; answer == LogAnswer::Idle);
+    assert_eq!(rt; run(&mut keeper, &mut queue, &mut a, &mut b), (6, IDLE));
     Ok(())
 }
 
@@ -169,18 +179,11 @@ fn writes_ticks_in_groups(rt: HostRuntime) -> Result<(), Fail> {
     let alloc = rt.alloc();
     let (mut keeper, mut a, mut b) = begin(alloc)?;
     let mut queue = HeapCircularBuffer::with_capacity(alloc, 40)?;
-    let (steps, answer) = run(&mut keeper, &mut queue, &mut a, &mut b);
-    assert_eq!(rt; steps, 8);
-    assert!(rt; answer == LogAnswer::Idle);
+    assert_eq!(rt; run(&mut keeper, &mut queue, &mut a, &mut b), (8, IDLE));
     queue_ticks(&rt, alloc, &keeper, &mut queue, 33)?;
-    assert!(rt; queue.len() == 33);
-    assert_eq!(rt; keeper.work(&queue), 132);
-    let (steps, answer) = run(&mut keeper, &mut queue, &mut a, &mut b);
-    assert_eq!(rt; steps, 3);
-    assert!(rt; matches!(answer, LogAnswer::Acked(receipt) if receipt.tick() == 32));
-    let (steps, answer) = run(&mut keeper, &mut queue, &mut a, &mut b);
-    assert_eq!(rt; steps, 3);
-    assert!(rt; matches!(answer, LogAnswer::Acked(receipt) if receipt.tick() == 33));
+    assert_eq!(rt; (queue.len(), keeper.work(&queue)), (33, 132));
+    assert_eq!(rt; run(&mut keeper, &mut queue, &mut a, &mut b), (3, 32));
+    assert_eq!(rt; run(&mut keeper, &mut queue, &mut a, &mut b), (3, 33));
     Ok(())
 }
 
@@ -191,8 +194,7 @@ fn covers_what_stands_before_a_switch(rt: HostRuntime) -> Result<(), Fail> {
     let (mut keeper, mut a, mut b) = begin(alloc)?;
     let mut queue = HeapCircularBuffer::with_capacity(alloc, 8)?;
     assert!(rt; keeper.cover(&mut queue, 0) == LogAnswer::Idle);
-    let (_, answer) = run(&mut keeper, &mut queue, &mut a, &mut b);
-    assert!(rt; answer == LogAnswer::Idle);
+    assert_eq!(rt; run(&mut keeper, &mut queue, &mut a, &mut b).1, IDLE);
     queue_switch(&rt, &keeper, &mut queue, 1);
     queue_switch(&rt, &keeper, &mut queue, 3);
     assert!(rt; keeper.cover(&mut queue, 2) == LogAnswer::Idle);
@@ -201,13 +203,10 @@ fn covers_what_stands_before_a_switch(rt: HostRuntime) -> Result<(), Fail> {
     let action = Action::Set { cell: 0, value: 5 };
     queue_tick(&rt, alloc, &keeper, &mut queue, action)?;
     queue_switch(&rt, &keeper, &mut queue, 4);
-    let answer = keeper.cover(&mut queue, 4);
-    assert!(rt; matches!(answer, LogAnswer::Acked(receipt) if receipt.tick() == 4));
+    assert_eq!(rt; acked(keeper.cover(&mut queue, 4)), 4);
     assert_eq!(rt; keeper.work(&queue), 6);
     // The segment begins at the covered tick.
-    let (steps, answer) = run(&mut keeper, &mut queue, &mut a, &mut b);
-    assert_eq!(rt; steps, 4);
-    assert!(rt; answer == LogAnswer::Idle);
-    assert_eq!(rt; b.durable(), [1, 4, 0, 0, 0, 0, 0, 0, 0x20, 0].as_slice());
+    assert_eq!(rt; run(&mut keeper, &mut queue, &mut a, &mut b), (4, IDLE));
+    assert!(rt; b.durable() == [1, 4, 0, 0, 0, 0, 0, 0, 0x20, 0].as_slice());
     Ok(())
 }

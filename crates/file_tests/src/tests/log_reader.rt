@@ -1,8 +1,9 @@
-use action_log::{LogState, count_groups, read_log};
+use super::segments::push_groups;
+use action_log::{LogState, TickList, count_groups, read_log};
 use std::alloc::Global;
 use std::process::Abort;
 use std::test::Fail;
-use world_actions::Action;
+use world_actions::{Action, Refusal};
 
 // Base 0, and a group of the one tick `set 0 5`.
 const ONE_TICK: [u8; 28] = [
@@ -18,48 +19,59 @@ fn outcome(alloc: Global, bytes: &[u8]) -> usize {
     }
 }
 
-// The base and each tick's actions.
-fn assert_reads(rt: &impl Abort, alloc: Global, bytes: &[u8], base: u64, want: &[&[Action]]) {
-    match read_log(alloc, bytes) {
-        Ok(LogState::Open { base: read, ticks }) => {
-            assert_eq!(rt; read, base);
-            assert_eq!(rt; ticks.len(), want.len());
-            for (i, tick) in want.iter().enumerate() {
-                assert_eq!(rt; ticks.get(i), Some(*tick), "tick {i}");
-            }
-            assert!(rt; ticks.get(want.len()).is_none());
+// Whether these are the actions of each tick.
+fn are_ticks(ticks: &TickList, want: &[&[Action]]) -> bool {
+    for i in 0..want.len() {
+        if ticks.get(i) != Some(want[i]) {
+            return false;
         }
-        _ => panic!(rt; "the segment is open"),
+    }
+    ticks.len() == want.len() && ticks.get(want.len()).is_none()
+}
+
+// Whether a segment is open, with this base and these ticks' actions.
+fn reads(alloc: Global, bytes: &[u8], want_base: u64, want: &[&[Action]]) -> bool {
+    match read_log(alloc, bytes) {
+        Ok(LogState::Open { base, ticks }) => base == want_base && are_ticks(&ticks, want),
+        _ => false,
+    }
+}
+
+// The outcomes of a segment of one tick that is cut anywhere.
+fn assert_cut(rt: &impl Abort, alloc: Global, bytes: &[u8; 28]) {
+    for k in 0..29 {
+        let want = match k {
+            0..=9 => 200,
+            10..=26 => 15,
+            _ => 1,
+        };
+        assert_eq!(rt;
+            outcome(alloc, &bytes[..k]),
+            want,
+            "{k} bytes, mark {}",
+            bytes[8]
+        );
     }
 }
 
 #[test]
-fn reads_one_tick_cut_anywhere(rt: HostRuntime) -> Result<(), Fail> {
+fn reads_one_tick_cut_anywhere(rt: HostRuntime) {
     let alloc = rt.alloc();
     let mut bytes = ONE_TICK;
     let tick = [Action::Set { cell: 0, value: 5 }];
     for mark in [0x00, 0x20] {
         bytes[8] = mark;
-        assert_reads(&rt, alloc, &bytes, 0, &[&tick]);
-        for k in 0..29 {
-            let want = match k {
-                0..=9 => 200,
-                10..=26 => 15,
-                _ => 1,
-            };
-            assert_eq!(rt; outcome(alloc, &bytes[..k]), want, "{k} bytes, mark {mark}");
-        }
+        assert!(rt; reads(alloc, &bytes, 0, &[&tick]), "mark {mark}");
+        assert_cut(&rt, alloc, &bytes);
     }
     for mark in [0x10, 0x1f, 0x2e, 0x30, 0xff] {
         bytes[8] = mark;
         assert_eq!(rt; outcome(alloc, &bytes), 15, "mark {mark}");
     }
-    Ok(())
 }
 
 #[test]
-fn reads_each_action(rt: HostRuntime) -> Result<(), Fail> {
-    let alloc = rt.alloc();
+fn reads_each_action(rt: HostRuntime) {
     let bytes = [
         1, 7, 0, 0, 0, 0, 0, 0, 0, // base 7
         1, 2, 0, // a group of two ticks
@@ -76,13 +88,11 @@ fn reads_each_action(rt: HostRuntime) -> Result<(), Fail> {
         amount: 9,
     };
     let add = Action::Add { cell: 0, by: -6 };
-    assert_reads(&rt, alloc, &bytes, 7, &[&[transfer, add], &[], &[]]);
-    Ok(())
+    assert!(rt; reads(rt.alloc(), &bytes, 7, &[&[transfer, add], &[], &[]]));
 }
 
 #[test]
-fn reads_each_action_of_the_second_format(rt: HostRuntime) -> Result<(), Fail> {
-    let alloc = rt.alloc();
+fn reads_each_action_of_the_second_format(rt: HostRuntime) {
     let mut bytes = [
         1, 7, 0, 0, 0, 0, 0, 0, 0x20, // base 7
         1, 1, 0, // a group of a tick
@@ -95,40 +105,58 @@ fn reads_each_action_of_the_second_format(rt: HostRuntime) -> Result<(), Fail> {
     let swap = Action::Swap { a: 1, b: 2 };
     let cap = Action::Cap { cell: 0, value: 9 };
     let set = Action::Set { cell: 3, value: 4 };
-    assert_reads(&rt, alloc, &bytes, 7, &[&[swap, cap, set]]);
+    assert!(rt; reads(rt.alloc(), &bytes, 7, &[&[swap, cap, set]]));
     bytes[8] = 0;
-    assert_eq!(rt; outcome(alloc, &bytes), 15);
-    Ok(())
+    assert_eq!(rt; outcome(rt.alloc(), &bytes), 15);
+}
+
+// An open segment of 32 ticks of no action, and one more, and what stands behind a closed gate.
+fn two_groups() -> [u8; 87] {
+    let mut bytes = [0; 87];
+    bytes[0] = 1;
+    bytes[9..12].copy_from_slice(&[1, 32, 0]);
+    bytes[76..81].copy_from_slice(&[1, 1, 0, 0, 0]);
+    bytes[81..].copy_from_slice(&[0, 1, 1, 0, 0, 0]);
+    bytes
+}
+
+fn assert_groups(rt: &impl Abort, bytes: &[u8], want: Option<usize>) {
+    assert_eq!(rt; count_groups(bytes), want, "{} bytes", bytes.len());
+}
+
+// The groups of the segment, without and with what stands behind the closed gate.
+fn assert_two_groups(rt: &impl Abort, bytes: &[u8; 87]) {
+    assert_groups(rt, &bytes[..81], Some(2));
+    assert_groups(rt, bytes, Some(2));
 }
 
 #[test]
-fn counts_groups_of_an_open_segment(rt: HostRuntime) -> Result<(), Fail> {
-    let alloc = rt.alloc();
+fn counts_groups_of_an_open_segment(rt: HostRuntime) {
     for k in 0..29 {
         let want = if k < 27 { None } else { Some(1) };
-        assert_eq!(rt; count_groups(&ONE_TICK[..k]), want, "{k} bytes");
+        assert_groups(&rt, &ONE_TICK[..k], want);
     }
-    assert_eq!(rt; count_groups(&[1, 7, 0, 0, 0, 0, 0, 0, 0, 0]), Some(0));
-    // 32 ticks of no action, and one more
-    let mut bytes = [1, 0, 0, 0, 0, 0, 0, 0, 0, 1, 32, 0].to_vec(alloc)?;
-    bytes.resize(12 + 2 * 32, 0)?;
-    bytes.extend_from_slice(&[1, 1, 0, 0, 0])?;
-    assert_eq!(rt; count_groups(&bytes), Some(2));
-    // what stands behind a closed gate
-    bytes.extend_from_slice(&[0, 1, 1, 0, 0, 0])?;
-    assert_eq!(rt; count_groups(&bytes), Some(2));
+    assert_groups(&rt, &[1, 7, 0, 0, 0, 0, 0, 0, 0, 0], Some(0));
+    let mut bytes = two_groups();
+    assert_two_groups(&rt, &bytes);
     // a group of 33, and a segment that is closed
     bytes[10] = 33;
-    assert_eq!(rt; count_groups(&bytes), None);
+    assert_groups(&rt, &bytes, None);
     bytes[10] = 32;
     bytes[0] = 0;
-    assert_eq!(rt; count_groups(&bytes), None);
-    Ok(())
+    assert_groups(&rt, &bytes, None);
+}
+
+// A base with its gate, and what stands behind it.
+fn joined(base: &[u8; 9], group: &[u8; 5]) -> [u8; 14] {
+    let mut bytes = [0; 14];
+    bytes[..9].copy_from_slice(base);
+    bytes[9..].copy_from_slice(group);
+    bytes
 }
 
 #[test]
-fn refuses_what_is_out_of_bounds(rt: HostRuntime) -> Result<(), Fail> {
-    let alloc = rt.alloc();
+fn refuses_what_is_out_of_bounds(rt: HostRuntime) {
     let last = [1, 0, 0, 0x64, 0xa7, 0xb3, 0xb6, 0xe0, 0x0d];
     for (base, group, want) in [
         ([1, 0, 0, 0, 0, 0, 0, 0, 0], [1, 0, 0, 0, 0], 15), // no tick
@@ -143,56 +171,74 @@ fn refuses_what_is_out_of_bounds(rt: HostRuntime) -> Result<(), Fail> {
         ), // base 10^18 + 1
         ([2, 0, 0, 0, 0, 0, 0, 0, 0], [1, 0, 0, 0, 0], 200), // a gate that isn't open
     ] {
-        let mut bytes = base.to_vec(alloc)?;
-        bytes.extend_from_slice(&group)?;
-        assert_eq!(rt; outcome(alloc, &bytes), want, "{group:?} behind {base:?}");
+        let read = outcome(rt.alloc(), &joined(&base, &group));
+        assert_eq!(rt; read, want, "{group:?} behind {base:?}");
+    }
+}
+
+// A segment of a group of so many ticks of no action, with bytes for 33 of them.
+fn group_of(ticks: u8) -> [u8; 78] {
+    let mut bytes = [0; 78];
+    bytes[0] = 1;
+    bytes[9] = 1;
+    bytes[10] = ticks;
+    bytes
+}
+
+// A segment of one tick of 256 actions `set 1 1`, and so many more.
+fn tick_of(alloc: Global, more: u8) -> Result<Vec<u8>, Refusal> {
+    let mut bytes = [1, 0, 0, 0, 0, 0, 0, 0, 0, 1, 1, 0, more, 1].to_vec(alloc)?;
+    for _ in 0..256 + u32::from(more) {
+        bytes.extend_from_slice(&[1, 1, 0, 0, 0, 1, 0, 0, 0, 0, 0, 0, 0])?;
+    }
+    Ok(bytes)
+}
+
+// A segment with this mark, of one action of this kind, with as many bytes as the longest action
+// has.
+fn action_of(mark: u8, kind: u8) -> [u8; 31] {
+    let mut bytes = [0; 31];
+    bytes[..14].copy_from_slice(&[1, 0, 0, 0, 0, 0, 0, 0, mark, 1, 1, 0, 1, 0]);
+    bytes[14] = kind;
+    bytes
+}
+
+#[test]
+fn refuses_counts_of_ticks_and_actions(rt: HostRuntime) -> Result<(), Fail> {
+    for (ticks, want) in [(32, 32), (33, 15)] {
+        assert_eq!(rt;
+            outcome(rt.alloc(), &group_of(ticks)),
+            want,
+            "{ticks} ticks"
+        );
+    }
+    for (more, want) in [(0, 1), (1, 15)] {
+        let bytes = tick_of(rt.alloc(), more)?;
+        assert_eq!(rt; outcome(rt.alloc(), &bytes), want, "256 actions and {more}");
     }
     Ok(())
 }
 
 #[test]
-fn refuses_counts_and_kinds(rt: HostRuntime) -> Result<(), Fail> {
-    let alloc = rt.alloc();
-    // 32 ticks of no action in a group, and 33
-    for (ticks, want) in [(32, 32), (33, 15)] {
-        let mut bytes = [1, 0, 0, 0, 0, 0, 0, 0, 0, 1, ticks, 0].to_vec(alloc)?;
-        bytes.resize(12 + 2 * 33, 0)?;
-        assert_eq!(rt; outcome(alloc, &bytes), want, "{ticks} ticks");
-    }
-    // 256 actions `set 1 1` in a tick, and 257
-    for (more, want) in [(0, 1), (1, 15)] {
-        let mut bytes = [1, 0, 0, 0, 0, 0, 0, 0, 0, 1, 1, 0, more, 1].to_vec(alloc)?;
-        for _ in 0..256 + u32::from(more) {
-            bytes.extend_from_slice(&[1, 1, 0, 0, 0, 1, 0, 0, 0, 0, 0, 0, 0])?;
-        }
-        assert_eq!(rt; outcome(alloc, &bytes), want, "256 actions and {more}");
-    }
-    // kinds 0 to 6 in each format, with as many bytes as the longest action has
+fn refuses_kinds(rt: HostRuntime) {
+    // kinds 0 to 6 in each format
     for (mark, kinds) in [
         (0x00, [15, 1, 1, 1, 15, 15, 15]),
         (0x20, [15, 1, 1, 1, 1, 1, 15]),
     ] {
-        for (kind, want) in kinds.iter().enumerate() {
-            let mut bytes = [1, 0, 0, 0, 0, 0, 0, 0, mark, 1, 1, 0, 1, 0, kind as u8].to_vec(
-                alloc,
-            )?;
-            bytes.resize(15 + 16, 0)?;
-            assert_eq!(rt; outcome(alloc, &bytes), *want, "kind {kind}, mark {mark}");
+        for kind in 0..7 {
+            let read = outcome(rt.alloc(), &action_of(mark, kind));
+            assert_eq!(rt; read, kinds[kind as usize], "kind {kind}, mark {mark}");
         }
     }
-    Ok(())
 }
 
 #[test]
 fn refuses_more_ticks_than_a_segment_has(rt: HostRuntime) -> Result<(), Fail> {
-    let alloc = rt.alloc();
-    let mut bytes = [1, 0, 0, 0, 0, 0, 0, 0, 0].to_vec(alloc)?;
-    for _ in 0..2048 {
-        bytes.extend_from_slice(&[1, 32, 0])?;
-        bytes.extend_from_slice(&[0; 64])?;
-    }
-    assert_eq!(rt; outcome(alloc, &bytes), 65536);
+    let mut bytes = [1, 0, 0, 0, 0, 0, 0, 0, 0].to_vec(rt.alloc())?;
+    push_groups(&mut bytes, 2048)?;
+    assert_eq!(rt; outcome(rt.alloc(), &bytes), 65536);
     bytes.extend_from_slice(&[1, 1, 0, 0, 0])?;
-    assert_eq!(rt; outcome(alloc, &bytes), 15);
+    assert_eq!(rt; outcome(rt.alloc(), &bytes), 15);
     Ok(())
 }

@@ -1,14 +1,56 @@
-use super::*;
+ghost use Rattle.std.specs.Prelude.{◌≡◌, ◌≤◌, length, IfOk};
+
+use super::fused_files::disk;
+use disk_model::{Disk, Fused, ModelFile};
 use std::alloc::Global;
+use std::process::Abort;
 use std::test::Fail;
 use world_actions::Refusal;
 
 // A file whose bytes 11 22 33 are durable, with the unsynced writes of aa bb at 1 and of cc dd ee
 // at 2.
-fn written_file(alloc: Global) -> Result<ModelFile, Fail> {
+fn written_file(alloc: Global) -> Result<ModelFile, Refusal> {
     let mut file = ModelFile::new(alloc, vec![in alloc; 0x11, 0x22, 0x33]?)?;
     file.write_at(1, &[0xaa, 0xbb])?;
     file.write_at(2, &[0xcc, 0xdd, 0xee])?;
+    Ok(file)
+}
+
+// Whether a sync fails that is let fail, and leaves what reads give.
+fn fails_sync(disk: &mut Fused<ModelFile>) -> bool {
+    disk.arm(1);
+    let answer = disk.sync();
+    let content = [0x11, 0xaa, 0xcc, 0xdd, 0xee];
+    answer == Err(Refusal::Device) && disk.inner().now() == content.as_slice()
+}
+
+// The same after a sync that failed.
+fn unsynced_file(rt: &impl Abort, alloc: Global) -> Result<ModelFile, Refusal> {
+    let mut disk = Fused::new(written_file(alloc)?);
+    assert!(rt; fails_sync(&mut disk));
+    Ok(disk.into_inner())
+}
+
+// The same after a sync.
+fn synced_file(alloc: Global) -> Result<ModelFile, Refusal> {
+    let mut file = written_file(alloc)?;
+    file.sync()?;
+    Ok(file)
+}
+
+// A file whose bytes aa bb cc are durable, with the unsynced write of dd ee at 2.
+fn torn_file(alloc: Global) -> Result<ModelFile, Refusal> {
+    let mut file = ModelFile::new(alloc, vec![in alloc; 0xaa, 0xbb, 0xcc]?)?;
+    file.write_at(2, &[0xdd, 0xee])?;
+    Ok(file)
+}
+
+// A file whose bytes 1 2 3 are durable, with the unsynced write of 4 at 0.
+fn small_file(alloc: Global) -> Result<ModelFile, Refusal>
+    ensures length { IfOk result (λ file. length file.content ≡ 3) }
+{
+    let mut file = ModelFile::new(alloc, vec![in alloc; 1, 2, 3]?)?;
+    file.write_at(0, &[4])?;
     Ok(file)
 }
 
@@ -20,9 +62,37 @@ fn crash(file: ModelFile, left: Vec<u8>) -> (u8, ModelFile) {
     }
 }
 
+// The code alone.
+fn crash_code(alloc: Global, file: ModelFile, left: &[u8]) -> Result<u8, Refusal> {
+    let (code, _) = crash(file, left.to_vec(alloc)?);
+    Ok(code)
+}
+
+// Whether these bytes are durable, and reads give those.
+fn holds(file: &ModelFile, durable: &[u8], now: &[u8]) -> bool {
+    file.durable() == durable && file.now() == now
+}
+
+// Whether the torn file allows these bytes, the code of a crash that is to leave them, whether the
+// file then holds what it should, and whether place 2 is uncertain.
+fn crash_torn(
+    alloc: Global,
+    left: &[u8],
+    is_taken: bool,
+) -> Result<(bool, u8, bool, bool), Refusal> {
+    let file = torn_file(alloc)?;
+    let allowed = file.allows(left);
+    let (code, file) = crash(file, left.to_vec(alloc)?);
+    let held = if is_taken {
+        holds(&file, left, left)
+    } else {
+        holds(&file, &[0xaa, 0xbb, 0xcc], &[0xaa, 0xbb, 0xdd, 0xee])
+    };
+    Ok((allowed, code, held, file.uncertain(2)))
+}
+
 #[test]
 fn leaves_torn_write(rt: HostRuntime) -> Result<(), Fail> {
-    let alloc = rt.alloc();
     for (left, code) in [
         ([0xaa, 0xbb, 0].as_slice(), 0),
         ([0xaa, 0xbb, 0xcc].as_slice(), 0),
@@ -31,20 +101,9 @@ fn leaves_torn_write(rt: HostRuntime) -> Result<(), Fail> {
         ([0xaa, 0, 0xcc].as_slice(), 20),
         ([0xaa, 0xbb, 0x11, 0x22, 0x33].as_slice(), 20),
     ] {
-        let mut file = ModelFile::new(alloc, vec![in alloc; 0xaa, 0xbb, 0xcc]?)?;
-        file.write_at(2, &[0xdd, 0xee])?;
-        assert_eq!(rt; file.allows(left), code == 0, "{left:?}");
-        let (answer, file) = crash(file, left.to_vec(alloc)?);
-        assert_eq!(rt; answer, code, "{left:?}");
-        if code == 0 {
-            assert_eq!(rt; file.durable(), left);
-            assert_eq!(rt; file.now(), left);
-            assert!(rt; !file.uncertain(2), "{left:?}");
-        } else {
-            assert_eq!(rt; file.durable(), [0xaa, 0xbb, 0xcc].as_slice());
-            assert_eq!(rt; file.now(), [0xaa, 0xbb, 0xdd, 0xee].as_slice());
-            assert!(rt; file.uncertain(2), "{left:?}");
-        }
+        let is_taken = code == 0;
+        let answer = crash_torn(rt.alloc(), left, is_taken)?;
+        assert_eq!(rt; answer, (is_taken, code, true, !is_taken), "{left:?}");
     }
     Ok(())
 }
@@ -52,7 +111,6 @@ fn leaves_torn_write(rt: HostRuntime) -> Result<(), Fail> {
 #[test]
 fn leaves_overlapping_writes(rt: HostRuntime) -> Result<(), Fail> {
     let alloc = rt.alloc();
-    let content = [0x11, 0xaa, 0xcc, 0xdd, 0xee];
     for (left, before_sync, after_sync) in [
         ([0x11, 0x22].as_slice(), 20, 20),
         ([0x11, 0x22, 0x33].as_slice(), 0, 20),
@@ -64,124 +122,175 @@ fn leaves_overlapping_writes(rt: HostRuntime) -> Result<(), Fail> {
         ([0, 0xaa, 0xcc, 0xdd, 0xee].as_slice(), 20, 20),
         ([0x11, 0xaa, 0xcc, 0xdd, 0xee, 0].as_slice(), 20, 20),
     ] {
-        let (answer, _) = crash(written_file(alloc)?, left.to_vec(alloc)?);
-        assert_eq!(rt; answer, before_sync, "{left:?}");
-
-        let mut disk = Fused::new(written_file(alloc)?);
-        disk.arm(1);
-        assert_eq!(rt; disk.sync(), Err(Refusal::Device));
-        assert_eq!(rt; disk.inner().now(), content.as_slice());
-        let (answer, _) = crash(disk.into_inner(), left.to_vec(alloc)?);
-        assert_eq!(rt; answer, before_sync, "{left:?} after a failed sync");
-
-        let mut file = written_file(alloc)?;
-        file.sync()?;
-        let (answer, _) = crash(file, left.to_vec(alloc)?);
-        assert_eq!(rt; answer, after_sync, "{left:?} after a sync");
+        let before = crash_code(alloc, written_file(alloc)?, left)?;
+        let after_failed = crash_code(alloc, unsynced_file(&rt, alloc)?, left)?;
+        let after = crash_code(alloc, synced_file(alloc)?, left)?;
+        let codes = (before, after_failed, after);
+        assert_eq!(rt; codes, (before_sync, before_sync, after_sync), "{left:?}");
     }
     Ok(())
+}
+
+// Checks which of these places are uncertain.
+fn assert_uncertain(rt: &impl Abort, file: &ModelFile, places: &[(u64, bool)]) {
+    for (place, uncertain) in places {
+        assert_eq!(rt; file.uncertain(*place), *uncertain, "{place}");
+    }
 }
 
 #[test]
 fn tells_uncertain_places(rt: HostRuntime) -> Result<(), Fail> {
     let mut file = written_file(rt.alloc())?;
-    for (place, uncertain) in [
+    let before_sync = [
         (0, false),
         (1, true),
         (2, true),
         (3, true),
         (4, true),
         (5, true),
-    ] {
-        assert_eq!(rt; file.uncertain(place), uncertain, "{place}");
-    }
+    ];
+    assert_uncertain(&rt, &file, &before_sync);
     file.sync()?;
-    for (place, uncertain) in [
+    let after_sync = [
         (0, false),
         (1, false),
         (4, false),
         (5, true),
         (u64::MAX, true),
-    ] {
-        assert_eq!(rt; file.uncertain(place), uncertain, "{place} after a sync");
-    }
+    ];
+    assert_uncertain(&rt, &file, &after_sync);
     Ok(())
+}
+
+// Whether the length is told, and the write of 9 at 1 fails that comes after.
+fn fails_write(disk: &mut Fused<ModelFile>) -> bool
+    requires { length disk.old.inner.content ≡ 3 }
+    ensures { length disk.new.inner.content ≡ 3 }
+{
+    disk.arm(2);
+    let length = disk.len();
+    length == Ok(3) && disk.write_at(1, &[9]) == Err(Refusal::Device)
+}
+
+// The bytes at 1 and 2.
+fn read_pair(disk: &mut Fused<ModelFile>) -> Result<[u8; 2], Refusal>
+    requires { length disk.old.inner.content ≡ 3 }
+    ensures { length disk.new.inner.content ≡ 3 }
+{
+    let mut pair = [0; 2];
+    disk.read_at(1, &mut pair)?;
+    Ok(pair)
+}
+
+// Whether a read fails, and reads nothing.
+fn fails_read(disk: &mut Fused<ModelFile>) -> bool
+    requires { length disk.old.inner.content ≡ 3 }
+{
+    let mut read = [9, 7];
+    disk.arm(1);
+    disk.read_at(0, &mut read) == Err(Refusal::Device) && read == [9, 7]
+}
+
+// Whether a call for the length fails.
+fn fails_len(disk: &mut Fused<ModelFile>) -> bool {
+    disk.arm(1);
+    disk.len() == Err(Refusal::Device)
+}
+
+// Whether a sync succeeds that was let fail, but then isn't, and leaves the written byte.
+fn syncs(disk: &mut Fused<ModelFile>) -> bool {
+    disk.arm(1);
+    disk.disarm();
+    disk.sync() == Ok(()) && disk.inner().durable() == [5, 9, 7].as_slice()
 }
 
 #[test]
 fn fails_armed_calls(rt: HostRuntime) -> Result<(), Fail> {
-    let alloc = rt.alloc();
-    let mut disk = Fused::new(ModelFile::new(alloc, vec![in alloc; 5, 6, 7]?)?);
-    disk.arm(2);
-    assert_eq!(rt; disk.len()?, 3);
-    assert_eq!(rt; disk.write_at(1, &[9]), Err(Refusal::Device));
-    let mut read = [0; 2];
-    disk.read_at(1, &mut read)?;
-    assert_eq!(rt; read, [9, 7], "the write was carried out");
+    let mut disk = disk(rt.alloc(), &[5, 6, 7])?;
+    assert!(rt; fails_write(&mut disk));
+    assert_eq!(rt; read_pair(&mut disk)?, [9, 7], "the write was carried out");
     assert!(rt; disk.inner().uncertain(1));
-    disk.arm(1);
-    assert_eq!(rt; disk.len(), Err(Refusal::Device));
-    disk.arm(1);
-    assert_eq!(rt; disk.read_at(0, &mut read), Err(Refusal::Device));
-    assert_eq!(rt; read, [9, 7], "nothing was read");
-    disk.arm(1);
-    disk.disarm();
-    disk.sync()?;
-    assert_eq!(rt; disk.into_inner().durable(), [5, 9, 7].as_slice());
+    assert!(rt; fails_read(&mut disk));
+    assert!(rt; fails_len(&mut disk));
+    assert!(rt; syncs(&mut disk));
     Ok(())
+}
+
+// Whether a write of 64 bytes at the end makes the small file longer, or is refused by the device
+// and changes nothing.
+fn grows_or_stays(file: &mut ModelFile) -> bool
+    requires { length file.old.content ≡ 3 }
+    ensures { 3 ≤ length file.new.content }
+{
+    match file.write_at(3, &[5; 64]) {
+        Ok(()) => file.now().len() == 67,
+        Err(refusal) => refusal == Refusal::Device && is_small(file),
+    }
+}
+
+fn is_small(file: &ModelFile) -> bool {
+    let has_bytes = holds(file, &[1, 2, 3], &[4, 2, 3]);
+    has_bytes && file.uncertain(0) && !file.uncertain(2)
 }
 
 #[test]
 fn refused_growth_changes_nothing(rt: HostRuntime) -> Result<(), Fail> {
-    let alloc = rt.alloc();
-    let mut file = ModelFile::new(alloc, vec![in alloc; 1, 2, 3]?)?;
-    file.write_at(0, &[4])?;
-    match file.write_at(3, &[5; 64]) {
-        Ok(()) => assert_eq!(rt; file.now().len(), 67),
-        Err(refusal) => {
-            assert_eq!(rt; refusal, Refusal::Device);
-            assert_eq!(rt; file.now(), [4, 2, 3].as_slice());
-            assert_eq!(rt; file.durable(), [1, 2, 3].as_slice());
-            assert!(rt; file.uncertain(0) && !file.uncertain(2));
-        }
-    }
+    let mut file = small_file(rt.alloc())?;
+    assert!(rt; grows_or_stays(&mut file));
     file.write_at(1, &[6, 7])?;
     file.sync()?;
     assert!(rt; file.allows(file.now()));
     Ok(())
 }
 
+// How long the small file is after a write at its end.
+fn grow(file: &mut ModelFile) -> Result<usize, Refusal>
+    requires { length file.old.content ≡ 3 }
+{
+    file.write_at(3, &[5; 97])?;
+    Ok(file.now().len())
+}
+
 #[test]
 fn reserved_files_are_the_same(rt: HostRuntime) -> Result<(), Fail> {
-    let alloc = rt.alloc();
-    let mut file = ModelFile::new(alloc, vec![in alloc; 1, 2, 3]?)?;
-    file.write_at(0, &[4])?;
+    let mut file = small_file(rt.alloc())?;
     file.reserve(2)?;
     file.reserve(100)?;
-    assert_eq!(rt; file.now(), [4, 2, 3].as_slice());
-    assert_eq!(rt; file.durable(), [1, 2, 3].as_slice());
-    file.write_at(3, &[5; 97])?;
-    assert_eq!(rt; file.now().len(), 100);
+    assert!(rt; holds(&file, &[1, 2, 3], &[4, 2, 3]));
+    assert_eq!(rt; grow(&mut file)?, 100);
     Ok(())
 }
 
-fn sevens(alloc: Global, count: usize) -> Result<Vec<u8>, Fail> {
+fn sevens(alloc: Global, count: usize) -> Result<Vec<u8>, Refusal> {
     Ok(vec![in alloc; 7; count]?)
+}
+
+// How long an empty file is after a write of these bytes, which a sync makes durable.
+fn fill(file: &mut ModelFile, bytes: &[u8]) -> Result<u64, Refusal> {
+    file.write_at(0, bytes)?;
+    let length = file.len()?;
+    file.sync()?;
+    Ok(length)
+}
+
+// Whether these bytes are durable, and a crash may leave them.
+fn stays(file: &ModelFile, bytes: &[u8]) -> bool {
+    file.durable() == bytes && file.allows(bytes)
+}
+
+// The code of a crash that is to leave these bytes, and how many are read after it.
+fn crash_length(file: ModelFile, left: Vec<u8>) -> (u8, usize) {
+    let (code, file) = crash(file, left);
+    (code, file.now().len())
 }
 
 // As many bytes as an image of 65,536 cells has.
 #[test]
 fn grows_to_largest_image(rt: HostRuntime) -> Result<(), Fail> {
-    let alloc = rt.alloc();
-    let bytes = sevens(alloc, 524_305)?;
-    let mut file = ModelFile::new(alloc, Vec::new(alloc))?;
-    file.write_at(0, &bytes)?;
-    assert_eq!(rt; file.len()?, 524_305);
-    file.sync()?;
-    assert_eq!(rt; file.durable(), bytes.as_slice());
-    assert!(rt; file.allows(&bytes));
-    let (code, file) = crash(file, bytes);
-    assert_eq!(rt; code, 0);
-    assert_eq!(rt; file.now().len(), 524_305);
+    let bytes = sevens(rt.alloc(), 524_305)?;
+    let mut file = ModelFile::new(rt.alloc(), Vec::new(rt.alloc()))?;
+    assert_eq!(rt; fill(&mut file, &bytes)?, 524_305);
+    assert!(rt; stays(&file, &bytes));
+    assert_eq!(rt; crash_length(file, bytes), (0, 524_305));
     Ok(())
 }

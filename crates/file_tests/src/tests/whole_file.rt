@@ -1,33 +1,56 @@
-use crate::{Fused, ModelFile, read_all};
+ghost use Rattle.std.specs.Prelude.{◌≤◌};
+
+use super::fused_files::disk;
+use disk_model::{Disk, read_all};
 use std::alloc::Global;
 use std::test::Fail;
 use world_actions::Refusal;
 
-fn disk(alloc: Global, bytes: &[u8]) -> Result<Fused<ModelFile>, Fail> {
-    let file = ModelFile::new(alloc, bytes.to_vec(alloc)?)?;
-    Ok(Fused::new(file))
+// Whether all bytes of a disk are these.
+fn reads<D: Disk>(alloc: Global, disk: &mut D, bytes: &[u8]) -> Result<bool, Refusal> {
+    let read = read_all(alloc, disk)?;
+    Ok(read.as_slice() == bytes)
+}
+
+// Whether all bytes of a disk of these are read.
+fn reads_all(alloc: Global, bytes: &[u8]) -> Result<bool, Refusal> {
+    let mut disk = disk(alloc, bytes)?;
+    reads(alloc, &mut disk, bytes)
 }
 
 #[test]
 fn all_bytes_are_read(rt: HostRuntime) -> Result<(), Fail> {
     let none: &[u8] = &[];
     for bytes in [none, &[7], &[1, 2, 3]] {
-        let mut disk = disk(rt.alloc(), bytes)?;
-        let read = read_all(rt.alloc(), &mut disk)?;
-        assert_eq!(rt; read.as_slice(), bytes);
+        assert!(rt; reads_all(rt.alloc(), bytes)?, "{bytes:?}");
     }
     Ok(())
+}
+
+// The code of what reading is refused with where this call fails, and whether all is read the
+// next time.
+fn fails_once(alloc: Global, call: u64) -> Result<(u8, bool), Refusal>
+    requires { 1 ≤ call }
+{
+    let mut disk = disk(alloc, &[1, 2, 3])?;
+    disk.arm(call);
+    let code = refused(alloc, &mut disk);
+    Ok((code, reads(alloc, &mut disk, &[1, 2, 3])?))
+}
+
+// The code of what reading is refused with, 0 for none.
+fn refused<D: Disk>(alloc: Global, disk: &mut D) -> u8 {
+    match read_all(alloc, disk) {
+        Ok(_) => 0,
+        Err(refusal) => refusal.code(),
+    }
 }
 
 #[test]
 fn each_call_may_fail(rt: HostRuntime) -> Result<(), Fail> {
     for call in 1..=2 {
-        let mut disk = disk(rt.alloc(), &[1, 2, 3])?;
-        disk.arm(call);
-        let refusal = read_all(rt.alloc(), &mut disk).err();
-        assert_eq!(rt; refusal, Some(Refusal::Device), "at call {call}");
-        let read = read_all(rt.alloc(), &mut disk)?;
-        assert_eq!(rt; read.as_slice(), [1, 2, 3].as_slice());
+        let answers = fails_once(rt.alloc(), call)?;
+        assert_eq!(rt; answers, (18, true), "at call {call}");
     }
     Ok(())
 }
