@@ -1,7 +1,6 @@
 use super::same::same;
 use line_grammar::KeptLine;
 use std::process::Abort;
-use std::test::Fail;
 
 fn push_100(rt: &impl Abort, line: &mut KeptLine) {
     for count in 1..=100 {
@@ -11,11 +10,10 @@ fn push_100(rt: &impl Abort, line: &mut KeptLine) {
 }
 
 #[test]
-fn keeps_81_bytes_of_a_line(rt: HostRuntime) -> Result<(), Fail> {
-    let mut line = KeptLine::new(rt.alloc())?;
+fn keeps_81_bytes_of_a_line(rt: HostRuntime) {
+    let mut line = KeptLine::new(rt.alloc()).expect(&rt, "memory");
     push_100(&rt, &mut line);
     line.clear();
     line.push(b'9');
     same(&rt, line.bytes(), b"9".as_slice());
-    Ok(())
 }

@@ -2,7 +2,6 @@ ghost use Rattle.std.specs.Prelude.{◌≡◌, []};
 
 use super::same::same;
 use std::process::Abort;
-use std::test::Fail;
 use world_actions::{Action, LIMIT, Refusal};
 use world_ticks::{Tick, Words, act, replay};
 
@@ -27,11 +26,10 @@ fn do_actions(rt: &impl Abort, memory: &mut Words, tick: &mut Tick) {
 }
 
 #[test]
-fn does_actions(rt: HostRuntime) -> Result<(), Fail> {
-    let mut memory = Words::new(vec![in rt.alloc(); 0, 20, LIMIT]?);
+fn does_actions(rt: HostRuntime) {
+    let mut memory = Words::new(vec![in rt.alloc(); 0, 20, LIMIT].expect(&rt, "memory"));
     let mut tick = Tick::new(rt.alloc());
     do_actions(&rt, &mut memory, &mut tick);
-    Ok(())
 }
 
 fn fill_tick(rt: &impl Abort, memory: &mut Words, tick: &mut Tick) {
@@ -48,11 +46,10 @@ fn fill_tick(rt: &impl Abort, memory: &mut Words, tick: &mut Tick) {
 }
 
 #[test]
-fn takes_256_actions(rt: HostRuntime) -> Result<(), Fail> {
-    let mut memory = Words::new(vec![in rt.alloc(); 0]?);
+fn takes_256_actions(rt: HostRuntime) {
+    let mut memory = Words::new(vec![in rt.alloc(); 0].expect(&rt, "memory"));
     let mut tick = Tick::new(rt.alloc());
     fill_tick(&rt, &mut memory, &mut tick);
-    Ok(())
 }
 
 fn transfer(amount: u64) -> Action {
@@ -64,10 +61,10 @@ fn transfer(amount: u64) -> Action {
 }
 
 // Replays two actions, and then these and one that is refused.
-fn replay_both(rt: &impl Abort, memory: &mut Words, tick: &mut Tick) -> Result<(), Refusal>
+fn replay_both(rt: &impl Abort, memory: &mut Words, tick: &mut Tick)
     requires { tick.old.list ≡ [] }
 {
-    tick.reserve(3)?;
+    tick.reserve(3).expect(rt, "memory");
     tick.push_reserved(Action::Set { cell: 0, value: 5 });
     tick.push_reserved(transfer(2));
     same(rt, replay(memory, tick.actions()), Ok(()));
@@ -76,13 +73,11 @@ fn replay_both(rt: &impl Abort, memory: &mut Words, tick: &mut Tick) -> Result<(
     let refused = replay(memory, tick.actions());
     same(rt, refused, Err(Refusal::BadLog));
     same(rt, memory.as_slice(), [3, 4].as_slice());
-    Ok(())
 }
 
 #[test]
-fn replays_up_to_a_refused_action(rt: HostRuntime) -> Result<(), Fail> {
-    let mut memory = Words::new(vec![in rt.alloc(); 0, 0]?);
+fn replays_up_to_a_refused_action(rt: HostRuntime) {
+    let mut memory = Words::new(vec![in rt.alloc(); 0, 0].expect(&rt, "memory"));
     let mut tick = Tick::new(rt.alloc());
-    replay_both(&rt, &mut memory, &mut tick)?;
-    Ok(())
+    replay_both(&rt, &mut memory, &mut tick);
 }

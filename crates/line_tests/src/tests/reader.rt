@@ -2,8 +2,7 @@ use super::same::{same, same_for};
 use sessions::{BATCH_LINES, Batch, BatchReader, Fed, Request};
 use std::alloc::Global;
 use std::process::Abort;
-use std::test::Fail;
-use world_actions::{Action, Refusal};
+use world_actions::Action;
 
 const BATCH: &[u8] = b"set 0 5\nget 0\nmove 0 1 9\nfoo\nend\n";
 
@@ -37,18 +36,17 @@ fn take_twice(rt: &impl Abort, reader: &mut BatchReader) {
     same(rt, reader.batch().requests(), REQUESTS.as_slice());
 }
 
-// Whether a copy of the batch has its requests.
-fn copies(alloc: Global, batch: &Batch) -> Result<bool, Refusal> {
-    let copy = batch.try_copy(alloc)?;
-    Ok(copy.requests() == REQUESTS.as_slice())
+// A copy of the batch has its requests.
+fn check_copy(rt: &impl Abort, alloc: Global, batch: &Batch) {
+    let copy = batch.try_copy(alloc).expect(rt, "memory");
+    same(rt, copy.requests(), REQUESTS.as_slice());
 }
 
 #[test]
-fn reads_a_batch_in_one_piece_and_byte_by_byte(rt: HostRuntime) -> Result<(), Fail> {
-    let mut reader = BatchReader::new(rt.alloc())?;
+fn reads_a_batch_in_one_piece_and_byte_by_byte(rt: HostRuntime) {
+    let mut reader = BatchReader::new(rt.alloc()).expect(&rt, "memory");
     take_twice(&rt, &mut reader);
-    assert!(rt; copies(rt.alloc(), reader.batch())?);
-    Ok(())
+    check_copy(&rt, rt.alloc(), reader.batch());
 }
 
 const THREE_LINES: &[u8] = b"get 1\nend\nget 2\nend\nget 3";
@@ -72,12 +70,11 @@ fn take_line(rt: &impl Abort, reader: &mut BatchReader, input: &[u8]) {
 }
 
 #[test]
-fn takes_no_byte_behind_an_end(rt: HostRuntime) -> Result<(), Fail> {
-    let mut reader = BatchReader::new(rt.alloc())?;
+fn takes_no_byte_behind_an_end(rt: HostRuntime) {
+    let mut reader = BatchReader::new(rt.alloc()).expect(&rt, "memory");
     take_batch(&rt, &mut reader, THREE_LINES, 1);
     take_batch(&rt, &mut reader, &THREE_LINES[10..], 2);
     take_line(&rt, &mut reader, &THREE_LINES[20..]);
-    Ok(())
 }
 
 // Takes as many lines as a batch may have, and one more.
@@ -98,23 +95,21 @@ fn take_most(rt: &impl Abort, reader: &mut BatchReader) {
 }
 
 #[test]
-fn takes_1024_lines_and_no_more(rt: HostRuntime) -> Result<(), Fail> {
-    let mut reader = BatchReader::new(rt.alloc())?;
+fn takes_1024_lines_and_no_more(rt: HostRuntime) {
+    let mut reader = BatchReader::new(rt.alloc()).expect(&rt, "memory");
     take_too_many(&rt, &mut reader);
     reader.clear();
     take_most(&rt, &mut reader);
-    Ok(())
 }
 
 const LAST_GOOD: [Request; 4] = [Request::Bad, Request::Bad, Request::Bad, Request::Get(0)];
 
 #[test]
-fn a_long_line_means_nothing(rt: HostRuntime) -> Result<(), Fail> {
-    let mut reader = BatchReader::new(rt.alloc())?;
+fn a_long_line_means_nothing(rt: HostRuntime) {
+    let mut reader = BatchReader::new(rt.alloc()).expect(&rt, "memory");
     for _ in 0..10_000 {
         reader.take(b"get 0 ");
     }
     reader.take(b"\nget 0\r\nget \xff\nget 0\n");
     same(&rt, reader.batch().requests(), LAST_GOOD.as_slice());
-    Ok(())
 }

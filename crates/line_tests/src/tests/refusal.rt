@@ -1,6 +1,6 @@
 use super::same::same;
 use std::alloc::{AllocError, AllocFailed, Global};
-use std::test::Fail;
+use std::process::Abort;
 use world_actions::Refusal;
 
 // All refusals by their codes, from 1 on, and what each tells.
@@ -78,18 +78,18 @@ const REFUSALS: [(Refusal, &str); 23] = [
     ),
 ];
 
-// Whether a refusal has this code and this text.
-fn tells(alloc: Global, refusal: Refusal, code: usize, text: &str) -> Result<bool, AllocError> {
-    let told = refusal.to_string(alloc)?;
-    Ok(refusal.code() as usize == code && told.as_str() == text)
+// A refusal has this code and this text.
+fn check_text(rt: &impl Abort, alloc: Global, refusal: Refusal, code: usize, text: &str) {
+    same(rt, refusal.code() as usize, code);
+    let told = refusal.to_string(alloc).expect(rt, "memory");
+    same(rt, told.as_str(), text);
 }
 
 #[test]
-fn tells_refusals(rt: HostRuntime) -> Result<(), Fail> {
+fn tells_refusals(rt: HostRuntime) {
     for (at, (refusal, text)) in REFUSALS.iter().enumerate() {
-        assert!(rt; tells(rt.alloc(), *refusal, at + 1, text)?, "{refusal:?}");
+        check_text(&rt, rt.alloc(), *refusal, at + 1, text);
     }
-    Ok(())
 }
 
 #[test]

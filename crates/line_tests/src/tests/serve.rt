@@ -1,9 +1,9 @@
+use super::same::same_for;
 use line_service::{World, serve_lines};
 use sessions::{Batch, answer_text};
 use std::alloc::{AllocError, Global};
 use std::io::{self, ErrorKind, Read, Write};
 use std::process::Abort;
-use std::test::Fail;
 use world_actions::Refusal;
 use world_ticks::{Tick, Words};
 
@@ -84,37 +84,33 @@ struct End<'a> {
     ticks: u64,
 }
 
-// Whether a session with a world of two cells ends so.
-fn ends_so(
-    alloc: Global,
-    mut input: Pieces<'_>,
-    room: usize,
-    end: End<'_>,
-) -> Result<bool, Refusal> {
+// A session with a world of two cells ends so.
+fn check_session(rt: &impl Abort, alloc: Global, mut input: Pieces<'_>, room: usize, end: End<'_>) {
     let mut world = Memory {
         alloc,
-        words: Words::new(vec![in alloc; 0, 0]?),
+        words: Words::new(vec![in alloc; 0, 0].expect(rt, "memory")),
         ended: 0,
     };
     let mut page = Page {
         bytes: Vec::new(alloc),
         room,
     };
+    let case = (input.bytes.len(), input.most, room);
     let result = serve_lines(alloc, &mut input, &mut page, &mut world);
-    Ok(result == end.result && page.bytes.as_slice() == end.text && world.ended == end.ticks)
+    let given = (result, page.bytes.as_slice(), world.ended);
+    same_for(rt, case, given, (end.result, end.text, end.ticks));
 }
 
 // Serves an input in pieces of one byte, of seven and in one.
-fn try_pieces(rt: &impl Abort, alloc: Global, bytes: &[u8], end: End<'_>) -> Result<(), Refusal> {
+fn try_pieces(rt: &impl Abort, alloc: Global, bytes: &[u8], end: End<'_>) {
     for most in [1, 7, usize::MAX] {
         let input = Pieces {
             bytes,
             most,
             fails: false,
         };
-        assert!(rt; ends_so(alloc, input, usize::MAX, end)?, "pieces of {most}");
+        check_session(rt, alloc, input, usize::MAX, end);
     }
-    Ok(())
 }
 
 // Inputs, what is answered to each, and how many ticks end.
@@ -131,16 +127,15 @@ const SESSIONS: [(&[u8], &[u8], u64); 5] = [
 ];
 
 #[test]
-fn answers_whole_batches(rt: HostRuntime) -> Result<(), Fail> {
-    for (bytes, text, ticks) in SESSIONS {
+fn answers_whole_batches(rt: HostRuntime) {
+    for (bytes, text, ticks) in &SESSIONS {
         let end = End {
             result: Ok(()),
             text,
-            ticks,
+            ticks: *ticks,
         };
-        try_pieces(&rt, rt.alloc(), bytes, end)?;
+        try_pieces(&rt, rt.alloc(), bytes, end);
     }
-    Ok(())
 }
 
 // Some bytes, and then a batch of 1025 lines.
@@ -160,21 +155,20 @@ const BEFORE: [(&[u8], &[u8], u64); 2] = [
 ];
 
 #[test]
-fn a_batch_of_1025_lines_ends_the_session(rt: HostRuntime) -> Result<(), Fail> {
-    for (before, text, ticks) in BEFORE {
-        let input = too_many_lines(rt.alloc(), before)?;
+fn a_batch_of_1025_lines_ends_the_session(rt: HostRuntime) {
+    for (before, text, ticks) in &BEFORE {
+        let input = too_many_lines(rt.alloc(), before).expect(&rt, "memory");
         let end = End {
             result: Err(Refusal::BadLine),
             text,
-            ticks,
+            ticks: *ticks,
         };
-        try_pieces(&rt, rt.alloc(), &input, end)?;
+        try_pieces(&rt, rt.alloc(), &input, end);
     }
-    Ok(())
 }
 
 #[test]
-fn a_writer_that_fails_has_a_front(rt: HostRuntime) -> Result<(), Fail> {
+fn a_writer_that_fails_has_a_front(rt: HostRuntime) {
     let whole = b"tick 1: +\ntick 2: =5\n";
     for room in 0..whole.len() {
         let input = Pieces {
@@ -187,13 +181,12 @@ fn a_writer_that_fails_has_a_front(rt: HostRuntime) -> Result<(), Fail> {
             text: &whole[..room],
             ticks: if room < 10 { 1 } else { 2 },
         };
-        assert!(rt; ends_so(rt.alloc(), input, room, end)?, "room for {room}");
+        check_session(&rt, rt.alloc(), input, room, end);
     }
-    Ok(())
 }
 
 #[test]
-fn a_reader_that_fails_leaves_whole_answers(rt: HostRuntime) -> Result<(), Fail> {
+fn a_reader_that_fails_leaves_whole_answers(rt: HostRuntime) {
     for length in 0..BATCH.len() + 1 {
         let input = Pieces {
             bytes: &BATCH[..length],
@@ -207,10 +200,6 @@ fn a_reader_that_fails_leaves_whole_answers(rt: HostRuntime) -> Result<(), Fail>
             text,
             ticks: u64::from(is_whole),
         };
-        assert!(rt;
-            ends_so(rt.alloc(), input, usize::MAX, end)?,
-            "{length} bytes"
-        );
+        check_session(&rt, rt.alloc(), input, usize::MAX, end);
     }
-    Ok(())
 }
