@@ -11,6 +11,7 @@ import collections
 import contextlib
 import fcntl
 import pathlib
+import socket
 import struct
 import subprocess
 import sys
@@ -372,14 +373,58 @@ def try_not_serving(trial: Trial) -> None:
             refused(f"fault {fault}", folder, f"fault {fault}\n")
 
 
+def free_port() -> int:
+    """A port on which nobody listens."""
+    with socket.create_server(("127.0.0.1", 0)) as listener:
+        return listener.getsockname()[1]
+
+
+def answer_to(port: int, batch: bytes) -> str:
+    """What a client is answered that writes a batch."""
+    with socket.create_connection(("127.0.0.1", port), SECONDS) as client:
+        client.sendall(batch)
+        client.shutdown(socket.SHUT_WR)
+        return client.makefile().read()
+
+
+def serve_two(trial: Trial, folder: pathlib.Path, method: str, more: tuple[str, ...]) -> None:
+    """Serves a world to two clients, and compares answers and output."""
+    port = free_port()
+    line = f"serve --dir {folder} --method {method} --port {port} --clients 2".split()
+    with subprocess.Popen([trial.program, *line, *more], stdout=subprocess.PIPE, stderr=subprocess.PIPE, text=True) as server:
+        begun = server.stdout.readline(), server.stdout.readline()
+        trial.check(f"serve {more}", begun, ("recovered 0 from 0\n", f"listening {port}\n"))
+        answers = (
+            answer_to(port, b"set 0 5\nget 0\nmove 0 1 9\nfoo\nend\n"),
+            answer_to(port, b"add 0 1\nget 0\nend\n"),
+        )
+        trial.check(f"answers {more}", answers, ("tick 1: + =5 -3 -16\n", "tick 2: + =6\n"))
+        output, _ = server.communicate(timeout=SECONDS)
+    trial.runs += 1
+    trial.seen["served"] += 1
+    trial.check(f"the end of serve {more}", (output, server.returncode), ("stopped tick 2 acked 2\n", 0))
+
+
+def try_serving(trial: Trial) -> None:
+    """Worlds that are served: by each method, with an image after each tick, and after as many as by default."""
+    for method in METHODS:
+        with new_folder(NEW_IMAGE, b"", b"", b"") as folder:
+            serve_two(trial, folder, method, ())
+            trial.ends("no image", trial.run("recover", "--dir", str(folder)), "recovered 2 from 0\n", "", 0)
+        with new_folder(NEW_IMAGE, b"", b"", b"") as folder:
+            serve_two(trial, folder, method, ("--every", "1"))
+            recovered = trial.run("recover", "--dir", str(folder))
+            trial.check("an image", recovered.output in ("recovered 2 from 1\n", "recovered 2 from 2\n"), True)
+
+
 def main() -> int:
     """Runs all, and prints what was seen."""
     parser = argparse.ArgumentParser(description=__doc__.splitlines()[0])
     parser.add_argument("program", type=pathlib.Path, help="the built worldd")
     trial = Trial(str(parser.parse_args().program.resolve()))
-    for part in (try_command_lines, try_scripts, try_creating, try_not_creating, try_found, try_missing, try_damaged, try_not_serving):
+    for part in (try_command_lines, try_scripts, try_creating, try_not_creating, try_found, try_missing, try_damaged, try_not_serving, try_serving):
         part(trial)
-    wanted = ["status 0", "status 2", *(f"status 1, fault {code}" for code in (13, 14, 15, 18, 22))]
+    wanted = ["status 0", "status 2", "served", *(f"status 1, fault {code}" for code in (13, 14, 15, 18, 22))]
     never = [kind for kind in wanted if not trial.seen[kind]]
     for kind, count in sorted(trial.seen.items()):
         print(f"  {kind}: {count}")
