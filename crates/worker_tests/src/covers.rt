@@ -110,15 +110,26 @@ fn begin_broken<M: Seats>(rt: &(impl Wait + Abort), alloc: Global, call: u64) ->
     begin(rt, alloc, opened, Held::nothing())
 }
 
+fn play_behind<M: Method>(
+    rt: &(impl Wait + Abort),
+    alloc: Global,
+    world: &mut Serial<M, File>,
+    whole: bool,
+)
+    requires { IsAtRest world.old.log_writer }
+{
+    let answers = fall_behind(rt, alloc, world);
+    log_on(rt, &mut world.log_writer);
+    check_answers(rt, &answers, whole);
+    check_files(rt, alloc, world, whole);
+}
+
 // With this call of the second segment's file failing, if it is made.
 fn try_call<M: Seats>(rt: &(impl Wait + Abort), alloc: Global, call: u64)
     requires { 1 ≤ call }
 {
     let mut world = begin_broken::<M>(rt, alloc, call);
-    let answers = fall_behind(rt, alloc, &mut world);
-    log_on(rt, &mut world.log_writer);
-    check_answers(rt, &answers, call > CALLS);
-    check_files(rt, alloc, &world, call > CALLS);
+    play_behind(rt, alloc, &mut world, call > CALLS);
 }
 
 fn try_calls<M: Seats>(rt: &(impl Wait + Abort), alloc: Global) {

@@ -146,10 +146,16 @@ fn run<M: Seats + Send + 'static, R: Threads + Wait + Abort + Copy + Send + 'sta
     (end(rt, workers), answered)
 }
 
-// Whatever a crash leaves, the last tick that was answered is there.
-fn check_ends<M: Method>(rt: &impl Abort, alloc: Global, ends: &Ends<M, ModelFile, Steps>) {
-    let ticks = (ends.mutator.ended(), ends.acked());
-    same(rt, "ticks ended and acknowledged", ticks, (TICKS, TICKS));
+// Each tick was answered, and whatever a crash leaves, the last one is there.
+fn check_ends<M: Method>(
+    rt: &impl Abort,
+    alloc: Global,
+    ends: &Ends<M, ModelFile, Steps>,
+    answered: u64,
+) {
+    let ticks = (answered, ends.mutator.ended(), ends.acked());
+    let all = (TICKS, TICKS, TICKS);
+    same(rt, "ticks answered, ended and acknowledged", ticks, all);
     for leaving in [Leaving::Lose, Leaving::Keep, Leaving::Fill(1)] {
         let found = found_after(rt, alloc, ends, leaving);
         same(rt, "what stands after a crash", found, (TICKS, TICKS));
@@ -193,8 +199,7 @@ fn try_steps<M: Seats + Send + 'static, R: Threads + Wait + Abort + Copy + Send 
     steps: Option<u64>,
 ) -> bool {
     let (ends, answered) = run::<M, R>(rt, alloc, steps);
-    same(rt, "each tick is answered", answered, TICKS);
-    check_ends(rt, alloc, &ends);
+    check_ends(rt, alloc, &ends, answered);
     has_first_image(&ends)
 }
 

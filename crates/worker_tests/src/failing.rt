@@ -73,19 +73,23 @@ struct Left<M: Method> {
     heard: Receiver<Told>,
 }
 
-// Runs a session of four batches.
+// Runs a session of four batches in files of which one fails at its call of this number.
 fn play_broken<M: Seats + Send + 'static, R: Threads + Wait + Abort + Copy + Send + 'static>(
     rt: &R,
     alloc: Global,
-    files: FourFiles<BrokenFile>,
+    broken: Broken,
+    call: u64,
     every: u32,
-) -> Left<M> {
+) -> Left<M>
+    requires { 1 ≤ call }
+{
     let gates = Gates {
         mutator: Open,
         checkpointer: Open,
         log_writer: Open,
     };
     let (to, heard) = unbounded(alloc).expect(rt, "a channel");
+    let files = broken_files(rt, alloc, broken, call);
     let (workers, requests) = begin(rt, alloc, files, gates, to, every);
     let page = play(rt, alloc, requests, BATCHES);
     Left {
@@ -149,8 +153,7 @@ fn try_broken<M: Seats + Send + 'static, R: Threads + Wait + Abort + Copy + Send
 )
     requires { 1 ≤ call }
 {
-    let files = broken_files(rt, alloc, broken, call);
-    let left = play_broken::<M, R>(rt, alloc, files, every);
+    let left = play_broken::<M, R>(rt, alloc, broken, call, every);
     is_left(rt, alloc, &left, outcome);
 }
 

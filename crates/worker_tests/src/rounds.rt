@@ -118,14 +118,18 @@ fn check_heard(rt: &(impl Wait + Abort), heard: &Receiver<Told>) {
     }
 }
 
+fn check_left<M: Method>(rt: &(impl Wait + Abort), alloc: Global, left: &Left<M>) {
+    check_ends(rt, alloc, &left.ends);
+    check_heard(rt, &left.heard);
+    is_page(rt, &left.page, ANSWERS);
+}
+
 fn try_open_round<M: Seats + Send + 'static, R: Threads + Wait + Abort + Copy + Send + 'static>(
     rt: &R,
     alloc: Global,
 ) {
     let left = play_round::<M, R>(rt, alloc);
-    check_ends(rt, alloc, &left.ends);
-    check_heard(rt, &left.heard);
-    is_page(rt, &left.page, ANSWERS);
+    check_left(rt, alloc, &left);
 }
 
 #[test]

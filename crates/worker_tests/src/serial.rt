@@ -210,16 +210,27 @@ fn begin_held<M: Seats>(
     begin(rt, alloc, opened, held)
 }
 
-fn try_serial_round<M: Seats>(rt: &(impl Wait + Abort), alloc: Global) {
-    let answered = Arc::new(alloc, AtomicU64::new(0)).expect(rt, "a count");
-    let mut world = begin_held::<M>(rt, alloc, &answered);
-    answer(rt, alloc, &mut world, b"tick 1: + =1\n");
+fn play_round<M: Method>(
+    rt: &(impl Wait + Abort),
+    alloc: Global,
+    world: &mut Serial<M, ModelFile>,
+    answered: &AtomicU64,
+)
+    requires { IsAtRest world.old.log_writer }
+{
+    answer(rt, alloc, world, b"tick 1: + =1\n");
     answered.fetch_add(1, Ordering::SeqCst);
     is_stuck(rt, &mut world.checkpointer);
-    answer(rt, alloc, &mut world, b"tick 2: + =2\n");
+    answer(rt, alloc, world, b"tick 2: + =2\n");
     let (images, log) = (world.checkpointer.images(), world.log_writer.log());
     let found = stands_in(rt, alloc, images, log);
     same(rt, "what stands", found, (2, 0, 2));
+}
+
+fn try_serial_round<M: Seats>(rt: &(impl Wait + Abort), alloc: Global) {
+    let answered = Arc::new(alloc, AtomicU64::new(0)).expect(rt, "a count");
+    let mut world = begin_held::<M>(rt, alloc, &answered);
+    play_round(rt, alloc, &mut world, &answered);
 }
 
 #[test]

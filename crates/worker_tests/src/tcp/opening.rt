@@ -79,11 +79,20 @@ fn is_started<M: Method>(rt: &impl Abort, alloc: Global, opened: &Opened<M, Mode
     same(rt, "the words", found.words.as_slice(), &[3, 8]);
 }
 
-fn try_open<M: Seats>(rt: &impl Abort, alloc: Global) {
-    let (mut opened, from) = seated::<M>(rt, alloc, played(rt, alloc));
+fn is_world<M: Method>(
+    rt: &impl Abort,
+    alloc: Global,
+    opened: &mut Opened<M, ModelFile>,
+    from: u64,
+) {
     same(rt, "the ticks", (opened.ended, from), (2, 0));
     has_words(rt, &mut opened.front);
-    is_started(rt, alloc, &opened);
+    is_started(rt, alloc, opened);
+}
+
+fn try_open<M: Seats>(rt: &impl Abort, alloc: Global) {
+    let (mut opened, from) = seated::<M>(rt, alloc, played(rt, alloc));
+    is_world(rt, alloc, &mut opened, from);
 }
 
 #[test]
@@ -98,10 +107,8 @@ fn refused<M: Seats>(
     files: FourFiles<ModelFile>,
     image: &[u8],
 ) -> Option<(Refusal, bool)> {
-    match open_world::<M, ModelFile>(alloc, files) {
-        Ok(_) => None,
-        Err((files, refusal)) => Some((refusal, files.image_a.now() == image)),
-    }
+    let (files, refusal) = open_world::<M, ModelFile>(alloc, files).err()?;
+    Some((refusal, files.image_a.now() == image))
 }
 
 fn try_refused<M: Seats>(rt: &impl Abort, alloc: Global, image: &[u8], reason: Refusal) {
