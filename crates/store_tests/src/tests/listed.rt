@@ -68,16 +68,17 @@ impl<C: Capture> Listed<C> {
         self.touched.fill(false);
         assert!(rt; mark(&mut self.store));
         for i in 0..words.len() {
-            assert!(rt;
-                i < touched.len() && self.takes_cell(i, words[i], touched[i]),
-                "cell {i}"
-            );
+            assert!(rt; self.takes_cell(i, words, touched), "cell {i}");
         }
         assert!(rt; self.store.take().is_none());
     }
 
-    fn takes_cell(&mut self, i: usize, word: u64, touched: bool) -> bool {
-        self.writes_opposite(i, word) && self.takes(word, touched) && self.reads(i)
+    fn takes_cell(&mut self, i: usize, words: &[u64], touched: &[bool]) -> bool {
+        i < words.len()
+            && i < touched.len()
+            && self.writes_opposite(i, words[i])
+            && self.takes(words[i], touched[i])
+            && self.reads(i)
     }
 
     // Writes the cell as far from the end as this one is from the front. If takes tell what is the

@@ -82,6 +82,5 @@ fn the_newest_image_is_told(rt: HostRuntime) {
 fn ticks_rise_between_threads(rt: HostRuntime) {
     let (out, from) = cover_pair(rt.alloc()).expect(&rt, "memory");
     let (_out, mut from, rises) = run_both(&rt, out, from);
-    assert!(rt; rises);
-    same(&rt, from.latest(), TICKS);
+    same(&rt, (rises, from.latest()), (true, TICKS));
 }

@@ -27,6 +27,12 @@ impl<C: Capture> Beside<C> {
         }
     }
 
+    fn check_rounds(&mut self, rt: &impl Abort) {
+        for round in 0..4 {
+            self.check_round(rt, round);
+        }
+    }
+
     // Writes some cells, marks, and takes the round while others are written.
     fn check_round(&mut self, rt: &impl Abort, round: usize)
         requires { round < 4 }
@@ -81,16 +87,18 @@ impl<C: Capture> Beside<C> {
 fn check_beside_plain_copy<C: Capture>(rt: &impl Abort, alloc: Global) {
     for cells in [0, 1, 63, 64, 65, 130] {
         let mut both: Beside<C> = Beside::new(rt, alloc, cells);
-        for round in 0..4 {
-            both.check_round(rt, round);
-        }
+        both.check_rounds(rt);
     }
+}
+
+fn check_joined<M: Method>(rt: &impl Abort, alloc: Global) {
+    check_beside_plain_copy::<Joined<M>>(rt, alloc);
 }
 
 #[test]
 fn stands_for_plain_copy(rt: HostRuntime) {
-    check_beside_plain_copy::<Joined<Zig>>(&rt, rt.alloc());
-    check_beside_plain_copy::<Joined<Pong>>(&rt, rt.alloc());
+    check_joined::<Zig>(&rt, rt.alloc());
+    check_joined::<Pong>(&rt, rt.alloc());
 }
 
 // Whether no cell is left.
@@ -120,12 +128,22 @@ const MOVES: [Move; 5] = [
     Move::IsOpen(false),
 ];
 
-// Parts a store of which no cell is left.
-fn check_split<M: Method>(rt: &impl Abort, alloc: Global) {
-    let mut joined: Joined<M> = Joined::build(alloc, &[5, 7]).expect(rt, "memory");
-    follow(rt, &mut joined, &MOVES);
+// The seats of a store once the calls were made, which leave no cell.
+fn split_after<M: Method>(
+    rt: &impl Abort,
+    mut joined: Joined<M>,
+    moves: &[Move],
+) -> (Front<M>, Back<M>)
+    ensures { All (λ (r : Round). r.tick < 2) result.0.rounds }
+{
+    follow(rt, &mut joined, moves);
     assert!(rt; is_ended(&joined));
-    let (mut front, mut back) = joined.split();
+    joined.split()
+}
+
+fn check_split<M: Method>(rt: &impl Abort, alloc: Global) {
+    let joined: Joined<M> = Joined::build(alloc, &[5, 7]).expect(rt, "memory");
+    let (mut front, mut back) = split_after(rt, joined, &MOVES);
     check_seats(rt, &mut front, &mut back);
 }
 

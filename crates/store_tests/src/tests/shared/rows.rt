@@ -50,28 +50,27 @@ fn second_round<M: Method>(
     same(rt, back.take(), Some(untouched));
 }
 
-fn check_row<M: Method>(rt: &impl Abort, seats: (Front<M>, Back<M>), untouched: Taken)
-    requires pair { seats.0.pair ≡ seats.1.pair }
-    requires cells { 0 < length seats.0.live }
-    requires rounds { seats.0.rounds ≡ [] }
+fn check_row<M: Method>(rt: &impl Abort, front: &mut Front<M>, back: &mut Back<M>, untouched: Taken)
+    requires pair { front.old.pair ≡ back.old.pair }
+    requires cells { 0 < length front.old.live }
+    requires rounds { front.old.rounds ≡ [] }
 {
-    let (mut front, mut back) = seats;
     same(rt, back.look(), None);
-    mark_first(rt, &mut front);
-    take_first(rt, &mut back);
+    mark_first(rt, front);
+    take_first(rt, back);
     assert!(rt; front.mark(2) == Err(Refusal::Busy));
     back.finish();
-    second_round(rt, &mut front, &mut back, untouched);
+    second_round(rt, front, back, untouched);
 }
 
 #[test]
 fn zigzag_row(rt: HostRuntime) {
-    let seats = zigzag_pair(rt.alloc(), &[5, 7]).expect(&rt, "memory");
-    check_row(&rt, seats, Taken::Word(7));
+    let (mut front, mut back) = zigzag_pair(rt.alloc(), &[5, 7]).expect(&rt, "memory");
+    check_row(&rt, &mut front, &mut back, Taken::Word(7));
 }
 
 #[test]
 fn ping_pong_row(rt: HostRuntime) {
-    let seats = ping_pong_pair(rt.alloc(), &[5, 7]).expect(&rt, "memory");
-    check_row(&rt, seats, Taken::Same);
+    let (mut front, mut back) = ping_pong_pair(rt.alloc(), &[5, 7]).expect(&rt, "memory");
+    check_row(&rt, &mut front, &mut back, Taken::Same);
 }

@@ -108,23 +108,25 @@ fn run_both<M: Method + Send + 'static, R: Threads + Sync>(
 // Each seat in a thread of its own. At the end no round is open.
 fn check_pair<M: Method + Send + 'static, R: Threads + Sync + Abort>(
     rt: &R,
-    seats: (Front<M>, Back<M>),
+    front: Front<M>,
+    back: Back<M>,
 )
-    requires pair { seats.0.pair ≡ seats.1.pair }
-    requires cells { 0 < length seats.0.live }
-    requires rounds { seats.0.rounds ≡ [] }
+    requires pair { front.pair ≡ back.pair }
+    requires cells { 0 < length front.live }
+    requires rounds { front.rounds ≡ [] }
 {
-    let (front, back) = seats;
     let (front, mut back) = run_both(rt, front, back);
-    same(rt, back.look(), None);
-    same(rt, front.len(), 65);
+    same(rt, (back.look(), front.len()), (None, 65));
 }
 
 #[test]
-fn two_threads(rt: HostRuntime) {
-    let words = [7; 65];
-    let seats = zigzag_pair(rt.alloc(), &words).expect(&rt, "memory");
-    check_pair(&rt, seats);
-    let seats = ping_pong_pair(rt.alloc(), &words).expect(&rt, "memory");
-    check_pair(&rt, seats);
+fn two_threads_of_zigzag(rt: HostRuntime) {
+    let (front, back) = zigzag_pair(rt.alloc(), &[7; 65]).expect(&rt, "memory");
+    check_pair(&rt, front, back);
+}
+
+#[test]
+fn two_threads_of_ping_pong(rt: HostRuntime) {
+    let (front, back) = ping_pong_pair(rt.alloc(), &[7; 65]).expect(&rt, "memory");
+    check_pair(&rt, front, back);
 }
