@@ -121,7 +121,7 @@ fn makes_checkpoints(rt: HostRuntime) {
 
 const LAST_TICK: u64 = 1_000_000_000_000_000_000;
 
-const LAST: Case<'static> = Case {
+static LAST: Case<'static> = Case {
     every: 64,
     session: Session {
         recovered: (LAST_TICK, LAST_TICK),
@@ -173,7 +173,7 @@ fn upgraded<C: Capture>(rt: &impl Abort, alloc: Global) -> FourFiles<ModelFile> 
     served.into_files()
 }
 
-const UPGRADED: Case<'static> = Case {
+static UPGRADED: Case<'static> = Case {
     every: 64,
     session: Session {
         recovered: (2, 2),
@@ -199,7 +199,7 @@ fn goes_on_from_the_first_format(rt: HostRuntime) {
     try_upgrade::<PingPong>(&rt, rt.alloc());
 }
 
-const OPENED: Case<'static> = Case {
+static OPENED: Case<'static> = Case {
     every: 64,
     session: Session {
         recovered: (0, 0),
@@ -212,7 +212,7 @@ const OPENED: Case<'static> = Case {
     words: &[6],
 };
 
-const OPENED_AGAIN: Case<'static> = Case {
+static OPENED_AGAIN: Case<'static> = Case {
     every: 64,
     session: Session {
         recovered: (2, 0),
@@ -225,7 +225,7 @@ const OPENED_AGAIN: Case<'static> = Case {
     words: &[7],
 };
 
-const OPENED_LAST: Case<'static> = Case {
+static OPENED_LAST: Case<'static> = Case {
     every: 64,
     session: Session {
         recovered: (3, 2),
@@ -246,7 +246,7 @@ fn opens_again(rt: HostRuntime) {
     try_case::<PingPong>(&rt, rt.alloc(), files, &OPENED_LAST, usize::MAX);
 }
 
-const MARKED: Session<'static> = Session {
+static MARKED: Session<'static> = Session {
     recovered: (0, 0),
     input: b"set 0 5\nend\nset 1 6\nend\nset 0 7\nend\n",
     ends: Ok(()),

@@ -193,29 +193,29 @@ fn new_or_none(rt: &impl Abort, alloc: Global, disks: &Disks, leaving: Leaving) 
     }
 }
 
-// It counts both.
-fn try_unmade(rt: &impl Abort, alloc: Global, disks: &Disks, met: &mut [u64]) {
+// Files whose device failed while a new world was made. It counts what a crash leaves.
+fn try_unmade(rt: &impl Abort, alloc: Global, disks: &Disks, refusal: Refusal, met: &mut [u64]) {
+    same(rt, "a refusal", refusal, Refusal::Device);
     for leaving in LEAVINGS {
         let answer = new_or_none(rt, alloc, disks, leaving);
         count(met, answer);
     }
 }
 
-// Makes a new world, of which a file fails its k-th call. It tells whether one is made, and whether the call failed.
+// Makes a new world of these disks, of which one fails its k-th call. It tells whether one is made, and whether the
+// call failed.
 fn fail_making(
     rt: &impl Abort,
     alloc: Global,
+    disks: Disks,
     place: usize,
     k: u64,
     met: &mut [u64],
-) -> (bool, bool)
-    requires { 1 ≤ k }
-{
-    match fresh_files(alloc, 2, disks_of(rt, alloc, [NONE; 4], place, k)) {
+) -> (bool, bool) {
+    match fresh_files(alloc, 2, disks) {
         Ok(mut disks) => (true, has_failed(&mut disks, place, k)),
         Err((disks, refusal)) => {
-            same(rt, "a refusal", refusal, Refusal::Device);
-            try_unmade(rt, alloc, &disks, met);
+            try_unmade(rt, alloc, &disks, refusal, met);
             (false, true)
         }
     }
@@ -224,7 +224,8 @@ fn fail_making(
 // Lets each call of a file fail in turn. It tells whether there are no more.
 fn fail_each_making(rt: &impl Abort, alloc: Global, place: usize, met: &mut [u64]) -> bool {
     for k in 1..CALLS {
-        let (is_made, has_failed) = fail_making(rt, alloc, place, k, met);
+        let disks = disks_of(rt, alloc, [NONE; 4], place, k);
+        let (is_made, has_failed) = fail_making(rt, alloc, disks, place, k, met);
         let call = (place, k, has_failed);
         same(rt, "a call that fails", call, (place, k, !is_made));
         if is_made {

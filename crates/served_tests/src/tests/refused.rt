@@ -38,7 +38,7 @@ fn try_not_empty(rt: &impl Abort, alloc: Global, bytes: [&[u8]; 4]) {
     same(rt, "a refusal", refused(answer, bytes), Some((code, true)));
 }
 
-const OPEN: [[&[u8]; 4]; 8] = [
+static OPEN: [[&[u8]; 4]; 8] = [
     [IMAGE, SHUT, NONE, SHUT],
     [NONE, IMAGE, SHUT, NONE],
     [BAD_IMAGE, SHUT, NONE, SHUT],
@@ -69,7 +69,7 @@ pub fn try_closed_files(rt: &impl Abort, alloc: Global) {
     stands(rt, alloc, &files, (0, 0), &[0, 0]);
 }
 
-const DAMAGED: [([&[u8]; 4], u8); 8] = [
+static DAMAGED: [([&[u8]; 4], u8); 8] = [
     ([NONE; 4], 13),
     ([SHUT; 4], 13),
     ([NONE, SHUT, LOG, NONE], 13),
