@@ -137,7 +137,8 @@ static LAST: Case<'static> = Case {
 #[test]
 fn ends_no_tick_after_the_last_one(rt: HostRuntime) {
     let files = files_of(&rt, rt.alloc(), [LAST_IMAGE, NONE, NONE, NONE]);
-    try_case::<Zigzag>(&rt, rt.alloc(), files, &LAST, usize::MAX);
+    let files = try_case::<Zigzag>(&rt, rt.alloc(), files, &LAST, usize::MAX);
+    drop(files);
 }
 
 // A segment of tick 1, which sets cell 0 to 5, and one of tick 2, which adds 2, in format 1.
@@ -189,7 +190,8 @@ static UPGRADED: Case<'static> = Case {
 fn try_upgrade<C: Capture>(rt: &impl Abort, alloc: Global) {
     let files = upgraded::<C>(rt, alloc);
     are_upgraded(rt, &files);
-    try_case::<C>(rt, alloc, files, &UPGRADED, usize::MAX);
+    let files = try_case::<C>(rt, alloc, files, &UPGRADED, usize::MAX);
+    drop(files);
 }
 
 #[test]
@@ -243,7 +245,8 @@ fn opens_again(rt: HostRuntime) {
     let files = fresh(&rt, rt.alloc(), 1);
     let files = try_case::<PlainCopy>(&rt, rt.alloc(), files, &OPENED, usize::MAX);
     let files = try_case::<Zigzag>(&rt, rt.alloc(), files, &OPENED_AGAIN, usize::MAX);
-    try_case::<PingPong>(&rt, rt.alloc(), files, &OPENED_LAST, usize::MAX);
+    let files = try_case::<PingPong>(&rt, rt.alloc(), files, &OPENED_LAST, usize::MAX);
+    drop(files);
 }
 
 static MARKED: Session<'static> = Session {
@@ -266,6 +269,7 @@ fn try_parts<C: Capture>(rt: &impl Abort, alloc: Global) {
     same(rt, "the words", parts.words.as_slice(), &[7, 6]);
     same(rt, "the ticks", (parts.ended, parts.since), (3, 1));
     stands(rt, alloc, &parts.files, (3, 2), &[7, 6]);
+    drop(parts);
 }
 
 #[test]

@@ -105,7 +105,9 @@ fn fail_call<C: Capture>(
 {
     let (mut disks, answer) = play::<C>(rt, alloc, disks_of(rt, alloc, bytes, place, k));
     try_crashes(rt, alloc, &disks, acked_by(answer));
-    (answer, has_failed(&mut disks, place, k))
+    let has_failed = has_failed(&mut disks, place, k);
+    drop(disks);
+    (answer, has_failed)
 }
 
 fn count(met: &mut [u64], answer: usize) {
@@ -165,6 +167,7 @@ fn fail_each_file<C: Capture>(rt: &impl Abort, alloc: Global) {
     let made = fresh(rt, alloc, 2);
     let mut met = [0; 5];
     fail_files::<C>(rt, alloc, bytes_of(&made), &mut met);
+    drop(made);
     all_are_met(rt, &met);
 }
 
@@ -213,9 +216,14 @@ fn fail_making(
     met: &mut [u64],
 ) -> (bool, bool) {
     match fresh_files(alloc, 2, disks) {
-        Ok(mut disks) => (true, has_failed(&mut disks, place, k)),
+        Ok(mut disks) => {
+            let has_failed = has_failed(&mut disks, place, k);
+            drop(disks);
+            (true, has_failed)
+        }
         Err((disks, refusal)) => {
             try_unmade(rt, alloc, &disks, refusal, met);
+            drop(disks);
             (false, true)
         }
     }

@@ -68,6 +68,7 @@ fn try_opening<C: Capture>(
         &opening.session,
         opening.most,
     );
+    drop(served);
 }
 
 // Makes a new world in the files of a folder, unless it is refused.

@@ -27,7 +27,11 @@ fn refused<T: Drop>(
 ) -> Option<(u8, bool)> {
     match answer {
         Ok(_) => None,
-        Err((files, refusal)) => Some((refusal.code(), bytes_of(&files) == bytes)),
+        Err((files, refusal)) => {
+            let are_same = bytes_of(&files) == bytes;
+            drop(files);
+            Some((refusal.code(), are_same))
+        }
     }
 }
 
@@ -60,6 +64,7 @@ pub fn try_open_files(rt: &impl Abort, alloc: Global) {
 pub fn try_made_files(rt: &impl Abort, alloc: Global) {
     let made = fresh(rt, alloc, 1);
     try_not_empty(rt, alloc, bytes_of(&made));
+    drop(made);
 }
 
 /// Files that are closed, of which a new world is made.
@@ -67,6 +72,7 @@ pub fn try_closed_files(rt: &impl Abort, alloc: Global) {
     let shut = files_of(rt, alloc, [SHUT; 4]);
     let files = told(fresh_files(alloc, 2, shut)).expect(rt, "a new world");
     stands(rt, alloc, &files, (0, 0), &[0, 0]);
+    drop(files);
 }
 
 static DAMAGED: [([&[u8]; 4], u8); 8] = [
