@@ -121,7 +121,7 @@ fn makes_checkpoints(rt: HostRuntime) {
 
 const LAST_TICK: u64 = 1_000_000_000_000_000_000;
 
-const LAST: Case<'static> = Case {
+static LAST: Case<'static> = Case {
     every: 64,
     session: Session {
         recovered: (LAST_TICK, LAST_TICK),
@@ -137,7 +137,8 @@ const LAST: Case<'static> = Case {
 #[test]
 fn ends_no_tick_after_the_last_one(rt: HostRuntime) {
     let files = files_of(&rt, rt.alloc(), [LAST_IMAGE, NONE, NONE, NONE]);
-    try_case::<Zigzag>(&rt, rt.alloc(), files, &LAST, usize::MAX);
+    let files = try_case::<Zigzag>(&rt, rt.alloc(), files, &LAST, usize::MAX);
+    drop(files);
 }
 
 // A segment of tick 1, which sets cell 0 to 5, and one of tick 2, which adds 2, in format 1.
@@ -173,7 +174,7 @@ fn upgraded<C: Capture>(rt: &impl Abort, alloc: Global) -> FourFiles<ModelFile> 
     served.into_files()
 }
 
-const UPGRADED: Case<'static> = Case {
+static UPGRADED: Case<'static> = Case {
     every: 64,
     session: Session {
         recovered: (2, 2),
@@ -189,7 +190,8 @@ const UPGRADED: Case<'static> = Case {
 fn try_upgrade<C: Capture>(rt: &impl Abort, alloc: Global) {
     let files = upgraded::<C>(rt, alloc);
     are_upgraded(rt, &files);
-    try_case::<C>(rt, alloc, files, &UPGRADED, usize::MAX);
+    let files = try_case::<C>(rt, alloc, files, &UPGRADED, usize::MAX);
+    drop(files);
 }
 
 #[test]
@@ -199,7 +201,7 @@ fn goes_on_from_the_first_format(rt: HostRuntime) {
     try_upgrade::<PingPong>(&rt, rt.alloc());
 }
 
-const OPENED: Case<'static> = Case {
+static OPENED: Case<'static> = Case {
     every: 64,
     session: Session {
         recovered: (0, 0),
@@ -212,7 +214,7 @@ const OPENED: Case<'static> = Case {
     words: &[6],
 };
 
-const OPENED_AGAIN: Case<'static> = Case {
+static OPENED_AGAIN: Case<'static> = Case {
     every: 64,
     session: Session {
         recovered: (2, 0),
@@ -225,7 +227,7 @@ const OPENED_AGAIN: Case<'static> = Case {
     words: &[7],
 };
 
-const OPENED_LAST: Case<'static> = Case {
+static OPENED_LAST: Case<'static> = Case {
     every: 64,
     session: Session {
         recovered: (3, 2),
@@ -243,10 +245,11 @@ fn opens_again(rt: HostRuntime) {
     let files = fresh(&rt, rt.alloc(), 1);
     let files = try_case::<PlainCopy>(&rt, rt.alloc(), files, &OPENED, usize::MAX);
     let files = try_case::<Zigzag>(&rt, rt.alloc(), files, &OPENED_AGAIN, usize::MAX);
-    try_case::<PingPong>(&rt, rt.alloc(), files, &OPENED_LAST, usize::MAX);
+    let files = try_case::<PingPong>(&rt, rt.alloc(), files, &OPENED_LAST, usize::MAX);
+    drop(files);
 }
 
-const MARKED: Session<'static> = Session {
+static MARKED: Session<'static> = Session {
     recovered: (0, 0),
     input: b"set 0 5\nend\nset 1 6\nend\nset 0 7\nend\n",
     ends: Ok(()),
@@ -266,6 +269,7 @@ fn try_parts<C: Capture>(rt: &impl Abort, alloc: Global) {
     same(rt, "the words", parts.words.as_slice(), &[7, 6]);
     same(rt, "the ticks", (parts.ended, parts.since), (3, 1));
     stands(rt, alloc, &parts.files, (3, 2), &[7, 6]);
+    drop(parts);
 }
 
 #[test]

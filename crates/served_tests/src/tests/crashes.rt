@@ -105,7 +105,9 @@ fn fail_call<C: Capture>(
 {
     let (mut disks, answer) = play::<C>(rt, alloc, disks_of(rt, alloc, bytes, place, k));
     try_crashes(rt, alloc, &disks, acked_by(answer));
-    (answer, has_failed(&mut disks, place, k))
+    let has_failed = has_failed(&mut disks, place, k);
+    drop(disks);
+    (answer, has_failed)
 }
 
 fn count(met: &mut [u64], answer: usize) {
@@ -165,6 +167,7 @@ fn fail_each_file<C: Capture>(rt: &impl Abort, alloc: Global) {
     let made = fresh(rt, alloc, 2);
     let mut met = [0; 5];
     fail_files::<C>(rt, alloc, bytes_of(&made), &mut met);
+    drop(made);
     all_are_met(rt, &met);
 }
 
@@ -193,29 +196,34 @@ fn new_or_none(rt: &impl Abort, alloc: Global, disks: &Disks, leaving: Leaving) 
     }
 }
 
-// It counts both.
-fn try_unmade(rt: &impl Abort, alloc: Global, disks: &Disks, met: &mut [u64]) {
+// Files whose device failed while a new world was made. It counts what a crash leaves.
+fn try_unmade(rt: &impl Abort, alloc: Global, disks: &Disks, refusal: Refusal, met: &mut [u64]) {
+    same(rt, "a refusal", refusal, Refusal::Device);
     for leaving in LEAVINGS {
         let answer = new_or_none(rt, alloc, disks, leaving);
         count(met, answer);
     }
 }
 
-// Makes a new world, of which a file fails its k-th call. It tells whether one is made, and whether the call failed.
+// Makes a new world of these disks, of which one fails its k-th call. It tells whether one is made, and whether the
+// call failed.
 fn fail_making(
     rt: &impl Abort,
     alloc: Global,
+    disks: Disks,
     place: usize,
     k: u64,
     met: &mut [u64],
-) -> (bool, bool)
-    requires { 1 ≤ k }
-{
-    match fresh_files(alloc, 2, disks_of(rt, alloc, [NONE; 4], place, k)) {
-        Ok(mut disks) => (true, has_failed(&mut disks, place, k)),
+) -> (bool, bool) {
+    match fresh_files(alloc, 2, disks) {
+        Ok(mut disks) => {
+            let has_failed = has_failed(&mut disks, place, k);
+            drop(disks);
+            (true, has_failed)
+        }
         Err((disks, refusal)) => {
-            same(rt, "a refusal", refusal, Refusal::Device);
-            try_unmade(rt, alloc, &disks, met);
+            try_unmade(rt, alloc, &disks, refusal, met);
+            drop(disks);
             (false, true)
         }
     }
@@ -224,7 +232,8 @@ fn fail_making(
 // Lets each call of a file fail in turn. It tells whether there are no more.
 fn fail_each_making(rt: &impl Abort, alloc: Global, place: usize, met: &mut [u64]) -> bool {
     for k in 1..CALLS {
-        let (is_made, has_failed) = fail_making(rt, alloc, place, k, met);
+        let disks = disks_of(rt, alloc, [NONE; 4], place, k);
+        let (is_made, has_failed) = fail_making(rt, alloc, disks, place, k, met);
         let call = (place, k, has_failed);
         same(rt, "a call that fails", call, (place, k, !is_made));
         if is_made {

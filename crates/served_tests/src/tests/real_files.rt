@@ -42,20 +42,33 @@ fn open_files(rt: &HostRuntime, abort: &impl Abort, folder: &PathBuf) -> FourFil
     }
 }
 
-// A session over the files of a folder: after how many ticks a checkpoint is made, and the size of the input's
-// pieces.
-type Opening<'a> = (u32, usize, Session<'a>);
+// A session over the files of a folder.
+#[derive(Clone, Copy)]
+struct Opening<'a> {
+    // After how many ticks a checkpoint is made.
+    every: u32,
+    // The size of the input's pieces.
+    most: usize,
+    session: Session<'a>,
+}
 
-fn try_session<C: Capture>(
+fn try_opening<C: Capture>(
     rt: &HostRuntime,
     abort: &impl Abort,
     folder: &PathBuf,
-    (every, most, session): &Opening<'_>,
+    opening: &Opening<'_>,
 ) {
     let files = open_files(rt, abort, folder);
-    let opened = Served::<C, FileDisk>::open(rt.alloc(), files, *every);
+    let opened = Served::<C, FileDisk>::open(rt.alloc(), files, opening.every);
     let mut served = told(opened).expect(abort, "a world");
-    play(abort, rt.alloc(), &mut served, session, *most);
+    play(
+        abort,
+        rt.alloc(),
+        &mut served,
+        &opening.session,
+        opening.most,
+    );
+    drop(served);
 }
 
 // Makes a new world in the files of a folder, unless it is refused.
@@ -64,56 +77,56 @@ fn make(rt: &HostRuntime, abort: &impl Abort, folder: &PathBuf) -> Option<Refusa
     told(fresh_files(rt.alloc(), 2, files)).err()
 }
 
-const SHORT: [Opening<'static>; 4] = [
-    (
-        64,
-        usize::MAX,
-        Session {
+static SHORT: [Opening<'static>; 4] = [
+    Opening {
+        every: 64,
+        most: usize::MAX,
+        session: Session {
             recovered: (0, 0),
             input: BATCH,
             ends: Ok(()),
             text: b"tick 1: + =5 -3 -16\n",
             acked: 1,
         },
-    ),
-    (
-        64,
-        1,
-        Session {
+    },
+    Opening {
+        every: 64,
+        most: 1,
+        session: Session {
             recovered: (1, 0),
             input: BATCH,
             ends: Ok(()),
             text: b"tick 2: + =5 -3 -16\n",
             acked: 2,
         },
-    ),
-    (
-        64,
-        7,
-        Session {
+    },
+    Opening {
+        every: 64,
+        most: 7,
+        session: Session {
             recovered: (2, 1),
             input: CUT_OFF,
             ends: Ok(()),
             text: NONE,
             acked: 2,
         },
-    ),
-    (
-        1,
-        usize::MAX,
-        Session {
+    },
+    Opening {
+        every: 1,
+        most: usize::MAX,
+        session: Session {
             recovered: (2, 2),
             input: SET_TWICE,
             ends: Ok(()),
             text: b"tick 3: +\ntick 4: +\n",
             acked: 4,
         },
-    ),
+    },
 ];
 
 fn try_short<C: Capture>(rt: &HostRuntime, abort: &impl Abort, folder: &PathBuf) {
     for opening in &SHORT {
-        try_session::<C>(rt, abort, folder, opening);
+        try_opening::<C>(rt, abort, folder, opening);
     }
 }
 
@@ -126,7 +139,12 @@ fn try_long<C: Capture>(rt: &HostRuntime, abort: &impl Abort, folder: &PathBuf) 
         text: b"fault 16\n",
         acked: 4,
     };
-    try_session::<C>(rt, abort, folder, &(64, 512, session));
+    let opening = Opening {
+        every: 64,
+        most: 512,
+        session,
+    };
+    try_opening::<C>(rt, abort, folder, &opening);
 }
 
 fn try_store<C: Capture>(rt: &HostRuntime, abort: &impl Abort, test: &str) {

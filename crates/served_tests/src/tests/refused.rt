@@ -27,7 +27,11 @@ fn refused<T: Drop>(
 ) -> Option<(u8, bool)> {
     match answer {
         Ok(_) => None,
-        Err((files, refusal)) => Some((refusal.code(), bytes_of(&files) == bytes)),
+        Err((files, refusal)) => {
+            let are_same = bytes_of(&files) == bytes;
+            drop(files);
+            Some((refusal.code(), are_same))
+        }
     }
 }
 
@@ -38,7 +42,7 @@ fn try_not_empty(rt: &impl Abort, alloc: Global, bytes: [&[u8]; 4]) {
     same(rt, "a refusal", refused(answer, bytes), Some((code, true)));
 }
 
-const OPEN: [[&[u8]; 4]; 8] = [
+static OPEN: [[&[u8]; 4]; 8] = [
     [IMAGE, SHUT, NONE, SHUT],
     [NONE, IMAGE, SHUT, NONE],
     [BAD_IMAGE, SHUT, NONE, SHUT],
@@ -60,6 +64,7 @@ pub fn try_open_files(rt: &impl Abort, alloc: Global) {
 pub fn try_made_files(rt: &impl Abort, alloc: Global) {
     let made = fresh(rt, alloc, 1);
     try_not_empty(rt, alloc, bytes_of(&made));
+    drop(made);
 }
 
 /// Files that are closed, of which a new world is made.
@@ -67,9 +72,10 @@ pub fn try_closed_files(rt: &impl Abort, alloc: Global) {
     let shut = files_of(rt, alloc, [SHUT; 4]);
     let files = told(fresh_files(alloc, 2, shut)).expect(rt, "a new world");
     stands(rt, alloc, &files, (0, 0), &[0, 0]);
+    drop(files);
 }
 
-const DAMAGED: [([&[u8]; 4], u8); 8] = [
+static DAMAGED: [([&[u8]; 4], u8); 8] = [
     ([NONE; 4], 13),
     ([SHUT; 4], 13),
     ([NONE, SHUT, LOG, NONE], 13),

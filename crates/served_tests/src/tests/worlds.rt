@@ -189,7 +189,8 @@ pub fn try_case<C: Capture>(
 pub fn try_new<C: Capture>(rt: &impl Abort, alloc: Global, cells: u32, case: &Case<'_>, most: usize)
     requires { (1 ≤ cells) × (cells ≤ CELLS) }
 {
-    try_case::<C>(rt, alloc, fresh(rt, alloc, cells), case, most);
+    let files = try_case::<C>(rt, alloc, fresh(rt, alloc, cells), case, most);
+    drop(files);
 }
 
 /// 1,025 lines and an end.
