@@ -130,6 +130,7 @@ fn try_call<M: Seats>(rt: &(impl Wait + Abort), alloc: Global, call: u64)
 {
     let mut world = begin_broken::<M>(rt, alloc, call);
     play_behind(rt, alloc, &mut world, call > CALLS);
+    drop(world);
 }
 
 fn try_calls<M: Seats>(rt: &(impl Wait + Abort), alloc: Global) {

@@ -200,7 +200,9 @@ fn try_steps<M: Seats + Send + 'static, R: Threads + Wait + Abort + Copy + Send 
 ) -> bool {
     let (ends, answered) = run::<M, R>(rt, alloc, steps);
     check_ends(rt, alloc, &ends, answered);
-    has_first_image(&ends)
+    let has_first_image = has_first_image(&ends);
+    drop(ends);
+    has_first_image
 }
 
 // How many rounds are left open where one is after each of its steps.

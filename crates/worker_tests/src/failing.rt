@@ -52,7 +52,10 @@ fn broken_files(rt: &impl Abort, alloc: Global, broken: Broken, call: u64) -> Fo
 }
 
 fn is_opened<M: Seats>(alloc: Global, files: FourFiles<BrokenFile>) -> bool {
-    open_world::<M, BrokenFile>(alloc, files).is_ok()
+    let opened = open_world::<M, BrokenFile>(alloc, files);
+    let is_opened = opened.is_ok();
+    drop(opened);
+    is_opened
 }
 
 // The number of the first call of a file that is made by the workers, and not where the world is opened.
@@ -155,6 +158,7 @@ fn try_broken<M: Seats + Send + 'static, R: Threads + Wait + Abort + Copy + Send
 {
     let left = play_broken::<M, R>(rt, alloc, broken, call, every);
     is_left(rt, alloc, &left, outcome);
+    drop(left);
 }
 
 // So many calls after the first one of the workers.

@@ -130,6 +130,7 @@ fn try_open_round<M: Seats + Send + 'static, R: Threads + Wait + Abort + Copy + 
 ) {
     let left = play_round::<M, R>(rt, alloc);
     check_left(rt, alloc, &left);
+    drop(left);
 }
 
 #[test]

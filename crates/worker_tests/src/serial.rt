@@ -231,6 +231,7 @@ fn try_serial_round<M: Seats>(rt: &(impl Wait + Abort), alloc: Global) {
     let answered = Arc::new(alloc, AtomicU64::new(0)).expect(rt, "a count");
     let mut world = begin_held::<M>(rt, alloc, &answered);
     play_round(rt, alloc, &mut world, &answered);
+    drop(world);
 }
 
 #[test]

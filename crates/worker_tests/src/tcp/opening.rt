@@ -93,6 +93,7 @@ fn is_world<M: Method>(
 fn try_open<M: Seats>(rt: &impl Abort, alloc: Global) {
     let (mut opened, from) = seated::<M>(rt, alloc, played(rt, alloc));
     is_world(rt, alloc, &mut opened, from);
+    drop(opened);
 }
 
 #[test]
