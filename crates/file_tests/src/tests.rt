@@ -1,6 +1,7 @@
 mod file_disk;
 mod format;
 mod four_files;
+mod fused;
 mod fused_files;
 mod image_keeper;
 mod image_reader;
@@ -9,5 +10,6 @@ mod log_reader;
 mod model_file;
 mod number;
 mod recovered;
+mod recovered_cases;
 mod segments;
 mod whole_file;

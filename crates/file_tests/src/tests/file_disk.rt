@@ -71,21 +71,45 @@ fn check_written(rt: &impl Abort, disk: &mut FileDisk) -> Result<(), Refusal> {
     Ok(())
 }
 
-// Whether a write to a disk that is open for reading alone is tried, and fails so. One behind the
-// known length isn't tried.
-fn is_tried(disk: &mut FileDisk, at: u64) -> Option<bool> {
-    if disk.write_at(at, &[9]) != Err(Refusal::Device) {
-        return None;
+// Whether a call that was answered so was refused by the device, and a reason is kept.
+fn is_fault(disk: &FileDisk, answer: Result<(), Refusal>) -> bool {
+    answer == Err(Refusal::Device) && disk.failure().is_some()
+}
+
+fn is_invalid(failure: Option<&io::Error>) -> bool {
+    match failure {
+        Some(error) => error.kind() == ErrorKind::InvalidInput,
+        None => false,
     }
-    let error = disk.take_failure()?;
-    Some(error.kind() != ErrorKind::InvalidInput)
+}
+
+// A write that fails in the system, and one that isn't tried.
+const TRIED: u8 = 1;
+
+const NOT_TRIED: u8 = 2;
+
+// What becomes of a write to a disk that is open for reading alone, 0 where no reason of a failure
+// is kept. A write behind the known length isn't tried.
+fn fail_write(disk: &mut FileDisk, at: u64) -> u8 {
+    let _ = disk.take_failure();
+    let answer = disk.write_at(at, &[9]);
+    if !is_fault(disk, answer) {
+        return 0;
+    }
+    if is_invalid(disk.failure()) {
+        NOT_TRIED
+    } else {
+        TRIED
+    }
 }
 
 // Reads the pieces from the disk, of which four bytes are known.
 fn check_read(rt: &impl Abort, alloc: Global, disk: &mut FileDisk) -> Result<(), Refusal> {
     assert!(rt; reads(alloc, disk, &[1, 7, 8, 4])?);
-    let tried = [is_tried(disk, 4), is_tried(disk, 5)];
-    assert_eq!(rt; tried, [Some(true), Some(false)]);
+    assert_eq!(rt;
+        (fail_write(disk, 4), fail_write(disk, 5)),
+        (TRIED, NOT_TRIED)
+    );
     Ok(())
 }
 
@@ -95,11 +119,6 @@ fn what_was_written_is_read(rt: HostRuntime) -> Result<(), Fail> {
     check_written(&rt, &mut open(&rt, &folder, true)?)?;
     check_read(&rt, rt.alloc(), &mut open(&rt, &folder, false)?)?;
     remove(&rt, &folder)
-}
-
-// Whether a call that was answered so was refused by the device, and a reason is kept.
-fn is_fault(disk: &FileDisk, answer: Result<(), Refusal>) -> bool {
-    answer == Err(Refusal::Device) && disk.failure().is_some()
 }
 
 // How many reads fail: past the end, at the end, and far behind it.
@@ -122,13 +141,6 @@ fn faults_of_writes(disk: &mut FileDisk) -> u32 {
         faults = faults.saturating_add(u32::from(is_fault(disk, answer)));
     }
     faults
-}
-
-fn is_invalid(failure: Option<&io::Error>) -> bool {
-    match failure {
-        Some(error) => error.kind() == ErrorKind::InvalidInput,
-        None => false,
-    }
 }
 
 // Whether a failure is kept, is taken, and is kept no more. It is one of invalid input.
@@ -157,8 +169,9 @@ fn what_is_not_whole_is_a_fault(rt: HostRuntime) -> Result<(), Fail> {
 
 // Tries to write to a disk of 1 2 3 that is open for reading alone. Three bytes are known of it.
 fn check_read_only(rt: &impl Abort, alloc: Global, disk: &mut FileDisk) -> Result<(), Refusal> {
-    let tried = [is_tried(disk, 0), is_tried(disk, 3), is_tried(disk, 4)];
-    assert_eq!(rt; tried, [Some(true), Some(true), Some(false)]);
+    for (at, want) in [(0, TRIED), (3, TRIED), (4, NOT_TRIED)] {
+        assert_eq!(rt; fail_write(disk, at), want, "at {at}");
+    }
     assert!(rt; reads(alloc, disk, &[1, 2, 3])?);
     Ok(())
 }

@@ -134,36 +134,40 @@ fn has_image(file: &ModelFile, tick: u8) -> bool {
     file.durable() == image.as_slice()
 }
 
+// Opens an image of the store in image.a, and one of the same words in image.b.
+fn check_in_turn(
+    rt: &impl Abort,
+    keeper: &mut ImageKeeper,
+    store: &mut PlainCopy,
+    image_a: &mut ModelFile,
+    image_b: &mut ModelFile,
+)
+    requires idle { keeper.old.phase ≡ Idle }
+    requires fits { FitsFiles keeper.old image_a.old.content image_b.old.content }
+{
+    let first = open_image(rt, keeper, 3, store, image_a, image_b);
+    assert_eq!(rt; (first, keeper.left()), (8, 0));
+    assert!(rt; is_newest(keeper, Slot::A, 3) && has_image(image_a, 3));
+    assert!(rt; !keeper.has_open_round());
+    let second = open_image(rt, keeper, 4, &mut AllSame, image_a, image_b);
+    assert_eq!(rt; second, 9);
+    assert!(rt; has_image(image_b, 4));
+}
+
 #[test]
 fn opens_images_in_turn(rt: HostRuntime) -> Result<(), Fail> {
-    let alloc = rt.alloc();
-    let (mut keeper, mut image_a, mut image_b) = keep_empty(alloc, 2)?;
-    let mut store = marked(alloc, &[5, 7])?;
-    let first = open_image(&rt, &mut keeper, 3, &mut store, &mut image_a, &mut image_b);
-    assert_eq!(rt; (first, keeper.left()), (8, 0));
-    assert!(rt; is_newest(&keeper, Slot::A, 3) && has_image(&image_a, 3));
-    assert!(rt; !keeper.has_open_round());
-    let second = open_image(
-        &rt,
-        &mut keeper,
-        4,
-        &mut AllSame,
-        &mut image_a,
-        &mut image_b,
-    );
-    assert_eq!(rt; second, 9);
-    assert!(rt; has_image(&image_b, 4));
+    let mut store = marked(rt.alloc(), &[5, 7])?;
+    let (mut keeper, mut image_a, mut image_b) = keep_empty(rt.alloc(), 2)?;
+    check_in_turn(&rt, &mut keeper, &mut store, &mut image_a, &mut image_b);
     Ok(())
 }
 
 #[test]
 fn leaves_shut_file_shut(rt: HostRuntime) -> Result<(), Fail> {
-    let alloc = rt.alloc();
-    let (mut keeper, mut image_a, mut image_b) = keep_shut(alloc)?;
-    let mut store = marked(alloc, &[9])?;
+    let mut store = marked(rt.alloc(), &[9])?;
+    let (mut keeper, mut image_a, mut image_b) = keep_shut(rt.alloc())?;
     let working = open_image(&rt, &mut keeper, 0, &mut store, &mut image_a, &mut image_b);
-    assert_eq!(rt; working, 5);
-    assert!(rt; keeper.target() == Slot::B);
+    assert!(rt; working == 5 && keeper.target() == Slot::B);
     Ok(())
 }
 
@@ -199,23 +203,24 @@ fn is_right(alloc: Global, file: &ModelFile, at: u64) -> Result<bool, Refusal> {
     }
 }
 
+// The steps of two rounds of such a store, and whether both images are right.
+fn largest_rounds(
+    rt: &impl Abort,
+    alloc: Global,
+    store: &mut PlainCopy,
+) -> Result<(u32, u32, bool), Refusal> {
+    let (mut keeper, mut image_a, mut image_b) = keep_empty(alloc, CELLS)?;
+    let first = open_image(rt, &mut keeper, 3, store, &mut image_a, &mut image_b);
+    let second = open_image(rt, &mut keeper, 4, &mut AllSame, &mut image_a, &mut image_b);
+    let are_right = is_right(alloc, &image_a, 3)? && is_right(alloc, &image_b, 4)?;
+    Ok((first, second, are_right))
+}
+
 #[test]
 fn opens_largest_images(rt: HostRuntime) -> Result<(), Fail> {
-    let alloc = rt.alloc();
-    let mut store = marked_store(alloc, CELLS as usize)?;
-    let (mut keeper, mut image_a, mut image_b) = keep_empty(alloc, CELLS)?;
-    let first = open_image(&rt, &mut keeper, 3, &mut store, &mut image_a, &mut image_b);
-    let second = open_image(
-        &rt,
-        &mut keeper,
-        4,
-        &mut AllSame,
-        &mut image_a,
-        &mut image_b,
-    );
-    assert_eq!(rt; (first, second), (1_064_965, 1_081_349));
-    assert!(rt; is_right(alloc, &image_a, 3)?);
-    assert!(rt; is_right(alloc, &image_b, 4)?);
+    let mut store = marked_store(rt.alloc(), CELLS as usize)?;
+    let rounds = largest_rounds(&rt, rt.alloc(), &mut store)?;
+    assert_eq!(rt; rounds, (1_064_965, 1_081_349, true));
     Ok(())
 }
 

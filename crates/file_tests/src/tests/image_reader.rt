@@ -77,15 +77,26 @@ fn file(alloc: Global, cells: &[u8], tick: &[u8], word: &[u8]) -> Result<Vec<u8>
     Ok(file)
 }
 
+// The outcome of a file with this header and word, where it is to be open with this tick and word.
+fn outcome_of_one(
+    alloc: Global,
+    cells: &[u8],
+    tick: &[u8],
+    word: &[u8],
+    (want_tick, want_word): (u64, u64),
+) -> Result<u8, Refusal> {
+    let file = file(alloc, cells, tick, word)?;
+    Ok(outcome(alloc, &file, want_tick, &[want_word]))
+}
+
 #[test]
 fn judges_header_and_words(rt: HostRuntime) -> Result<(), Fail> {
-    let alloc = rt.alloc();
     let above_most_cells = [1, 0, 1, 0, 0, 0, 0, 0];
     let one_in_second = [1, 0, 0, 0, 0, 0, 0, 0x20];
     let none_in_second = [0, 0, 0, 0, 0, 0, 0, 0x20];
     let above_most_in_second = [1, 0, 0x10, 0, 0, 0, 0, 0x20];
     let above_last_tick = [0x01, 0x00, 0x64, 0xa7, 0xb3, 0xb6, 0xe0, 0x0d];
-    for (cells, tick, word, want, (want_tick, want_word)) in [
+    for (cells, tick, word, want, open) in [
         (&ONE, &NOTHING, &SMALL, AS_WANTED, (0, 261)),
         (&ONE, &MUCH, &NOTHING, AS_WANTED, (TICK_MAX, 0)),
         (&ONE, &NOTHING, &MUCH, 14, (0, 0)),
@@ -97,8 +108,8 @@ fn judges_header_and_words(rt: HostRuntime) -> Result<(), Fail> {
         (&above_most_in_second, &ONE, &ONE, 14, (0, 0)),
         (&[0xff; 8], &ONE, &ONE, 14, (0, 0)),
     ] {
-        let file = file(alloc, cells, tick, word)?;
-        assert_eq!(rt; outcome(alloc, &file, want_tick, &[want_word]), want);
+        let read = outcome_of_one(rt.alloc(), cells, tick, word, open)?;
+        assert_eq!(rt; read, want, "{cells:?} {tick:?} {word:?}");
     }
     Ok(())
 }

@@ -156,57 +156,132 @@ fn has_second(b: &ModelFile) -> bool {
     b.durable() == segment.as_slice()
 }
 
+// Writes the two ticks, and switches back.
+fn check_switches(
+    rt: &impl Abort,
+    keeper: &mut LogKeeper,
+    queue: &mut HeapCircularBuffer<Record>,
+    a: &mut ModelFile,
+    b: &mut ModelFile,
+)
+    requires fits { FitsFiles keeper.old a.old.content b.old.content }
+    requires follows { QueueFollows keeper.old queue.old.items }
+    requires end { end_of keeper.old queue.old.items ≡ record { base = 1; count = 1 } }
+{
+    assert_eq!(rt; (queue.len(), keeper.work(queue)), (3, 22));
+    // The start, and tick 1.
+    assert_eq!(rt; run(keeper, queue, a, b), (11, 1));
+    assert!(rt; !keeper.starting() && has_first(a));
+    // The switch to log.b, which the start has shut, and tick 2.
+    assert_eq!(rt; run(keeper, queue, a, b), (7, 2));
+    assert!(rt; has_second(b));
+    // The switch back to log.a, which isn't shut.
+    queue_switch(rt, keeper, queue, 2);
+    assert_eq!(rt; run(keeper, queue, a, b), (6, IDLE));
+}
+
 #[test]
 fn writes_ticks_and_switches(rt: HostRuntime) -> Result<(), Fail> {
-    let alloc = rt.alloc();
-    let (mut keeper, mut a, mut b) = begin(alloc)?;
-    let mut queue = two_ticks(&rt, alloc, &keeper)?;
-    assert_eq!(rt; (queue.len(), keeper.work(&queue)), (3, 22));
-    // The start, and tick 1.
-    assert_eq!(rt; run(&mut keeper, &mut queue, &mut a, &mut b), (11, 1));
-    assert!(rt; !keeper.starting() && has_first(&a));
-    // The switch to log.b, which the start has shut, and tick 2.
-    assert_eq!(rt; run(&mut keeper, &mut queue, &mut a, &mut b), (7, 2));
-    assert!(rt; has_second(&b));
-    // The switch back to log.a, which isn't shut.
-    queue_switch(&rt, &keeper, &mut queue, 2);
-    assert_eq!(rt; run(&mut keeper, &mut queue, &mut a, &mut b), (6, IDLE));
+    let (mut keeper, mut a, mut b) = begin(rt.alloc())?;
+    let mut queue = two_ticks(&rt, rt.alloc(), &keeper)?;
+    check_switches(&rt, &mut keeper, &mut queue, &mut a, &mut b);
+    Ok(())
+}
+
+// Writes 33 ticks, a group of which has 32.
+fn check_groups(
+    rt: &impl Abort,
+    alloc: Global,
+    keeper: &mut LogKeeper,
+    queue: &mut HeapCircularBuffer<Record>,
+    a: &mut ModelFile,
+    b: &mut ModelFile,
+) -> Result<(), Refusal>
+    requires fits { FitsFiles keeper.old a.old.content b.old.content }
+    requires follows { QueueFollows keeper.old queue.old.items }
+    requires first { end_of keeper.old queue.old.items ≡ record { base = 0; count = 0 } }
+{
+    assert_eq!(rt; run(keeper, queue, a, b), (8, IDLE));
+    queue_ticks(rt, alloc, keeper, queue, 33)?;
+    assert_eq!(rt; (queue.len(), keeper.work(queue)), (33, 132));
+    assert_eq!(rt; run(keeper, queue, a, b), (3, 32));
+    assert_eq!(rt; run(keeper, queue, a, b), (3, 33));
     Ok(())
 }
 
 #[test]
 fn writes_ticks_in_groups(rt: HostRuntime) -> Result<(), Fail> {
-    let alloc = rt.alloc();
-    let (mut keeper, mut a, mut b) = begin(alloc)?;
-    let mut queue = HeapCircularBuffer::with_capacity(alloc, 40)?;
-    assert_eq!(rt; run(&mut keeper, &mut queue, &mut a, &mut b), (8, IDLE));
-    queue_ticks(&rt, alloc, &keeper, &mut queue, 33)?;
-    assert_eq!(rt; (queue.len(), keeper.work(&queue)), (33, 132));
-    assert_eq!(rt; run(&mut keeper, &mut queue, &mut a, &mut b), (3, 32));
-    assert_eq!(rt; run(&mut keeper, &mut queue, &mut a, &mut b), (3, 33));
+    let mut queue = HeapCircularBuffer::with_capacity(rt.alloc(), 40)?;
+    let (mut keeper, mut a, mut b) = begin(rt.alloc())?;
+    check_groups(&rt, rt.alloc(), &mut keeper, &mut queue, &mut a, &mut b)?;
+    Ok(())
+}
+
+// Covers nothing in front of a switch, and then an older switch alone. It tells how much work the
+// switch at tick 3 is that is left.
+fn cover_switches(
+    rt: &impl Abort,
+    keeper: &LogKeeper,
+    queue: &mut HeapCircularBuffer<Record>,
+) -> u64
+    requires follows { QueueFollows keeper.now queue.old.items }
+    requires first { end_of keeper.now queue.old.items ≡ record { base = 0; count = 0 } }
+    ensures follows { QueueFollows keeper.now queue.new.items }
+    ensures end { end_of keeper.now queue.new.items ≡ record { base = 3; count = 0 } }
+{
+    queue_switch(rt, keeper, queue, 1);
+    queue_switch(rt, keeper, queue, 3);
+    assert!(rt; keeper.cover(queue, 2) == LogAnswer::Idle);
+    assert!(rt; keeper.cover(queue, 3) == LogAnswer::Working);
+    keeper.work(queue)
+}
+
+// Covers a tick. It tells how much work the switch at tick 4 is that is left.
+fn cover_tick(
+    rt: &impl Abort,
+    alloc: Global,
+    keeper: &LogKeeper,
+    queue: &mut HeapCircularBuffer<Record>,
+) -> Result<u64, Refusal>
+    requires follows { QueueFollows keeper.now queue.old.items }
+    requires end { end_of keeper.now queue.old.items ≡ record { base = 3; count = 0 } }
+    ensures follows { QueueFollows keeper.now queue.new.items }
+{
+    let action = Action::Set { cell: 0, value: 5 };
+    queue_tick(rt, alloc, keeper, queue, action)?;
+    queue_switch(rt, keeper, queue, 4);
+    assert_eq!(rt; acked(keeper.cover(queue, 4)), 4);
+    Ok(keeper.work(queue))
+}
+
+// Covers what stands in the queue, and writes the switch that is left.
+fn check_covers(
+    rt: &impl Abort,
+    alloc: Global,
+    keeper: &mut LogKeeper,
+    queue: &mut HeapCircularBuffer<Record>,
+    a: &mut ModelFile,
+    b: &mut ModelFile,
+) -> Result<(), Refusal>
+    requires fits { FitsFiles keeper.old a.old.content b.old.content }
+    requires follows { QueueFollows keeper.old queue.old.items }
+    requires first { end_of keeper.old queue.old.items ≡ record { base = 0; count = 0 } }
+{
+    assert!(rt; keeper.cover(queue, 0) == LogAnswer::Idle);
+    assert_eq!(rt; run(keeper, queue, a, b).1, IDLE);
+    assert_eq!(rt; cover_switches(rt, keeper, queue), 6);
+    assert_eq!(rt; cover_tick(rt, alloc, keeper, queue)?, 6);
+    // The segment begins at the covered tick.
+    assert_eq!(rt; run(keeper, queue, a, b), (4, IDLE));
+    assert!(rt; b.durable() == [1, 4, 0, 0, 0, 0, 0, 0, 0x20, 0].as_slice());
     Ok(())
 }
 
 // A cover takes what stands before the switch: a tick, nothing, and an older switch alone.
 #[test]
 fn covers_what_stands_before_a_switch(rt: HostRuntime) -> Result<(), Fail> {
-    let alloc = rt.alloc();
-    let (mut keeper, mut a, mut b) = begin(alloc)?;
-    let mut queue = HeapCircularBuffer::with_capacity(alloc, 8)?;
-    assert!(rt; keeper.cover(&mut queue, 0) == LogAnswer::Idle);
-    assert_eq!(rt; run(&mut keeper, &mut queue, &mut a, &mut b).1, IDLE);
-    queue_switch(&rt, &keeper, &mut queue, 1);
-    queue_switch(&rt, &keeper, &mut queue, 3);
-    assert!(rt; keeper.cover(&mut queue, 2) == LogAnswer::Idle);
-    assert!(rt; keeper.cover(&mut queue, 3) == LogAnswer::Working);
-    assert_eq!(rt; keeper.work(&queue), 6);
-    let action = Action::Set { cell: 0, value: 5 };
-    queue_tick(&rt, alloc, &keeper, &mut queue, action)?;
-    queue_switch(&rt, &keeper, &mut queue, 4);
-    assert_eq!(rt; acked(keeper.cover(&mut queue, 4)), 4);
-    assert_eq!(rt; keeper.work(&queue), 6);
-    // The segment begins at the covered tick.
-    assert_eq!(rt; run(&mut keeper, &mut queue, &mut a, &mut b), (4, IDLE));
-    assert!(rt; b.durable() == [1, 4, 0, 0, 0, 0, 0, 0, 0x20, 0].as_slice());
+    let mut queue = HeapCircularBuffer::with_capacity(rt.alloc(), 8)?;
+    let (mut keeper, mut a, mut b) = begin(rt.alloc())?;
+    check_covers(&rt, rt.alloc(), &mut keeper, &mut queue, &mut a, &mut b)?;
     Ok(())
 }

@@ -194,6 +194,12 @@ fn tick_of(alloc: Global, more: u8) -> Result<Vec<u8>, Refusal> {
     Ok(bytes)
 }
 
+// The outcome of such a segment.
+fn outcome_of_tick(alloc: Global, more: u8) -> Result<usize, Refusal> {
+    let bytes = tick_of(alloc, more)?;
+    Ok(outcome(alloc, &bytes))
+}
+
 // A segment with this mark, of one action of this kind, with as many bytes as the longest action
 // has.
 fn action_of(mark: u8, kind: u8) -> [u8; 31] {
@@ -213,8 +219,8 @@ fn refuses_counts_of_ticks_and_actions(rt: HostRuntime) -> Result<(), Fail> {
         );
     }
     for (more, want) in [(0, 1), (1, 15)] {
-        let bytes = tick_of(rt.alloc(), more)?;
-        assert_eq!(rt; outcome(rt.alloc(), &bytes), want, "256 actions and {more}");
+        let read = outcome_of_tick(rt.alloc(), more)?;
+        assert_eq!(rt; read, want, "256 actions and {more}");
     }
     Ok(())
 }

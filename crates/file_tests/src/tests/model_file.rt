@@ -1,6 +1,5 @@
 ghost use Rattle.std.specs.Prelude.{◌≡◌, ◌≤◌, length, IfOk};
 
-use super::fused_files::disk;
 use disk_model::{Disk, Fused, ModelFile};
 use std::alloc::Global;
 use std::process::Abort;
@@ -108,9 +107,17 @@ fn leaves_torn_write(rt: HostRuntime) -> Result<(), Fail> {
     Ok(())
 }
 
+// The codes of crashes of the written file that are to leave these bytes: before a sync, after one
+// that failed, and after one.
+fn crash_codes(rt: &impl Abort, alloc: Global, left: &[u8]) -> Result<(u8, u8, u8), Refusal> {
+    let before = crash_code(alloc, written_file(alloc)?, left)?;
+    let after_failed = crash_code(alloc, unsynced_file(rt, alloc)?, left)?;
+    let after = crash_code(alloc, synced_file(alloc)?, left)?;
+    Ok((before, after_failed, after))
+}
+
 #[test]
 fn leaves_overlapping_writes(rt: HostRuntime) -> Result<(), Fail> {
-    let alloc = rt.alloc();
     for (left, before_sync, after_sync) in [
         ([0x11, 0x22].as_slice(), 20, 20),
         ([0x11, 0x22, 0x33].as_slice(), 0, 20),
@@ -122,10 +129,7 @@ fn leaves_overlapping_writes(rt: HostRuntime) -> Result<(), Fail> {
         ([0, 0xaa, 0xcc, 0xdd, 0xee].as_slice(), 20, 20),
         ([0x11, 0xaa, 0xcc, 0xdd, 0xee, 0].as_slice(), 20, 20),
     ] {
-        let before = crash_code(alloc, written_file(alloc)?, left)?;
-        let after_failed = crash_code(alloc, unsynced_file(&rt, alloc)?, left)?;
-        let after = crash_code(alloc, synced_file(alloc)?, left)?;
-        let codes = (before, after_failed, after);
+        let codes = crash_codes(&rt, rt.alloc(), left)?;
         assert_eq!(rt; codes, (before_sync, before_sync, after_sync), "{left:?}");
     }
     Ok(())
@@ -159,60 +163,6 @@ fn tells_uncertain_places(rt: HostRuntime) -> Result<(), Fail> {
         (u64::MAX, true),
     ];
     assert_uncertain(&rt, &file, &after_sync);
-    Ok(())
-}
-
-// Whether the length is told, and the write of 9 at 1 fails that comes after.
-fn fails_write(disk: &mut Fused<ModelFile>) -> bool
-    requires { length disk.old.inner.content ≡ 3 }
-    ensures { length disk.new.inner.content ≡ 3 }
-{
-    disk.arm(2);
-    let length = disk.len();
-    length == Ok(3) && disk.write_at(1, &[9]) == Err(Refusal::Device)
-}
-
-// The bytes at 1 and 2.
-fn read_pair(disk: &mut Fused<ModelFile>) -> Result<[u8; 2], Refusal>
-    requires { length disk.old.inner.content ≡ 3 }
-    ensures { length disk.new.inner.content ≡ 3 }
-{
-    let mut pair = [0; 2];
-    disk.read_at(1, &mut pair)?;
-    Ok(pair)
-}
-
-// Whether a read fails, and reads nothing.
-fn fails_read(disk: &mut Fused<ModelFile>) -> bool
-    requires { length disk.old.inner.content ≡ 3 }
-{
-    let mut read = [9, 7];
-    disk.arm(1);
-    disk.read_at(0, &mut read) == Err(Refusal::Device) && read == [9, 7]
-}
-
-// Whether a call for the length fails.
-fn fails_len(disk: &mut Fused<ModelFile>) -> bool {
-    disk.arm(1);
-    disk.len() == Err(Refusal::Device)
-}
-
-// Whether a sync succeeds that was let fail, but then isn't, and leaves the written byte.
-fn syncs(disk: &mut Fused<ModelFile>) -> bool {
-    disk.arm(1);
-    disk.disarm();
-    disk.sync() == Ok(()) && disk.inner().durable() == [5, 9, 7].as_slice()
-}
-
-#[test]
-fn fails_armed_calls(rt: HostRuntime) -> Result<(), Fail> {
-    let mut disk = disk(rt.alloc(), &[5, 6, 7])?;
-    assert!(rt; fails_write(&mut disk));
-    assert_eq!(rt; read_pair(&mut disk)?, [9, 7], "the write was carried out");
-    assert!(rt; disk.inner().uncertain(1));
-    assert!(rt; fails_read(&mut disk));
-    assert!(rt; fails_len(&mut disk));
-    assert!(rt; syncs(&mut disk));
     Ok(())
 }
 
