@@ -19,7 +19,7 @@ SECONDS = 60
 LINES = 2
 CELLS = 3
 WRONG = "a wrong answer after tick "
-CLOSED = "the server closed a connection: it may have served as many clients as its --clients"
+CLOSED = "the server closed a connection: it has ended, or had no thread or memory for this client"
 CUT_OFF = "the server closed a connection in the midst of an answer: "
 REFUSED = "the server refused a batch: "
 

@@ -4,9 +4,13 @@
 mod clap_error;
 mod ending;
 mod not_run;
+mod streams;
+mod version;
 mod words;
 
 pub use clap_error::refused;
 pub use ending::ended;
 pub use not_run::NotRun;
+pub use streams::take_standard_streams;
+pub use version::{VERSION, VERSION_WITH_FORMATS};
 pub use words::{command_words, unreadable};

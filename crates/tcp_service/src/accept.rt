@@ -1,118 +1,136 @@
-ghost use Rattle.std.specs.Prelude.{◌≡◌, ◌⊎◌, ◌+◌, ◌≤◌, None, vec_len, vec_capacity, IfSome};
+ghost use Rattle.std.specs.Prelude.{◌≡◌, ◌+◌, ◌≤◌};
 
-use crate::door::{Door, Unserved};
-use crate::session::serve_session;
+use crate::door::Door;
+use crate::failure::{Failure, Shortage, failure_of};
+use crate::session::Joined;
+use crate::sessions::{Sessions, Shared};
 use crossbeam_channel::Sender;
 use std::alloc::Global;
-use std::io::{self, ErrorKind};
-use std::net::{TcpListener, TcpStream};
+use std::io;
+use std::net::TcpListener;
 use std::sync::Wait;
-use std::thread;
-use std::thread::{JoinHandle, Threads};
+use std::thread::Threads;
+use std::time::Clock;
 use workers::Ask;
-use world_actions::Refusal;
+
+/// Which clients a server takes.
+#[derive(Clone, Copy, Debug, PartialEq, Eq)]
+pub struct Admission {
+    /// After how many connections it accepts no more.
+    pub clients: u32,
+    /// After how many seconds without a byte from its client a session ends. Without a number it never does.
+    pub idle: Option<u32>,
+}
+
+/// Why no more connections are accepted.
+#[derive(Clone, Copy, Debug)]
+pub enum Closed {
+    /// All that were asked for came.
+    AllCame,
+    /// There was no memory to begin.
+    NoMemory,
+    /// The listener failed.
+    Failed(io::Error),
+}
 
 /// How accepting connections ended.
-#[derive(Clone, Copy, Debug, PartialEq, Eq)]
+#[derive(Clone, Copy, Debug)]
 pub struct Accepted {
-    /// How many came, also those that were closed unanswered.
+    /// How many came: each had a session, or is among the unserved.
     pub connections: u32,
-    /// Why there were no more, where all that were asked for didn't come.
-    pub fault: Option<Refusal>,
+    /// The sessions, each of which has ended and was joined.
+    pub sessions: Joined,
+    /// How many were closed unanswered, or left before they were accepted.
+    pub unserved: u32,
+    pub closed: Closed,
 }
 
-/// Accepts so many connections, serves each in a thread of its own, and comes back when all are over. A client
-/// for whom there is no thread or no memory is closed unanswered. Where the listener fails it accepts no more.
-pub fn accept_sessions<R: Threads + Wait + Copy + Send + 'static, W: Door + Clone + Send + 'static>(
+/// Accepts so many connections, and serves each in a thread of its own. It waits out a shortage of descriptors or
+/// memory. A client that can be given no thread or no memory is closed unanswered. After the last one, or a failure of
+/// the listener, it closes the port and waits for the sessions.
+pub fn accept_sessions<
+    R: Threads + Wait + Clock + Copy + Send + 'static,
+    W: Door + Clone + Drop + Send + 'static,
+>(
     rt: &R,
     alloc: Global,
-    listener: &TcpListener,
-    clients: u32,
+    listener: TcpListener,
+    admission: Admission,
     requests: Sender<Ask>,
     door: W,
 ) -> Accepted
-    ensures all { result.fault ≡ None → result.connections ≡ clients }
-    ensures some { result.connections ≤ clients }
-    ensures fault { IfSome result.fault (λ refusal. (refusal ≡ Refusal.NoMemory) ⊎ (refusal ≡ Refusal.Device)) }
+    ensures all { result.closed ≡ Closed.AllCame → result.connections ≡ admission.clients }
+    ensures some { result.connections ≤ admission.clients }
+    ensures joined { result.connections ≡ result.sessions.count + result.unserved }
 {
-    let Ok(mut sessions) = Vec::with_capacity(alloc, clients as usize) else {
+    let Ok(mut sessions) = Sessions::new(alloc, admission.clients) else {
         return Accepted {
             connections: 0,
-            fault: Some(Refusal::NoMemory),
+            sessions: Joined::none(),
+            unserved: 0,
+            closed: Closed::NoMemory,
         };
     };
-    let accepted = start_sessions(rt, alloc, listener, clients, requests, door, &mut sessions);
-    for session in sessions {
-        session.join(rt);
+    let mut shared = Shared {
+        alloc,
+        idle: admission.idle,
+        requests,
+        door,
+    };
+    let (unserved, closed) =
+        accept_all(rt, &listener, admission.clients, &mut shared, &mut sessions);
+    drop(listener);
+    shared.door.closed();
+    drop(shared);
+    let sessions = sessions.join_all(rt);
+    Accepted {
+        connections: sessions.count() + unserved,
+        sessions,
+        unserved,
+        closed,
     }
-    accepted
 }
 
-// Starts a session for each connection, and lets the channel of requests go, but for theirs.
-fn start_sessions<R: Threads + Wait + Copy + Send + 'static, W: Door + Clone + Send + 'static>(
+// Accepts so many connections, and starts a session for each. It returns how many have none, and why it ended.
+fn accept_all<
+    R: Threads + Wait + Clock + Copy + Send + 'static,
+    W: Door + Clone + Drop + Send + 'static,
+>(
     rt: &R,
-    alloc: Global,
     listener: &TcpListener,
     clients: u32,
-    requests: Sender<Ask>,
-    door: W,
-    sessions: &mut Vec<JoinHandle<()>>,
-) -> Accepted
-    requires room { vec_len sessions.old + clients ≤ vec_capacity sessions.old }
-    ensures all { result.fault ≡ None → result.connections ≡ clients }
-    ensures some { result.connections ≤ clients }
-    ensures fault { IfSome result.fault (λ refusal. refusal ≡ Refusal.Device) }
+    shared: &mut Shared<W>,
+    sessions: &mut Sessions,
+) -> (u32, Closed)
+    requires { sessions.old.started ≡ 0 }
+    ensures all { result.1 ≡ Closed.AllCame → sessions.new.started + result.0 ≡ clients }
+    ensures some { sessions.new.started + result.0 ≤ clients }
 {
-    let mut door = door;
-    for connections in 0..clients {
-        let stream = match listener.accept() {
-            Ok((stream, _)) => stream,
-            Err(error) if is_of_one_client(&error) => continue,
-            Err(error) => {
-                door.listener_failed(&error);
-                return Accepted {
-                    connections,
-                    fault: Some(Refusal::Device),
-                };
+    let mut shortage = Shortage::none();
+    let mut unserved = 0;
+    for _ in rt.forever() {
+        sessions.join_ended(rt);
+        if sessions.started() + unserved == clients {
+            return (unserved, Closed::AllCame);
+        }
+        match listener.accept() {
+            Ok((stream, _)) => {
+                shortage.pass(&mut shared.door);
+                if let Err(why) = sessions.start(rt, stream, shared) {
+                    shared.door.session_refused(why);
+                    unserved += 1;
+                }
             }
-        };
-        match start_session(rt, alloc, stream, &requests, &door) {
-            Ok(session) => sessions.push_reserved(session),
-            Err(why) => door.session_refused(why),
+            Err(error) => match failure_of(&error) {
+                Failure::Interrupted => {}
+                Failure::OneClient => unserved += 1,
+                Failure::Shortage => shortage.wait(rt, &mut shared.door, &error),
+                Failure::Listener => {
+                    shared.door.listener_failed(&error);
+                    return (unserved, Closed::Failed(error));
+                }
+            },
         }
     }
-    Accepted {
-        connections: clients,
-        fault: None,
-    }
-}
-
-// Starts the session of a connection in a thread of its own.
-fn start_session<R: Threads + Wait + Copy + Send + 'static, W: Door + Clone + Send + 'static>(
-    rt: &R,
-    alloc: Global,
-    stream: TcpStream,
-    requests: &Sender<Ask>,
-    door: &W,
-) -> Result<JoinHandle<()>, Unserved> {
-    let Ok(requests) = requests.clone() else {
-        return Err(Unserved::NoMemory);
-    };
-    let Ok(door) = door.clone() else {
-        return Err(Unserved::NoMemory);
-    };
-    let here = *rt;
-    let serve = move || serve_session(&here, alloc, stream, requests, door);
-    match thread::spawn(rt, serve) {
-        Ok(session) => Ok(session),
-        Err(_) => Err(Unserved::NoThread),
-    }
-}
-
-// Whether one connection alone failed, and not the listener.
-fn is_of_one_client(error: &io::Error) -> bool {
-    matches!(
-        error.kind(),
-        ErrorKind::ConnectionAborted | ErrorKind::Interrupted
-    )
+    unreachable!()
 }

@@ -8,11 +8,24 @@ pub enum Unserved {
     NoThread,
 }
 
-/// Is told what goes wrong with connections, each time in the thread where it does.
+/// Hears of connections, each time in the thread that serves or accepts them. A call that waits holds up a session or
+/// the accepting, so none may.
 pub trait Door {
+    /// The workers run: clients may come.
+    fn opened(&mut self);
+
     /// A connection is closed unanswered.
     fn session_refused(&mut self, why: Unserved);
 
+    /// The system has no descriptor or no memory for a connection: accepting waits until it has.
+    fn shortage_began(&mut self, error: &io::Error);
+
+    /// A connection came after a shortage.
+    fn shortage_ended(&mut self);
+
     /// The listener failed: no more connections are accepted.
     fn listener_failed(&mut self, error: &io::Error);
+
+    /// No more connections are accepted, and the port is closed.
+    fn closed(&mut self);
 }

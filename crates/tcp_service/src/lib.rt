@@ -2,19 +2,22 @@
 //!
 //! `open_world` opens a world of four files for its workers, and `serve_tcp` starts them, serves so many connections,
 //! and stops them. A session reads batches, sends each to the mutator, and writes what the log writer posts for it,
-//! which is only after the batch's tick is durable. A client that fails or leaves ends its own session alone.
+//! which is only after the batch's tick is durable. A client that fails or leaves ends its own session alone. A session
+//! that has ended is joined before the next connection is accepted.
 #![tactic(auto)]
 
 mod accept;
 mod door;
+mod failure;
 mod opening;
 mod remote;
 mod serving;
 mod session;
+mod sessions;
 
-pub use accept::{Accepted, accept_sessions};
+pub use accept::{Accepted, Admission, Closed, accept_sessions};
 pub use door::{Door, Unserved};
 pub use opening::{Seats, open_world};
 pub use remote::Remote;
 pub use serving::{Stopped, serve_tcp};
-pub use session::serve_session;
+pub use session::{Joined, Over, serve_session};

@@ -1,8 +1,8 @@
-ghost use Rattle.std.specs.Prelude.{◌≡◌, ◌⊎◌, None, IsTrue, IfOk, IfErr, IfSome};
+ghost use Rattle.std.specs.Prelude.{◌≡◌, ◌+◌, ◌≤◌, IsTrue, IfOk};
 ghost use Rattle.worker_threads.specs.Begun.{IsWhole};
 ghost use Rattle.tcp_service.specs.Opening.{StaysSound};
 
-use crate::accept::{Accepted, accept_sessions};
+use crate::accept::{Accepted, Admission, Closed, accept_sessions};
 use crate::door::Door;
 use disk_model::Disk;
 use shared_capture::Method;
@@ -10,9 +10,9 @@ use std::alloc::Global;
 use std::net::TcpListener;
 use std::sync::Wait;
 use std::thread::Threads;
-use worker_threads::{Ends, Gates, Opened, Watch, ends_meet, start, stop};
+use std::time::Clock;
+use worker_threads::{Ends, Gates, NotStarted, Opened, Watch, ends_meet, start, stop};
 use workers::Gate;
-use world_actions::Refusal;
 
 /// What a server leaves once it has stopped.
 #[derive(Drop)]
@@ -21,16 +21,16 @@ pub struct Stopped<M: Method, D: Disk + Drop, G: Gate + Drop> {
     pub accepted: Accepted,
 }
 
-/// Serves so many connections of a listener by the workers of a world, and stops the workers after the last one,
-/// also where the listener fails. A round is due after every `every` ticks. On disks that keep to the disk model the files are
-/// then sound for all ticks that were played. Where the workers can't be started no thread is left running, and no connection
-/// is accepted.
+/// Serves the connections of a listener by the workers of a world, and stops the workers after the last one,
+/// also if the listener fails. A round is due after every `every` ticks. On disks that keep to the disk model the
+/// files are then sound for all ticks that were played. If the workers can't be started no thread is left running, and
+/// no connection is accepted.
 pub fn serve_tcp<
-    R: Threads + Wait + Copy + Send + 'static,
+    R: Threads + Wait + Clock + Copy + Send + 'static,
     M: Method + Send + 'static,
     D: Disk + Drop + Send + 'static,
     G: Gate + Drop + Send + 'static,
-    W: Watch<D> + Door + Clone + Send + 'static,
+    W: Watch<D> + Door + Clone + Drop + Send + 'static,
 >(
     rt: &R,
     alloc: Global,
@@ -38,24 +38,26 @@ pub fn serve_tcp<
     watch: W,
     opened: Opened<M, D>,
     every: u32,
-    listener: &TcpListener,
-    clients: u32,
-) -> Result<Stopped<M, D, G>, Refusal>
+    listener: TcpListener,
+    admission: Admission,
+) -> Result<Stopped<M, D, G>, NotStarted>
     requires { IsWhole D.honest D.content opened.front opened.back opened.images opened.log opened.ended }
-    ensures all { IfOk result (λ stopped. stopped.accepted.fault ≡ None → stopped.accepted.connections ≡ clients) }
-    ensures fault { IfOk result (λ stopped. IfSome stopped.accepted.fault (λ refusal.
-        (refusal ≡ Refusal.NoMemory) ⊎ (refusal ≡ Refusal.Device))) }
+    ensures all { IfOk result (λ stopped. stopped.accepted.closed ≡ Closed.AllCame
+        → stopped.accepted.connections ≡ admission.clients) }
+    ensures some { IfOk result (λ stopped. stopped.accepted.connections ≤ admission.clients) }
+    ensures joined { IfOk result (λ stopped. stopped.accepted.connections
+        ≡ stopped.accepted.sessions.count + stopped.accepted.unserved) }
     ensures began { IfOk result (λ stopped. (stopped.ends.mutator.opening ≡ opened.front.live)
         × (stopped.ends.checkpointer.opening ≡ opened.images) × (stopped.ends.log_writer.opening ≡ opened.log)) }
     ensures sound { IsTrue D.honest → IfOk result (λ stopped.
         StaysSound D.content D.may_leave opened.front.live opened.images opened.log opened.ended
         stopped.ends.mutator stopped.ends.checkpointer stopped.ends.log_writer) }
     ensures every { IfOk result (λ stopped. stopped.ends.mutator.every ≡ every) }
-    ensures memory { IfErr result (λ refusal. refusal ≡ Refusal.NoMemory) }
 {
-    let door = watch.clone()?;
+    let mut door = watch.clone()?;
     let (workers, requests) = start(rt, alloc, gates, watch, opened, every)?;
-    let accepted = accept_sessions(rt, alloc, listener, clients, requests, door);
+    door.opened();
+    let accepted = accept_sessions(rt, alloc, listener, admission, requests, door);
     let mut ends = stop(rt, workers);
     ends_meet(&mut ends);
     Ok(Stopped { ends, accepted })

@@ -1,3 +1,5 @@
+ghost use Rattle.std.specs.Prelude.{◌≡◌, ◌+◌, ◌<◌};
+
 use crate::door::{Door, Unserved};
 use crate::remote::Remote;
 use crossbeam_channel::Sender;
@@ -5,23 +7,61 @@ use line_service::serve_lines;
 use std::alloc::Global;
 use std::net::TcpStream;
 use std::sync::Wait;
+use std::time::Duration;
 use workers::Ask;
 use world_actions::Refusal;
 
-/// Serves a connection until its client leaves or a fault ends it, which is nobody else's. One for which there
-/// is no memory is told at the door.
+/// Shows that a session has ended: only `serve_session` makes one.
+#[derive(Drop)]
+pub struct Over(());
+
+/// Serves a connection until its client leaves or is silent for so many seconds, or until a fault, which ends no other
+/// session. The door hears of a session that has no memory.
 pub fn serve_session<R: Wait + Copy, W: Door + Drop>(
     rt: &R,
     alloc: Global,
     stream: TcpStream,
+    idle: Option<u32>,
     requests: Sender<Ask>,
     door: W,
-) {
+) -> Over {
     let mut door = door;
     let _ = stream.set_nodelay(true);
+    if let Some(seconds) = idle {
+        let _ = stream.set_read_timeout(Some(Duration::from_secs(u64::from(seconds))));
+    }
     let mut world = Remote::new(*rt, alloc, requests);
     let served = serve_lines(alloc, &mut &stream, &mut &stream, &mut world);
     if served == Err(Refusal::NoMemory) {
         door.session_refused(Unserved::NoMemory);
+    }
+    Over(())
+}
+
+/// How many sessions have ended and been joined. Each is counted by what its thread returned.
+#[derive(Clone, Copy, Debug, PartialEq, Eq)]
+pub struct Joined {
+    count: u32,
+}
+
+impl Joined {
+    pub fn none() -> Self
+        ensures { result.count ≡ 0 }
+    {
+        Joined { count: 0 }
+    }
+
+    /// Counts a session that is over.
+    pub fn add(&mut self, _over: Over)
+        requires { self.old.count < 4294967295 }
+        ensures { self.new.count ≡ self.old.count + 1 }
+    {
+        self.count += 1;
+    }
+
+    pub fn count(&self) -> u32
+        ensures { result ≡ self.now.count }
+    {
+        self.count
     }
 }

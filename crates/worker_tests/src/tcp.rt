@@ -8,7 +8,8 @@ use std::net::{Net, Shutdown, SocketAddr, TcpListener, TcpStream};
 use std::process::Abort;
 use std::sync::Wait;
 use std::thread::{self, JoinHandle, Threads};
-use tcp_service::{Accepted, Door, Unserved, accept_sessions};
+use std::time::Clock;
+use tcp_service::{Accepted, Admission, Closed, Door, Unserved, accept_sessions};
 use workers::{Ask, Reply};
 use world_actions::Refusal;
 
@@ -23,9 +24,17 @@ const FAULTS: &[u8] = b"fault 6\nfault 12\nfault 21\n";
 struct Nobody;
 
 impl Door for Nobody {
+    fn opened(&mut self) {}
+
     fn session_refused(&mut self, _why: Unserved) {}
 
+    fn shortage_began(&mut self, _error: &io::Error) {}
+
+    fn shortage_ended(&mut self) {}
+
     fn listener_failed(&mut self, _error: &io::Error) {}
+
+    fn closed(&mut self) {}
 }
 
 // In the place of the workers: it refuses batches, and drops those that begin with a read.
@@ -98,26 +107,37 @@ fn try_client<R: Net<Stream = TcpStream> + Abort>(
     same(rt, "what a client is answered", page.as_slice(), text);
 }
 
-fn start_accepting<R: Threads + Wait + Abort + Copy + Send + 'static>(
+fn start_accepting<R: Threads + Wait + Clock + Abort + Copy + Send + 'static>(
     rt: &R,
     alloc: Global,
     listener: TcpListener,
     requests: Sender<Ask>,
 ) -> JoinHandle<Accepted> {
     let here = *rt;
-    let accept = move || accept_sessions(&here, alloc, &listener, 3, requests, Nobody);
+    let accept = move || accept_sessions(&here, alloc, listener, THREE, requests, Nobody);
     match thread::spawn(rt, accept) {
         Ok(server) => server,
         Err(_) => panic!(rt; "no thread"),
     }
 }
 
-const ALL: Accepted = Accepted {
-    connections: 3,
-    fault: None,
+const THREE: Admission = Admission {
+    clients: 3,
+    idle: None,
 };
 
-fn try_port<R: Net<Stream = TcpStream> + Threads + Wait + Abort + Copy + Send + 'static>(
+// All came, and each had a session, which was joined.
+fn all_were_served(rt: &impl Abort, accepted: &Accepted) {
+    same(rt, "connections", accepted.connections, 3);
+    same(rt, "sessions", accepted.sessions.count(), 3);
+    same(rt, "unserved", accepted.unserved, 0);
+    let all_came = matches!(accepted.closed, Closed::AllCame);
+    same(rt, "whether all came", all_came, true);
+}
+
+fn try_port<
+    R: Net<Stream = TcpStream> + Threads + Wait + Clock + Abort + Copy + Send + 'static,
+>(
     rt: &R,
     alloc: Global,
     listener: TcpListener,
@@ -130,7 +150,7 @@ fn try_port<R: Net<Stream = TcpStream> + Threads + Wait + Abort + Copy + Send + 
     for _ in 0..2 {
         try_client(rt, alloc, to, BATCHES, FAULTS);
     }
-    same(rt, "how the sessions end", server.join(rt), ALL);
+    all_were_served(rt, &server.join(rt));
     same(rt, "batches that are refused", worker.join(rt), 6);
 }
 

@@ -20,8 +20,11 @@ pub enum Told {
     ImageOpened(u64),
     ImagesDown,
     LogDown(u64),
+    Opened,
     SessionRefused,
+    Shortage,
     ListenerFailed,
+    Closed,
 }
 
 /// Passes on what it is told.
@@ -61,12 +64,26 @@ impl<R: Wait + Copy, D: Disk + Drop> Watch<D> for Teller<R> {
 }
 
 impl<R: Wait + Copy> Door for Teller<R> {
+    fn opened(&mut self) {
+        self.tell(Told::Opened);
+    }
+
     fn session_refused(&mut self, _why: Unserved) {
         self.tell(Told::SessionRefused);
     }
 
+    fn shortage_began(&mut self, _error: &io::Error) {
+        self.tell(Told::Shortage);
+    }
+
+    fn shortage_ended(&mut self) {}
+
     fn listener_failed(&mut self, _error: &io::Error) {
         self.tell(Told::ListenerFailed);
+    }
+
+    fn closed(&mut self) {
+        self.tell(Told::Closed);
     }
 }
 

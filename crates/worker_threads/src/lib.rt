@@ -13,5 +13,5 @@ mod work;
 
 pub use meeting::ends_meet;
 pub use opened::{Gates, Opened};
-pub use threads::{Ends, Workers, start, stop};
+pub use threads::{Ends, NotStarted, Workers, start, stop};
 pub use watch::Watch;

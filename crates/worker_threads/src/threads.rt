@@ -26,6 +26,25 @@ use workers::{
     Ask, Checkpointer, Gate, ItemReceiver, ItemSender, LogWriter, Mutator, Waiting, open,
 };
 
+/// Why workers can't be started.
+#[derive(Clone, Copy, Debug, PartialEq, Eq)]
+pub enum NotStarted {
+    NoMemory,
+    /// The system gives no more threads.
+    NoThread,
+}
+
+impl From<AllocError> for NotStarted {
+    ghost use Rattle.std.specs.Prelude.{◌≡◌};
+    ghost use Rattle.worker_threads.specs.declared.threads.NotStarted.TheVariants.{NoMemory};
+
+    ghost from_gives = { λ _ reason. reason ≡ NoMemory };
+
+    fn from(_: AllocError) -> Self {
+        NotStarted::NoMemory
+    }
+}
+
 /// How many batches may wait for the mutator. A session has one at a time, and waits where there is no room.
 pub const ASKS: usize = 64;
 
@@ -90,7 +109,7 @@ pub fn start<
     watch: W,
     opened: Opened<M, D>,
     every: u32,
-) -> Result<(Workers<M, D, G>, Sender<Ask>), AllocError>
+) -> Result<(Workers<M, D, G>, Sender<Ask>), NotStarted>
     requires { IsWhole D.honest D.content opened.front opened.back opened.images opened.log opened.ended }
     ensures { IfOk result (λ made. IsBegun opened.front opened.back opened.images opened.log opened.ended every made.0) }
 {
@@ -182,7 +201,7 @@ fn start_threads<
     mutator: Mutator<M, G>,
     checkpointer: Checkpointer<M, D, G>,
     log_writer: LogWriter<D, G>,
-) -> Result<Workers<M, D, G>, AllocError>
+) -> Result<Workers<M, D, G>, NotStarted>
     requires pair { mutator.front.pair ≡ checkpointer.back.pair }
     requires channel { AreOneChannel log_writer.from.end mutator.to.end }
     requires word { log_writer.covers.pair ≡ checkpointer.covers.pair }
@@ -217,7 +236,7 @@ fn start_players<
     asked: Receiver<Ask>,
     mutator: Mutator<M, G>,
     checkpointer: Checkpointer<M, D, G>,
-) -> Result<Players<M, D, G>, AllocError>
+) -> Result<Players<M, D, G>, NotStarted>
     ensures mutator { IfOk result (λ players. players.0.promise.0.value ≡ mutator) }
     ensures checkpointer { IfOk result (λ players. players.1.promise.0.value ≡ checkpointer) }
 {
@@ -244,7 +263,7 @@ fn start_mutator<
     rt: &R,
     asked: Receiver<Ask>,
     mutator: Mutator<M, G>,
-) -> Result<PromisedHandle<Mutator<M, G>, SameMutator<M, G>>, AllocError>
+) -> Result<PromisedHandle<Mutator<M, G>, SameMutator<M, G>>, NotStarted>
     ensures { IfOk result (λ handle. handle.promise.0.value ≡ mutator) }
 {
     crosses::<Front<M>>();
@@ -263,7 +282,7 @@ fn start_checkpointer<
     rt: &R,
     watch: W,
     checkpointer: Checkpointer<M, D, G>,
-) -> Result<PromisedHandle<Checkpointer<M, D, G>, SameCheckpointer<M, D, G>>, AllocError>
+) -> Result<PromisedHandle<Checkpointer<M, D, G>, SameCheckpointer<M, D, G>>, NotStarted>
     ensures { IfOk result (λ handle. handle.promise.0.value ≡ checkpointer) }
 {
     crosses::<Back<M>>();
@@ -281,7 +300,7 @@ fn start_log_writer<
     rt: &R,
     watch: W,
     log_writer: LogWriter<D, G>,
-) -> Result<PromisedHandle<LogWriter<D, G>, SameLogWriter<D, G>>, AllocError>
+) -> Result<PromisedHandle<LogWriter<D, G>, SameLogWriter<D, G>>, NotStarted>
     requires { IsAtRest log_writer }
     ensures { IfOk result (λ handle. handle.promise.0.value ≡ log_writer) }
 {

@@ -1,7 +1,7 @@
 use disk_model::Disk;
 use workers::{ImageWriter, Log};
 
-/// Is told what the workers do, in their threads.
+/// Hears of the workers, each time in the worker's own thread. A call that waits holds up that worker, so none may.
 pub trait Watch<D: Disk + Drop> {
     /// The image of this tick was opened.
     fn image_opened(&mut self, tick: u64);

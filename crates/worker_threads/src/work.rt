@@ -1,7 +1,7 @@
 //! A worker in a thread of its own.
-ghost use Rattle.std.specs.Prelude.{◌≡◌, IfOk};
+ghost use Rattle.std.specs.Prelude.{◌≡◌, IfOk, IfErr};
 
-use std::alloc::AllocError;
+use crate::threads::NotStarted;
 use std::sync::Wait;
 use std::thread::{self, Promise, PromisedHandle, Threads};
 
@@ -24,10 +24,11 @@ pub(crate) fn spawn<
     X: Send + Drop + 'static,
     T: Work<X> + Send + Drop + 'static,
     P: Promise<T> + Drop,
->(rt: &R, promise: P, with: X, worker: T) -> Result<PromisedHandle<T, P>, AllocError>
+>(rt: &R, promise: P, with: X, worker: T) -> Result<PromisedHandle<T, P>, NotStarted>
     requires ready { T.ready worker }
     requires keeps { (end : T) → T.ended worker end → P.kept_by promise end }
-    ensures { IfOk result (λ handle. handle.promise ≡ promise) }
+    ensures promise { IfOk result (λ handle. handle.promise ≡ promise) }
+    ensures thread { IfErr result (λ reason. reason ≡ NotStarted.NoThread) }
 {
     let here = *rt;
     let run = move || -> T
@@ -36,6 +37,6 @@ pub(crate) fn spawn<
     { worker.work(&here, with) };
     match thread::spawn_with(rt, promise, run) {
         Ok(handle) => Ok(handle),
-        Err(_) => Err(AllocError),
+        Err(_) => Err(NotStarted::NoThread),
     }
 }

@@ -3,11 +3,12 @@ ghost use Rattle.worker_threads.specs.Begun.{IsWhole};
 use crossbeam_channel::Sender;
 use disk_model::Disk;
 use shared_capture::Method;
-use std::alloc::{AllocError, Global};
+use std::alloc::Global;
 use std::sync::Wait;
 use std::thread::Threads;
 use worker_threads::{Gates, Opened, Watch, Workers, start};
 use workers::{Ask, ImageWriter, Log, Open};
+use world_actions::Refusal;
 
 /// Tells nothing: what went wrong is seen at the end.
 #[derive(Clone, Copy)]
@@ -31,7 +32,7 @@ pub fn start_quiet<
     alloc: Global,
     opened: Opened<M, D>,
     every: u32,
-) -> Result<(Workers<M, D, Open>, Sender<Ask>), AllocError>
+) -> Result<(Workers<M, D, Open>, Sender<Ask>), Refusal>
     requires { IsWhole D.honest D.content opened.front opened.back opened.images opened.log opened.ended }
 {
     let gates = Gates {
@@ -39,5 +40,8 @@ pub fn start_quiet<
         checkpointer: Open,
         log_writer: Open,
     };
-    start(rt, alloc, gates, Quiet, opened, every)
+    match start(rt, alloc, gates, Quiet, opened, every) {
+        Ok(started) => Ok(started),
+        Err(_) => Err(Refusal::NoMemory),
+    }
 }

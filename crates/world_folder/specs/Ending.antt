@@ -6,7 +6,7 @@ use Rattle.std.specs.declared.io.Error.{Error}
 use Rattle.world_actions.specs.declared.refusal.Refusal.TheVariants.{NoMemory}
 use Rattle.disk_model.specs.declared.four_files.FourFiles.{FourFiles}
 use Rattle.world_folder.specs.declared.ending.Ending.{Ending}
-use Rattle.world_folder.specs.declared.ending.Ending.TheVariants.{Ran, Told, Mistaken, Fault, Unreadable, NoWorld, Occupied, NoPort, LogDown, ImagesDown}
+use Rattle.world_folder.specs.declared.ending.Ending.TheVariants.{Ran, Told, Mistaken, Fault, Unreadable, NoWorld, Occupied, NoPort, Stream, NoThread, ListenerFailed, LogDown, ImagesDown}
 use Rattle.world_folder.specs.Fault.{Files, AreRead, Explains}
 use Rattle.world_folder.specs.declared.folder.TheConstants.{IMAGE_A, IMAGE_B, LOG_A, LOG_B}
 
@@ -20,6 +20,9 @@ IsFault (Unreadable file) = Unit {0}
 IsFault (NoWorld fault) = Unit {0}
 IsFault (Occupied file) = Unit {0}
 IsFault (NoPort port) = Unit {0}
+IsFault (Stream failure) = Unit {0}
+IsFault NoThread = Unit {0}
+IsFault ListenerFailed = ⊥
 IsFault LogDown = ⊥
 IsFault ImagesDown = ⊥
 

@@ -1,3 +1,4 @@
 pub mod Fault
+pub mod OwnFile
 pub mod Told
 pub mod Ending

@@ -16,7 +16,7 @@ use world_actions::Refusal;
 pub enum Ending {
     /// What was asked for was done.
     Ran,
-    /// The help or the version was told.
+    /// The help or the version was printed.
     Told,
     /// The command line is wrong.
     Mistaken,
@@ -30,6 +30,12 @@ pub enum Ending {
     Occupied(Occupied),
     /// No client can come by this port.
     NoPort(NoPort),
+    /// A standard stream can't be read or written.
+    Stream(StreamFailure),
+    /// The system gives no thread for a server.
+    NoThread,
+    /// A server stopped because its listener failed. Its log and its images are well.
+    ListenerFailed,
     /// A server stopped, and its log is down.
     LogDown,
     /// A server stopped whose log isn't down, but its images are.
@@ -58,6 +64,24 @@ pub struct NoPort {
 impl fmt::Display for NoPort {
     fn fmt<W: fmt::Write>(&self, f: &mut fmt::Formatter<W>) -> fmt::Result {
         write!(f, "port {}: {}", self.port, self.error)
+    }
+}
+
+/// A standard stream that failed, and why.
+#[derive(Clone, Copy, Debug)]
+pub struct StreamFailure {
+    pub name: &'static str,
+    pub error: io::Error,
+}
+
+/// The names of the streams.
+pub const STANDARD_INPUT: &str = "standard input";
+
+pub const STANDARD_OUTPUT: &str = "standard output";
+
+impl fmt::Display for StreamFailure {
+    fn fmt<W: fmt::Write>(&self, f: &mut fmt::Formatter<W>) -> fmt::Result {
+        write!(f, "{}: {}", self.name, self.error)
     }
 }
 
@@ -99,14 +123,20 @@ impl From<AllocError> for Ending {
     }
 }
 
-/// What can't be printed is a fault of the device, or of memory.
+/// The error of a print: standard output failed, or there was no memory for its text.
 impl From<io::Error> for Ending {
     ghost use Rattle.world_folder.specs.Ending.{IsFault};
 
     ghost from_gives = { λ _ ending. IsFault ending };
 
     fn from(error: io::Error) -> Self {
-        Ending::Fault(refusal_of(&error))
+        match refusal_of(&error) {
+            Refusal::Device => Ending::Stream(StreamFailure {
+                name: STANDARD_OUTPUT,
+                error,
+            }),
+            refusal => Ending::Fault(refusal),
+        }
     }
 }
 
@@ -116,8 +146,9 @@ impl Termination for Ending {
     ghost use Rattle.world_folder.specs.declared.folder.Unreadable.{Unreadable as File};
     ghost use Rattle.world_folder.specs.declared.ending.Occupied.{Occupied as Open};
     ghost use Rattle.world_folder.specs.declared.ending.NoPort.{NoPort as Port};
+    ghost use Rattle.world_folder.specs.declared.ending.StreamFailure.{StreamFailure as OneStream};
 
-    /// Tells a fault by its code and in words, and gives the exit status.
+    /// Prints a fault by its code and in words, and returns the exit status.
     fn report<R: Eprint>(self, rt: &R) -> ExitCode
         ensures well { (self ≡ Ending.Ran) ⊎ (self ≡ Ending.Told) → exit_status result ≡ 0 }
         ensures fault { (refusal : Refusal) → self ≡ Ending.Fault refusal → exit_status result ≡ 1 }
@@ -125,6 +156,9 @@ impl Termination for Ending {
         ensures no_world { (fault : Fault) → self ≡ Ending.NoWorld fault → exit_status result ≡ 1 }
         ensures occupied { (file : Open) → self ≡ Ending.Occupied file → exit_status result ≡ 1 }
         ensures no_port { (port : Port) → self ≡ Ending.NoPort port → exit_status result ≡ 1 }
+        ensures stream { (failure : OneStream) → self ≡ Ending.Stream failure → exit_status result ≡ 1 }
+        ensures no_thread { self ≡ Ending.NoThread → exit_status result ≡ 1 }
+        ensures listener { self ≡ Ending.ListenerFailed → exit_status result ≡ 10 }
         ensures mistaken { self ≡ Ending.Mistaken → exit_status result ≡ 2 }
         ensures images_down { self ≡ Ending.ImagesDown → exit_status result ≡ 11 }
         ensures log_down { self ≡ Ending.LogDown → exit_status result ≡ 12 }
@@ -137,13 +171,18 @@ impl Termination for Ending {
             Ending::NoWorld(fault) => report_fault(rt, fault.refusal(), fault),
             Ending::Occupied(file) => report_fault(rt, Refusal::NotEmpty, file),
             Ending::NoPort(port) => report_fault(rt, refusal_of(&port.error), port),
+            Ending::Stream(failure) => report_fault(rt, refusal_of(&failure.error), failure),
+            Ending::NoThread => report_fault(rt, Refusal::NoMemory, NO_THREAD),
+            Ending::ListenerFailed => ExitCode::from(10),
             Ending::ImagesDown => ExitCode::from(11),
             Ending::LogDown => ExitCode::from(12),
         }
     }
 }
 
-// Tells a fault by the code of what it answers, and in these words.
+const NO_THREAD: &str = "there is no thread for the server";
+
+// Prints a fault by the code of its refusal, and in these words.
 fn report_fault<R: Eprint, D: Display + Drop>(rt: &R, refusal: Refusal, words: D) -> ExitCode
     ensures { exit_status result ≡ 1 }
 {

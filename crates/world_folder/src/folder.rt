@@ -1,13 +1,17 @@
-ghost use Rattle.std.specs.Prelude.{◌≡◌, Ok, IfOk, IfErr, IsErrAnd};
+ghost use Rattle.std.specs.Prelude.{◌≡◌, ◌<◌, ◌<ℤ◌, Ok, IfOk, IfErr, IsErrAnd};
+ghost use Rattle.std.specs.Fd.{file_raw_fd};
 ghost use Rattle.std.specs.Path.{path_buf_bytes, path_join};
 ghost use Rattle.world_folder.specs.Fault.{AreRead};
 ghost use Rattle.world_folder.specs.Ending.{IsFault, TellsOf, TellsOfFirst};
 
 use crate::ending::Ending;
+use crate::own_file::{NOT_REGULAR, OwnFile, above_streams, are_four, open_there};
 use crate::system_error::error_of;
 use disk_model::{FileDisk, FourFiles, read_all};
 use std::alloc::{AllocError, Global};
 use std::fs::{self, File, Files, OpenOptions, TryLockError};
+use std::io::ErrorKind;
+use std::os::unix::fs::OpenOptionsExt;
 use std::path::{Path, PathBuf};
 use std::{fmt, io};
 use world_actions::Refusal;
@@ -65,11 +69,14 @@ fn open_to_read<R: Files<File = File> + AllocGlobal>(
 ) -> io::Result<FileDisk> {
     let path = Path::new(folder).join(rt.alloc(), name)?;
     if !fs::metadata(rt, path.as_path())?.is_file() {
-        return Err(io::Error::other("not a regular file"));
+        return Err(io::Error::other(NOT_REGULAR));
     }
-    let file = File::open(rt, path.as_path())?;
+    let file = above_streams(File::open(rt, path.as_path())?)?;
     FileDisk::open(file).map_err(error_of)
 }
+
+/// The permissions of a new file.
+const OWNER_ALONE: u32 = 0o600;
 
 // What is done about a file that isn't there.
 #[derive(Clone, Copy, PartialEq, Eq)]
@@ -78,8 +85,9 @@ enum Absent {
     Refuse,
 }
 
-/// The four files of a folder, for who makes a world in them: absent ones are made, and the folder is synced. Who
-/// writes a world holds a lock on its image.a as long as the file is open, so no two do.
+/// Opens the four files of a folder to make a world in them. It makes those that are absent, for their owner alone, and
+/// syncs the folder. It refuses a symbolic link, a file with a second name, and one file twice. A writer of a world
+/// holds a lock on its image.a as long as the file is open, so no two programs write it.
 pub fn open_to_write<R: Files<File = File> + AllocGlobal>(
     rt: &R,
     folder: &str,
@@ -91,7 +99,7 @@ pub fn open_to_write<R: Files<File = File> + AllocGlobal>(
     Ok(files)
 }
 
-/// The four files of a folder, for who goes on with the world in them, under the same lock. None is made.
+/// Opens the four files of a folder to serve the world in them, with the same refusals and the same lock. It makes none.
 pub fn open_existing<R: Files<File = File> + AllocGlobal>(
     rt: &R,
     folder: &str,
@@ -108,36 +116,32 @@ fn open_files<R: Files<File = File> + AllocGlobal>(
 ) -> Result<FourFiles<FileDisk>, Ending>
     ensures { IfErr result IsFault }
 {
+    let alloc = rt.alloc();
+    let image_a = open_locked(rt, folder, IMAGE_A, absent);
+    let image_a = opened(alloc, folder, IMAGE_A, image_a)?;
+    let image_b = open_own(rt, folder, IMAGE_B, absent);
+    let image_b = opened(alloc, folder, IMAGE_B, image_b)?;
+    let log_a = open_own(rt, folder, LOG_A, absent);
+    let log_a = opened(alloc, folder, LOG_A, log_a)?;
+    let log_b = open_own(rt, folder, LOG_B, absent);
+    let log_b = opened(alloc, folder, LOG_B, log_b)?;
+    let identities = [
+        image_a.identity,
+        image_b.identity,
+        log_a.identity,
+        log_b.identity,
+    ];
+    opened(alloc, folder, "", are_four(&identities))?;
     Ok(FourFiles {
-        image_a: opened(
-            rt.alloc(),
-            folder,
-            IMAGE_A,
-            open_locked(rt, folder, IMAGE_A, absent),
-        )?,
-        image_b: opened(
-            rt.alloc(),
-            folder,
-            IMAGE_B,
-            open_unlocked(rt, folder, IMAGE_B, absent),
-        )?,
-        log_a: opened(
-            rt.alloc(),
-            folder,
-            LOG_A,
-            open_unlocked(rt, folder, LOG_A, absent),
-        )?,
-        log_b: opened(
-            rt.alloc(),
-            folder,
-            LOG_B,
-            open_unlocked(rt, folder, LOG_B, absent),
-        )?,
+        image_a: image_a.disk,
+        image_b: image_b.disk,
+        log_a: log_a.disk,
+        log_b: log_b.disk,
     })
 }
 
-// What the system gave for a file, or how the program ends where it gave an error.
-fn opened<T>(alloc: Global, folder: &str, name: &str, answer: io::Result<T>) -> Result<T, Ending>
+/// The value that the system gave for a file, or how the program ends if it gave an error.
+pub fn opened<T>(alloc: Global, folder: &str, name: &str, answer: io::Result<T>) -> Result<T, Ending>
     ensures ok { IfOk answer (λ value. result ≡ Ok value) }
     ensures fails { IfErr answer (λ error. IsErrAnd result (TellsOf folder.now name.now error)) }
     ensures fault { IfErr result IsFault }
@@ -192,40 +196,22 @@ fn open_locked<R: Files<File = File> + AllocGlobal>(
     folder: &str,
     name: &str,
     absent: Absent,
-) -> io::Result<FileDisk> {
+) -> io::Result<OwnFile> {
     let file = open_file(rt, folder, name, absent)?;
     match file.try_lock() {
-        Ok(()) => FileDisk::open(file).map_err(error_of),
+        Ok(()) => OwnFile::of(file),
         Err(TryLockError::WouldBlock) => Err(io::Error::other("another program writes this world")),
         Err(TryLockError::Error(error)) => Err(error),
     }
 }
 
-fn open_unlocked<R: Files<File = File> + AllocGlobal>(
+fn open_own<R: Files<File = File> + AllocGlobal>(
     rt: &R,
     folder: &str,
     name: &str,
     absent: Absent,
-) -> io::Result<FileDisk> {
-    FileDisk::open(open_file(rt, folder, name, absent)?).map_err(error_of)
-}
-
-// A file of the folder for reading and writing.
-fn open_file<R: Files<File = File> + AllocGlobal>(
-    rt: &R,
-    folder: &str,
-    name: &str,
-    absent: Absent,
-) -> io::Result<File> {
-    let path = Path::new(folder).join(rt.alloc(), name)?;
-    match fs::metadata(rt, path.as_path()) {
-        Ok(metadata) if !metadata.is_file() => Err(io::Error::other("not a regular file")),
-        _ => OpenOptions::new()
-            .read(true)
-            .write(true)
-            .create(absent == Absent::Make)
-            .open(rt, path.as_path()),
-    }
+) -> io::Result<OwnFile> {
+    OwnFile::of(open_file(rt, folder, name, absent)?)
 }
 
 // Makes the names of new files durable.
@@ -255,4 +241,34 @@ pub fn all_read(
         log_a: opened(alloc, folder, LOG_A, log_a)?,
         log_b: opened(alloc, folder, LOG_B, log_b)?,
     })
+}
+
+// Opens a file of the folder for reading and writing, and makes an absent one if it is to be made.
+fn open_file<R: Files<File = File> + AllocGlobal>(
+    rt: &R,
+    folder: &str,
+    name: &str,
+    absent: Absent,
+) -> io::Result<File>
+    ensures { IfOk result (λ file. 2 < file_raw_fd file) }
+{
+    let path = Path::new(folder).join(rt.alloc(), name)?;
+    let file = match fs::symlink_metadata(rt, path.as_path()) {
+        Ok(there) => open_there(rt, path.as_path(), &there)?,
+        Err(error) if error.kind() == ErrorKind::NotFound && absent == Absent::Make => {
+            make(rt, path.as_path())?
+        }
+        Err(error) => return Err(error),
+    };
+    above_streams(file)
+}
+
+// Makes a file that its owner alone may read and write. It follows no symbolic link.
+fn make<R: Files<File = File>>(rt: &R, path: Path<'_>) -> io::Result<File> {
+    OpenOptions::new()
+        .read(true)
+        .write(true)
+        .create_new(true)
+        .mode(OWNER_ALONE)
+        .open(rt, path)
 }

@@ -2,8 +2,7 @@
 //! ends.
 //!
 //! `create` makes the files of a new world. `recover` and `inspect` tell what four files hold, and write nothing.
-//! `open_existing` locks the files for who goes on with their world. What went wrong is told as an `Ending`, which names
-//! the file.
+//! `open_existing` locks the files to serve their world. An `Ending` says what went wrong, and names the file.
 #![tactic(auto)]
 
 mod counted;
@@ -12,13 +11,16 @@ mod ending;
 mod fault;
 mod folder;
 mod inspecting;
+mod own_file;
 mod recovering;
 mod system_error;
 mod told;
 
 pub use creating::create;
-pub use ending::{Ending, NoPort, Occupied};
+pub use ending::{Ending, NoPort, Occupied, STANDARD_INPUT, STANDARD_OUTPUT, StreamFailure};
 pub use fault::{Damaged, Fault, stands_in};
-pub use folder::{IMAGE_A, IMAGE_B, LOG_A, LOG_B, Unreadable, failure_of, open_existing, path_of};
+pub use folder::{
+    IMAGE_A, IMAGE_B, LOG_A, LOG_B, Unreadable, failure_of, open_existing, opened, path_of,
+};
 pub use inspecting::inspect;
 pub use recovering::recover;

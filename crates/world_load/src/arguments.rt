@@ -1,6 +1,7 @@
 use crate::load::Load;
 use clap::error::Error;
 use clap::{Arg, ArgMatches, Command, value_parser};
+use command_line::VERSION;
 use std::alloc::{AllocError, Global};
 use world_actions::CELLS as MOST_CELLS;
 use world_ticks::TICK_ACTIONS;
@@ -18,19 +19,19 @@ const BATCHES: &str = "batches";
 
 const SECONDS: &str = "seconds";
 
-/// What `world_load --help` says at its end.
+/// The end of `world_load --help`.
 const HELP: &str = "\
 Each connection sends a batch, waits for its answer, checks it, and sends the next one.
 Each line of a batch sets a cell to a number, both at random: load a world that has
-nothing to lose. It ends after S seconds, or where each connection has sent B batches
-before, and tells ticks and actions a second, and how long batches waited for their
-answers. A worldd that serves as many clients ends then too:
+nothing to lose. It ends after S seconds, or once each connection has sent B batches. It
+prints ticks and actions a second, and how long batches waited for their answers. A
+worldd that serves as many clients ends then too:
   worldd create --dir D --cells 1000
   worldd serve --dir D --method zigzag --port 7070 --clients 50 &
   world_load --port 7070 --connections 50 --cells 1000
-On standard error it tells each second how many ticks were answered. Its status is 0
-where each answer was right; 1 after a fault or a wrong answer, which is told; 2 for a
-wrong command line.";
+Each second it prints on standard error how many ticks were answered. Its status is 0 if
+each answer was right; 1 after a fault or a wrong answer, with a line that names it; 2
+for a wrong command line.";
 
 /// What the words ask for; the error has clap's text.
 pub fn matches_of<'a>(alloc: Global, words: &'a [String]) -> Result<ArgMatches<'a>, Error> {
@@ -39,8 +40,8 @@ pub fn matches_of<'a>(alloc: Global, words: &'a [String]) -> Result<ArgMatches<'
 
 fn command<'a>(alloc: Global) -> Result<Command<'a>, AllocError> {
     Command::new(alloc, "world_load")
-        .version("0.1.0")
-        .about("Loads a serving worldd, checks its answers, and tells how long they took")
+        .version(VERSION)
+        .about("Loads a serving worldd, checks its answers, and prints how long they took")
         .after_help(HELP)
         .arg(port_argument(alloc))?
         .arg(connections_argument(alloc))?

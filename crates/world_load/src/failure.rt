@@ -16,7 +16,7 @@ pub enum Failure {
     NoThread,
     #[error("can't connect to port {port} of 127.0.0.1: {error}")]
     NotConnected { port: u16, error: io::Error },
-    #[error("the server closed a connection: it may have served as many clients as its --clients")]
+    #[error("the server closed a connection: it has ended, or had no thread or memory for this client")]
     Closed,
     /// A connection was closed in the midst of an answer.
     #[error("the server closed a connection in the midst of an answer: {answer}")]

@@ -1,7 +1,7 @@
-//! The program `world_load`: clients that load a serving `worldd`, each by one batch after another, and what they saw: ticks
-//! and actions a second, and how long batches waited for their answers. Each answer is checked.
+//! The program `world_load`: clients that load a serving `worldd`, each by one batch after another. It checks each answer,
+//! and prints ticks and actions a second, and how long batches waited for their answers.
 //!
-//! Status 0 is a run in which each answer was right, 1 one that a fault or a wrong answer ended, 2 a wrong command line.
+//! The status is 0 if each answer was right, 1 after a fault or a wrong answer, and 2 for a wrong command line.
 #![tactic(auto)]
 
 mod answer;
@@ -15,7 +15,7 @@ mod progress;
 mod report;
 
 use arguments::{load_of, matches_of};
-use command_line::{NotRun, command_words, ended, refused, unreadable};
+use command_line::{NotRun, command_words, ended, refused, take_standard_streams, unreadable};
 use crowd::run_crowd;
 use failure::Failure;
 use load::Load;
@@ -27,6 +27,11 @@ use std::thread::Threads;
 use std::time::Clock;
 
 fn main(rt: HostRuntime) -> ExitCode {
+    // Before a connection: it must not get the descriptor of a standard stream that is closed.
+    let _null = match take_standard_streams(&rt) {
+        Ok(null) => null,
+        Err(error) => return ended(&rt, Err(error)),
+    };
     let words = match command_words(&rt) {
         Ok(words) => words,
         Err(error) => return unreadable(&rt, &error).report(&rt),

@@ -1,9 +1,15 @@
-//! A server of the world in a folder: what it needs of the system, what it tells people, and how it ends.
+//! A server of the world in a folder: what it needs of the system, what it prints, and how it ends.
+//!
+//! `serve` recovers the world, listens, and serves in a thread of its own. Lines leave by a thread for each standard
+//! stream, so nobody waits for their readers.
 #![tactic(auto)]
 
+mod line;
+mod lines;
+mod printer;
 mod service;
 mod serving;
-mod watch;
+mod streams;
 
 pub use service::Service;
 pub use serving::serve;

@@ -1,4 +1,5 @@
 use shared_capture::Kind;
+use tcp_service::Admission;
 
 /// What a server is asked to do.
 #[derive(Clone, Copy)]
@@ -9,6 +10,7 @@ pub struct Service<'a> {
     pub every: u32,
     /// 0 lets the system choose.
     pub port: u16,
-    /// After how many connections it stops.
-    pub clients: u32,
+    pub admission: Admission,
+    /// Whether the program ends as soon as its log is down.
+    pub exits_when_log_down: bool,
 }

@@ -2,6 +2,7 @@ use crate::help::{CREATE_HELP, INSPECT_HELP, RECOVER_HELP, STEPS_HELP};
 use crate::service::serve_command;
 use clap::error::Error;
 use clap::{Arg, ArgAction, ArgMatches, Command, value_parser};
+use command_line::VERSION_WITH_FORMATS;
 use std::alloc::{AllocError, Global};
 
 /// The name of the argument for a folder.
@@ -20,7 +21,7 @@ pub fn matches_of<'a>(alloc: Global, words: &'a [String]) -> Result<ArgMatches<'
 
 fn commands<'a>(alloc: Global) -> Result<Command<'a>, AllocError> {
     Command::new(alloc, "worldd")
-        .version("0.1.0")
+        .version(VERSION_WITH_FORMATS)
         .about("A main-memory world server with asynchronous checkpoints")
         .subcommand_required(true)
         .subcommand(steps_command(alloc))?
@@ -46,14 +47,14 @@ fn create_command<'a>(alloc: Global) -> Result<Command<'a>, AllocError> {
 
 fn recover_command<'a>(alloc: Global) -> Result<Command<'a>, AllocError> {
     Command::new(alloc, "recover")
-        .about("Tells which world stands in the files of a folder")
+        .about("Prints which world the files of a folder hold")
         .after_help(RECOVER_HELP)
         .arg(folder_argument(alloc))
 }
 
 fn inspect_command<'a>(alloc: Global) -> Result<Command<'a>, AllocError> {
     Command::new(alloc, "inspect")
-        .about("Tells what each file of a folder holds, and which world stands in them")
+        .about("Prints what each file of a folder holds, and which world they hold together")
         .after_help(INSPECT_HELP)
         .arg(folder_argument(alloc))?
         .arg(words_argument(alloc))

@@ -1,4 +1,4 @@
-/// What `worldd steps --help` says of the lines.
+/// The end of `worldd steps --help`.
 pub const STEPS_HELP: &str = "\
 Each line of the script gets one line of answer:
   open METHOD N        opens a world of N cells, 1 to 1048576, all 0: `ready 0`
@@ -35,24 +35,26 @@ A line that is refused gets `- CODE`, and changes nothing:
   10 nothing is new, 11 the image keeper is down, 12 the log keeper is down,
   16 the line isn't understood, 19 the start lasts, 21 no tick numbers are left";
 
-/// What `worldd create --help` says of its answer.
+/// The end of `worldd create --help`.
 pub const CREATE_HELP: &str = "\
-It makes those of image.a, image.b, log.a and log.b that are absent, writes a world of
-N cells, all 0, into them, and prints `created N`. Where that can't be done it ends with
-status 1, and the first line on standard error is `fault CODE`:
-  17 there is no memory, 18 a file can't be opened or written, or another program
-  writes this world, 22 a file isn't closed: no file is written then";
+It creates the missing ones of image.a, image.b, log.a and log.b, writes a world of N
+cells, all 0, into them, and prints `created N`. A file that is closed, by its first
+byte, is overwritten: use a folder for this world alone. After a fault the status is 1,
+and the first line on standard error is `fault CODE`:
+  17 there is no memory, 18 a file can't be opened or written, is no ordinary file of
+  its own, or another program writes this world, 22 a file already holds data: nothing
+  was written";
 
-/// What `worldd recover --help` says of its answer.
+/// The end of `worldd recover --help`.
 pub const RECOVER_HELP: &str = "\
 It reads image.a, image.b, log.a and log.b, writes nothing and locks nothing, and prints
-`recovered N from T`: the world after tick N stands in them, built from the image of
-tick T. Where none stands it ends with status 1, and the first line on standard error
-is `fault CODE`:
+`recovered N from T`: they hold the world after tick N, built from the image of tick T.
+If they hold no world the status is 1, and the first line on standard error is
+`fault CODE`:
   13 no image is open, 14 an image is damaged, 15 the log is damaged,
   17 there is no memory, 18 a file is missing or can't be read";
 
-/// What `worldd inspect --help` says of its lines.
+/// The end of `worldd inspect --help`.
 pub const INSPECT_HELP: &str = "\
 It reads image.a, image.b, log.a and log.b, writes nothing and locks nothing, and prints
 a line for each, in this order:
@@ -61,30 +63,37 @@ a line for each, in this order:
   NAME: open, format 2, base 7, 1 group, 2 ticks, 43 bytes  ticks 8 and 9
   NAME: damaged, 9 bytes                                    open, and of neither format
   NAME: unreadable: REASON
-Files of format 1 are of an earlier release, and are read too; format 2 is written.
-Then it prints `recovered N from T in NAME`: the world after tick N stands in them, built
-from the image of tick T. Where none stands it ends as `recover` does.";
+It reads format 1, of an earlier release, and format 2, which this release writes.
+Then it prints `recovered N from T in NAME`: the files hold the world after tick N, built
+from the image of tick T. If they hold no world it ends as `recover` does.";
 
-/// What `worldd serve --help` says of its lines.
+/// The end of `worldd serve --help`.
 pub const SERVE_HELP: &str = "\
 It recovers the world in the folder, and listens on 127.0.0.1 until K connections have
 come and gone, each in a thread of its own. It makes no file. METHOD is zigzag or
-pingpong, E from 1 to 65536, P from 0 to 65535, K from 1 to 100000.
+pingpong, E from 1 to 65536, P from 0 to 65535, K from 1 to 100000, SECONDS from 1 to
+86400. After the last connection the port is closed.
 A client writes lines, and `end` closes a batch, which is answered once it is durable:
   set, add, move, swap, cap, get  as in `steps`; a batch has 1024 lines at most
   end  `tick NUMBER: + =5 -3`, a word for each line, or `fault CODE`
 It prints, each line at once:
-  recovered N from T        the world after tick N stood there, built from the image of T
+  recovered N from T        it found the world after tick N, built from the image of T
   listening PORT            clients may come
   stopped tick N acked A    all are gone: N ticks ended, and those up to A are durable
-On standard error it tells people:
+On standard error it prints, and drops lines that nobody reads:
   worldd: image of tick T opened
-  worldd: images down: FILE: REASON            play goes on without images
+  worldd: images down: FILE: REASON            play continues without images
   worldd: log down after tick T: FILE: REASON  batches are answered `fault 12`
   worldd: session refused: REASON              a client was closed unanswered
+  worldd: clients wait: REASON                 there are no descriptors or buffers
+  worldd: clients no longer wait
+  worldd: the port is closed: no more clients can come
   worldd: listener failed: REASON              no more clients can come
-Its status is 0; 12 where the log is down at the end, else 11 where images are; 2 for a
-wrong command line; else 1, and standard error has `fault CODE`:
+  worldd: standard output: REASON              a line couldn't be printed
+  worldd: lines dropped: COUNT                 nobody read them
+Its status is 0; 12 if the log is down, else 11 if images are, else 10 if the listener
+failed; 2 for a wrong command line; else 1, and standard error has `fault CODE`:
   13 no image is open, 14 an image is damaged, 15 the log is damaged,
-  17 there is no memory or no thread for the workers, 18 a file is missing or fails,
-  another program writes this world, or the port can't be listened on";
+  17 there is no memory, or no thread for the server, 18 a file is missing, fails or is
+  no ordinary file of its own, another program writes this world, the port can't be
+  listened on, or a line couldn't be printed";

@@ -1,11 +1,12 @@
 //! The program `worldd`: its command line, its exit statuses, and what it says of a fault.
 //!
-//! `steps` runs a script over a world in memory. `create` makes the files of a new world in a folder. `recover` and `inspect` tell what the files of a folder
-//! hold, and write nothing into it. `serve` serves the world of a folder to clients of a port.
+//! `steps` runs a script over a world in memory. `create` makes the files of a new world in a folder. `recover` and
+//! `inspect` print which world the files of a folder hold, and write nothing into it. `serve` serves the world of a
+//! folder to clients of a port.
 //!
-//! Status 0 is a run that ended well, 1 one that a fault ended, told as `fault CODE` on the standard
-//! error and then in words, and 2 a wrong command line. A server whose images are down when it stops ends with 11, and
-//! with 12 where its log is.
+//! The status is 0 if the run ended well, and 2 for a wrong command line. It is 1 after a fault: standard error then has
+//! `fault CODE`, and the reason on the next line. A server ends with 12 if its log is down, with 11 if its images are,
+//! and with 10 if its listener failed.
 #![tactic(auto)]
 
 ghost use Rattle.std.specs.Prelude.{◌≡◌, ◌≤◌, IfSome};
@@ -14,19 +15,26 @@ ghost use Rattle.world_actions.specs.declared.world.TheConstants.{CELLS as world
 mod arguments;
 mod help;
 mod service;
+mod streams;
 
 use arguments::{CELLS, FOLDER, WORDS, matches_of};
 use clap::ArgMatches;
-use command_line::{NotRun, command_words, refused, unreadable};
+use command_line::{NotRun, command_words, refused, take_standard_streams, unreadable};
 use service::service_of;
 use std::fs::{File, Files};
 use std::io;
-use steps::run_script;
+use streams::run_steps;
 use world_actions::Refusal;
-use world_folder::{Ending, create, inspect, recover};
+use world_folder::{Ending, create, inspect, opened, recover};
 use world_server::serve;
 
 fn main(rt: HostRuntime) -> Ending {
+    // Before a file of a world: it must not get the descriptor of a standard stream that is closed.
+    let null = opened(rt.alloc(), "/dev", "null", take_standard_streams(&rt));
+    let _null = match null {
+        Ok(null) => null,
+        Err(ending) => return ending,
+    };
     let words = match command_words(&rt) {
         Ok(words) => words,
         Err(error) => return not_run(unreadable(&rt, &error)),
@@ -49,9 +57,7 @@ fn run<R: Input + Print + Files<File = File> + AllocGlobal>(
         return Ending::Mistaken;
     };
     match (name, given.get_str(FOLDER)) {
-        ("steps", _) => {
-            Ending::of_run(run_script(rt.alloc(), &mut rt.reader(), &mut io::writer(rt)))
-        }
+        ("steps", _) => run_steps(rt.alloc(), rt.reader(), io::writer(rt)),
         ("create", Some(folder)) => match cells_of(given) {
             Some(cells) => Ending::of_command(create(rt, folder, cells)),
             None => Ending::Mistaken,

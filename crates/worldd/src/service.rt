@@ -3,15 +3,16 @@ ghost use Rattle.std.specs.Prelude.{◌≤◌, IfSome};
 use crate::arguments::{FOLDER, folder_argument};
 use crate::help::SERVE_HELP;
 use clap::error::Error;
-use clap::{Arg, ArgMatches, Command, value_parser};
+use clap::{Arg, ArgAction, ArgMatches, Command, value_parser};
 use shared_capture::Kind;
 use std::alloc::{AllocError, Global};
+use tcp_service::Admission;
 use world_server::Service;
 
 /// The name of the command.
 pub const SERVE: &str = "serve";
 
-/// The names of its arguments, but for the folder.
+/// The names of its arguments, except the folder's.
 const METHOD: &str = "method";
 
 const EVERY: &str = "every";
@@ -19,6 +20,10 @@ const EVERY: &str = "every";
 const PORT: &str = "port";
 
 const CLIENTS: &str = "clients";
+
+const IDLE: &str = "idle";
+
+const EXIT_WHEN_LOG_DOWN: &str = "exit-when-log-down";
 
 /// The command `serve`, with its arguments.
 pub fn serve_command<'a>(alloc: Global) -> Result<Command<'a>, AllocError> {
@@ -29,7 +34,9 @@ pub fn serve_command<'a>(alloc: Global) -> Result<Command<'a>, AllocError> {
         .arg(method_argument(alloc))?
         .arg(every_argument(alloc))?
         .arg(port_argument(alloc))?
-        .arg(clients_argument(alloc))
+        .arg(clients_argument(alloc))?
+        .arg(idle_argument(alloc))?
+        .arg(exit_argument(alloc))
 }
 
 fn method_argument<'a>(alloc: Global) -> Arg<'a> {
@@ -68,7 +75,22 @@ fn clients_argument<'a>(alloc: Global) -> Arg<'a> {
         .help("After how many connections it accepts no more")
 }
 
-/// What is asked for, where that is to serve.
+fn idle_argument<'a>(alloc: Global) -> Arg<'a> {
+    Arg::new(alloc, IDLE)
+        .long(IDLE)
+        .value_name("SECONDS")
+        .value_parser(value_parser!(u32).range(1..=86_400))
+        .help("After how many seconds of silence a client's session ends; never by default")
+}
+
+fn exit_argument<'a>(alloc: Global) -> Arg<'a> {
+    Arg::new(alloc, EXIT_WHEN_LOG_DOWN)
+        .long(EXIT_WHEN_LOG_DOWN)
+        .action(ArgAction::SetTrue)
+        .help("Ends with status 12 as soon as the log is down")
+}
+
+/// The service that is asked for, if the command is `serve`.
 pub fn service_of<'a>(matches: &ArgMatches<'a>) -> Option<Service<'a>> {
     let (name, given) = matches.subcommand()?;
     if name != SERVE {
@@ -79,7 +101,11 @@ pub fn service_of<'a>(matches: &ArgMatches<'a>) -> Option<Service<'a>> {
         method: method_of(given.get_str(METHOD)?)?,
         every: given.get_one(EVERY)?,
         port: given.get_one(PORT)?,
-        clients: given.get_one(CLIENTS)?,
+        admission: Admission {
+            clients: given.get_one(CLIENTS)?,
+            idle: given.get_one(IDLE),
+        },
+        exits_when_log_down: given.get_flag(EXIT_WHEN_LOG_DOWN),
     })
 }
 

@@ -10,6 +10,7 @@ use std::fmt::Display;
 use std::io::{self, ErrorKind};
 use std::process::{ExitCode, Termination};
 use std::test::Fail;
+use tcp_service::Admission;
 use world_actions::Refusal;
 use world_folder::Ending;
 
@@ -110,7 +111,11 @@ fn faults_are_told_by_code_and_in_words(rt: HostRuntime) {
 
 #[test]
 fn what_is_down_is_told_by_the_status(rt: HostRuntime) {
-    for (ending, code) in [(Ending::ImagesDown, 11), (Ending::LogDown, 12)] {
+    for (ending, code) in [
+        (Ending::ListenerFailed, 10),
+        (Ending::ImagesDown, 11),
+        (Ending::LogDown, 12),
+    ] {
         let (status, errors) = reported(rt.alloc(), ending);
         assert!(rt;
             status == ExitCode::from(code) && errors.is_empty(),
@@ -161,8 +166,9 @@ fn words(alloc: Global, line: &[&str]) -> Result<Vec<String>, Fail> {
     Ok(words)
 }
 
-// What a command line asks of `serve`: the folder, whether the method is Ping-Pong, and the numbers of ticks, port and clients.
-fn asked(alloc: Global, line: &[&str]) -> Result<Option<(String, bool, u32, u16, u32)>, Fail> {
+// The service that a command line asks for: the folder, whether the method is Ping-Pong, the number of ticks and the port,
+// which clients are taken, and whether it ends when the log is down.
+fn asked(alloc: Global, line: &[&str]) -> Result<Option<Asked>, Fail> {
     let words = words(alloc, line)?;
     let matches = matches_of(alloc, &words)?;
     let Some(service) = service_of(&matches) else {
@@ -175,9 +181,12 @@ fn asked(alloc: Global, line: &[&str]) -> Result<Option<(String, bool, u32, u16,
         is_ping_pong,
         service.every,
         service.port,
-        service.clients,
+        service.admission,
+        service.exits_when_log_down,
     )))
 }
+
+type Asked = (String, bool, u32, u16, Admission, bool);
 
 const LEAST: [&str; 10] = [
     "worldd",
@@ -192,7 +201,7 @@ const LEAST: [&str; 10] = [
     "100000",
 ];
 
-const ALL: [&str; 12] = [
+const ALL: [&str; 15] = [
     "worldd",
     "serve",
     "--method",
@@ -203,22 +212,27 @@ const ALL: [&str; 12] = [
     "65535",
     "--clients",
     "1",
+    "--idle",
+    "86400",
+    "--exit-when-log-down",
     "--dir",
     "other",
 ];
 
 #[test]
 fn flags_of_serve_are_read(rt: HostRuntime) -> Result<(), Fail> {
-    let Some((folder, is_ping_pong, every, port, clients)) = asked(rt.alloc(), &LEAST)? else {
+    let Some((folder, is_ping_pong, every, port, admission, exits)) = asked(rt.alloc(), &LEAST)?
+    else {
         return Err(Fail::new("not understood"));
     };
-    assert!(rt; folder.as_str() == "world" && is_ping_pong);
-    assert_eq!(rt; (every, port, clients), (64, 0, 100_000));
-    let Some((folder, is_ping_pong, every, port, clients)) = asked(rt.alloc(), &ALL)? else {
+    assert!(rt; folder.as_str() == "world" && is_ping_pong && !exits);
+    assert_eq!(rt; (every, port, admission.clients, admission.idle), (64, 0, 100_000, None));
+    let Some((folder, is_ping_pong, every, port, admission, exits)) = asked(rt.alloc(), &ALL)?
+    else {
         return Err(Fail::new("not understood"));
     };
-    assert!(rt; folder.as_str() == "other" && !is_ping_pong);
-    assert_eq!(rt; (every, port, clients), (65_536, 65_535, 1));
+    assert!(rt; folder.as_str() == "other" && !is_ping_pong && exits);
+    assert_eq!(rt; (every, port, admission.clients, admission.idle), (65_536, 65_535, 1, Some(86_400)));
     Ok(())
 }
 

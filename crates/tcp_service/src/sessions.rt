@@ -1,0 +1,150 @@
+//! The sessions of a server, each in a thread of its own.
+ghost use Rattle.std.specs.Prelude.{◌≡◌, ◌+◌, ◌<◌, OnOk, OnErr, IfOk};
+ghost use Rattle.slab.specs.Slab.{slab_len};
+
+use crate::door::{Door, Unserved};
+use crate::session::{Joined, Over, serve_session};
+use crossbeam_channel::{Receiver, Sender, bounded};
+use slab::Slab;
+use std::alloc::{AllocError, Global};
+use std::net::TcpStream;
+use std::sync::Wait;
+use std::thread::{self, JoinHandle, Threads};
+use workers::Ask;
+
+/// What each session is given beside its connection.
+#[derive(Drop)]
+pub struct Shared<W: Door + Clone + Drop> {
+    pub alloc: Global,
+    /// After how many seconds of silence it ends.
+    pub idle: Option<u32>,
+    pub requests: Sender<Ask>,
+    pub door: W,
+}
+
+/// The sessions that run, each under a key that it sends as it ends.
+#[derive(Drop)]
+pub struct Sessions {
+    running: Slab<JoinHandle<Over>>,
+    ends: Sender<usize>,
+    ended: Receiver<usize>,
+    started: u32,
+    joined: Joined,
+    ghost balance: { started ≡ joined.count + slab_len running },
+}
+
+impl Sessions {
+    /// No session yet, of so many that may start.
+    pub fn new(alloc: Global, most: u32) -> Result<Self, AllocError>
+        ensures { IfOk result (λ sessions. sessions.started ≡ 0) }
+    {
+        let (ends, ended) = bounded(alloc, most as usize)?;
+        Ok(Sessions {
+            running: Slab::new(alloc),
+            ends,
+            ended,
+            started: 0,
+            joined: Joined::none(),
+        })
+    }
+
+    /// Starts the session of a connection.
+    pub fn start<
+        R: Threads + Wait + Copy + Send + 'static,
+        W: Door + Clone + Drop + Send + 'static,
+    >(
+        &mut self,
+        rt: &R,
+        stream: TcpStream,
+        shared: &Shared<W>,
+    ) -> Result<(), Unserved>
+        requires { self.old.started < 4294967295 }
+        ensures ok { OnOk result (self.new.started ≡ self.old.started + 1) }
+        ensures err { OnErr result (self.new.started ≡ self.old.started) }
+    {
+        let Ok(()) = self.running.reserve(1) else {
+            return Err(Unserved::NoMemory);
+        };
+        let Ok(ends) = self.ends.clone() else {
+            return Err(Unserved::NoMemory);
+        };
+        let key = self.running.vacant_key();
+        let session = start_thread(rt, stream, shared, ends, key)?;
+        self.running.insert_reserved(session);
+        self.started += 1;
+        Ok(())
+    }
+
+    /// Joins each session that has ended. Its thread is given back to the system.
+    pub fn join_ended<R: Threads + Wait>(&mut self, rt: &R)
+        ensures { self.new.started ≡ self.old.started }
+    {
+        for _ in rt.forever() {
+            match self.ended.try_recv(rt) {
+                Ok(key) => self.join(rt, key),
+                Err(_) => return,
+            }
+        }
+        unreachable!()
+    }
+
+    // Joins the session under this key.
+    fn join<R: Threads>(&mut self, rt: &R, key: usize)
+        ensures { self.new.started ≡ self.old.started }
+    {
+        if let Some(session) = self.running.try_remove(key) {
+            self.joined.add(session.join(rt));
+        }
+    }
+
+    /// How many were started.
+    pub fn started(&self) -> u32
+        ensures { result ≡ self.now.started }
+    {
+        self.started
+    }
+
+    /// Waits until all have ended: those that were started were then joined, each once.
+    pub fn join_all<R: Threads>(self, rt: &R) -> Joined
+        ensures { result.count ≡ self.started }
+    {
+        let Sessions {
+            running,
+            ends: _,
+            ended: _,
+            started: _,
+            joined,
+        } = self;
+        let mut joined = joined;
+        for (_, session) in running {
+            joined.add(session.join(rt));
+        }
+        joined
+    }
+}
+
+// Gives the session of a connection a thread, which sends its key as it ends.
+fn start_thread<R: Threads + Wait + Copy + Send + 'static, W: Door + Clone + Drop + Send + 'static>(
+    rt: &R,
+    stream: TcpStream,
+    shared: &Shared<W>,
+    ends: Sender<usize>,
+    key: usize,
+) -> Result<JoinHandle<Over>, Unserved> {
+    let Ok(requests) = shared.requests.clone() else {
+        return Err(Unserved::NoMemory);
+    };
+    let Ok(door) = shared.door.clone() else {
+        return Err(Unserved::NoMemory);
+    };
+    let (here, alloc, idle) = (*rt, shared.alloc, shared.idle);
+    let serve = move || {
+        let over = serve_session(&here, alloc, stream, idle, requests, door);
+        let _ = ends.try_send(&here, key);
+        over
+    };
+    match thread::spawn(rt, serve) {
+        Ok(session) => Ok(session),
+        Err(_) => Err(Unserved::NoThread),
+    }
+}

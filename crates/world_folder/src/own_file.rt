@@ -1,0 +1,99 @@
+//! A file that a world has to itself.
+ghost use Rattle.std.specs.Prelude.{◌≡◌, ◌≢◌, ◌<◌, IfOk, IsOk};
+ghost use Rattle.std.specs.Fd.{file_raw_fd};
+ghost use Rattle.world_folder.specs.OwnFile.{AreFour};
+
+use crate::system_error::error_of;
+use disk_model::FileDisk;
+use std::fs::{File, Files, Metadata, OpenOptions};
+use std::io;
+use std::os::fd::AsRawFd;
+use std::os::unix::fs::MetadataExt;
+use std::path::Path;
+
+/// The highest descriptor of a standard stream.
+const STANDARD_ERROR: i32 = 2;
+
+/// The reason to refuse a folder, a pipe or a device.
+pub const NOT_REGULAR: &str = "not a regular file";
+
+/// The numbers by which the system knows a file.
+#[derive(Clone, Copy, Debug, PartialEq, Eq)]
+pub struct Identity {
+    device: u64,
+    inode: u64,
+}
+
+impl Identity {
+    fn of(metadata: &Metadata) -> Self {
+        Identity {
+            device: metadata.dev(),
+            inode: metadata.ino(),
+        }
+    }
+}
+
+/// A file of a world that is open to be written.
+#[derive(Drop)]
+pub struct OwnFile {
+    pub disk: FileDisk,
+    pub identity: Identity,
+}
+
+impl OwnFile {
+    pub fn of(file: File) -> io::Result<Self> {
+        let identity = Identity::of(&file.metadata()?);
+        Ok(OwnFile {
+            disk: FileDisk::open(file).map_err(error_of)?,
+            identity,
+        })
+    }
+}
+
+/// Opens a file that is there, of which the system says this without following a symbolic link. Its one name has to be
+/// an ordinary one, and no other file may take its place meanwhile.
+pub fn open_there<R: Files<File = File>>(
+    rt: &R,
+    path: Path<'_>,
+    there: &Metadata,
+) -> io::Result<File> {
+    if there.is_symlink() {
+        return Err(io::Error::other("a symbolic link"));
+    }
+    if !there.is_file() {
+        return Err(io::Error::other(NOT_REGULAR));
+    }
+    let file = OpenOptions::new().read(true).write(true).open(rt, path)?;
+    let opened = file.metadata()?;
+    if Identity::of(&opened) != Identity::of(there) {
+        return Err(io::Error::other("another file took its place"));
+    }
+    if opened.nlink() != 1 {
+        return Err(io::Error::other("it has another name, by a hard link"));
+    }
+    Ok(file)
+}
+
+/// Refuses a file at the descriptor of a standard stream, which text for people would be written into.
+pub fn above_streams(file: File) -> io::Result<File>
+    ensures above { IfOk result (λ same. 2 < file_raw_fd same) }
+    ensures same { IfOk result (λ same. same ≡ file) }
+{
+    if file.as_raw_fd() > STANDARD_ERROR {
+        Ok(file)
+    } else {
+        Err(io::Error::other("a standard stream is closed"))
+    }
+}
+
+/// Refuses one file under two of the four names.
+pub fn are_four(files: &[Identity; 4]) -> io::Result<()>
+    ensures { IsOk result → AreFour files.now }
+{
+    let [a, b, c, d] = *files;
+    if a == b || a == c || a == d || b == c || b == d || c == d {
+        Err(io::Error::other("two of the four files are one"))
+    } else {
+        Ok(())
+    }
+}

@@ -1,0 +1,112 @@
+//! The lines that a server prints.
+
+use disk_model::FourFiles;
+use std::fmt;
+use std::io;
+use std::path::PathBuf;
+use tcp_service::Unserved;
+
+/// A file of the world.
+#[derive(Clone, Copy, Debug, PartialEq, Eq)]
+pub enum WorldFile {
+    ImageA,
+    ImageB,
+    LogA,
+    LogB,
+}
+
+/// A file whose call failed, and why.
+#[derive(Clone, Copy, Debug)]
+pub struct Failure {
+    pub file: WorldFile,
+    pub error: io::Error,
+}
+
+/// A line that a server prints.
+#[derive(Clone, Copy, Debug)]
+pub enum Line {
+    Recovered {
+        ended: u64,
+        from: u64,
+    },
+    Listening(u16),
+    Stopped {
+        ended: u64,
+        acked: u64,
+    },
+    ImageOpened(u64),
+    ImagesDown(Option<Failure>),
+    LogDown {
+        acked: u64,
+        failure: Option<Failure>,
+    },
+    SessionRefused(Unserved),
+    ShortageBegan(io::Error),
+    ShortageEnded,
+    ListenerFailed(io::Error),
+    PortClosed,
+    OutputFailed(io::Error),
+    /// So many lines found no room.
+    Dropped(u64),
+    /// None follows.
+    Last,
+}
+
+/// A line with the paths that it may name.
+pub struct Printed<'a> {
+    pub line: Line,
+    pub paths: &'a FourFiles<PathBuf>,
+}
+
+impl fmt::Display for Printed<'_> {
+    fn fmt<W: fmt::Write>(&self, f: &mut fmt::Formatter<W>) -> fmt::Result {
+        match self.line {
+            Line::Recovered { ended, from } => write!(f, "recovered {ended} from {from}"),
+            Line::Listening(port) => write!(f, "listening {port}"),
+            Line::Stopped { ended, acked } => write!(f, "stopped tick {ended} acked {acked}"),
+            Line::ImageOpened(tick) => write!(f, "image of tick {tick} opened"),
+            Line::ImagesDown(failure) => {
+                f.write_str("images down")?;
+                write_failure(f, self.paths, failure)
+            }
+            Line::LogDown { acked, failure } => {
+                write!(f, "log down after tick {acked}")?;
+                write_failure(f, self.paths, failure)
+            }
+            Line::SessionRefused(Unserved::NoMemory) => {
+                f.write_str("session refused: there is no memory")
+            }
+            Line::SessionRefused(Unserved::NoThread) => {
+                f.write_str("session refused: there is no thread")
+            }
+            Line::ShortageBegan(error) => write!(f, "clients wait: {error}"),
+            Line::ShortageEnded => f.write_str("clients no longer wait"),
+            Line::ListenerFailed(error) => write!(f, "listener failed: {error}"),
+            Line::PortClosed => f.write_str("the port is closed: no more clients can come"),
+            Line::OutputFailed(error) => write!(f, "standard output: {error}"),
+            Line::Dropped(count) => write!(f, "lines dropped: {count}"),
+            Line::Last => Ok(()),
+        }
+    }
+}
+
+// Adds the file that failed, and why.
+fn write_failure<W: fmt::Write>(
+    f: &mut fmt::Formatter<W>,
+    paths: &FourFiles<PathBuf>,
+    failure: Option<Failure>,
+) -> fmt::Result {
+    let Some(Failure { file, error }) = failure else {
+        return Ok(());
+    };
+    write!(f, ": {}: {error}", path_of(paths, file).as_str())
+}
+
+fn path_of(paths: &FourFiles<PathBuf>, file: WorldFile) -> &PathBuf {
+    match file {
+        WorldFile::ImageA => &paths.image_a,
+        WorldFile::ImageB => &paths.image_b,
+        WorldFile::LogA => &paths.log_a,
+        WorldFile::LogB => &paths.log_b,
+    }
+}

@@ -1,0 +1,89 @@
+//! The two standard streams of a server.
+ghost use Rattle.std.specs.Prelude.{◌≡◌, ◌≢◌, Ok, Err, IfErr};
+ghost use Rattle.world_folder.specs.Ending.{IsFault};
+
+use crate::line::Line;
+use crate::printer::{Printer, StandardError, StandardOutput, start_printer};
+use crossbeam_channel::Receiver;
+use disk_model::FourFiles;
+use std::alloc::{AllocError, Global};
+use std::io;
+use std::path::PathBuf;
+use std::sync::Wait;
+use std::thread::Threads;
+use std::time::Clock;
+use worker_threads::NotStarted;
+use world_folder::{Ending, IMAGE_A, IMAGE_B, LOG_A, LOG_B, path_of};
+
+/// Standard output and standard error, each with a thread that prints its lines.
+#[derive(Drop)]
+pub struct Streams {
+    pub output: Printer,
+    pub errors: Printer,
+    printed: Receiver<io::Result<()>>,
+    noted: Receiver<io::Result<()>>,
+}
+
+impl Streams {
+    /// Starts the two threads, for a server of the world in this folder.
+    pub fn start<R: Threads + Wait + Print + Eprint + AllocGlobal + Copy + Send + 'static>(
+        rt: &R,
+        folder: &str,
+    ) -> Result<Self, NotStarted> {
+        let alloc = rt.alloc();
+        let stream = StandardError {
+            rt: *rt,
+            paths: paths_of(alloc, folder)?,
+        };
+        let (errors, noted) = start_printer(rt, alloc, stream)?;
+        let stream = StandardOutput {
+            rt: *rt,
+            paths: paths_of(alloc, folder)?,
+            errors: errors.clone()?,
+        };
+        let (output, printed) = start_printer(rt, alloc, stream)?;
+        Ok(Streams {
+            output,
+            errors,
+            printed,
+            noted,
+        })
+    }
+
+    /// Waits until the lines have left, or for some seconds if a stream isn't read, and ends the program so. A server
+    /// that ended well ends with a fault if its output couldn't be printed.
+    pub fn finish<R: Wait + Clock>(self, rt: &R, ending: Ending) -> Ending
+        ensures { ending ≢ Ending.Ran → result ≡ ending }
+    {
+        let Streams {
+            output,
+            errors,
+            printed,
+            noted,
+        } = self;
+        let printed = output.finish(rt, printed);
+        let _ = errors.finish(rt, noted);
+        heard(ending, printed)
+    }
+}
+
+// How a server ends whose output was printed so.
+fn heard(ending: Ending, printed: io::Result<()>) -> Ending
+    ensures other { ending ≢ Ending.Ran → result ≡ ending }
+    ensures well { printed ≡ Ok tt → result ≡ ending }
+    ensures unheard { ending ≡ Ending.Ran → IfErr printed (λ _. IsFault result) }
+{
+    match (ending, printed) {
+        (Ending::Ran, Err(error)) => Ending::from(error),
+        (ending, _) => ending,
+    }
+}
+
+fn paths_of(alloc: Global, folder: &str) -> Result<FourFiles<PathBuf>, AllocError> {
+    Ok(FourFiles {
+        image_a: path_of(alloc, folder, IMAGE_A)?,
+        image_b: path_of(alloc, folder, IMAGE_B)?,
+        log_a: path_of(alloc, folder, LOG_A)?,
+        log_b: path_of(alloc, folder, LOG_B)?,
+    })
+}

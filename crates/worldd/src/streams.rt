@@ -1,0 +1,83 @@
+//! The standard streams of a script, each of which keeps why it failed.
+ghost use Rattle.std.specs.Prelude.{◌≡◌, ◌≢◌, IsOk, Err};
+ghost use Rattle.world_actions.specs.declared.refusal.Refusal.{Refusal as Reason};
+
+use std::alloc::Global;
+use std::io::{self, ErrorKind, Read, Write};
+use steps::run_script;
+use world_actions::Refusal;
+use world_folder::{Ending, STANDARD_INPUT, STANDARD_OUTPUT, StreamFailure};
+
+/// A stream, and why its last call that failed did.
+struct Watched<S> {
+    stream: S,
+    failure: Option<io::Error>,
+}
+
+impl<S> Watched<S> {
+    fn new(stream: S) -> Self {
+        Watched {
+            stream,
+            failure: None,
+        }
+    }
+
+    // Keeps the failure of a call, except of one that is tried again.
+    fn keep<T>(&mut self, answer: io::Result<T>) -> io::Result<T> {
+        if let Err(error) = &answer
+            && error.kind() != ErrorKind::Interrupted
+        {
+            self.failure = Some(*error);
+        }
+        answer
+    }
+}
+
+impl<S: Read> Read for Watched<S> {
+    fn read(&mut self, into: &mut [u8]) -> io::Result<usize> {
+        let answer = self.stream.read(into);
+        self.keep(answer)
+    }
+}
+
+impl<S: Write> Write for Watched<S> {
+    fn write(&mut self, bytes: &[u8]) -> io::Result<usize> {
+        let answer = self.stream.write(bytes);
+        self.keep(answer)
+    }
+
+    fn flush(&mut self) -> io::Result<()> {
+        let answer = self.stream.flush();
+        self.keep(answer)
+    }
+}
+
+/// Runs a script of these streams. A stream that fails ends the program with its name and its reason.
+pub fn run_steps<R: Read + Drop, W: Write + Drop>(alloc: Global, input: R, output: W) -> Ending {
+    let mut input = Watched::new(input);
+    let mut output = Watched::new(output);
+    let run = run_script(alloc, &mut input, &mut output);
+    ending_of(run, input.failure, output.failure)
+}
+
+// How the program ends after a script whose streams failed so.
+fn ending_of(
+    run: Result<(), Refusal>,
+    input: Option<io::Error>,
+    output: Option<io::Error>,
+) -> Ending
+    ensures well { IsOk run → result ≡ Ending.Ran }
+    ensures fault { (refusal : Reason) → run ≡ Err refusal → refusal ≢ Refusal.Device → result ≡ Ending.Fault refusal }
+{
+    match (run, input, output) {
+        (Err(Refusal::Device), Some(error), _) => Ending::Stream(StreamFailure {
+            name: STANDARD_INPUT,
+            error,
+        }),
+        (Err(Refusal::Device), None, Some(error)) => Ending::Stream(StreamFailure {
+            name: STANDARD_OUTPUT,
+            error,
+        }),
+        (run, _, _) => Ending::of_run(run),
+    }
+}

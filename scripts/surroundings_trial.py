@@ -1,0 +1,400 @@
+#!/usr/bin/env python3
+"""Runs the built worldd in bad surroundings: closed and unread streams, shortages, links, silent clients.
+
+    scripts/surroundings_trial.py crates/worldd/out/worldd
+    scripts/surroundings_trial.py WORLDD --connections 70000
+
+No answered tick may be lost, no file of a world may get a byte that isn't a world's, and the server must go on or end
+with its reason. It prints how often each case was met, and fails if one was never met.
+"""
+import argparse
+import collections
+import fcntl
+import itertools
+import os
+import pathlib
+import re
+import resource
+import signal
+import socket
+import subprocess
+import sys
+import tempfile
+import time
+from collections.abc import Callable
+
+NAMES = ("image.a", "image.b", "log.a", "log.b")
+PATIENCE_SECONDS = 30
+CELLS = 1000
+# Text that worldd prints, of which a file of a world has none.
+FOREIGN = (b"recovered", b"listening", b"worldd", b"created", b"stopped")
+SMALL_PIPE = 4096
+LINES_WAITING = 256
+# A limit on a file's size that no write ends at.
+FILE_LIMIT = 20_011
+SHORT = "the disk is full, or the file has reached a limit on its size"
+CASES = (
+    *(f"{command} with closed streams" for command in ("create", "recover", "inspect", "steps", "serve")),
+    "short connections", "descriptors exhausted", "descriptors freed", "errors unread", "lines dropped",
+    "output full", "output broken", "port closed", "silent client ended", "link refused", "mode of a new file",
+    "short write named", "ended by its log", "no thread named",
+)
+
+
+class Wrong(Exception):
+    """What worldd should not have done."""
+
+
+def want(is_so: bool, what: str) -> None:
+    """Fails unless it is so."""
+    if not is_so:
+        raise Wrong(what)
+
+
+def closing(descriptors: tuple[int, ...]) -> Callable[[], None]:
+    """Closes these descriptors in a new process."""
+    return lambda: [os.close(descriptor) for descriptor in descriptors]
+
+
+def limiting(kind: int, most: int) -> Callable[[], None]:
+    """Limits a resource of a new process."""
+    return lambda: resource.setrlimit(kind, (most, most))
+
+
+def free_port() -> int:
+    """A port that nobody listens on."""
+    with socket.create_server(("127.0.0.1", 0)) as probe:
+        return probe.getsockname()[1]
+
+
+class Client:
+    """A connection that plays."""
+
+    def __init__(self, port: int) -> None:
+        self.socket = socket.create_connection(("127.0.0.1", port), PATIENCE_SECONDS)
+        self.answers = self.socket.makefile("rb")
+
+    def play(self, lines: bytes = b"add 0 1\n") -> bytes:
+        """Sends a batch, and returns its answer, which is empty after the end of the session."""
+        try:
+            self.socket.sendall(lines + b"end\n")
+            return self.answers.readline()
+        except OSError:
+            return b""
+
+    def leave(self) -> None:
+        """Closes the connection."""
+        self.answers.close()
+        self.socket.close()
+
+
+class Server:
+    """A serving worldd on a world of its own."""
+
+    def __init__(self, worldd: str, folder: pathlib.Path, *flags: str, clients: int = 100_000, **process) -> None:
+        self.worldd, self.folder = worldd, folder
+        if not folder.exists():
+            folder.mkdir()
+            subprocess.run([worldd, "create", "--dir", folder, "--cells", str(CELLS)], check=True, capture_output=True)
+        self.port = free_port()
+        fixed = ("--method", "zigzag", "--port", str(self.port), "--clients", str(clients))
+        process = {"stdout": subprocess.PIPE, "stderr": subprocess.PIPE, **process}
+        self.process = subprocess.Popen([worldd, "serve", "--dir", folder, *fixed, *flags], **process)
+
+    def client(self) -> Client:
+        """A new client, once the server listens."""
+        end = time.monotonic() + PATIENCE_SECONDS
+        while True:
+            try:
+                return Client(self.port)
+            except ConnectionRefusedError:
+                want(time.monotonic() < end and self.process.poll() is None, f"no server at {self.folder}")
+                time.sleep(0.01)
+
+    def kill(self) -> None:
+        """Kills it, and checks the files: they must hold each tick that was answered, and no other text."""
+        self.process.kill()
+        self.process.communicate()
+
+    def end(self) -> tuple[int, str, str]:
+        """Waits for its end: status, output and errors."""
+        output, errors = self.process.communicate(timeout=PATIENCE_SECONDS)
+        return self.process.returncode, (output or b"").decode(), (errors or b"").decode()
+
+    def holds(self, ticks: int) -> None:
+        """The files must hold the world after so many ticks or more, and nothing else."""
+        run = subprocess.run([self.worldd, "recover", "--dir", self.folder], capture_output=True, text=True)
+        found = re.fullmatch(r"recovered (\d+) from \d+\n", run.stdout)
+        want(bool(found) and int(found[1]) >= ticks, f"{ticks} ticks were answered: {run.stdout}{run.stderr}")
+        has_no_text(self.folder)
+
+
+def has_no_text(folder: pathlib.Path) -> None:
+    """No file of a world may hold text of the program."""
+    for name in NAMES:
+        held = (folder / name).read_bytes()
+        want(not any(text in held for text in FOREIGN), f"{folder / name} holds text")
+
+
+class Trial:
+    """The cases, and how often each was met."""
+
+    def __init__(self, worldd: str, scratch: pathlib.Path) -> None:
+        self.worldd, self.scratch = worldd, scratch
+        self.met: collections.Counter[str] = collections.Counter()
+        self.folders = itertools.count()
+
+    def folder(self) -> pathlib.Path:
+        """A folder that isn't there yet."""
+        return self.scratch / f"world{next(self.folders)}"
+
+    def server(self, *flags: str, **process) -> Server:
+        """A server of a new world."""
+        return Server(self.worldd, self.folder(), *flags, **process)
+
+    def run(self, *words: object, **process) -> subprocess.CompletedProcess:
+        """Runs a command to its end."""
+        return subprocess.run([self.worldd, *map(str, words)], timeout=PATIENCE_SECONDS, **process)
+
+    def closed_streams(self) -> None:
+        """Each command with each combination of closed standard streams."""
+        for count in (1, 2, 3):
+            for closed in itertools.combinations(range(3), count):
+                self.commands_without(closed)
+                self.serve_without(closed)
+
+    def commands_without(self, closed: tuple[int, ...]) -> None:
+        """The commands that end by themselves, with these descriptors closed."""
+        streams = {"stdin": subprocess.DEVNULL, "stdout": subprocess.DEVNULL, "stderr": subprocess.DEVNULL}
+        whole, folder = self.folder(), self.folder()
+        whole.mkdir()
+        folder.mkdir()
+        self.run("create", "--dir", whole, "--cells", 2, **streams)
+        for command in (("create", "--dir", folder, "--cells", 2), ("recover", "--dir", folder), ("inspect", "--dir", folder), ("steps",)):
+            run = self.run(*command, preexec_fn=closing(closed), **streams)
+            want(run.returncode == 0, f"{command[0]} without {closed}: {run.returncode}")
+            for name in NAMES:
+                want((folder / name).read_bytes() == (whole / name).read_bytes(), f"{command[0]} without {closed}: {name}")
+            self.met[f"{command[0]} with closed streams"] += 1
+
+    def serve_without(self, closed: tuple[int, ...]) -> None:
+        """A server with these descriptors closed, killed under load."""
+        streams = {"stdin": subprocess.DEVNULL, "stdout": subprocess.DEVNULL, "stderr": subprocess.DEVNULL}
+        server = self.server("--every", "8", preexec_fn=closing(closed), **streams)
+        client = server.client()
+        for tick in range(1, 101):
+            want(client.play().startswith(b"tick %d:" % tick), f"tick {tick} without {closed}")
+        server.kill()
+        client.leave()
+        server.holds(100)
+        self.met["serve with closed streams"] += 1
+
+    def short_connections(self, count: int) -> None:
+        """So many clients come and go. The process must not grow by those that have gone."""
+        server = self.server("--every", "65536", stderr=subprocess.DEVNULL, clients=100_000)
+        for _ in range(50):
+            client = server.client()
+            client.play()
+            client.leave()
+        before = footprint(server.process.pid)
+        for _ in range(count):
+            client = Client(server.port)
+            want(client.play().startswith(b"tick"), "a short connection got no answer")
+            client.leave()
+            self.met["short connections"] += 1
+        after = footprint(server.process.pid)
+        print(f"surroundings: {count} short connections: {before} before, {after} after")
+        want(after.maps <= before.maps + 8 and after.threads <= before.threads + 2, "ended sessions keep maps or threads")
+        want(after.descriptors <= before.descriptors + 4, "ended sessions keep descriptors")
+        want(after.kilobytes <= before.kilobytes + 2_048, "ended sessions keep memory")
+        server.kill()
+
+    def descriptors(self) -> None:
+        """Clients take all descriptors, and leave."""
+        server = self.server(preexec_fn=limiting(resource.RLIMIT_NOFILE, 24))
+        crowd = [server.client() for _ in range(40)]
+        for client in crowd[:4]:
+            want(client.play().startswith(b"tick"), "a client that came first got no answer")
+        line = server.process.stderr.readline()
+        want(line.startswith(b"worldd: clients wait: Too many open files"), f"no line of a shortage: {line}")
+        self.met["descriptors exhausted"] += 1
+        for client in crowd:
+            client.leave()
+        late = server.client()
+        want(late.play().startswith(b"tick"), "no answer after a shortage")
+        line = server.process.stderr.readline()
+        want(line == b"worldd: clients no longer wait\n", f"no line of the end of a shortage: {line}")
+        self.met["descriptors freed"] += 1
+        server.kill()
+        server.holds(5)
+
+    def unread_errors(self) -> None:
+        """Nobody reads standard error for ten thousand ticks and many images."""
+        server = self.server("--every", "1", clients=1)
+        fcntl.fcntl(server.process.stderr, fcntl.F_SETPIPE_SZ, SMALL_PIPE)
+        client = server.client()
+        for tick in range(1, 10_001):
+            want(client.play().startswith(b"tick %d:" % tick), f"tick {tick} with errors unread")
+        images = self.run("inspect", "--dir", server.folder, capture_output=True, text=True).stdout
+        newest = max(map(int, re.findall(r"cells, tick (\d+),", images)), default=0)
+        want(newest > 9_000, f"images stopped with errors unread: {images}")
+        self.met["errors unread"] += 1
+        client.leave()
+        begun = time.monotonic()
+        status = server.process.wait(PATIENCE_SECONDS)
+        want(status == 0 and time.monotonic() - begun < 10, f"the end with errors unread: {status}")
+        errors = server.process.stderr.read().decode()
+        want(0 < errors.count("opened") < 9_000, "lines were not dropped")
+        self.met["lines dropped"] += 1
+        server.holds(10_000)
+
+    def broken_output(self) -> None:
+        """Standard output is full, or its reader has gone."""
+        reader, broken = os.pipe()
+        os.close(reader)
+        for case, output in (("output full", os.open("/dev/full", os.O_WRONLY)), ("output broken", broken)):
+            server = self.server(stdout=output, clients=1)
+            os.close(output)
+            client = server.client()
+            want(client.play() == b"tick 1: +\n", f"no answer with {case}")
+            client.leave()
+            status, _, errors = server.end()
+            want(status == 1 and "fault 18\nworldd: standard output: " in errors, f"{case}: {status} {errors}")
+            server.holds(1)
+            self.met[case] += 1
+
+    def door(self) -> None:
+        """The port is closed after the last client, and a silent client is sent away."""
+        server = self.server("--idle", "1", clients=3)
+        first, second, third = (server.client() for _ in range(3))
+        want(first.play() == b"tick 1: +\n" and third.play() == b"tick 2: +\n", "no answer of three clients")
+        end = time.monotonic() + PATIENCE_SECONDS
+        while time.monotonic() < end:
+            try:
+                Client(server.port).leave()
+            except ConnectionRefusedError:
+                self.met["port closed"] += 1
+                break
+        want(second.answers.readline() == b"", "a silent client stays")
+        self.met["silent client ended"] += 1
+        status, output, errors = server.end()
+        want(status == 0 and output.endswith("stopped tick 2 acked 2\n"), f"the end by silence: {status} {output}")
+        want("worldd: the port is closed" in errors, f"nothing was printed of the port: {errors}")
+
+    def links(self) -> None:
+        """Files that are no ordinary files of their own, for those that write a world."""
+        for command in (("serve", "--method", "zigzag", "--port", "0", "--clients", "1"), ("create", "--cells", "2")):
+            for name, other, reason in (
+                ("image.a", None, "a symbolic link"), ("log.b", None, "a symbolic link"),
+                ("image.b", "image.a", "it has another name, by a hard link"), ("log.b", "log.a", "it has another name, by a hard link"),
+            ):
+                folder = self.folder()
+                folder.mkdir()
+                aside = folder.with_suffix(".aside")
+                if command[0] == "serve":
+                    self.run("create", "--dir", folder, "--cells", 2, capture_output=True)
+                    (folder / name).rename(aside)
+                else:
+                    aside.write_bytes(b"")
+                if other is None:
+                    (folder / name).symlink_to(aside)
+                else:
+                    (folder / other).touch()
+                    os.link(folder / other, folder / name)
+                before = aside.read_bytes()
+                run = self.run(command[0], "--dir", folder, *command[1:], capture_output=True, text=True)
+                refused = run.returncode == 1 and run.stderr.startswith("fault 18\n") and reason in run.stderr
+                want(refused, f"{command[0]} over {name}: {run.stderr}")
+                want(aside.read_bytes() == before, f"{command[0]} wrote through {name}")
+                self.met["link refused"] += 1
+        folder = self.folder()
+        folder.mkdir()
+        self.run("create", "--dir", folder, "--cells", 2, preexec_fn=lambda: os.umask(0), capture_output=True)
+        for name in NAMES:
+            want((folder / name).stat().st_mode & 0o777 == 0o600, f"{name} is open to others")
+            self.met["mode of a new file"] += 1
+
+    def full_file(self) -> None:
+        """The log reaches a limit on its size: a line names the cause, and the program ends if it is asked to."""
+        for flags in ((), ("--exit-when-log-down",)):
+            server = self.server("--every", "65536", *flags, clients=2, preexec_fn=limiting(resource.RLIMIT_FSIZE, FILE_LIMIT))
+            client, idle = server.client(), server.client()
+            ticks = 0
+            while (answer := client.play(b"add 0 1\n" * 16)).startswith(b"tick"):
+                ticks += 1
+            if flags:
+                status, _, errors = server.end()
+                want(status == 12, f"the end by the log: {status}")
+                self.met["ended by its log"] += 1
+            else:
+                want(answer == b"fault 12\n", f"the answer after the log is down: {answer}")
+                idle.leave()
+                client.leave()
+                status, _, errors = server.end()
+                want(status == 12, f"the end after the log is down: {status}")
+            want(f"worldd: log down after tick {ticks}: " in errors and SHORT in errors, f"no cause of the log: {errors}")
+            self.met["short write named"] += 1
+            server.holds(ticks)
+
+    def threads(self) -> None:
+        """There is room for some threads, and not for all."""
+        for megabytes in range(8, 80, 4):
+            server = self.server(preexec_fn=limiting(resource.RLIMIT_AS, megabytes << 20))
+            time.sleep(0.05)
+            if server.process.poll() is None:
+                server.kill()
+                break
+            status, output, errors = server.end()
+            want("listening" not in output, "it listened without its threads")
+            if "there is no thread for the server" in errors:
+                want(status == 1 and errors.startswith("fault 17\n"), f"no thread: {status} {errors}")
+                self.met["no thread named"] += 1
+
+    def all(self, connections: int) -> None:
+        """Every case."""
+        self.closed_streams()
+        self.short_connections(connections)
+        self.descriptors()
+        self.unread_errors()
+        self.broken_output()
+        self.door()
+        self.links()
+        self.full_file()
+        self.threads()
+
+
+Footprint = collections.namedtuple("Footprint", "maps threads kilobytes descriptors")
+
+
+def footprint(pid: int) -> Footprint:
+    """What a process has of the system."""
+    process = pathlib.Path(f"/proc/{pid}")
+    status = dict(line.split(":\t", 1) for line in (process / "status").read_text().splitlines())
+    maps = len((process / "maps").read_text().splitlines())
+    return Footprint(maps, int(status["Threads"]), int(status["VmRSS"].split()[0]), len(os.listdir(process / "fd")))
+
+
+def main() -> int:
+    """Runs every case in a folder of its own."""
+    parser = argparse.ArgumentParser(description=__doc__.splitlines()[0])
+    parser.add_argument("worldd", type=pathlib.Path, help="the built worldd")
+    parser.add_argument("--connections", type=int, default=3_000, help="how many short connections come in a row")
+    given = parser.parse_args()
+    signal.signal(signal.SIGPIPE, signal.SIG_IGN)
+    with tempfile.TemporaryDirectory(prefix="surroundings") as scratch:
+        trial = Trial(str(given.worldd.resolve()), pathlib.Path(scratch))
+        try:
+            trial.all(given.connections)
+        except Wrong as wrong:
+            print(f"surroundings: {wrong}", file=sys.stderr)
+            return 1
+    for case in CASES:
+        print(f"surroundings: {case}: {trial.met[case]}")
+    missed = [case for case in CASES if trial.met[case] == 0]
+    if missed:
+        print(f"surroundings: never met: {', '.join(missed)}", file=sys.stderr)
+    return 1 if missed else 0
+
+
+if __name__ == "__main__":
+    sys.exit(main())
