@@ -11,9 +11,6 @@ use std::marker::Model;
 use std::os::unix::fs::FileExt;
 use world_actions::Refusal;
 
-/// The reason of a write that wrote a part of its bytes.
-const SHORT_WRITE: &str = "the disk is full, or the file has reached a limit on its size";
-
 /// A file of the operating system. Contracts see how long it is at least, and how often a call of it
 /// failed, and nothing of what it holds. Each read and each write is one call of the system.
 #[derive(Drop)]
@@ -79,12 +76,12 @@ impl FileDisk {
         }
     }
 
-    // The system's answer to a call that was to move so many bytes: fewer are a failure for this reason.
+    // What the system answered where it was asked to move so many bytes: fewer are a failure of this kind.
     fn moved(
         &mut self,
         answer: io::Result<usize>,
         asked: usize,
-        short: io::Error,
+        short: ErrorKind,
     ) -> Result<(), Refusal>
         ensures whole { IsOk result ↔ (answer ≡ Ok asked) }
         ensures ok { OnOk result (self.new ≡ self.old) }
@@ -92,13 +89,12 @@ impl FileDisk {
         ensures device { IsDeviceFault result }
     {
         if self.answered(answer)? != asked {
-            return self.failed(short);
+            return self.failed(io::Error::from(short));
         }
         Ok(())
     }
 
-    // The system's answer to a write of so many bytes up to this end. It writes fewer at a full disk and at a limit on
-    // the file's size. A second call would say which, and may end the program by a signal.
+    // What the system answered to a write of so many bytes up to this end.
     fn wrote(&mut self, answer: io::Result<usize>, asked: usize, end: u64) -> Result<(), Refusal>
         ensures whole { IsOk result ↔ (answer ≡ Ok asked) }
         ensures ok { OnOk result (self.new
@@ -106,8 +102,7 @@ impl FileDisk {
         ensures err { OnErr result (self.new ≡ after_failure self.old) }
         ensures device { IsDeviceFault result }
     {
-        let short = io::Error::new(ErrorKind::WriteZero, SHORT_WRITE);
-        self.moved(answer, asked, short)?;
+        self.moved(answer, asked, ErrorKind::WriteZero)?;
         self.known_length = self.known_length.max(end);
         Ok(())
     }
@@ -160,7 +155,7 @@ impl Disk for FileDisk {
     /// A read that ends past the end of the file fails.
     fn read_at(&mut self, at: u64, into: &mut [u8]) -> Result<(), Refusal> {
         let answer = self.file.read_at(into, at);
-        self.moved(answer, into.len(), io::Error::from(ErrorKind::UnexpectedEof))
+        self.moved(answer, into.len(), ErrorKind::UnexpectedEof)
     }
 
     /// A write that begins past the known length fails, and isn't made: a failed write may have made
