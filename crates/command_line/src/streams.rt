@@ -1,4 +1,4 @@
-ghost use Rattle.std.specs.Prelude.{◌<◌, IfOk};
+ghost use Rattle.std.specs.Prelude.{◌<ℤ◌, pos, IfOk};
 ghost use Rattle.std.specs.Fd.{file_raw_fd};
 
 use std::fs::{File, Files, OpenOptions};
@@ -12,7 +12,7 @@ const STANDARD_ERROR: i32 = 2;
 /// descriptor 0, 1 or 2 to the next file that the program opens, and text for people is written into that file. It
 /// returns /dev/null at a descriptor above them: the system gives the lowest one that is free, so none of them is.
 pub fn take_standard_streams<R: Files<File = File>>(rt: &R) -> io::Result<File>
-    ensures { IfOk result (λ null. 2 < file_raw_fd null) }
+    ensures { IfOk result (λ null. pos 2 <ℤ file_raw_fd null) }
 {
     for _ in 0..=STANDARD_ERROR + 1 {
         let null = OpenOptions::new()

@@ -18,7 +18,7 @@ use workers::Ask;
 pub struct Admission {
     /// After how many connections it accepts no more.
     pub clients: u32,
-    /// After how many seconds without a byte from its client a session ends. Without a number it never does.
+    /// After how many seconds in which its client sends or takes no byte a session ends. Without a number it never does.
     pub idle: Option<u32>,
 }
 
@@ -77,6 +77,7 @@ pub fn accept_sessions<
         requests,
         door,
     };
+    shared.door.opened();
     let (unserved, closed) =
         accept_all(rt, &listener, admission.clients, &mut shared, &mut sessions);
     drop(listener);

@@ -1,5 +1,5 @@
 //! Why an `accept` failed, and how long accepting waits after a shortage.
-ghost use Rattle.std.specs.Prelude.{◌≡◌, ◌≢◌, ◌≤◌, ℤ, Some, None};
+ghost use Rattle.std.specs.Prelude.{◌≡◌, ◌≢◌, ◌≤◌, ℤ, pos, Some, None};
 ghost use Rattle.std.specs.IoError.{raw_os_error};
 ghost use Rattle.tcp_service.specs.Accepting.{next_pause};
 
@@ -36,14 +36,14 @@ pub enum Failure {
 
 /// What the error of an `accept` means.
 pub fn failure_of(error: &io::Error) -> Failure
-    ensures interrupted { raw_os_error error.now ≡ Some 4 → result ≡ Failure.Interrupted }
-    ensures no_memory { raw_os_error error.now ≡ Some 12 → result ≡ Failure.Shortage }
-    ensures no_descriptor_of_the_system { raw_os_error error.now ≡ Some 23 → result ≡ Failure.Shortage }
-    ensures no_descriptor_of_the_process { raw_os_error error.now ≡ Some 24 → result ≡ Failure.Shortage }
-    ensures one_client { raw_os_error error.now ≡ Some 103 → result ≡ Failure.OneClient }
-    ensures no_buffer { raw_os_error error.now ≡ Some 105 → result ≡ Failure.Shortage }
-    ensures other { (code : ℤ) → raw_os_error error.now ≡ Some code → code ≢ 4 → code ≢ 12 → code ≢ 23 → code ≢ 24
-        → code ≢ 103 → code ≢ 105 → result ≡ Failure.Listener }
+    ensures interrupted { raw_os_error error.now ≡ Some (pos 4) → result ≡ Failure.Interrupted }
+    ensures no_memory { raw_os_error error.now ≡ Some (pos 12) → result ≡ Failure.Shortage }
+    ensures no_descriptor_of_the_system { raw_os_error error.now ≡ Some (pos 23) → result ≡ Failure.Shortage }
+    ensures no_descriptor_of_the_process { raw_os_error error.now ≡ Some (pos 24) → result ≡ Failure.Shortage }
+    ensures one_client { raw_os_error error.now ≡ Some (pos 103) → result ≡ Failure.OneClient }
+    ensures no_buffer { raw_os_error error.now ≡ Some (pos 105) → result ≡ Failure.Shortage }
+    ensures other { (code : ℤ) → raw_os_error error.now ≡ Some code → code ≢ pos 4 → code ≢ pos 12 → code ≢ pos 23
+        → code ≢ pos 24 → code ≢ pos 103 → code ≢ pos 105 → result ≡ Failure.Listener }
     ensures none { raw_os_error error.now ≡ None → result ≡ Failure.Listener }
 {
     match error.raw_os_error() {

@@ -54,9 +54,8 @@ pub fn serve_tcp<
         stopped.ends.mutator stopped.ends.checkpointer stopped.ends.log_writer) }
     ensures every { IfOk result (λ stopped. stopped.ends.mutator.every ≡ every) }
 {
-    let mut door = watch.clone()?;
+    let door = watch.clone()?;
     let (workers, requests) = start(rt, alloc, gates, watch, opened, every)?;
-    door.opened();
     let accepted = accept_sessions(rt, alloc, listener, admission, requests, door);
     let mut ends = stop(rt, workers);
     ends_meet(&mut ends);

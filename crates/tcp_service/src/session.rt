@@ -15,8 +15,8 @@ use world_actions::Refusal;
 #[derive(Drop)]
 pub struct Over(());
 
-/// Serves a connection until its client leaves or is silent for so many seconds, or until a fault, which ends no other
-/// session. The door hears of a session that has no memory.
+/// Serves a connection until its client leaves, or neither sends nor takes a byte for so many seconds, or until a fault,
+/// which ends no other session. The door hears of a session that has no memory.
 pub fn serve_session<R: Wait + Copy, W: Door + Drop>(
     rt: &R,
     alloc: Global,
@@ -28,7 +28,9 @@ pub fn serve_session<R: Wait + Copy, W: Door + Drop>(
     let mut door = door;
     let _ = stream.set_nodelay(true);
     if let Some(seconds) = idle {
-        let _ = stream.set_read_timeout(Some(Duration::from_secs(u64::from(seconds))));
+        let silence = Some(Duration::from_secs(u64::from(seconds)));
+        let _ = stream.set_read_timeout(silence);
+        let _ = stream.set_write_timeout(silence);
     }
     let mut world = Remote::new(*rt, alloc, requests);
     let served = serve_lines(alloc, &mut &stream, &mut &stream, &mut world);

@@ -1,5 +1,6 @@
 ghost use Rattle.std.specs.Prelude.{◌≡◌};
 ghost use Rattle.std.specs.Process.{exit_status};
+ghost use Rattle.world_folder.specs.Ending.{status_of};
 
 use crate::fault::Fault;
 use crate::folder::Unreadable;
@@ -28,18 +29,25 @@ pub enum Ending {
     NoWorld(Fault),
     /// A world can't be made over this file.
     Occupied(Occupied),
-    /// No client can come by this port.
-    NoPort(NoPort),
     /// A standard stream can't be read or written.
     Stream(StreamFailure),
-    /// The system gives no thread for a server.
+    /// A server couldn't begin, or has stopped.
+    Server(ServerEnding),
+}
+
+/// How a server ends that isn't well.
+#[derive(Debug, Drop)]
+pub enum ServerEnding {
+    /// No client can come by this port.
+    NoPort(NoPort),
+    /// The system gives no thread for it.
     NoThread,
-    /// A server stopped because its listener failed. Its log and its images are well.
+    /// Its listener failed. Its log and its images are well.
     ListenerFailed,
-    /// A server stopped, and its log is down.
-    LogDown,
-    /// A server stopped whose log isn't down, but its images are.
+    /// Its log is well, and its images are down.
     ImagesDown,
+    /// Its log is down.
+    LogDown,
 }
 
 /// A file that isn't closed.
@@ -67,21 +75,26 @@ impl fmt::Display for NoPort {
     }
 }
 
+/// A standard stream.
+#[derive(Clone, Copy, Debug, PartialEq, Eq)]
+pub enum Stream {
+    Input,
+    Output,
+}
+
 /// A standard stream that failed, and why.
 #[derive(Clone, Copy, Debug)]
 pub struct StreamFailure {
-    pub name: &'static str,
+    pub stream: Stream,
     pub error: io::Error,
 }
 
-/// The names of the streams.
-pub const STANDARD_INPUT: &str = "standard input";
-
-pub const STANDARD_OUTPUT: &str = "standard output";
-
 impl fmt::Display for StreamFailure {
     fn fmt<W: fmt::Write>(&self, f: &mut fmt::Formatter<W>) -> fmt::Result {
-        write!(f, "{}: {}", self.name, self.error)
+        match self.stream {
+            Stream::Input => write!(f, "standard input: {}", self.error),
+            Stream::Output => write!(f, "standard output: {}", self.error),
+        }
     }
 }
 
@@ -132,7 +145,7 @@ impl From<io::Error> for Ending {
     fn from(error: io::Error) -> Self {
         match refusal_of(&error) {
             Refusal::Device => Ending::Stream(StreamFailure {
-                name: STANDARD_OUTPUT,
+                stream: Stream::Output,
                 error,
             }),
             refusal => Ending::Fault(refusal),
@@ -145,8 +158,9 @@ impl Termination for Ending {
     ghost use Rattle.std.specs.Process.{exit_status};
     ghost use Rattle.world_folder.specs.declared.folder.Unreadable.{Unreadable as File};
     ghost use Rattle.world_folder.specs.declared.ending.Occupied.{Occupied as Open};
-    ghost use Rattle.world_folder.specs.declared.ending.NoPort.{NoPort as Port};
     ghost use Rattle.world_folder.specs.declared.ending.StreamFailure.{StreamFailure as OneStream};
+    ghost use Rattle.world_folder.specs.declared.ending.ServerEnding.{ServerEnding as OfServer};
+    ghost use Rattle.world_folder.specs.Ending.{status_of};
 
     /// Prints a fault by its code and in words, and returns the exit status.
     fn report<R: Eprint>(self, rt: &R) -> ExitCode
@@ -155,13 +169,9 @@ impl Termination for Ending {
         ensures unreadable { (file : File) → self ≡ Ending.Unreadable file → exit_status result ≡ 1 }
         ensures no_world { (fault : Fault) → self ≡ Ending.NoWorld fault → exit_status result ≡ 1 }
         ensures occupied { (file : Open) → self ≡ Ending.Occupied file → exit_status result ≡ 1 }
-        ensures no_port { (port : Port) → self ≡ Ending.NoPort port → exit_status result ≡ 1 }
         ensures stream { (failure : OneStream) → self ≡ Ending.Stream failure → exit_status result ≡ 1 }
-        ensures no_thread { self ≡ Ending.NoThread → exit_status result ≡ 1 }
-        ensures listener { self ≡ Ending.ListenerFailed → exit_status result ≡ 10 }
         ensures mistaken { self ≡ Ending.Mistaken → exit_status result ≡ 2 }
-        ensures images_down { self ≡ Ending.ImagesDown → exit_status result ≡ 11 }
-        ensures log_down { self ≡ Ending.LogDown → exit_status result ≡ 12 }
+        ensures server { (ending : OfServer) → self ≡ Ending.Server ending → exit_status result ≡ status_of ending }
     {
         match self {
             Ending::Ran | Ending::Told => ExitCode::SUCCESS,
@@ -170,13 +180,22 @@ impl Termination for Ending {
             Ending::Unreadable(file) => report_fault(rt, refusal_of(&file.error), file),
             Ending::NoWorld(fault) => report_fault(rt, fault.refusal(), fault),
             Ending::Occupied(file) => report_fault(rt, Refusal::NotEmpty, file),
-            Ending::NoPort(port) => report_fault(rt, refusal_of(&port.error), port),
             Ending::Stream(failure) => report_fault(rt, refusal_of(&failure.error), failure),
-            Ending::NoThread => report_fault(rt, Refusal::NoMemory, NO_THREAD),
-            Ending::ListenerFailed => ExitCode::from(10),
-            Ending::ImagesDown => ExitCode::from(11),
-            Ending::LogDown => ExitCode::from(12),
+            Ending::Server(ending) => report_server(rt, ending),
         }
+    }
+}
+
+// Prints a server's fault, and returns the exit status.
+fn report_server<R: Eprint>(rt: &R, ending: ServerEnding) -> ExitCode
+    ensures { exit_status result ≡ status_of ending }
+{
+    match ending {
+        ServerEnding::NoPort(port) => report_fault(rt, refusal_of(&port.error), port),
+        ServerEnding::NoThread => report_fault(rt, Refusal::NoMemory, NO_THREAD),
+        ServerEnding::ListenerFailed => ExitCode::from(10),
+        ServerEnding::ImagesDown => ExitCode::from(11),
+        ServerEnding::LogDown => ExitCode::from(12),
     }
 }
 

@@ -1,17 +1,14 @@
-ghost use Rattle.std.specs.Prelude.{◌≡◌, ◌<◌, ◌<ℤ◌, Ok, IfOk, IfErr, IsErrAnd};
-ghost use Rattle.std.specs.Fd.{file_raw_fd};
+ghost use Rattle.std.specs.Prelude.{◌≡◌, Ok, IfOk, IfErr, IsErrAnd};
 ghost use Rattle.std.specs.Path.{path_buf_bytes, path_join};
 ghost use Rattle.world_folder.specs.Fault.{AreRead};
 ghost use Rattle.world_folder.specs.Ending.{IsFault, TellsOf, TellsOfFirst};
 
 use crate::ending::Ending;
-use crate::own_file::{NOT_REGULAR, OwnFile, above_streams, are_four, open_there};
-use crate::system_error::error_of;
+use crate::own_file::{Absent, NOT_REGULAR, OwnFile, above_streams, are_four, open_file};
+use crate::system_error::{Reason, error_of};
 use disk_model::{FileDisk, FourFiles, read_all};
 use std::alloc::{AllocError, Global};
-use std::fs::{self, File, Files, OpenOptions, TryLockError};
-use std::io::ErrorKind;
-use std::os::unix::fs::OpenOptionsExt;
+use std::fs::{self, File, Files, TryLockError};
 use std::path::{Path, PathBuf};
 use std::{fmt, io};
 use world_actions::Refusal;
@@ -34,7 +31,7 @@ pub struct Unreadable {
 
 impl fmt::Display for Unreadable {
     fn fmt<W: fmt::Write>(&self, f: &mut fmt::Formatter<W>) -> fmt::Result {
-        write!(f, "{}: {}", self.path.as_str(), self.error)
+        write!(f, "{}: {}", self.path.as_str(), Reason(self.error))
     }
 }
 
@@ -73,16 +70,6 @@ fn open_to_read<R: Files<File = File> + AllocGlobal>(
     }
     let file = above_streams(File::open(rt, path.as_path())?)?;
     FileDisk::open(file).map_err(error_of)
-}
-
-/// The permissions of a new file.
-const OWNER_ALONE: u32 = 0o600;
-
-// What is done about a file that isn't there.
-#[derive(Clone, Copy, PartialEq, Eq)]
-enum Absent {
-    Make,
-    Refuse,
 }
 
 /// Opens the four files of a folder to make a world in them. It makes those that are absent, for their owner alone, and
@@ -141,7 +128,12 @@ fn open_files<R: Files<File = File> + AllocGlobal>(
 }
 
 /// The value that the system gave for a file, or how the program ends if it gave an error.
-pub fn opened<T>(alloc: Global, folder: &str, name: &str, answer: io::Result<T>) -> Result<T, Ending>
+pub fn opened<T>(
+    alloc: Global,
+    folder: &str,
+    name: &str,
+    answer: io::Result<T>,
+) -> Result<T, Ending>
     ensures ok { IfOk answer (λ value. result ≡ Ok value) }
     ensures fails { IfErr answer (λ error. IsErrAnd result (TellsOf folder.now name.now error)) }
     ensures fault { IfErr result IsFault }
@@ -241,34 +233,4 @@ pub fn all_read(
         log_a: opened(alloc, folder, LOG_A, log_a)?,
         log_b: opened(alloc, folder, LOG_B, log_b)?,
     })
-}
-
-// Opens a file of the folder for reading and writing, and makes an absent one if it is to be made.
-fn open_file<R: Files<File = File> + AllocGlobal>(
-    rt: &R,
-    folder: &str,
-    name: &str,
-    absent: Absent,
-) -> io::Result<File>
-    ensures { IfOk result (λ file. 2 < file_raw_fd file) }
-{
-    let path = Path::new(folder).join(rt.alloc(), name)?;
-    let file = match fs::symlink_metadata(rt, path.as_path()) {
-        Ok(there) => open_there(rt, path.as_path(), &there)?,
-        Err(error) if error.kind() == ErrorKind::NotFound && absent == Absent::Make => {
-            make(rt, path.as_path())?
-        }
-        Err(error) => return Err(error),
-    };
-    above_streams(file)
-}
-
-// Makes a file that its owner alone may read and write. It follows no symbolic link.
-fn make<R: Files<File = File>>(rt: &R, path: Path<'_>) -> io::Result<File> {
-    OpenOptions::new()
-        .read(true)
-        .write(true)
-        .create_new(true)
-        .mode(OWNER_ALONE)
-        .open(rt, path)
 }

@@ -17,10 +17,11 @@ mod system_error;
 mod told;
 
 pub use creating::create;
-pub use ending::{Ending, NoPort, Occupied, STANDARD_INPUT, STANDARD_OUTPUT, StreamFailure};
+pub use ending::{Ending, NoPort, Occupied, ServerEnding, Stream, StreamFailure};
 pub use fault::{Damaged, Fault, stands_in};
 pub use folder::{
     IMAGE_A, IMAGE_B, LOG_A, LOG_B, Unreadable, failure_of, open_existing, opened, path_of,
 };
 pub use inspecting::inspect;
 pub use recovering::recover;
+pub use system_error::Reason;

@@ -1,14 +1,14 @@
 //! A file that a world has to itself.
-ghost use Rattle.std.specs.Prelude.{◌≡◌, ◌≢◌, ◌<◌, IfOk, IsOk};
+ghost use Rattle.std.specs.Prelude.{◌≡◌, ◌<ℤ◌, pos, IfOk, IsOk};
 ghost use Rattle.std.specs.Fd.{file_raw_fd};
 ghost use Rattle.world_folder.specs.OwnFile.{AreFour};
 
 use crate::system_error::error_of;
 use disk_model::FileDisk;
-use std::fs::{File, Files, Metadata, OpenOptions};
-use std::io;
+use std::fs::{self, File, Files, Metadata, OpenOptions};
+use std::io::{self, ErrorKind};
 use std::os::fd::AsRawFd;
-use std::os::unix::fs::MetadataExt;
+use std::os::unix::fs::{MetadataExt, OpenOptionsExt};
 use std::path::Path;
 
 /// The highest descriptor of a standard stream.
@@ -50,13 +50,49 @@ impl OwnFile {
     }
 }
 
-/// Opens a file that is there, of which the system says this without following a symbolic link. Its one name has to be
-/// an ordinary one, and no other file may take its place meanwhile.
-pub fn open_there<R: Files<File = File>>(
+/// The permissions of a new file.
+const OWNER_ALONE: u32 = 0o600;
+
+/// What is done about a file that isn't there.
+#[derive(Clone, Copy, PartialEq, Eq)]
+pub enum Absent {
+    Make,
+    Refuse,
+}
+
+/// Opens a file of a folder for reading and writing, and makes an absent one if it is to be made.
+pub fn open_file<R: Files<File = File> + AllocGlobal>(
     rt: &R,
-    path: Path<'_>,
-    there: &Metadata,
-) -> io::Result<File> {
+    folder: &str,
+    name: &str,
+    absent: Absent,
+) -> io::Result<File>
+    ensures { IfOk result (λ file. pos 2 <ℤ file_raw_fd file) }
+{
+    let path = Path::new(folder).join(rt.alloc(), name)?;
+    let file = match fs::symlink_metadata(rt, path.as_path()) {
+        Ok(there) => open_there(rt, path.as_path(), &there)?,
+        Err(error) if error.kind() == ErrorKind::NotFound && absent == Absent::Make => {
+            make(rt, path.as_path())?
+        }
+        Err(error) => return Err(error),
+    };
+    above_streams(file)
+}
+
+// Makes a file that its owner alone may read and write. It follows no symbolic link.
+fn make<R: Files<File = File>>(rt: &R, path: Path<'_>) -> io::Result<File> {
+    OpenOptions::new()
+        .read(true)
+        .write(true)
+        .create_new(true)
+        .mode(OWNER_ALONE)
+        .open(rt, path)
+}
+
+// Opens a file that is there, of which the system says this without following a symbolic link. Its one name has to be
+// an ordinary one, and no other file may take its place meanwhile.
+fn open_there<R: Files<File = File>>(rt: &R, path: Path<'_>, there: &Metadata) -> io::Result<File> {
     if there.is_symlink() {
         return Err(io::Error::other("a symbolic link"));
     }
@@ -76,7 +112,7 @@ pub fn open_there<R: Files<File = File>>(
 
 /// Refuses a file at the descriptor of a standard stream, which text for people would be written into.
 pub fn above_streams(file: File) -> io::Result<File>
-    ensures above { IfOk result (λ same. 2 < file_raw_fd same) }
+    ensures above { IfOk result (λ same. pos 2 <ℤ file_raw_fd same) }
     ensures same { IfOk result (λ same. same ≡ file) }
 {
     if file.as_raw_fd() > STANDARD_ERROR {

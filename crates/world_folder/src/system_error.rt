@@ -2,8 +2,26 @@ ghost use Rattle.std.specs.Prelude.{◌≡◌, ◌≢◌};
 ghost use Rattle.std.specs.IoError.{error_kind};
 
 use std::alloc::AllocError;
+use std::fmt;
 use std::io::{self, ErrorKind};
 use world_actions::Refusal;
+
+/// The reason of an error of the system, in words. A write that wrote a part of its bytes names both its causes.
+#[derive(Clone, Copy)]
+pub struct Reason(pub io::Error);
+
+/// The causes of a short write. The system would say which one at a further write, and may end the program by a signal.
+const SHORT_WRITE: &str = "the disk is full, or the file has reached a limit on its size";
+
+impl fmt::Display for Reason {
+    fn fmt<W: fmt::Write>(&self, f: &mut fmt::Formatter<W>) -> fmt::Result {
+        if self.0.kind() == ErrorKind::WriteZero {
+            f.write_str(SHORT_WRITE)
+        } else {
+            write!(f, "{}", self.0)
+        }
+    }
+}
 
 /// What an error of the system is told as: want of memory, or a fault of its device.
 pub fn refusal_of(error: &io::Error) -> Refusal

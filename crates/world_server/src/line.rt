@@ -5,6 +5,7 @@ use std::fmt;
 use std::io;
 use std::path::PathBuf;
 use tcp_service::Unserved;
+use world_folder::Reason;
 
 /// A file of the world.
 #[derive(Clone, Copy, Debug, PartialEq, Eq)]
@@ -99,7 +100,7 @@ fn write_failure<W: fmt::Write>(
     let Some(Failure { file, error }) = failure else {
         return Ok(());
     };
-    write!(f, ": {}: {error}", path_of(paths, file).as_str())
+    write!(f, ": {}: {}", path_of(paths, file).as_str(), Reason(error))
 }
 
 fn path_of(paths: &FourFiles<PathBuf>, file: WorldFile) -> &PathBuf {

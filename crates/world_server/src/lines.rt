@@ -10,7 +10,7 @@ use std::sync::Wait;
 use tcp_service::{Door, Unserved};
 use worker_threads::Watch;
 use workers::{ImageWriter, Log};
-use world_folder::Ending;
+use world_folder::{Ending, ServerEnding};
 
 /// Passes on what happens in a running server as lines, and never waits.
 #[derive(Drop)]
@@ -62,7 +62,7 @@ impl<R: Wait + Copy> Watch<FileDisk> for Lines<R> {
         let failure = first_failure(a, b);
         self.note(Line::LogDown { acked, failure });
         if let Some(endings) = &self.at_log_down {
-            let _ = endings.try_send(&self.rt, Ending::LogDown);
+            let _ = endings.try_send(&self.rt, Ending::Server(ServerEnding::LogDown));
         }
     }
 }

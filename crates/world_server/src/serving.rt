@@ -22,7 +22,7 @@ use tcp_service::{Admission, Closed, Door, Seats, Stopped, open_world, serve_tcp
 use worker_threads::{Gates, NotStarted, Opened, Watch};
 use workers::{Gate, Open};
 use world_actions::Refusal;
-use world_folder::{Ending, NoPort, failure_of, open_existing, stands_in};
+use world_folder::{Ending, NoPort, ServerEnding, failure_of, open_existing, stands_in};
 
 /// Serves the world in a folder to so many clients. It prints which world was recovered, the port, and how far play
 /// came.
@@ -129,7 +129,7 @@ fn run<
     };
     match thread::spawn(rt, serve) {
         Ok(_) => {}
-        Err(_) => return Err(Ending::NoThread),
+        Err(_) => return Err(Ending::Server(ServerEnding::NoThread)),
     }
     match ended.recv(rt) {
         Ok(ending) => Ok(ending),
@@ -175,11 +175,11 @@ fn serve_opened<
 fn not_started(reason: NotStarted) -> Ending
     ensures fault { IsFault result }
     ensures memory { reason ≡ NotStarted.NoMemory → result ≡ Ending.Fault Refusal.NoMemory }
-    ensures thread { reason ≡ NotStarted.NoThread → result ≡ Ending.NoThread }
+    ensures thread { reason ≡ NotStarted.NoThread → result ≡ Ending.Server ServerEnding.NoThread }
 {
     match reason {
         NotStarted::NoMemory => Ending::Fault(Refusal::NoMemory),
-        NotStarted::NoThread => Ending::NoThread,
+        NotStarted::NoThread => Ending::Server(ServerEnding::NoThread),
     }
 }
 
@@ -212,35 +212,35 @@ fn listen<R: Net<Listener = TcpListener, Stream = TcpStream>>(
     let bound = TcpListener::bind(rt, address);
     let listener = match bound {
         Ok(listener) => listener,
-        Err(error) => return Err(Ending::NoPort(NoPort { port, error })),
+        Err(error) => return Err(Ending::Server(ServerEnding::NoPort(NoPort { port, error }))),
     };
     match listener.local_addr() {
         Ok(address) => Ok((listener, address.port())),
-        Err(error) => Err(Ending::NoPort(NoPort { port, error })),
+        Err(error) => Err(Ending::Server(ServerEnding::NoPort(NoPort { port, error }))),
     }
 }
 
 // How the program ends after a server has stopped: by its log, else by its images, else by its listener.
 fn ending_of<M: Method, D: Disk + Drop, G: Gate + Drop>(stopped: &Stopped<M, D, G>) -> Ending
-    ensures log { stopped.now.ends.log_writer.down ≡ true → result ≡ Ending.LogDown }
+    ensures log { stopped.now.ends.log_writer.down ≡ true → result ≡ Ending.Server ServerEnding.LogDown }
     ensures images { stopped.now.ends.log_writer.down ≡ false → stopped.now.ends.checkpointer.images.keeper.phase ≡ Down
-        → result ≡ Ending.ImagesDown }
+        → result ≡ Ending.Server ServerEnding.ImagesDown }
     ensures listener { stopped.now.ends.log_writer.down ≡ false → stopped.now.ends.checkpointer.images.keeper.phase ≢ Down
-        → (error : Error) → stopped.now.accepted.closed ≡ Closed.Failed error → result ≡ Ending.ListenerFailed }
+        → (error : Error) → stopped.now.accepted.closed ≡ Closed.Failed error → result ≡ Ending.Server ServerEnding.ListenerFailed }
     ensures memory { stopped.now.ends.log_writer.down ≡ false → stopped.now.ends.checkpointer.images.keeper.phase ≢ Down
         → stopped.now.accepted.closed ≡ Closed.NoMemory → result ≡ Ending.Fault Refusal.NoMemory }
     ensures well { stopped.now.ends.log_writer.down ≡ false → stopped.now.ends.checkpointer.images.keeper.phase ≢ Down
         → stopped.now.accepted.closed ≡ Closed.AllCame → result ≡ Ending.Ran }
 {
     if stopped.ends.log_writer.is_down() {
-        return Ending::LogDown;
+        return Ending::Server(ServerEnding::LogDown);
     }
     if stopped.ends.checkpointer.is_down() {
-        return Ending::ImagesDown;
+        return Ending::Server(ServerEnding::ImagesDown);
     }
     match stopped.accepted.closed {
         Closed::AllCame => Ending::Ran,
         Closed::NoMemory => Ending::Fault(Refusal::NoMemory),
-        Closed::Failed(_) => Ending::ListenerFailed,
+        Closed::Failed(_) => Ending::Server(ServerEnding::ListenerFailed),
     }
 }

@@ -79,7 +79,8 @@ A client writes lines, and `end` closes a batch, which is answered once it is du
 It prints, each line at once:
   recovered N from T        it found the world after tick N, built from the image of T
   listening PORT            clients may come
-  stopped tick N acked A    all are gone: N ticks ended, and those up to A are durable
+  stopped tick N acked A    all are gone: N ticks ended, and those up to A are durable;
+                            not after an end by --exit-when-log-down
 On standard error it prints, and drops lines that nobody reads:
   worldd: image of tick T opened
   worldd: images down: FILE: REASON            play continues without images

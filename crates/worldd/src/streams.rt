@@ -6,7 +6,7 @@ use std::alloc::Global;
 use std::io::{self, ErrorKind, Read, Write};
 use steps::run_script;
 use world_actions::Refusal;
-use world_folder::{Ending, STANDARD_INPUT, STANDARD_OUTPUT, StreamFailure};
+use world_folder::{Ending, Stream, StreamFailure};
 
 /// A stream, and why its last call that failed did.
 struct Watched<S> {
@@ -71,11 +71,11 @@ fn ending_of(
 {
     match (run, input, output) {
         (Err(Refusal::Device), Some(error), _) => Ending::Stream(StreamFailure {
-            name: STANDARD_INPUT,
+            stream: Stream::Input,
             error,
         }),
         (Err(Refusal::Device), None, Some(error)) => Ending::Stream(StreamFailure {
-            name: STANDARD_OUTPUT,
+            stream: Stream::Output,
             error,
         }),
         (run, _, _) => Ending::of_run(run),

@@ -12,7 +12,7 @@ use std::process::{ExitCode, Termination};
 use std::test::Fail;
 use tcp_service::Admission;
 use world_actions::Refusal;
-use world_folder::Ending;
+use world_folder::{Ending, ServerEnding};
 
 // Keeps all that is printed.
 #[derive(Drop)]
@@ -112,11 +112,11 @@ fn faults_are_told_by_code_and_in_words(rt: HostRuntime) {
 #[test]
 fn what_is_down_is_told_by_the_status(rt: HostRuntime) {
     for (ending, code) in [
-        (Ending::ListenerFailed, 10),
-        (Ending::ImagesDown, 11),
-        (Ending::LogDown, 12),
+        (ServerEnding::ListenerFailed, 10),
+        (ServerEnding::ImagesDown, 11),
+        (ServerEnding::LogDown, 12),
     ] {
-        let (status, errors) = reported(rt.alloc(), ending);
+        let (status, errors) = reported(rt.alloc(), Ending::Server(ending));
         assert!(rt;
             status == ExitCode::from(code) && errors.is_empty(),
             "{errors}"
