@@ -3,7 +3,7 @@ ghost use Rattle.std.specs.Prelude.{◌≡◌, ◌+◌, ◌≤◌};
 use crate::door::Door;
 use crate::failure::{Failure, Shortage, failure_of};
 use crate::session::Joined;
-use crate::sessions::{Sessions, Shared};
+use crate::session_threads::{Sessions, Shared};
 use crossbeam_channel::Sender;
 use std::alloc::Global;
 use std::io;
@@ -78,8 +78,13 @@ pub fn accept_sessions<
         door,
     };
     shared.door.opened();
-    let (unserved, closed) =
-        accept_all(rt, &listener, admission.clients, &mut shared, &mut sessions);
+    let (unserved, closed) = accept_all(
+        rt,
+        &listener,
+        admission.clients,
+        &mut shared,
+        &mut sessions,
+    );
     drop(listener);
     shared.door.closed();
     drop(shared);

@@ -4,9 +4,8 @@ ghost use Rattle.std.specs.IoError.{raw_os_error};
 ghost use Rattle.tcp_service.specs.Accepting.{next_pause};
 
 use crate::door::Door;
-use std::io;
-use std::thread;
 use std::time::{Clock, Duration};
+use std::{io, thread};
 
 // The system's error numbers.
 const EINTR: i32 = 4;

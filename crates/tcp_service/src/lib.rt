@@ -13,7 +13,7 @@ mod opening;
 mod remote;
 mod serving;
 mod session;
-mod sessions;
+mod session_threads;
 
 pub use accept::{Accepted, Admission, Closed, accept_sessions};
 pub use door::{Door, Unserved};

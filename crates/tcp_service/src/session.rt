@@ -53,9 +53,9 @@ impl Joined {
         Joined { count: 0 }
     }
 
-    /// Counts a session that is over.
-    pub fn add(&mut self, _over: Over)
-        requires { self.old.count < 4294967295 }
+    /// Counts a session that is over, of so many that were started.
+    pub fn add(&mut self, _over: Over, _started: u32)
+        requires { self.old.count < _started }
         ensures { self.new.count ≡ self.old.count + 1 }
     {
         self.count += 1;

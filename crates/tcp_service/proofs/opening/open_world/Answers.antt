@@ -1,4 +1,4 @@
-use Rattle.std.proofs.Common.{◌≡◌, ℕ, false, take, length, sym, ap, ◌∙◌, subst}
+use Rattle.std.proofs.Common.{◌≡◌, ℕ, take, length, sym, ap, ◌∙◌, subst}
 use Rattle.image_files.specs.Progress.{Progress as ImageProgress}
 use Rattle.action_log.specs.declared.progress.Progress.{Progress as LogProgress}
 use Rattle.worker_ends.specs.Ends.{WorldStands}

@@ -52,12 +52,7 @@ impl Sessions {
     pub fn start<
         R: Threads + Wait + Copy + Send + 'static,
         W: Door + Clone + Drop + Send + 'static,
-    >(
-        &mut self,
-        rt: &R,
-        stream: TcpStream,
-        shared: &Shared<W>,
-    ) -> Result<(), Unserved>
+    >(&mut self, rt: &R, stream: TcpStream, shared: &Shared<W>) -> Result<(), Unserved>
         requires { self.old.started < 4294967295 }
         ensures ok { OnOk result (self.new.started ≡ self.old.started + 1) }
         ensures err { OnErr result (self.new.started ≡ self.old.started) }
@@ -93,7 +88,7 @@ impl Sessions {
         ensures { self.new.started ≡ self.old.started }
     {
         if let Some(session) = self.running.try_remove(key) {
-            self.joined.add(session.join(rt));
+            self.joined.add(session.join(rt), self.started);
         }
     }
 
@@ -112,12 +107,12 @@ impl Sessions {
             running,
             ends: _,
             ended: _,
-            started: _,
+            started,
             joined,
         } = self;
         let mut joined = joined;
         for (_, session) in running {
-            joined.add(session.join(rt));
+            joined.add(session.join(rt), started);
         }
         joined
     }
