@@ -4,6 +4,7 @@
 //! stream, so nobody waits for their readers.
 #![tactic(auto)]
 
+mod front;
 mod line;
 mod lines;
 mod printer;

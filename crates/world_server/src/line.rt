@@ -1,9 +1,8 @@
 //! The lines that a server prints.
 
 use disk_model::FourFiles;
-use std::fmt;
-use std::io;
 use std::path::PathBuf;
+use std::{fmt, io};
 use tcp_service::Unserved;
 use world_folder::Reason;
 
@@ -54,6 +53,7 @@ pub enum Line {
 }
 
 /// A line with the paths that it may name.
+#[derive(Clone, Copy)]
 pub struct Printed<'a> {
     pub line: Line,
     pub paths: &'a FourFiles<PathBuf>,

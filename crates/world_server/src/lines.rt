@@ -45,6 +45,18 @@ impl<R: Wait + Copy> Lines<R> {
     }
 }
 
+/// Prints how far play came.
+pub trait Announce {
+    /// So many ticks ended, and those up to the second number are acknowledged.
+    fn stopped(&self, ended: u64, acked: u64);
+}
+
+impl<R: Wait + Copy> Announce for Lines<R> {
+    fn stopped(&self, ended: u64, acked: u64) {
+        self.output.print(&self.rt, Line::Stopped { ended, acked });
+    }
+}
+
 impl<R: Wait + Copy> Watch<FileDisk> for Lines<R> {
     fn image_opened(&mut self, tick: u64) {
         self.note(Line::ImageOpened(tick));

@@ -15,8 +15,8 @@ use worker_threads::NotStarted;
 /// How many lines may wait for a stream.
 const LINES: usize = 256;
 
-/// How long the end of the program waits for a stream that isn't read.
-const PATIENCE: Duration = Duration::from_secs(1);
+/// For how many seconds the end of the program waits for a stream that isn't read.
+const PATIENCE_SECONDS: u64 = 1;
 
 /// A standard stream.
 pub trait Stream {
@@ -89,9 +89,14 @@ impl Printer {
 
     /// Waits until all lines have left, but no longer than a reader may be waited for. It returns the first failure of
     /// the stream.
-    pub fn finish<R: Wait + Clock>(self, rt: &R, outcome: Receiver<io::Result<()>>) -> io::Result<()> {
-        let _ = self.lines.send_timeout(rt, Line::Last, PATIENCE);
-        match outcome.recv_timeout(rt, PATIENCE) {
+    pub fn finish<R: Wait + Clock>(
+        self,
+        rt: &R,
+        outcome: Receiver<io::Result<()>>,
+    ) -> io::Result<()> {
+        let patience = Duration::from_secs(PATIENCE_SECONDS);
+        let _ = self.lines.send_timeout(rt, Line::Last, patience);
+        match outcome.recv_timeout(rt, patience) {
             Ok(printed) => printed,
             Err(_) => Ok(()),
         }
@@ -99,17 +104,16 @@ impl Printer {
 }
 
 /// Starts the thread of a stream. Its outcome comes after the last line.
-pub fn start_printer<
-    R: Threads + Wait + Copy + Send + 'static,
-    S: Stream + Send + Drop + 'static,
->(
+pub fn start_printer<R: Threads + Wait + Copy + Send + 'static, S: Stream + Send + Drop + 'static>(
     rt: &R,
     alloc: Global,
     stream: S,
 ) -> Result<(Printer, Receiver<io::Result<()>>), NotStarted> {
     let (to, lines) = bounded(alloc, LINES)?;
     let (done, outcome) = bounded(alloc, 1)?;
-    let dropped = Arc::new(alloc, AtomicU64::new(0))?;
+    let Ok(dropped) = Arc::new(alloc, AtomicU64::new(0)) else {
+        return Err(NotStarted::NoMemory);
+    };
     let counted = dropped.clone()?;
     let here = *rt;
     let run = move || {

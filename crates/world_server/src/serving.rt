@@ -1,20 +1,18 @@
-ghost use Rattle.std.specs.Prelude.{◌≡◌, ◌≢◌, IfErr};
+ghost use Rattle.std.specs.Prelude.{◌≡◌, ◌≢◌, true, false, IfErr};
 ghost use Rattle.std.specs.declared.io.Error.{Error};
 ghost use Rattle.image_files.specs.declared.phase.Phase.TheVariants.{Down};
 ghost use Rattle.world_folder.specs.Ending.{IsFault};
 ghost use Rattle.worker_threads.specs.Begun.{IsWhole};
 
-use crate::line::Line;
-use crate::lines::Lines;
-use crate::printer::Printer;
+use crate::front::Front;
+use crate::lines::Announce;
 use crate::service::Service;
-use crate::streams::Streams;
-use crossbeam_channel::bounded;
+use crossbeam_channel::{Receiver, Sender};
 use disk_model::{Disk, FileDisk, FourFiles};
 use shared_capture::{Kind, Method, Pong, Zig};
 use std::alloc::Global;
 use std::fs::{File, Files};
-use std::net::{Ipv4Addr, Net, SocketAddr, TcpListener, TcpStream};
+use std::net::{Net, TcpListener, TcpStream};
 use std::sync::Wait;
 use std::thread::{self, Threads};
 use std::time::Clock;
@@ -22,7 +20,7 @@ use tcp_service::{Admission, Closed, Door, Seats, Stopped, open_world, serve_tcp
 use worker_threads::{Gates, NotStarted, Opened, Watch};
 use workers::{Gate, Open};
 use world_actions::Refusal;
-use world_folder::{Ending, NoPort, ServerEnding, failure_of, open_existing, stands_in};
+use world_folder::{Ending, ServerEnding, failure_of, open_existing, stands_in};
 
 /// Serves the world in a folder to so many clients. It prints which world was recovered, the port, and how far play
 /// came.
@@ -72,77 +70,26 @@ fn serve_by<
         Ok(opened) => opened,
         Err((files, refusal)) => return Err(not_opened(alloc, service.folder, files, refusal)),
     };
-    let streams = match Streams::start(rt, service.folder) {
-        Ok(streams) => streams,
-        Err(reason) => return Err(not_started(reason)),
-    };
-    let ended = opened.ended;
-    streams.output.print(rt, Line::Recovered { ended, from });
-    let ending = match run(rt, service, &streams, opened) {
-        Ok(ending) => ending,
-        Err(ending) => ending,
-    };
+    let Front {
+        streams,
+        listener,
+        lines,
+        endings,
+        ended,
+    } = Front::open(rt, service, opened.ended, from)?;
+    let (every, admission) = (service.every, service.admission);
+    let ending = run(
+        rt, alloc, lines, opened, every, listener, admission, endings, &ended,
+    );
     Ok(streams.finish(rt, ending))
 }
 
-// Listens, and serves in a thread of its own. The program ends as that thread says, or by a log that is down.
+// Serves in a thread of its own. The program ends as that thread says, or as a log that is down says.
 fn run<
-    R: Threads
-        + Wait
-        + Clock
-        + Net<Listener = TcpListener, Stream = TcpStream>
-        + AllocGlobal
-        + Copy
-        + Send
-        + 'static,
-    M: Method + Send + 'static,
->(
-    rt: &R,
-    service: &Service<'_>,
-    streams: &Streams,
-    opened: Opened<M, FileDisk>,
-) -> Result<Ending, Ending>
-    requires { IsWhole FileDisk.honest FileDisk.content opened.front opened.back opened.images opened.log opened.ended }
-{
-    let alloc = rt.alloc();
-    let (listener, port) = listen(rt, service.port)?;
-    let (endings, ended) = bounded(alloc, 2)?;
-    let at_log_down = if service.exits_when_log_down {
-        Some(endings.clone()?)
-    } else {
-        None
-    };
-    let lines = Lines {
-        rt: *rt,
-        port,
-        output: streams.output.clone()?,
-        errors: streams.errors.clone()?,
-        at_log_down,
-    };
-    let output = streams.output.clone()?;
-    let (here, every, admission) = (*rt, service.every, service.admission);
-    let serve = move ||
-        requires { IsWhole FileDisk.honest FileDisk.content opened.front opened.back opened.images opened.log opened.ended }
-    {
-        let ending = serve_opened(&here, alloc, lines, opened, every, listener, admission, &output);
-        let _ = endings.try_send(&here, ending);
-    };
-    match thread::spawn(rt, serve) {
-        Ok(_) => {}
-        Err(_) => return Err(Ending::Server(ServerEnding::NoThread)),
-    }
-    match ended.recv(rt) {
-        Ok(ending) => Ok(ending),
-        Err(_) => Err(Ending::Fault(Refusal::Device)),
-    }
-}
-
-// Serves a world that was opened.
-fn serve_opened<
     R: Threads + Wait + Clock + Copy + Send + 'static,
     M: Method + Send + 'static,
     D: Disk + Drop + Send + 'static,
-    W: Watch<D> + Door + Clone + Drop + Send + 'static,
+    W: Watch<D> + Door + Announce + Clone + Drop + Send + 'static,
 >(
     rt: &R,
     alloc: Global,
@@ -151,7 +98,41 @@ fn serve_opened<
     every: u32,
     listener: TcpListener,
     admission: Admission,
-    output: &Printer,
+    endings: Sender<Ending>,
+    ended: &Receiver<Ending>,
+) -> Ending
+    requires { IsWhole D.honest D.content opened.front opened.back opened.images opened.log opened.ended }
+{
+    let here = *rt;
+    let serve = move || -> ()
+        requires { IsWhole D.honest D.content opened.front opened.back opened.images opened.log opened.ended }
+    {
+        let ending = serve_opened(&here, alloc, watch, opened, every, listener, admission);
+        let _ = endings.try_send(&here, ending);
+    };
+    if thread::spawn(rt, serve).is_err() {
+        return Ending::Server(ServerEnding::NoThread);
+    }
+    match ended.recv(rt) {
+        Ok(ending) => ending,
+        Err(_) => Ending::Fault(Refusal::Device),
+    }
+}
+
+// Serves a world that was opened.
+fn serve_opened<
+    R: Threads + Wait + Clock + Copy + Send + 'static,
+    M: Method + Send + 'static,
+    D: Disk + Drop + Send + 'static,
+    W: Watch<D> + Door + Announce + Clone + Drop + Send + 'static,
+>(
+    rt: &R,
+    alloc: Global,
+    watch: W,
+    opened: Opened<M, D>,
+    every: u32,
+    listener: TcpListener,
+    admission: Admission,
 ) -> Ending
     requires { IsWhole D.honest D.content opened.front opened.back opened.images opened.log opened.ended }
 {
@@ -160,19 +141,20 @@ fn serve_opened<
         checkpointer: Open,
         log_writer: Open,
     };
+    let Ok(announce) = watch.clone() else {
+        return Ending::Fault(Refusal::NoMemory);
+    };
     match serve_tcp(rt, alloc, gates, watch, opened, every, listener, admission) {
         Ok(stopped) => {
-            let ended = stopped.ends.mutator.ended();
-            let acked = stopped.ends.acked();
-            output.print(rt, Line::Stopped { ended, acked });
+            announce.stopped(stopped.ends.mutator.ended(), stopped.ends.acked());
             ending_of(&stopped)
         }
         Err(reason) => not_started(reason),
     }
 }
 
-// How the program ends if the threads of a server can't be started.
-fn not_started(reason: NotStarted) -> Ending
+/// How the program ends if the threads of a server can't be started.
+pub fn not_started(reason: NotStarted) -> Ending
     ensures fault { IsFault result }
     ensures memory { reason ≡ NotStarted.NoMemory → result ≡ Ending.Fault Refusal.NoMemory }
     ensures thread { reason ≡ NotStarted.NoThread → result ≡ Ending.Server ServerEnding.NoThread }
@@ -198,25 +180,6 @@ fn not_opened(alloc: Global, folder: &str, files: FourFiles<FileDisk>, refusal: 
             Err(_) => Ending::Fault(refusal),
         },
         _ => Ending::Fault(refusal),
-    }
-}
-
-// A listener at a port of this machine, and the port that it has.
-fn listen<R: Net<Listener = TcpListener, Stream = TcpStream>>(
-    rt: &R,
-    port: u16,
-) -> Result<(TcpListener, u16), Ending>
-    ensures { IfErr result IsFault }
-{
-    let address = SocketAddr::from((Ipv4Addr::LOCALHOST, port));
-    let bound = TcpListener::bind(rt, address);
-    let listener = match bound {
-        Ok(listener) => listener,
-        Err(error) => return Err(Ending::Server(ServerEnding::NoPort(NoPort { port, error }))),
-    };
-    match listener.local_addr() {
-        Ok(address) => Ok((listener, address.port())),
-        Err(error) => Err(Ending::Server(ServerEnding::NoPort(NoPort { port, error }))),
     }
 }
 

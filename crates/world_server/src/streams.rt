@@ -53,7 +53,8 @@ impl Streams {
     /// Waits until the lines have left, or for some seconds if a stream isn't read, and ends the program so. A server
     /// that ended well ends with a fault if its output couldn't be printed.
     pub fn finish<R: Wait + Clock>(self, rt: &R, ending: Ending) -> Ending
-        ensures { ending ≢ Ending.Ran → result ≡ ending }
+        ensures other { ending ≢ Ending.Ran → result ≡ ending }
+        ensures fault { IsFault ending → IsFault result }
     {
         let Streams {
             output,
@@ -70,6 +71,7 @@ impl Streams {
 // How a server ends whose output was printed so.
 fn heard(ending: Ending, printed: io::Result<()>) -> Ending
     ensures other { ending ≢ Ending.Ran → result ≡ ending }
+    ensures fault { IsFault ending → IsFault result }
     ensures well { printed ≡ Ok tt → result ≡ ending }
     ensures unheard { ending ≡ Ending.Ran → IfErr printed (λ _. IsFault result) }
 {
