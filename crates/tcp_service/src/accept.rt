@@ -1,4 +1,4 @@
-ghost use Rattle.std.specs.Prelude.{◌≡◌, ◌+◌, ◌≤◌};
+ghost use Rattle.std.specs.Prelude.{◌≡◌, ◌≢◌, ◌+◌, ◌<◌, ◌≤◌};
 
 use crate::door::Door;
 use crate::failure::{Failure, Shortage, failure_of};
@@ -31,6 +31,8 @@ pub enum Closed {
     NoMemory,
     /// The listener failed.
     Failed(io::Error),
+    /// The server was left. Its sessions may run on.
+    Left,
 }
 
 /// How accepting connections ended.
@@ -47,7 +49,7 @@ pub struct Accepted {
 
 /// Accepts so many connections, and serves each in a thread of its own. It waits out a shortage of descriptors or
 /// memory. A client that can be given no thread or no memory is closed unanswered. After the last one, or a failure of
-/// the listener, it closes the port and waits for the sessions.
+/// the listener, it closes the port and waits for the sessions. It comes back at once if the server is left.
 pub fn accept_sessions<
     R: Threads + Wait + Clock + Copy + Send + 'static,
     W: Door + Clone + Drop + Send + 'static,
@@ -61,7 +63,7 @@ pub fn accept_sessions<
 ) -> Accepted
     ensures all { result.closed ≡ Closed.AllCame → result.connections ≡ admission.clients }
     ensures some { result.connections ≤ admission.clients }
-    ensures joined { result.connections ≡ result.sessions.count + result.unserved }
+    ensures joined { result.closed ≢ Closed.Left → result.connections ≡ result.sessions.count + result.unserved }
 {
     let Ok(mut sessions) = Sessions::new(alloc, admission.clients) else {
         return Accepted {
@@ -87,13 +89,37 @@ pub fn accept_sessions<
     );
     drop(listener);
     shared.door.closed();
-    drop(shared);
-    let sessions = sessions.join_all(rt);
-    Accepted {
-        connections: sessions.count() + unserved,
-        sessions,
-        unserved,
-        closed,
+    let Shared { door, .. } = shared;
+    ended(rt, sessions, unserved, closed, &door)
+}
+
+// How accepting ended, once each session has been joined.
+fn ended<R: Threads + Wait + Clock, W: Door>(
+    rt: &R,
+    sessions: Sessions,
+    unserved: u32,
+    closed: Closed,
+    door: &W,
+) -> Accepted
+    requires { sessions.started + unserved < 4294967296 }
+    ensures closed { result.closed ≢ Closed.Left → result.closed ≡ closed }
+    ensures connections { result.connections ≡ sessions.started + unserved }
+    ensures joined { result.closed ≢ Closed.Left → result.connections ≡ result.sessions.count + result.unserved }
+{
+    let connections = sessions.started() + unserved;
+    match (closed, sessions.join_all(rt, door)) {
+        (Closed::Left, _) | (_, None) => Accepted {
+            connections,
+            sessions: Joined::none(),
+            unserved,
+            closed: Closed::Left,
+        },
+        (closed, Some(sessions)) => Accepted {
+            connections,
+            sessions,
+            unserved,
+            closed,
+        },
     }
 }
 
@@ -116,6 +142,9 @@ fn accept_all<
     let mut unserved = 0;
     for _ in rt.forever() {
         sessions.join_ended(rt);
+        if shared.door.is_left() {
+            return (unserved, Closed::Left);
+        }
         if sessions.started() + unserved == clients {
             return (unserved, Closed::AllCame);
         }

@@ -28,4 +28,8 @@ pub trait Door {
 
     /// No more connections are accepted, and the port is closed.
     fn closed(&mut self);
+
+    /// Whether the server is to be left at once, with its workers and sessions as they are. It is asked after each
+    /// connection, and ten times a second once no more are accepted.
+    fn is_left(&self) -> bool;
 }

@@ -19,5 +19,5 @@ pub use accept::{Accepted, Admission, Closed, accept_sessions};
 pub use door::{Door, Unserved};
 pub use opening::{Seats, open_world};
 pub use remote::Remote;
-pub use serving::{Stopped, serve_tcp};
+pub use serving::{NotServed, Stopped, serve_tcp};
 pub use session::{Joined, Over, serve_session};

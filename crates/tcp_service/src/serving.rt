@@ -1,4 +1,4 @@
-ghost use Rattle.std.specs.Prelude.{◌≡◌, ◌+◌, ◌≤◌, IsTrue, IfOk};
+ghost use Rattle.std.specs.Prelude.{◌≡◌, ◌≢◌, ◌+◌, ◌≤◌, IsTrue, IfOk};
 ghost use Rattle.worker_threads.specs.Begun.{IsWhole};
 ghost use Rattle.tcp_service.specs.Opening.{StaysSound};
 
@@ -6,7 +6,7 @@ use crate::accept::{Accepted, Admission, Closed, accept_sessions};
 use crate::door::Door;
 use disk_model::Disk;
 use shared_capture::Method;
-use std::alloc::Global;
+use std::alloc::{AllocError, Global};
 use std::net::TcpListener;
 use std::sync::Wait;
 use std::thread::Threads;
@@ -21,10 +21,45 @@ pub struct Stopped<M: Method, D: Disk + Drop, G: Gate + Drop> {
     pub accepted: Accepted,
 }
 
+/// Why a server doesn't run to its end.
+#[derive(Clone, Copy, Debug, PartialEq, Eq)]
+pub enum NotServed {
+    NoMemory,
+    /// The system gives no thread for a worker.
+    NoThread,
+    /// The door said that the server is to be left: its workers and sessions may run on, up to the program's end.
+    Left,
+}
+
+impl From<AllocError> for NotServed {
+    ghost use Rattle.std.specs.Prelude.{◌≡◌};
+    ghost use Rattle.tcp_service.specs.declared.serving.NotServed.TheVariants.{NoMemory};
+
+    ghost from_gives = { λ _ reason. reason ≡ NoMemory };
+
+    fn from(_: AllocError) -> Self {
+        NotServed::NoMemory
+    }
+}
+
+impl From<NotStarted> for NotServed {
+    ghost use Rattle.tcp_service.specs.Accepting.{served_by};
+    ghost use Rattle.std.specs.Prelude.{◌≡◌};
+
+    ghost from_gives = { λ started served. served ≡ served_by started };
+
+    fn from(reason: NotStarted) -> Self {
+        match reason {
+            NotStarted::NoMemory => NotServed::NoMemory,
+            NotStarted::NoThread => NotServed::NoThread,
+        }
+    }
+}
+
 /// Serves the connections of a listener by the workers of a world, and stops the workers after the last one,
 /// also if the listener fails. A round is due after every `every` ticks. On disks that keep to the disk model the
 /// files are then sound for all ticks that were played. If the workers can't be started no thread is left running, and
-/// no connection is accepted.
+/// no connection is accepted. If the server is left, its threads run on.
 pub fn serve_tcp<
     R: Threads + Wait + Clock + Copy + Send + 'static,
     M: Method + Send + 'static,
@@ -40,11 +75,12 @@ pub fn serve_tcp<
     every: u32,
     listener: TcpListener,
     admission: Admission,
-) -> Result<Stopped<M, D, G>, NotStarted>
+) -> Result<Stopped<M, D, G>, NotServed>
     requires { IsWhole D.honest D.content opened.front opened.back opened.images opened.log opened.ended }
     ensures all { IfOk result (λ stopped. stopped.accepted.closed ≡ Closed.AllCame
         → stopped.accepted.connections ≡ admission.clients) }
     ensures some { IfOk result (λ stopped. stopped.accepted.connections ≤ admission.clients) }
+    ensures stays { IfOk result (λ stopped. stopped.accepted.closed ≢ Closed.Left) }
     ensures joined { IfOk result (λ stopped. stopped.accepted.connections
         ≡ stopped.accepted.sessions.count + stopped.accepted.unserved) }
     ensures began { IfOk result (λ stopped. (stopped.ends.mutator.opening ≡ opened.front.live)
@@ -57,6 +93,9 @@ pub fn serve_tcp<
     let door = watch.clone()?;
     let (workers, requests) = start(rt, alloc, gates, watch, opened, every)?;
     let accepted = accept_sessions(rt, alloc, listener, admission, requests, door);
+    if let Closed::Left = accepted.closed {
+        return Err(NotServed::Left);
+    }
     let mut ends = stop(rt, workers);
     ends_meet(&mut ends);
     Ok(Stopped { ends, accepted })

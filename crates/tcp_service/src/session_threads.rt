@@ -1,5 +1,5 @@
 //! The sessions of a server, each in a thread of its own.
-ghost use Rattle.std.specs.Prelude.{◌≡◌, ◌+◌, ◌<◌, OnOk, OnErr, IfOk};
+ghost use Rattle.std.specs.Prelude.{◌≡◌, ◌+◌, ◌<◌, OnOk, OnErr, IfOk, IfSome};
 ghost use Rattle.slab.specs.Slab.{slab_len};
 
 use crate::door::{Door, Unserved};
@@ -10,7 +10,11 @@ use std::alloc::{AllocError, Global};
 use std::net::TcpStream;
 use std::sync::Wait;
 use std::thread::{self, JoinHandle, Threads};
+use std::time::{Clock, Duration};
 use workers::Ask;
+
+/// How long the wait for the last sessions goes without asking the door.
+const PATIENCE_MILLISECONDS: u64 = 100;
 
 /// What each session is given beside its connection.
 #[derive(Drop)]
@@ -99,22 +103,25 @@ impl Sessions {
         self.started
     }
 
-    /// Waits until all have ended: those that were started were then joined, each once.
-    pub fn join_all<R: Threads>(self, rt: &R) -> Joined
-        ensures { result.count ≡ self.started }
+    /// Waits until all have ended: those that were started were then joined, each once. It returns nothing if the server
+    /// is left meanwhile.
+    pub fn join_all<R: Threads + Wait + Clock, W: Door>(self, rt: &R, door: &W) -> Option<Joined>
+        ensures { IfSome result (λ joined. joined.count ≡ self.started) }
     {
-        let Sessions {
-            running,
-            ends: _,
-            ended: _,
-            started,
-            joined,
-        } = self;
-        let mut joined = joined;
-        for (_, session) in running {
-            joined.add(session.join(rt), started);
+        let mut sessions = self;
+        for _ in rt.forever() {
+            if sessions.running.is_empty() {
+                return Some(sessions.joined);
+            }
+            if door.is_left() {
+                return None;
+            }
+            let patience = Duration::from_millis(PATIENCE_MILLISECONDS);
+            if let Ok(key) = sessions.ended.recv_timeout(rt, patience) {
+                sessions.join(rt, key);
+            }
         }
-        joined
+        unreachable!()
     }
 }
 

@@ -48,7 +48,8 @@ impl From<AllocError> for NotStarted {
 /// How many batches may wait for the mutator. A session has one at a time, and waits where there is no room.
 pub const ASKS: usize = 64;
 
-/// The workers of a world, each in its thread. Contracts see them as they began.
+/// The workers of a world, each in its thread. Contracts see them as they began. Dropped, they run on.
+#[derive(Drop)]
 pub struct Workers<M: Method, D: Disk + Drop, G: Gate + Drop> {
     mutator: PromisedHandle<Mutator<M, G>, SameMutator<M, G>>,
     checkpointer: PromisedHandle<Checkpointer<M, D, G>, SameCheckpointer<M, D, G>>,

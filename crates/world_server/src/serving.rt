@@ -77,21 +77,32 @@ fn serve_by<
         endings,
         ended,
     } = Front::open(rt, service, opened.ended, from)?;
-    let (every, admission) = (service.every, service.admission);
-    let ending = run(
-        rt, alloc, lines, opened, every, listener, admission, endings, &ended,
-    );
-    Ok(streams.finish(rt, ending))
+    let server = Server {
+        rt: *rt,
+        alloc,
+        watch: lines,
+        opened,
+        every: service.every,
+        listener,
+        admission: service.admission,
+        endings,
+    };
+    Ok(streams.finish(rt, run(rt, server, &ended)))
 }
 
-// Serves in a thread of its own. The program ends as that thread says, or as a log that is down says.
-fn run<
-    R: Threads + Wait + Clock + Copy + Send + 'static,
-    M: Method + Send + 'static,
-    D: Disk + Drop + Send + 'static,
-    W: Watch<D> + Door + Announce + Clone + Drop + Send + 'static,
->(
-    rt: &R,
+// The task of a thread.
+trait Task {
+    // When it may begin.
+    ghost ready: { Self → Type 0 };
+
+    fn perform(self)
+        requires { ready self };
+}
+
+// A server of an open world, and the channel on which it says how the program ends.
+#[derive(Drop)]
+struct Server<R: Wait, M: Method, D: Disk + Drop, W: Drop> {
+    rt: R,
     alloc: Global,
     watch: W,
     opened: Opened<M, D>,
@@ -99,18 +110,47 @@ fn run<
     listener: TcpListener,
     admission: Admission,
     endings: Sender<Ending>,
+}
+
+impl<
+    R: Threads + Wait + Clock + Copy + Send + 'static,
+    M: Method + Send + 'static,
+    D: Disk + Drop + Send + 'static,
+    W: Watch<D> + Door + Announce + Clone + Drop + Send + 'static,
+> Task for Server<R, M, D, W> {
+    ghost use Rattle.worker_threads.specs.Begun.{IsWhole};
+
+    ghost ready = { λ server. IsWhole D.honest D.content server.opened.front server.opened.back server.opened.images server.opened.log server.opened.ended };
+
+    fn perform(self) {
+        let Server {
+            rt,
+            alloc,
+            watch,
+            opened,
+            every,
+            listener,
+            admission,
+            endings,
+        } = self;
+        let ending = serve_opened(&rt, alloc, watch, opened, every, listener, admission);
+        let _ = endings.try_send(&rt, ending);
+    }
+}
+
+// Runs a server in a thread of its own. The program ends as the first message on the channel says: the server's own, or
+// that of a log that is down.
+fn run<R: Threads + Wait, S: Task + Drop + Send + 'static>(
+    rt: &R,
+    server: S,
     ended: &Receiver<Ending>,
 ) -> Ending
-    requires { IsWhole D.honest D.content opened.front opened.back opened.images opened.log opened.ended }
+    requires { S.ready server }
 {
-    let here = *rt;
-    let serve = move || -> ()
-        requires { IsWhole D.honest D.content opened.front opened.back opened.images opened.log opened.ended }
-    {
-        let ending = serve_opened(&here, alloc, watch, opened, every, listener, admission);
-        let _ = endings.try_send(&here, ending);
-    };
-    if thread::spawn(rt, serve).is_err() {
+    let perform = move || -> ()
+        requires { S.ready server }
+    { server.perform() };
+    if thread::spawn(rt, perform).is_err() {
         return Ending::Server(ServerEnding::NoThread);
     }
     match ended.recv(rt) {

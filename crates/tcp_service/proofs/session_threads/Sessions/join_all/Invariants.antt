@@ -1,5 +1,5 @@
-use Rattle.std.proofs.Common.{◌≡◌, ◌+◌, length}
+use Rattle.std.proofs.Common.{◌≡◌}
 use Rattle.tcp_service.proofs.session_threads.Sessions.join_all.Given as goal
 
-abbrev pub invariant-loop-session : goal.invariant-loop-session
-invariant-loop-session g l = l.fn.self.started ≡ l.joined.count + length l.session-iterator
+abbrev pub invariant-loop : goal.invariant-loop
+invariant-loop g l = l.sessions.started ≡ l.fn.self.started
