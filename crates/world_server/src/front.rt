@@ -1,29 +1,27 @@
 //! The parts of a server that its clients and its operator meet.
-ghost use Rattle.std.specs.Prelude.{IfErr};
+ghost use Rattle.std.specs.Prelude.{◌≡◌, IfErr};
 ghost use Rattle.world_folder.specs.Ending.{IsFault};
 
 use crate::line::Line;
 use crate::lines::Lines;
 use crate::service::Service;
-use crate::serving::not_started;
 use crate::streams::Streams;
-use crossbeam_channel::{Receiver, Sender, bounded};
 use std::io;
 use std::net::{Ipv4Addr, Net, SocketAddr, TcpListener, TcpStream};
-use std::sync::Wait;
+use std::sync::atomic::AtomicBool;
+use std::sync::{Arc, Wait};
 use std::thread::Threads;
 use std::time::Clock;
+use worker_threads::NotStarted;
+use world_actions::Refusal;
 use world_folder::{Ending, NoPort, ServerEnding};
 
-/// The streams, the listener, the lines of the workers and sessions, and the two ends of the channel on which the end
-/// of the program comes.
+/// The streams, the listener, and the lines of the workers and sessions.
 #[derive(Drop)]
-pub struct Front<R: Wait + Copy> {
+pub struct Front<R: Wait + Net + Copy> {
     pub streams: Streams,
     pub listener: TcpListener,
     pub lines: Lines<R>,
-    pub endings: Sender<Ending>,
-    pub ended: Receiver<Ending>,
 }
 
 impl<
@@ -48,12 +46,10 @@ impl<
         };
         streams.output.print(rt, Line::Recovered { ended, from });
         match Front::behind(rt, service, &streams) {
-            Ok((listener, lines, endings, ended)) => Ok(Front {
+            Ok((listener, lines)) => Ok(Front {
                 streams,
                 listener,
                 lines,
-                endings,
-                ended,
             }),
             Err(ending) => Err(streams.finish(rt, ending)),
         }
@@ -64,31 +60,42 @@ impl<
         rt: &R,
         service: &Service<'_>,
         streams: &Streams,
-    ) -> Result<(TcpListener, Lines<R>, Sender<Ending>, Receiver<Ending>), Ending>
+    ) -> Result<(TcpListener, Lines<R>), Ending>
         ensures { IfErr result IsFault }
     {
-        let (listener, port) = listen(rt, service.port)?;
-        let (endings, ended) = bounded(rt.alloc(), 2)?;
+        let (listener, address) = listen(rt, service.port)?;
+        let Ok(is_left) = Arc::new(rt.alloc(), AtomicBool::new(false)) else {
+            return Err(Ending::Fault(Refusal::NoMemory));
+        };
         let lines = Lines {
             rt: *rt,
-            port,
+            address,
             output: streams.output.clone()?,
             errors: streams.errors.clone()?,
-            at_log_down: if service.exits_when_log_down {
-                Some(endings.clone()?)
-            } else {
-                None
-            },
+            exits_when_log_down: service.exits_when_log_down,
+            is_left,
         };
-        Ok((listener, lines, endings, ended))
+        Ok((listener, lines))
     }
 }
 
-// A listener at a port of this machine, and the port that it has.
+// How the program ends if the threads of its streams can't be started.
+fn not_started(reason: NotStarted) -> Ending
+    ensures fault { IsFault result }
+    ensures memory { reason ≡ NotStarted.NoMemory → result ≡ Ending.Fault Refusal.NoMemory }
+    ensures thread { reason ≡ NotStarted.NoThread → result ≡ Ending.Server ServerEnding.NoThread }
+{
+    match reason {
+        NotStarted::NoMemory => Ending::Fault(Refusal::NoMemory),
+        NotStarted::NoThread => Ending::Server(ServerEnding::NoThread),
+    }
+}
+
+// A listener at a port of this machine, and its address.
 fn listen<R: Net<Listener = TcpListener, Stream = TcpStream>>(
     rt: &R,
     port: u16,
-) -> Result<(TcpListener, u16), Ending>
+) -> Result<(TcpListener, SocketAddr), Ending>
     ensures { IfErr result IsFault }
 {
     let address = SocketAddr::from((Ipv4Addr::LOCALHOST, port));
@@ -98,7 +105,7 @@ fn listen<R: Net<Listener = TcpListener, Stream = TcpStream>>(
         Err(error) => return Err(no_port(port, error)),
     };
     match listener.local_addr() {
-        Ok(address) => Ok((listener, address.port())),
+        Ok(address) => Ok((listener, address)),
         Err(error) => Err(no_port(port, error)),
     }
 }

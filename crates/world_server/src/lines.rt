@@ -2,43 +2,54 @@
 
 use crate::line::{Failure, Line, WorldFile};
 use crate::printer::Printer;
-use crossbeam_channel::Sender;
 use disk_model::FileDisk;
-use std::alloc::AllocError;
+use std::alloc::{AllocError, Global};
 use std::io;
-use std::sync::Wait;
+use std::net::{Net, SocketAddr, TcpStream};
+use std::sync::atomic::{AtomicBool, Ordering};
+use std::sync::{Arc, Wait};
+use std::time::Duration;
 use tcp_service::{Door, Unserved};
 use worker_threads::Watch;
 use workers::{ImageWriter, Log};
-use world_folder::{Ending, ServerEnding};
+
+/// How long the connection that wakes the server may take.
+const PATIENCE_MILLISECONDS: u64 = 100;
 
 /// Passes on what happens in a running server as lines, and never waits.
 #[derive(Drop)]
-pub struct Lines<R: Wait + Copy> {
+pub struct Lines<R: Wait + Net + Copy> {
     pub rt: R,
-    pub port: u16,
+    /// The server listens there.
+    pub address: SocketAddr,
     pub output: Printer,
     pub errors: Printer,
-    /// Takes the end of the program once the log is down, if that is to end it.
-    pub at_log_down: Option<Sender<Ending>>,
+    pub exits_when_log_down: bool,
+    /// Whether the server is to be left, since its log is down.
+    pub is_left: Arc<AtomicBool, Global>,
 }
 
-impl<R: Wait + Copy> Clone for Lines<R> {
+impl<R: Wait + Net + Copy> Clone for Lines<R> {
     fn clone(&self) -> Result<Self, AllocError> {
         Ok(Lines {
             rt: self.rt,
-            port: self.port,
+            address: self.address,
             output: self.output.clone()?,
             errors: self.errors.clone()?,
-            at_log_down: match &self.at_log_down {
-                Some(endings) => Some(endings.clone()?),
-                None => None,
-            },
+            exits_when_log_down: self.exits_when_log_down,
+            is_left: self.is_left.clone()?,
         })
     }
 }
 
-impl<R: Wait + Copy> Lines<R> {
+impl<R: Wait + Net + Copy> Lines<R> {
+    // Has the server left. A connection of its own wakes it from a wait for clients.
+    fn leave(&self) {
+        self.is_left.store(true, Ordering::SeqCst);
+        let patience = Duration::from_millis(PATIENCE_MILLISECONDS);
+        let _ = TcpStream::connect_timeout(&self.rt, &self.address, patience);
+    }
+
     // Prints a line on standard error.
     fn note(&self, line: Line) {
         self.errors.print(&self.rt, line);
@@ -51,13 +62,13 @@ pub trait Announce {
     fn stopped(&self, ended: u64, acked: u64);
 }
 
-impl<R: Wait + Copy> Announce for Lines<R> {
+impl<R: Wait + Net + Copy> Announce for Lines<R> {
     fn stopped(&self, ended: u64, acked: u64) {
         self.output.print(&self.rt, Line::Stopped { ended, acked });
     }
 }
 
-impl<R: Wait + Copy> Watch<FileDisk> for Lines<R> {
+impl<R: Wait + Net + Copy> Watch<FileDisk> for Lines<R> {
     fn image_opened(&mut self, tick: u64) {
         self.note(Line::ImageOpened(tick));
     }
@@ -73,15 +84,16 @@ impl<R: Wait + Copy> Watch<FileDisk> for Lines<R> {
         let b = (WorldFile::LogB, log.b.failure());
         let failure = first_failure(a, b);
         self.note(Line::LogDown { acked, failure });
-        if let Some(endings) = &self.at_log_down {
-            let _ = endings.try_send(&self.rt, Ending::Server(ServerEnding::LogDown));
+        if self.exits_when_log_down {
+            self.leave();
         }
     }
 }
 
-impl<R: Wait + Copy> Door for Lines<R> {
+impl<R: Wait + Net + Copy> Door for Lines<R> {
     fn opened(&mut self) {
-        self.output.print(&self.rt, Line::Listening(self.port));
+        self.output
+            .print(&self.rt, Line::Listening(self.address.port()));
     }
 
     fn session_refused(&mut self, why: Unserved) {
@@ -102,6 +114,10 @@ impl<R: Wait + Copy> Door for Lines<R> {
 
     fn closed(&mut self) {
         self.note(Line::PortClosed);
+    }
+
+    fn is_left(&self) -> bool {
+        self.is_left.load(Ordering::SeqCst)
     }
 }
 

@@ -7,17 +7,16 @@ ghost use Rattle.worker_threads.specs.Begun.{IsWhole};
 use crate::front::Front;
 use crate::lines::Announce;
 use crate::service::Service;
-use crossbeam_channel::{Receiver, Sender};
 use disk_model::{Disk, FileDisk, FourFiles};
 use shared_capture::{Kind, Method, Pong, Zig};
 use std::alloc::Global;
 use std::fs::{File, Files};
 use std::net::{Net, TcpListener, TcpStream};
 use std::sync::Wait;
-use std::thread::{self, Threads};
+use std::thread::Threads;
 use std::time::Clock;
-use tcp_service::{Admission, Closed, Door, Seats, Stopped, open_world, serve_tcp};
-use worker_threads::{Gates, NotStarted, Opened, Watch};
+use tcp_service::{Admission, Closed, Door, NotServed, Seats, Stopped, open_world, serve_tcp};
+use worker_threads::{Gates, Opened, Watch};
 use workers::{Gate, Open};
 use world_actions::Refusal;
 use world_folder::{Ending, ServerEnding, failure_of, open_existing, stands_in};
@@ -74,89 +73,10 @@ fn serve_by<
         streams,
         listener,
         lines,
-        endings,
-        ended,
     } = Front::open(rt, service, opened.ended, from)?;
-    let server = Server {
-        rt: *rt,
-        alloc,
-        watch: lines,
-        opened,
-        every: service.every,
-        listener,
-        admission: service.admission,
-        endings,
-    };
-    Ok(streams.finish(rt, run(rt, server, &ended)))
-}
-
-// The task of a thread.
-trait Task {
-    // When it may begin.
-    ghost ready: { Self → Type 0 };
-
-    fn perform(self)
-        requires { ready self };
-}
-
-// A server of an open world, and the channel on which it says how the program ends.
-#[derive(Drop)]
-struct Server<R: Wait, M: Method, D: Disk + Drop, W: Drop> {
-    rt: R,
-    alloc: Global,
-    watch: W,
-    opened: Opened<M, D>,
-    every: u32,
-    listener: TcpListener,
-    admission: Admission,
-    endings: Sender<Ending>,
-}
-
-impl<
-    R: Threads + Wait + Clock + Copy + Send + 'static,
-    M: Method + Send + 'static,
-    D: Disk + Drop + Send + 'static,
-    W: Watch<D> + Door + Announce + Clone + Drop + Send + 'static,
-> Task for Server<R, M, D, W> {
-    ghost use Rattle.worker_threads.specs.Begun.{IsWhole};
-
-    ghost ready = { λ server. IsWhole D.honest D.content server.opened.front server.opened.back server.opened.images server.opened.log server.opened.ended };
-
-    fn perform(self) {
-        let Server {
-            rt,
-            alloc,
-            watch,
-            opened,
-            every,
-            listener,
-            admission,
-            endings,
-        } = self;
-        let ending = serve_opened(&rt, alloc, watch, opened, every, listener, admission);
-        let _ = endings.try_send(&rt, ending);
-    }
-}
-
-// Runs a server in a thread of its own. The program ends as the first message on the channel says: the server's own, or
-// that of a log that is down.
-fn run<R: Threads + Wait, S: Task + Drop + Send + 'static>(
-    rt: &R,
-    server: S,
-    ended: &Receiver<Ending>,
-) -> Ending
-    requires { S.ready server }
-{
-    let perform = move || -> ()
-        requires { S.ready server }
-    { server.perform() };
-    if thread::spawn(rt, perform).is_err() {
-        return Ending::Server(ServerEnding::NoThread);
-    }
-    match ended.recv(rt) {
-        Ok(ending) => ending,
-        Err(_) => Ending::Fault(Refusal::Device),
-    }
+    let (every, admission) = (service.every, service.admission);
+    let ending = serve_opened(rt, alloc, lines, opened, every, listener, admission);
+    Ok(streams.finish(rt, ending))
 }
 
 // Serves a world that was opened.
@@ -189,19 +109,20 @@ fn serve_opened<
             announce.stopped(stopped.ends.mutator.ended(), stopped.ends.acked());
             ending_of(&stopped)
         }
-        Err(reason) => not_started(reason),
+        Err(reason) => not_served(reason),
     }
 }
 
-/// How the program ends if the threads of a server can't be started.
-pub fn not_started(reason: NotStarted) -> Ending
-    ensures fault { IsFault result }
-    ensures memory { reason ≡ NotStarted.NoMemory → result ≡ Ending.Fault Refusal.NoMemory }
-    ensures thread { reason ≡ NotStarted.NoThread → result ≡ Ending.Server ServerEnding.NoThread }
+// How the program ends if a server doesn't run to its end.
+fn not_served(reason: NotServed) -> Ending
+    ensures memory { reason ≡ NotServed.NoMemory → result ≡ Ending.Fault Refusal.NoMemory }
+    ensures thread { reason ≡ NotServed.NoThread → result ≡ Ending.Server ServerEnding.NoThread }
+    ensures left { reason ≡ NotServed.Left → result ≡ Ending.Server ServerEnding.LogDown }
 {
     match reason {
-        NotStarted::NoMemory => Ending::Fault(Refusal::NoMemory),
-        NotStarted::NoThread => Ending::Server(ServerEnding::NoThread),
+        NotServed::NoMemory => Ending::Fault(Refusal::NoMemory),
+        NotServed::NoThread => Ending::Server(ServerEnding::NoThread),
+        NotServed::Left => Ending::Server(ServerEnding::LogDown),
     }
 }
 
@@ -245,5 +166,6 @@ fn ending_of<M: Method, D: Disk + Drop, G: Gate + Drop>(stopped: &Stopped<M, D, 
         Closed::AllCame => Ending::Ran,
         Closed::NoMemory => Ending::Fault(Refusal::NoMemory),
         Closed::Failed(_) => Ending::Server(ServerEnding::ListenerFailed),
+        Closed::Left => Ending::Server(ServerEnding::LogDown),
     }
 }
