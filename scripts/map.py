@@ -85,7 +85,7 @@ def drawing(crates: dict[str, Crate]) -> str:
 
 def table(crates: dict[str, Crate]) -> str:
     """A row for each crate, the topmost first. What a used crate uses itself is left out."""
-    lines = ["| crate | uses | what it does |\n|---|---|---|\n"]
+    lines = ["| crate | uses | what it does or promises |\n|---|---|---|\n"]
     lower = below(crates)
     for crate in reversed(crates.values()):
         behind = set().union(*(lower[use] for use in crate.uses))
