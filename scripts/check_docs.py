@@ -6,12 +6,12 @@ It takes seconds, and prints the page, the line and the reason of each of these:
 - a number of crates, of wrong bodies or of things in the gate that is not the number of the tree
 - a name in backquotes that no crate has, or a clause that its function does not have
 - a link, an anchor, a page, a folder or a script that does not exist
-- a block of code that differs from its file in examples/, or that comes from no file
+- a block of code that differs from the file that it quotes, or a program in Python or C that quotes none
+- a wrong body of the gate that no table has, and a row on one that is not there
 
 A block of code may have a marker on a line above it: `<!-- examples/FILE -->` makes it a quote of that file, whole or in
-part. `<!-- run -->` makes it commands with their output, which scripts/example_trial.py runs.
+part, and so does a path in crates/. `<!-- run -->` makes it commands with their output, which scripts/example_trial.py runs.
 """
-import collections
 import dataclasses
 import pathlib
 import re
@@ -23,27 +23,31 @@ from map import below, read_crates
 
 # Pages whose names in backquotes are looked up.
 CITING = ("README.md", "docs/PROOFS.md", "docs/proofs/", "docs/HEADLINE.md", "docs/ARCHITECTURE.md", "docs/MODEL.md")
-# Names in backquotes that are not of the crates: keywords of contracts, programs and streams of the system.
-NOT_OF_CRATES = {"requires", "ensures", "decreases", "cc", "nc", "eof", "stdout", "stderr"}
-# What may be counted before these words. A number behind "at most" is a bound.
+# Names in backquotes that are not of the crates: words of contracts, words in place of a name, and names of the system. A
+# name of one or two letters is a variable or a command.
+NOT_OF_CRATES = {"requires", "ensures", "decreases", "function", "clause", "PATH", "eof", "stdout", "stderr", "pwrite", "fdatasync"}
+# What may be counted before or behind these words. A number behind "at most" is a bound.
 COUNTED = (
     (r"{} of the (?:\d+) crates", ("crates of worldd", "other crates")),
     (r"(?:other {} (?:crates|test)|{} other crates)", ("crates of worldd", "other crates")),
     (r"(?<!at most ){} crates", ("crates",)),
+    (r"\| crates \| {} \|", ("crates",)),
     (r"(?<!at most ){} (?:\w+ly )?wrong (?:function )?bodies", ("wrong bodies", "wrong bodies of the gate", "wrong bodies beside it")),
-    (r"{} others(?! )", ("wrong bodies beside it",)),
+    (r"\| wrong bodies that it tries \| {} \|", ("wrong bodies of the gate",)),
+    (r"{} of `must-fail/`", ("wrong bodies of the gate",)),
+    (r"(?:other {} are in `wrong-bodies/`|{} others(?! ))", ("wrong bodies beside it",)),
     (r"{} passed", ("things in the gate",)),
 )
 NUMBER = r"(?<![\d,.])(\d[\d,]*)"
-# A sentence that begins so speaks of an earlier tree.
-PAST = re.compile(r"(?:Before|Until then)\b[^.]*")
+# What follows these words speaks of an earlier tree.
+PAST = re.compile(r"\b(?:[Bb]efore|Until then),[^.|\n]*")
 # A path of the repository. What a program's folder out/ has is made by a run of the gate.
 PATH = re.compile(r"(?<![\w/.-])((?:docs|scripts|bench|examples|crates|\.ci)/[\w./*-]*[\w*/])")
 MADE = re.compile(r"crates/\w+/out/.*")
 FILE = re.compile(r"(?<![\w/.*-])(\w+\.(?:md|py|sh|c))\b")
 PLACEHOLDERS = re.compile(r"\b(?:NAME|CRATE|FILE)\b")
 LINK = re.compile(r"\[[^\]\n]*\]\(([^)\s]+)\)")
-MARKER = re.compile(r"<!-- (run|examples/[\w.]+) -->")
+MARKER = re.compile(r"<!-- (run|(?:examples|crates)/[\w./]+) -->")
 FENCE = re.compile(r"```(\w*)")
 QUOTED_LANGUAGES = ("python", "c")
 
@@ -74,37 +78,38 @@ class Page:
 Finding = tuple[str, int, str]
 
 
+def block_at(lines: list[str], at: int) -> tuple[int, str, list[str]]:
+    """The end of the block of code that begins at a line, its language and its lines. The end is that line if none begins."""
+    fence, end = FENCE.match(lines[at]), at
+    if fence:
+        end = [*lines, "```"].index("```", at + 1)
+        return end + 1, fence[1], lines[at + 1 : end]
+    while end < len(lines) and (lines[end].startswith("    ") or end > at and is_gap(lines[end : end + 2])):
+        end += 1
+    return end, "", [line[4:] for line in lines[at:end]]
+
+
+def is_gap(lines: list[str]) -> bool:
+    """Whether an empty line has a line of an indented block behind it."""
+    return len(lines) == 2 and not lines[0] and lines[1].startswith("    ")
+
+
 def read_page(path: pathlib.Path) -> Page:
     """Reads a page. In its prose the lines of blocks are empty."""
-    prose, blocks, marker, lines = [], [], "", path.read_text().splitlines()
-    at = 0
+    prose, blocks, marker, lines, at = [], [], "", path.read_text().splitlines(), 0
     while at < len(lines):
-        fence, begin = FENCE.match(lines[at]), at
-        if fence:
-            at += 1
-            while at < len(lines) and lines[at] != "```":
-                at += 1
-            body = lines[begin + 1 : at]
-            at += 1
-        else:
-            while at < len(lines) and (lines[at].startswith("    ") or body_goes_on(lines, begin, at)):
-                at += 1
-            body = [line[4:] for line in lines[begin:at]]
-        if at > begin:
-            blocks.append(Block(begin + 1, fence[1] if fence else "", marker, "".join(f"{line}\n" for line in body)))
-            prose += [""] * (at - begin)
-            marker = ""
+        end, language, body = block_at(lines, at)
+        if end > at:
+            blocks.append(Block(at + 1, language, marker, "".join(f"{line}\n" for line in body)))
+            prose += [""] * (end - at)
+            marker, at = "", end
             continue
         found = MARKER.fullmatch(lines[at])
-        marker = found[1] if found else "" if lines[at] else marker
+        if found or lines[at]:
+            marker = found[1] if found else ""
         prose.append(lines[at])
         at += 1
     return Page(str(path.relative_to(TOP)), "\n".join(prose), tuple(blocks))
-
-
-def body_goes_on(lines: list[str], begin: int, at: int) -> bool:
-    """Whether an empty line is within an indented block."""
-    return at > begin and not lines[at] and any(line.startswith("    ") for line in lines[at + 1 : at + 2])
 
 
 def pages() -> list[Page]:
@@ -145,33 +150,47 @@ def wrong_counts(page: Page, counts: dict[str, int]) -> Iterator[Finding]:
                 yield page.name, page.line_of(found.start()), f"`{found[0]}`: the tree has {known}"
 
 
-def wrong_tables(page: Page, names: Names) -> Iterator[Finding]:
-    """Rows of a table of wrong bodies that are not those of must-fail/."""
-    head, rows = "| crate | promise | refused by | wrong body |", collections.defaultdict(set)
-    begin = page.prose.find(head)
-    if begin < 0:
-        return
-    for line in page.prose[begin:].splitlines()[2:]:
-        cells = re.split(r"\s*\|\s*", line.strip("| "))
-        if len(cells) != 4:
-            break
-        rows[cells[0]] |= set(re.findall(r"`(\w+)`", cells[3]))
+def rows_of(page: Page) -> Iterator[tuple[int, dict[str, str]]]:
+    """The rows of all tables, each with its line, by the heads of the columns."""
+    head: list[str] = []
+    for number, line in enumerate(page.prose.splitlines(), 1):
+        cells = [cell.strip() for cell in line.strip().strip("|").split("|")] if line.startswith("|") else []
+        if not cells or not head:
+            head = cells
+        elif not line.startswith("|---"):
+            yield number, dict(zip(head, cells))
+
+
+def wrong_tables(every: list[Page], names: Names) -> Iterator[Finding]:
+    """Rows on wrong bodies that are not those of the tree, and wrong bodies of the gate without a row."""
+    rows = [(page.name, line, row) for page in every for line, row in rows_of(page) if "crate" in row]
+    known: set[tuple[str, str]] = set()
+    for page, line, row in rows:
+        crate, bodies = row["crate"].strip("`"), re.findall(r"`(\w+)`", row.get("wrong body", ""))
+        known |= {(crate, body) for body in bodies}
+        for body in bodies:
+            if body not in names.bodies[crate]:
+                yield page, line, f"must-fail/ of {crate} has no wrong body {body}"
+        for head, folder in (("wrong bodies: gate", "must-fail"), ("others", "wrong-bodies")):
+            count = len(list((TOP / "crates" / crate / folder).glob("*.edit")))
+            if "wrong bodies: gate" in row and (row[head] or "0") != str(count):
+                yield page, line, f"{folder}/ of {crate} has {count} wrong bodies, not {row[head]}"
     for crate, bodies in names.bodies.items():
-        for body in sorted(bodies ^ rows[crate]):
-            reason = "is in the table, and not in must-fail/" if body in rows[crate] else "has no row in the table"
-            yield page.name, page.line_of(begin), f"the wrong body {crate}/{body} {reason}"
+        for body in sorted(bodies):
+            if (crate, body) not in known:
+                yield "docs/PROOFS.md", 1, f"no table has the wrong body {crate}/{body}"
 
 
 def wrong_citations(page: Page, names: Names, libraries: set[str]) -> Iterator[Finding]:
     """Names in backquotes that the crates don't have, and clauses that a function doesn't have."""
     text = sentences(page.prose)
+    # A row on a wrong body names the check that refuses it, which may be that of a function that is called.
+    refusals = {line for line, row in rows_of(page) if "wrong body" in row}
     for found in re.finditer(r"`([A-Za-z_]\w*(?:::\w+)*)(?:\(\))?`", text):
-        if found[1] not in libraries | NOT_OF_CRATES and not names.has_path(found[1]):
+        if len(found[1]) > 2 and found[1] not in libraries | NOT_OF_CRATES and not names.has_path(found[1]):
             yield page.name, page.line_of(found.start()), f"`{found[1]}` is the name of nothing in the crates"
     for found in re.finditer(r"`([A-Za-z_][\w:]*)`(?:'s? type)?: ((?:`[a-z]\w*`(?:, )?)+)(?! [a-z])", text):
-        row = text[text.rfind("\n", 0, found.start()) + 1 : text.find("\n", found.end())]
-        if re.search(r"\| `\w+` \|$", row):
-            # A row of a wrong body names the check that refuses it, which may be of a function that is called.
+        if page.line_of(found.start()) in refusals:
             continue
         for clause in re.findall(r"`(\w+)`", found[2]):
             if clause not in NOT_OF_CRATES and names.has_path(found[1]) and not names.has_clause(found[1], clause):
@@ -210,7 +229,7 @@ def wrong_quotes(page: Page) -> Iterator[Finding]:
     """Blocks of code that are not in their file, and clients that come from no file."""
     for block in page.blocks:
         file = TOP / block.marker
-        if block.marker.startswith("examples/"):
+        if "/" in block.marker:
             if not file.is_file():
                 yield page.name, block.line, f"there is no {block.marker}"
             elif f"\n{block.text}" not in f"\n{file.read_text()}":
@@ -240,9 +259,9 @@ def findings() -> Iterator[Finding]:
             yield from wrong_counts(page, counts)
         if page.name.startswith(CITING):
             yield from wrong_citations(page, names, libraries)
-        yield from wrong_tables(page, names)
         yield from wrong_links(page)
         yield from wrong_quotes(page)
+    yield from wrong_tables(every, names)
     yield from unnamed_files(every)
 
 

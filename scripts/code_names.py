@@ -1,6 +1,7 @@
-"""What the crates name: functions, types, clauses, definitions, fields and wrong bodies. `check_docs.py` looks them up.
+"""What the crates name: functions, types, clauses, definitions, fields and wrong bodies. check_docs.py looks them up.
 
-It goes by the text of src/, specs/ and proofs/: a line that begins an item, a clause or a definition names it.
+It goes by the text of src/, specs/ and proofs/: a line that begins an item, a clause or a definition names it, and an import
+names what it imports.
 """
 import collections
 import pathlib
@@ -12,6 +13,7 @@ IMPL = re.compile(r"impl(?:<.*?>)? (?:(\w[\w:]*)(?:<.*?>)? for )?(\w+)")
 CLAUSE = re.compile(r"\s*(?:requires|ensures|decreases) (\w+) \{")
 FIELD = re.compile(r"\s+(?:pub |pub\(\w+\) )?(?:ghost )?(\w+)\s*(?:[:,({=]|$)")
 DEFINITION = re.compile(r"\s*(?:(?:unfoldable|opaque|abbrev|pub|record|data) )+([^\s:({]+)|([^\s:({]+) :")
+IMPORT = re.compile(r"\s*(?:ghost |pub )?use .*")
 OWNERS = "trait", "struct", "enum"
 
 
@@ -47,7 +49,9 @@ class Names:
         function: tuple[str, ...] = ()
         for line in path.read_text().splitlines():
             item, block = ITEM.match(line), IMPL.match(line)
-            if block:
+            if IMPORT.match(line):
+                self.all |= set(re.findall(r"\w+", line))
+            elif block:
                 owners = tuple(name for name in block.groups() if name)
             elif item:
                 kind, name = item.groups()
