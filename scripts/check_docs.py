@@ -19,7 +19,7 @@ import sys
 from collections.abc import Iterator
 
 from code_names import TOP, Names
-from map import below, read_crates
+from map import Refused, below, read_crates
 
 # Pages whose names in backquotes are looked up.
 CITING = ("README.md", "docs/PROOFS.md", "docs/proofs/", "docs/HEADLINE.md", "docs/ARCHITECTURE.md", "docs/MODEL.md")
@@ -267,7 +267,11 @@ def findings() -> Iterator[Finding]:
 
 def main() -> int:
     """Prints what is wrong."""
-    found = list(findings())
+    try:
+        found = list(findings())
+    except Refused as refused:
+        print(f"check_docs: {refused}", file=sys.stderr)
+        return 1
     for page, line, reason in found:
         print(f"{page}:{line}: {reason}", file=sys.stderr)
     if not found:

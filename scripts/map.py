@@ -84,10 +84,10 @@ def drawing(crates: dict[str, Crate]) -> str:
 
 
 def table(crates: dict[str, Crate]) -> str:
-    """A row for each crate, the topmost first. What a used crate uses itself is left out."""
+    """A row for each crate, the lowest first. What a used crate uses itself is left out."""
     lines = ["| crate | uses | what it does or promises |\n|---|---|---|\n"]
     lower = below(crates)
-    for crate in reversed(crates.values()):
+    for crate in crates.values():
         behind = set().union(*(lower[use] for use in crate.uses))
         direct = ", ".join(use for use in crate.uses if use not in behind)
         lines.append(f"| {crate.name} | {direct or 'none'} | {crate.text} |\n")
