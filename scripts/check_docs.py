@@ -6,11 +6,12 @@ It takes seconds, and prints the page, the line and the reason of each of these:
 - a number of crates, of wrong bodies or of things in the gate that is not the number of the tree
 - a name in backquotes that no crate has, or a clause that its function does not have
 - a link, an anchor, a page, a folder or a script that does not exist
-- a block of code that differs from the file that it quotes, or a program in Python or C that quotes none
+- a block of code that differs from the file that it quotes
 - a wrong body of the gate that no table has, and a row on one that is not there
 
-A block of code may have a marker on a line above it: `<!-- examples/FILE -->` makes it a quote of that file, whole or in
-part, and so does a path in crates/. `<!-- run -->` makes it commands with their output, which scripts/example_trial.py runs.
+A block between fences is a quote, whole or in part: of the file in a marker on a line above it, `<!-- examples/FILE -->`, or
+without a language of any file in src/ or specs/ of a crate. An indented block is text. The marker `<!-- run -->` makes it
+commands with their output, which scripts/example_trial.py runs.
 """
 import dataclasses
 import pathlib
@@ -47,9 +48,10 @@ MADE = re.compile(r"crates/\w+/out/.*")
 FILE = re.compile(r"(?<![\w/.*-])(\w+\.(?:md|py|sh|c))\b")
 PLACEHOLDERS = re.compile(r"\b(?:NAME|CRATE|FILE)\b")
 LINK = re.compile(r"\[[^\]\n]*\]\(([^)\s]+)\)")
-MARKER = re.compile(r"<!-- (run|(?:examples|crates)/[\w./]+) -->")
+MARKER = re.compile(r"<!-- (run|examples/[\w.]+) -->")
 FENCE = re.compile(r"```(\w*)")
-QUOTED_LANGUAGES = ("python", "c")
+# A block between fences that name no language.
+CODE = "code"
 
 
 @dataclasses.dataclass(frozen=True)
@@ -83,7 +85,7 @@ def block_at(lines: list[str], at: int) -> tuple[int, str, list[str]]:
     fence, end = FENCE.match(lines[at]), at
     if fence:
         end = [*lines, "```"].index("```", at + 1)
-        return end + 1, fence[1], lines[at + 1 : end]
+        return end + 1, fence[1] or CODE, lines[at + 1 : end]
     while end < len(lines) and (lines[end].startswith("    ") or end > at and is_gap(lines[end : end + 2])):
         end += 1
     return end, "", [line[4:] for line in lines[at:end]]
@@ -225,17 +227,19 @@ def wrong_links(page: Page) -> Iterator[Finding]:
             yield page.name, whole.count("\n", 0, found.start()) + 1, f"no folder has a file {found[1]}"
 
 
-def wrong_quotes(page: Page) -> Iterator[Finding]:
-    """Blocks of code that are not in their file, and clients that come from no file."""
+def wrong_quotes(page: Page, code: list[str]) -> Iterator[Finding]:
+    """Blocks between fences that are not in the file that they quote."""
     for block in page.blocks:
         file = TOP / block.marker
-        if "/" in block.marker:
+        if block.marker.startswith("examples/"):
             if not file.is_file():
                 yield page.name, block.line, f"there is no {block.marker}"
             elif f"\n{block.text}" not in f"\n{file.read_text()}":
                 yield page.name, block.line, f"the block differs from {block.marker}"
-        elif block.language in QUOTED_LANGUAGES:
-            yield page.name, block.line, "a block of code that quotes no file of examples/"
+        elif block.language == CODE and not any(block.text in text for text in code):
+            yield page.name, block.line, "no file in src/ or specs/ of a crate has this block"
+        elif block.language not in ("", CODE):
+            yield page.name, block.line, "the block has no marker with the file that it quotes"
 
 
 def unnamed_files(every: list[Page]) -> Iterator[Finding]:
@@ -252,6 +256,7 @@ def unnamed_files(every: list[Page]) -> Iterator[Finding]:
 def findings() -> Iterator[Finding]:
     """All that is wrong."""
     every, names, counts = pages(), Names(), tree_counts()
+    code = [path.read_text() for kind in ("src/**/*.rt", "specs/**/*.antt") for path in TOP.glob(f"crates/*/{kind}")]
     lines = (TOP / "crates.txt").read_text().splitlines()
     libraries = {word for line in lines if not line.startswith("#") for word in line.partition(":")[2].split()}
     for page in every:
@@ -260,7 +265,7 @@ def findings() -> Iterator[Finding]:
         if page.name.startswith(CITING):
             yield from wrong_citations(page, names, libraries)
         yield from wrong_links(page)
-        yield from wrong_quotes(page)
+        yield from wrong_quotes(page, code)
     yield from wrong_tables(every, names)
     yield from unnamed_files(every)
 
