@@ -123,7 +123,7 @@ def main() -> int:
     except (Wrong, OSError, subprocess.SubprocessError) as wrong:
         print(f"example_trial: {wrong}", file=sys.stderr)
         return 1
-    print(f"examples: a script, {len(blocks)} blocks of commands and a broken connection, each as it is to be")
+    print(f"examples: the script, the broken connection and blocks of commands ({len(blocks)}) print what their pages say")
     return 0
 
 
