@@ -52,7 +52,8 @@ int main(int count, char **words) {
             fputs(answer, stdout);
             return strncmp(answer, "fault ", 6) ? 0 : 1;
         }
-        if (stream && !may_be_played_twice(words + 2)) return fputs("client: it isn't known whether the batch was played\n", stderr), 3;
+        if (stream && !may_be_played_twice(words + 2))
+            return fputs("client: it isn't known whether the batch was played\n", stderr), 3;
         if (stream) fclose(stream);
         sleep(1);
     }

@@ -26,14 +26,14 @@ from map import Refused, below, read_crates
 CITING = ("README.md", "docs/PROOFS.md", "docs/proofs/", "docs/HEADLINE.md", "docs/ARCHITECTURE.md", "docs/MODEL.md")
 # Names in backquotes that are not of the crates: words of contracts, words in place of a name, and names of the system. A
 # name of one or two letters is a variable or a command.
-NOT_OF_CRATES = {"requires", "ensures", "decreases", "function", "clause", "PATH", "eof", "stdout", "stderr", "pwrite", "fdatasync"}
+NOT_OF_CRATES = {"requires", "ensures", "decreases", "function", "clause", "PATH", "eof", "stdout", "pwrite", "fdatasync"}
 # What may be counted before or behind these words. A number behind "at most" is a bound.
 COUNTED = (
     (r"{} of the (?:\d+) crates", ("crates of worldd", "other crates")),
     (r"(?:other {} (?:crates|test)|{} other crates)", ("crates of worldd", "other crates")),
     (r"(?<!at most ){} crates", ("crates",)),
     (r"\| crates \| {} \|", ("crates",)),
-    (r"(?<!at most ){} (?:\w+ly )?wrong (?:function )?bodies", ("wrong bodies", "wrong bodies of the gate", "wrong bodies beside it")),
+    (r"(?<!at most ){} (?:\w+ly )?wrong (?:function )?bodies", ("all wrong bodies", "wrong bodies of the gate", "wrong bodies beside it")),
     (r"\| wrong bodies that it tries \| {} \|", ("wrong bodies of the gate",)),
     (r"{} of `must-fail/`", ("wrong bodies of the gate",)),
     (r"(?:other {} are in `wrong-bodies/`|{} others(?! ))", ("wrong bodies beside it",)),
@@ -45,6 +45,7 @@ PAST = re.compile(r"\b(?:[Bb]efore|Until then),[^.|\n]*")
 # A path of the repository. What a program's folder out/ has is made by a run of the gate.
 PATH = re.compile(r"(?<![\w/.-])((?:docs|scripts|bench|examples|crates|\.ci)/[\w./*-]*[\w*/])")
 MADE = re.compile(r"crates/\w+/out/.*")
+FOLDERS = (".", "docs", "docs/proofs", "scripts", "bench", "examples")
 FILE = re.compile(r"(?<![\w/.*-])(\w+\.(?:md|py|sh|c))\b")
 PLACEHOLDERS = re.compile(r"\b(?:NAME|CRATE|FILE)\b")
 LINK = re.compile(r"\[[^\]\n]*\]\(([^)\s]+)\)")
@@ -134,7 +135,7 @@ def tree_counts() -> dict[str, int]:
         "crates": len(crates),
         "crates of worldd": program,
         "other crates": len(crates) - program,
-        "wrong bodies": gate + beside,
+        "all wrong bodies": gate + beside,
         "wrong bodies of the gate": gate,
         "wrong bodies beside it": beside,
         "things in the gate": len(crates) + gate,
@@ -221,7 +222,7 @@ def wrong_links(page: Page) -> Iterator[Finding]:
         path = found[1] if not MADE.fullmatch(found[1]) else str(pathlib.Path(found[1]).parent.parent)
         if not PLACEHOLDERS.search(path) and not any(TOP.glob(path.rstrip("/"))):
             yield page.name, whole.count("\n", 0, found.start()) + 1, f"there is no {found[1]}"
-    known = {path.name for folder in (".", "docs", "docs/proofs", "scripts", "bench", "examples") for path in (TOP / folder).glob("*")}
+    known = {path.name for folder in FOLDERS for path in (TOP / folder).glob("*")}
     for found in FILE.finditer(whole):
         if found[1] not in known:
             yield page.name, whole.count("\n", 0, found.start()) + 1, f"no folder has a file {found[1]}"
