@@ -155,16 +155,17 @@ def dearest(most: int) -> None:
 
 
 def groups() -> None:
-    """Prints the minutes of each group of crates, and of a change in it: its crates and all that stand on them are checked again."""
+    """Prints what a change in each group of crates costs: its crates and all that stand on them are checked again."""
     crates, found = read_crates(), read_times()
-    minutes = {name: sum(found[name].values()) / 60 for name in crates}
     lower = below(crates)
-    print(f"{'group':12}{'crates':>8}{'minutes':>10}{'checked again':>16}{'minutes':>10}")
+    print(f"{'group':12}{'crates again':>14}{'minutes':>10}{'wrong bodies again':>20}{'minutes':>10}")
     for group in dict.fromkeys(crate.group for crate in crates.values()):
         own = {name for name, crate in crates.items() if crate.group == group}
         again = own | {name for name in crates if lower[name] & own}
-        costs = [sum(minutes[name] for name in names) for names in (own, again)]
-        print(f"{group:12}{len(own):8}{costs[0]:10.1f}{len(again):16}{costs[1]:10.1f}")
+        bodies = sum(len(list((TOP / "crates" / name / "must-fail").glob("*.edit"))) for name in again)
+        tries = sum(found[name].get("wrong bodies", 0) for name in again)
+        checks = sum(sum(found[name].values()) for name in again) - tries
+        print(f"{group:12}{len(again):14}{checks / 60:10.0f}{bodies:20}{tries / 60:10.0f}")
 
 
 def unit() -> int:
