@@ -4,6 +4,7 @@
     scripts/gate_time.py watch PID        records the checks below a process until it ends (`.ci/run` does this)
     scripts/gate_time.py total PID LOG    prints the cost so far of that process, and how much of it was kept work
     scripts/gate_time.py dearest          prints the dearest crates of the last run
+    scripts/gate_time.py groups           prints what a change in each group of crates.txt costs, by the last run
     scripts/gate_time.py unit             measures the unit, and prints the last run's cost in units
 
 Times are processor seconds, user and system. The unit is `rt verdict` in crates/packed_marks, alone on the machine:
@@ -18,6 +19,8 @@ import resource
 import subprocess
 import sys
 import time
+
+from map import below, read_crates
 
 TOP = pathlib.Path(__file__).resolve().parent.parent
 # Written by a run of the gate: seconds by crate and kind, and the seconds of the whole run.
@@ -151,6 +154,20 @@ def dearest(most: int) -> None:
     print(f"{'all':16}" + "".join(f"{seconds:14.0f}" for seconds in (*whole, sum(whole))))
 
 
+def groups() -> None:
+    """Prints what a change in each group of crates costs: its crates and all that stand on them are checked again."""
+    crates, found = read_crates(), read_times()
+    lower = below(crates)
+    print(f"{'group':12}{'crates again':>14}{'minutes':>10}{'wrong bodies again':>20}{'minutes':>10}")
+    for group in dict.fromkeys(crate.group for crate in crates.values()):
+        own = {name for name, crate in crates.items() if crate.group == group}
+        again = own | {name for name in crates if lower[name] & own}
+        bodies = sum(len(list((TOP / "crates" / name / "must-fail").glob("*.edit"))) for name in again)
+        tries = sum(found[name].get("wrong bodies", 0) for name in again)
+        checks = sum(sum(found[name].values()) for name in again) - tries
+        print(f"{group:12}{len(again):14}{checks / 60:10.0f}{bodies:20}{tries / 60:10.0f}")
+
+
 def unit() -> int:
     """Measures the unit, and prints the last run's cost in units."""
     begun = resource.getrusage(resource.RUSAGE_CHILDREN)
@@ -176,6 +193,7 @@ def main() -> int:
     whole.add_argument("pid", type=int)
     whole.add_argument("log", type=pathlib.Path)
     commands.add_parser("dearest", help="print the dearest crates of the last run").add_argument("--most", type=int, default=20)
+    commands.add_parser("groups", help="print what a change in each group of crates costs, by the last run")
     commands.add_parser("unit", help="measure the unit, and print the last run's cost in units")
     given = parser.parse_args()
     if given.command == "watch":
@@ -184,6 +202,8 @@ def main() -> int:
         total(given.pid, given.log)
     elif given.command == "dearest":
         dearest(given.most)
+    elif given.command == "groups":
+        groups()
     else:
         return unit()
     return 0

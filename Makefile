@@ -1,0 +1,16 @@
+# The commands of every day, as `make crate NAME=sessions`. docs/CONTRIBUTING.md says more about each.
+PORT = 7070
+WORLD = out/world
+WORLDD = crates/worldd/out/worldd
+name = $(or $(NAME),$(error write NAME=.., a crate of crates.txt))
+
+try: ; cd crates/worldd && rt try -- steps <../../examples/session.txt
+build: ; for program in worldd world_load; do (cd crates/$$program && rt run -- --version) || exit 1; done
+gate: ; .ci/run
+docs: ; scripts/map.py && scripts/check_docs.py
+crate: ; rt ci $(name)
+wrong-bodies: ; scripts/wrong_bodies.py $(name)
+serve: ; mkdir -p $(WORLD) && if [ ! -e $(WORLD)/image.a ]; then $(WORLDD) create --dir $(WORLD) --cells 1000; fi && \
+	$(WORLDD) serve --dir $(WORLD) --method zigzag --every 4096 --port $(PORT) --clients 100
+bench: ; bench/serve.sh
+.PHONY: try build gate docs crate wrong-bodies serve bench

@@ -1,0 +1,289 @@
+#!/usr/bin/env python3
+"""Checks what the pages state against the tree: scripts/check_docs.py
+
+It takes seconds, and prints the page, the line and the reason of each of these:
+
+- a number of crates, of wrong bodies or of things in the gate that is not the number of the tree
+- a name in backquotes that no crate has, or a clause that its function does not have
+- a link, an anchor, a page, a folder or a script that does not exist
+- a block of code that differs from the file that it quotes
+- a wrong body of the gate that no table has, and a row on one that is not there
+
+A block between fences is a quote, whole or in part: of the file in a marker on a line above it, `<!-- examples/FILE -->`, or
+without a language of any file in src/ or specs/ of a crate. An indented block is text. The marker `<!-- run -->` makes it
+commands with their output, which scripts/example_trial.py runs.
+"""
+import dataclasses
+import pathlib
+import re
+import sys
+from collections.abc import Iterator
+
+from code_names import TOP, Names
+from map import Refused, below, read_crates
+
+# Pages whose names in backquotes are looked up.
+CITING = ("README.md", "docs/PROOFS.md", "docs/proofs/", "docs/HEADLINE.md", "docs/ARCHITECTURE.md", "docs/MODEL.md")
+# Names in backquotes that are not of the crates: words of contracts, words in place of a name, and names of the system. A
+# name of one or two letters is a variable or a command.
+NOT_OF_CRATES = {"requires", "ensures", "decreases", "function", "clause", "PATH", "eof", "stdout", "pwrite", "fdatasync"}
+# What may be counted before or behind these words. A number behind "at most" is a bound.
+COUNTED = (
+    (r"{} of the (?:\d+) crates", ("crates of worldd", "other crates")),
+    (r"(?:other {} (?:crates|test)|{} other crates)", ("crates of worldd", "other crates")),
+    (r"(?<!at most ){} crates", ("crates",)),
+    (r"\| crates \| {} \|", ("crates",)),
+    (r"(?<!at most ){} (?:\w+ly )?wrong (?:function )?bodies", ("all wrong bodies", "wrong bodies of the gate", "wrong bodies beside it")),
+    (r"\| wrong bodies that it tries \| {} \|", ("wrong bodies of the gate",)),
+    (r"{} of `must-fail/`", ("wrong bodies of the gate",)),
+    (r"(?:other {} are in `wrong-bodies/`|{} others(?! ))", ("wrong bodies beside it",)),
+    (r"{} passed", ("things in the gate",)),
+)
+NUMBER = r"(?<![\d,.])(\d[\d,]*)"
+# What follows these words speaks of an earlier tree.
+PAST = re.compile(r"\b(?:[Bb]efore|Until then),[^.|\n]*")
+# A path of the repository. What a program's folder out/ has is made by a run of the gate.
+PATH = re.compile(r"(?<![\w/.-])((?:docs|scripts|bench|examples|crates|\.ci)/[\w./*-]*[\w*/])")
+MADE = re.compile(r"crates/\w+/out/.*")
+FOLDERS = (".", "docs", "docs/proofs", "scripts", "bench", "examples")
+FILE = re.compile(r"(?<![\w/.*-])(\w+\.(?:md|py|sh|c))\b")
+PLACEHOLDERS = re.compile(r"\b(?:NAME|CRATE|FILE)\b")
+LINK = re.compile(r"\[[^\]\n]*\]\(([^)\s]+)\)")
+MARKER = re.compile(r"<!-- (run|examples/[\w.]+) -->")
+FENCE = re.compile(r"```(\w*)")
+# A block between fences that name no language.
+CODE = "code"
+
+
+@dataclasses.dataclass(frozen=True)
+class Block:
+    """A block of code, with the line where it begins, its language and the marker above it."""
+
+    line: int
+    language: str
+    marker: str
+    text: str
+
+
+@dataclasses.dataclass(frozen=True)
+class Page:
+    """A page: its name, its lines outside of blocks, and its blocks."""
+
+    name: str
+    prose: str
+    blocks: tuple[Block, ...]
+
+    def line_of(self, place: int) -> int:
+        """The line of a place in the prose."""
+        return self.prose.count("\n", 0, place) + 1
+
+
+Finding = tuple[str, int, str]
+
+
+def block_at(lines: list[str], at: int) -> tuple[int, str, list[str]]:
+    """The end of the block of code that begins at a line, its language and its lines. The end is that line if none begins."""
+    fence, end = FENCE.match(lines[at]), at
+    if fence:
+        end = [*lines, "```"].index("```", at + 1)
+        return end + 1, fence[1] or CODE, lines[at + 1 : end]
+    while end < len(lines) and (lines[end].startswith("    ") or end > at and is_gap(lines[end : end + 2])):
+        end += 1
+    return end, "", [line[4:] for line in lines[at:end]]
+
+
+def is_gap(lines: list[str]) -> bool:
+    """Whether an empty line has a line of an indented block behind it."""
+    return len(lines) == 2 and not lines[0] and lines[1].startswith("    ")
+
+
+def read_page(path: pathlib.Path) -> Page:
+    """Reads a page. In its prose the lines of blocks are empty."""
+    prose, blocks, marker, lines, at = [], [], "", path.read_text().splitlines(), 0
+    while at < len(lines):
+        end, language, body = block_at(lines, at)
+        if end > at:
+            blocks.append(Block(at + 1, language, marker, "".join(f"{line}\n" for line in body)))
+            prose += [""] * (end - at)
+            marker, at = "", end
+            continue
+        found = MARKER.fullmatch(lines[at])
+        if found or lines[at]:
+            marker = found[1] if found else ""
+        prose.append(lines[at])
+        at += 1
+    return Page(str(path.relative_to(TOP)), "\n".join(prose), tuple(blocks))
+
+
+def pages() -> list[Page]:
+    """All pages of the repository."""
+    return [read_page(path) for path in sorted([*TOP.glob("*.md"), *TOP.glob("docs/**/*.md")])]
+
+
+def sentences(prose: str) -> str:
+    """The prose with the lines of a paragraph joined. No place moves."""
+    return re.sub(r"(?<!\n)\n(?!\n|\||#|\s*(?:[-*]|\d+\.) )", " ", prose)
+
+
+def tree_counts() -> dict[str, int]:
+    """The numbers that pages may state."""
+    crates = read_crates()
+    gate = len(list(TOP.glob("crates/*/must-fail/*.edit")))
+    beside = len(list(TOP.glob("crates/*/wrong-bodies/*.edit")))
+    program = 1 + len(below(crates)["worldd"])
+    return {
+        "crates": len(crates),
+        "crates of worldd": program,
+        "other crates": len(crates) - program,
+        "all wrong bodies": gate + beside,
+        "wrong bodies of the gate": gate,
+        "wrong bodies beside it": beside,
+        "things in the gate": len(crates) + gate,
+    }
+
+
+def wrong_counts(page: Page, counts: dict[str, int]) -> Iterator[Finding]:
+    """Numbers that are not those of the tree."""
+    text = PAST.sub(lambda past: " " * len(past[0]), sentences(page.prose))
+    for pattern, names in COUNTED:
+        for found in re.finditer(pattern.replace("{}", NUMBER), text):
+            number = next(group for group in found.groups() if group)
+            if int(number.replace(",", "")) not in [counts[name] for name in names]:
+                known = ", ".join(f"{counts[name]} {name}" for name in names)
+                yield page.name, page.line_of(found.start()), f"`{found[0]}`: the tree has {known}"
+
+
+def rows_of(page: Page) -> Iterator[tuple[int, dict[str, str]]]:
+    """The rows of all tables, each with its line, by the heads of the columns."""
+    head: list[str] = []
+    for number, line in enumerate(page.prose.splitlines(), 1):
+        cells = [cell.strip() for cell in line.strip().strip("|").split("|")] if line.startswith("|") else []
+        if not cells or not head:
+            head = cells
+        elif not line.startswith("|---"):
+            yield number, dict(zip(head, cells))
+
+
+def wrong_tables(every: list[Page], names: Names) -> Iterator[Finding]:
+    """Rows on wrong bodies that are not those of the tree, and wrong bodies of the gate without a row."""
+    rows = [(page.name, line, row) for page in every for line, row in rows_of(page) if "crate" in row]
+    known: set[tuple[str, str]] = set()
+    for page, line, row in rows:
+        crate, bodies = row["crate"].strip("`"), re.findall(r"`(\w+)`", row.get("wrong body", ""))
+        known |= {(crate, body) for body in bodies}
+        for body in bodies:
+            if body not in names.bodies[crate]:
+                yield page, line, f"must-fail/ of {crate} has no wrong body {body}"
+        for head, folder in (("wrong bodies: gate", "must-fail"), ("others", "wrong-bodies")):
+            count = len(list((TOP / "crates" / crate / folder).glob("*.edit")))
+            if "wrong bodies: gate" in row and (row[head] or "0") != str(count):
+                yield page, line, f"{folder}/ of {crate} has {count} wrong bodies, not {row[head]}"
+    for crate, bodies in names.bodies.items():
+        for body in sorted(bodies):
+            if (crate, body) not in known:
+                yield "docs/PROOFS.md", 1, f"no table has the wrong body {crate}/{body}"
+
+
+def wrong_citations(page: Page, names: Names, libraries: set[str]) -> Iterator[Finding]:
+    """Names in backquotes that the crates don't have, and clauses that a function doesn't have."""
+    text = sentences(page.prose)
+    # A row on a wrong body names the check that refuses it, which may be that of a function that is called.
+    refusals = {line for line, row in rows_of(page) if "wrong body" in row}
+    for found in re.finditer(r"`([A-Za-z_]\w*(?:::\w+)*)(?:\(\))?`", text):
+        if len(found[1]) > 2 and found[1] not in libraries | NOT_OF_CRATES and not names.has_path(found[1]):
+            yield page.name, page.line_of(found.start()), f"`{found[1]}` is the name of nothing in the crates"
+    for found in re.finditer(r"`([A-Za-z_][\w:]*)`(?:'s? type)?: ((?:`[a-z]\w*`(?:, )?)+)(?! [a-z])", text):
+        if page.line_of(found.start()) in refusals:
+            continue
+        for clause in re.findall(r"`(\w+)`", found[2]):
+            if clause not in NOT_OF_CRATES and names.has_path(found[1]) and not names.has_clause(found[1], clause):
+                yield page.name, page.line_of(found.start()), f"`{found[1]}` has no clause `{clause}`"
+
+
+def anchors(text: str) -> set[str]:
+    """The anchors of a page's headings."""
+    heads = re.findall(r"^#+ (.*)$", text, re.MULTILINE)
+    return {re.sub(r"[^\w\- ]", "", head.lower()).replace(" ", "-") for head in heads}
+
+
+def wrong_links(page: Page) -> Iterator[Finding]:
+    """Links, paths and names of files that lead to nothing."""
+    for found in LINK.finditer(page.prose):
+        file, _, anchor = found[1].partition("#")
+        if re.match(r"\w+:", file):
+            continue
+        target = (TOP / page.name).parent / file if file else TOP / page.name
+        if not target.exists():
+            yield page.name, page.line_of(found.start()), f"the link {found[1]} leads to no file"
+        elif anchor and anchor not in anchors(target.read_text()):
+            yield page.name, page.line_of(found.start()), f"the link {found[1]} leads to no heading"
+    whole = (TOP / page.name).read_text()
+    for found in PATH.finditer(whole):
+        path = found[1] if not MADE.fullmatch(found[1]) else str(pathlib.Path(found[1]).parent.parent)
+        if not PLACEHOLDERS.search(path) and not any(TOP.glob(path.rstrip("/"))):
+            yield page.name, whole.count("\n", 0, found.start()) + 1, f"there is no {found[1]}"
+    known = {path.name for folder in FOLDERS for path in (TOP / folder).glob("*")}
+    for found in FILE.finditer(whole):
+        if found[1] not in known:
+            yield page.name, whole.count("\n", 0, found.start()) + 1, f"no folder has a file {found[1]}"
+
+
+def wrong_quotes(page: Page, code: list[str]) -> Iterator[Finding]:
+    """Blocks between fences that are not in the file that they quote."""
+    for block in page.blocks:
+        file = TOP / block.marker
+        if block.marker.startswith("examples/"):
+            if not file.is_file():
+                yield page.name, block.line, f"there is no {block.marker}"
+            elif f"\n{block.text}" not in f"\n{file.read_text()}":
+                yield page.name, block.line, f"the block differs from {block.marker}"
+        elif block.language == CODE and not any(block.text in text for text in code):
+            yield page.name, block.line, "no file in src/ or specs/ of a crate has this block"
+        elif block.language not in ("", CODE):
+            yield page.name, block.line, "the block has no marker with the file that it quotes"
+
+
+def unnamed_files(every: list[Page]) -> Iterator[Finding]:
+    """Scripts that the index does not have, and examples that no page names."""
+    texts = {page.name: (TOP / page.name).read_text() for page in every}
+    for path in sorted(path for folder in ("scripts", "bench") for path in (TOP / folder).glob("*.*")):
+        if path.name not in texts["docs/CONTRIBUTING.md"]:
+            yield "docs/CONTRIBUTING.md", 1, f"the index lacks {path.parent.name}/{path.name}"
+    for path in sorted((TOP / "examples").glob("*")):
+        if not any(f"examples/{path.name}" in text for text in texts.values()):
+            yield "README.md", 1, f"no page names examples/{path.name}"
+
+
+def findings() -> Iterator[Finding]:
+    """All that is wrong."""
+    every, names, counts = pages(), Names(), tree_counts()
+    code = [path.read_text() for kind in ("src/**/*.rt", "specs/**/*.antt") for path in TOP.glob(f"crates/*/{kind}")]
+    lines = (TOP / "crates.txt").read_text().splitlines()
+    libraries = {word for line in lines if not line.startswith("#") for word in line.partition(":")[2].split()}
+    for page in every:
+        if page.name != "CHANGELOG.md":
+            yield from wrong_counts(page, counts)
+        if page.name.startswith(CITING):
+            yield from wrong_citations(page, names, libraries)
+        yield from wrong_links(page)
+        yield from wrong_quotes(page, code)
+    yield from wrong_tables(every, names)
+    yield from unnamed_files(every)
+
+
+def main() -> int:
+    """Prints what is wrong."""
+    try:
+        found = list(findings())
+    except Refused as refused:
+        print(f"check_docs: {refused}", file=sys.stderr)
+        return 1
+    for page, line, reason in found:
+        print(f"{page}:{line}: {reason}", file=sys.stderr)
+    if not found:
+        print("docs: numbers, names, links and quotes are those of the tree")
+    return 1 if found else 0
+
+
+if __name__ == "__main__":
+    sys.exit(main())
