@@ -24,6 +24,7 @@ from kill_trial import CELLS, METHODS, PATIENCE_SECONDS, Batch, Wrong, answer, r
 CLIENTS, BATCHES = 50, 200
 FLOOD = 10_000_000
 COUNT = 0
+CLOSED = "worldd: the port is closed: no more clients can come\n"
 ROW = b"set 0 5\nget 0\nmove 0 1 9\nfoo\nend\n"
 
 
@@ -79,7 +80,7 @@ def try_row(worldd: str, room: pathlib.Path, method: str) -> None:
         if line != f"tick {tick}: + =5 -3 -16\n":
             raise Wrong(f"the client of tick {tick} was told `{line}`")
     told = server.end(2)
-    if told:
+    if told != CLOSED:
         raise Wrong(f"worldd told people `{told}`")
 
 
@@ -155,7 +156,7 @@ def try_crowd(worldd: str, room: pathlib.Path, method: str, seed: int) -> int:
     judge(answered, CLIENTS * BATCHES + 1)
     told = server.end(CLIENTS * BATCHES + 1)
     opened = len(re.findall(r"image of tick [0-9]+ opened", told))
-    if opened != told.count("\n") or not opened:
+    if opened + 1 != told.count("\n") or told.count(CLOSED) != 1 or not opened:
         raise Wrong(f"worldd told people `{told[-500:]}`")
     return opened
 

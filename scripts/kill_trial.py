@@ -358,8 +358,9 @@ class Server:
             raise Wrong(f"serve went on{self.complaint()}")
 
     def complaint(self) -> str:
-        """What it said on standard error, but for the images that it told as opened."""
-        said = [line for line in self.complaints.read_text().splitlines() if " image of tick " not in line]
+        """What it printed on standard error, except of opened images and the closed port."""
+        lines = self.complaints.read_text().splitlines()
+        said = [line for line in lines if " image of tick " not in line and " the port is closed" not in line]
         return f", and said `{'; '.join(said)}`" if said else ""
 
 

@@ -45,7 +45,7 @@ NO_FILE = "No such file or directory (os error 2)"
 NOT_A_FILE = "not a regular file"
 HELD = "another program writes this world"
 HOLDS_A_WORLD = "a file already holds a world: choose an empty folder"
-DEVICE = "fault 18\nworldd: the device failed\n"
+FULL = "fault 18\nworldd: standard output: No space left on device (os error 28)\n"
 MORE = "For more information, try '--help'.\n"
 
 Outcome = collections.namedtuple("Outcome", "output errors status")
@@ -60,10 +60,10 @@ class Trial:
         self.runs = 0
         self.seen: collections.Counter[str] = collections.Counter()
 
-    def run(self, *words, closed: bool = False, script: bytes = b"") -> Outcome:
-        """Runs the program with these words. A closed output takes no byte."""
-        with open("/dev/full", "wb") as full:
-            output = full if closed else subprocess.PIPE
+    def run(self, *words, full: bool = False, script: bytes = b"") -> Outcome:
+        """Runs the program with these words. A full output takes no byte."""
+        with open("/dev/full", "wb") as device:
+            output = device if full else subprocess.PIPE
             command = [self.program, *words]
             run = subprocess.run(command, input=script, stdout=output, stderr=subprocess.PIPE, timeout=SECONDS)
         outcome = Outcome((run.stdout or b"").decode(), run.stderr.decode(), run.returncode)
@@ -128,34 +128,36 @@ def try_command_lines(trial: Trial) -> None:
         ("serve --every 0", "invalid value '0' for '--every <E>': 0 is not in 1..=65536\n\n"),
         ("serve --every 65537", "invalid value '65537' for '--every <E>': 65537 is not in 1..=65536\n\n"),
         ("serve --port 65536", "invalid value '65536' for '--port <P>': 65536 is not in 0..=65535\n\n"),
+        ("serve --idle 0", "invalid value '0' for '--idle <SECONDS>': 0 is not in 1..=86400\n\n"),
+        ("serve --idle 86401", "invalid value '86401' for '--idle <SECONDS>': 86401 is not in 1..=86400\n\n"),
         ("serve --clients 100001", "invalid value '100001' for '--clients <K>': 100001 is not in 1..=100000\n\n"),
     ):
         trial.ends(f"worldd {words}", trial.run(*words.split()), "", f"error: {text}{MORE}", 2)
     trial.ends("bytes that are no text", trial.run(b"\xff"), "", "error: the command line can't be read: invalid data\n", 2)
     for flag in ("--version", "-V"):
-        trial.ends(flag, trial.run(flag), "worldd 0.1.0\n", "", 0)
+        trial.ends(flag, trial.run(flag), "worldd 0.2.0 (reads file formats 1 and 2, writes 2)\n", "", 0)
     for words, start, end in (
         ("", "A main-memory world server with asynchronous checkpoints\n\nUsage: worldd <COMMAND>\n", "  -V, --version  Print version\n"),
         ("steps", "Runs the script on standard input, over a world in memory\n\nUsage: worldd steps\n", "21 no tick numbers are left\n"),
         (
             "create",
             "Makes the files of a new world in a folder\n\nUsage: worldd create --dir <FOLDER> --cells <N>\n",
-            "\n  writes this world, 22 a file isn't closed: no file is written then\n",
+            "\n  its own, or another program writes this world, 22 a file already holds data: nothing\n  was written\n",
         ),
         (
             "recover",
-            "Tells which world stands in the files of a folder\n\nUsage: worldd recover --dir <FOLDER>\n",
+            "Prints which world the files of a folder hold\n\nUsage: worldd recover --dir <FOLDER>\n",
             "  17 there is no memory, 18 a file is missing or can't be read\n",
         ),
         (
             "inspect",
-            "Tells what each file of a folder holds, and which world stands in them\n\nUsage: worldd inspect [OPTIONS] --dir <FOLDER>\n",
-            "\nfrom the image of tick T. Where none stands it ends as `recover` does.\n",
+            "Prints what each file of a folder holds, and which world they hold together\n\nUsage: worldd inspect [OPTIONS] --dir <FOLDER>\n",
+            "\nfrom the image of tick T. If they hold no world it ends as `recover` does.\n",
         ),
         (
             "serve",
             f"Serves the world in the files of a folder to clients of a port\n\n{serve.replace('serve --dir', 'serve [OPTIONS] --dir')}\n",
-            "\n  another program writes this world, or the port can't be listened on\n",
+            "\n  listened on, or a line couldn't be printed\n",
         ),
     ):
         got = trial.run(*words.split(), "--help")
@@ -164,14 +166,14 @@ def try_command_lines(trial: Trial) -> None:
 
 
 def try_scripts(trial: Trial) -> None:
-    """A script, and one whose output is closed."""
+    """A script, and one whose output is full."""
     trial.ends("a script", trial.run("steps", script=b"open plain 1\nget 0\n"), "ready 0\n= 0\n", "", 0)
-    trial.ends("a closed output", trial.run("steps", script=b"open plain 1\n", closed=True), "", DEVICE, 1)
+    trial.ends("a full output", trial.run("steps", script=b"open plain 1\n", full=True), "", FULL, 1)
 
 
-def create(trial: Trial, folder: pathlib.Path, cells: int = 2, closed: bool = False) -> Outcome:
+def create(trial: Trial, folder: pathlib.Path, cells: int = 2, full: bool = False) -> Outcome:
     """Makes a world in a folder."""
-    return trial.run("create", "--dir", str(folder), "--cells", str(cells), closed=closed)
+    return trial.run("create", "--dir", str(folder), "--cells", str(cells), full=full)
 
 
 def check_made(trial: Trial, what: str, got: Outcome, folder: pathlib.Path) -> None:
@@ -208,8 +210,8 @@ def try_creating(trial: Trial) -> None:
             (folder / missing).unlink()
             check_made(trial, f"{missing} is missing", create(trial, folder), folder)
     with new_folder() as folder:
-        trial.ends("a closed output", create(trial, folder, closed=True), "", DEVICE, 1)
-        trial.check("a closed output", files_of(folder), (NEW_IMAGE, b"", NEW_LOG, b"\0"))
+        trial.ends("a full output", create(trial, folder, full=True), "", FULL, 1)
+        trial.check("a full output", files_of(folder), (NEW_IMAGE, b"", NEW_LOG, b"\0"))
 
 
 def try_not_creating(trial: Trial) -> None:
@@ -249,9 +251,9 @@ def try_not_creating(trial: Trial) -> None:
         trial.check("a wrong number of cells", list(folder.iterdir()), [])
 
 
-def both(trial: Trial, folder: pathlib.Path, closed: bool = False) -> tuple[Outcome, Outcome]:
+def both(trial: Trial, folder: pathlib.Path, full: bool = False) -> tuple[Outcome, Outcome]:
     """`recover` and `inspect` of a folder."""
-    return tuple(trial.run(command, "--dir", str(folder), closed=closed) for command in ("recover", "inspect"))
+    return tuple(trial.run(command, "--dir", str(folder), full=full) for command in ("recover", "inspect"))
 
 
 def check_found(trial: Trial, what: str, folder: pathlib.Path, recovered: str, lines: str) -> None:
@@ -316,8 +318,8 @@ def try_missing(trial: Trial) -> None:
         gone = trial.run("recover", "--dir", str(folder / "gone"))
         trial.check("no folder", (gone.errors[:17], gone.status), ("fault 18\nworldd: ", 1))
     with new_folder(NEW_IMAGE, b"", b"", b"") as folder:
-        closed = both(trial, folder, closed=True)
-        trial.check("a closed output", closed, (Outcome("", DEVICE, 1),) * 2)
+        closed = both(trial, folder, full=True)
+        trial.check("a full output", closed, (Outcome("", FULL, 1),) * 2)
 
 
 def try_damaged(trial: Trial) -> None:

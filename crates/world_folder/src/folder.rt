@@ -117,14 +117,14 @@ fn open_files<R: Files<File = File> + AllocGlobal>(
     ensures { IfErr result IsFault }
 {
     let alloc = rt.alloc();
-    let image_a = open_locked(rt, folder, IMAGE_A, absent);
-    let image_a = opened(alloc, folder, IMAGE_A, image_a)?;
-    let image_b = open_own(rt, folder, IMAGE_B, absent);
-    let image_b = opened(alloc, folder, IMAGE_B, image_b)?;
-    let log_a = open_own(rt, folder, LOG_A, absent);
-    let log_a = opened(alloc, folder, LOG_A, log_a)?;
-    let log_b = open_own(rt, folder, LOG_B, absent);
-    let log_b = opened(alloc, folder, LOG_B, log_b)?;
+    let file = open_locked(rt, folder, IMAGE_A, absent);
+    let image_a = opened(alloc, folder, IMAGE_A, file)?;
+    let file = open_own(rt, folder, IMAGE_B, absent);
+    let image_b = opened(alloc, folder, IMAGE_B, file)?;
+    let file = open_own(rt, folder, LOG_A, absent);
+    let log_a = opened(alloc, folder, LOG_A, file)?;
+    let file = open_own(rt, folder, LOG_B, absent);
+    let log_b = opened(alloc, folder, LOG_B, file)?;
     let identities = [
         image_a.identity,
         image_b.identity,
