@@ -9,12 +9,13 @@ use world_actions::Refusal;
 use world_folder::{Ending, Stream, StreamFailure};
 
 /// A stream, and why its last call that failed did.
-struct Watched<S> {
+#[derive(Drop)]
+struct Watched<S: Drop> {
     stream: S,
     failure: Option<io::Error>,
 }
 
-impl<S> Watched<S> {
+impl<S: Drop> Watched<S> {
     fn new(stream: S) -> Self {
         Watched {
             stream,
@@ -23,7 +24,9 @@ impl<S> Watched<S> {
     }
 
     // Keeps the failure of a call, except of one that is tried again.
-    fn keep<T>(&mut self, answer: io::Result<T>) -> io::Result<T> {
+    fn keep<T>(&mut self, answer: io::Result<T>) -> io::Result<T>
+        ensures { result ≡ answer }
+    {
         if let Err(error) = &answer
             && error.kind() != ErrorKind::Interrupted
         {
@@ -33,14 +36,14 @@ impl<S> Watched<S> {
     }
 }
 
-impl<S: Read> Read for Watched<S> {
+impl<S: Read + Drop> Read for Watched<S> {
     fn read(&mut self, into: &mut [u8]) -> io::Result<usize> {
         let answer = self.stream.read(into);
         self.keep(answer)
     }
 }
 
-impl<S: Write> Write for Watched<S> {
+impl<S: Write + Drop> Write for Watched<S> {
     fn write(&mut self, bytes: &[u8]) -> io::Result<usize> {
         let answer = self.stream.write(bytes);
         self.keep(answer)

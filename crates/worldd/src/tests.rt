@@ -226,13 +226,19 @@ fn flags_of_serve_are_read(rt: HostRuntime) -> Result<(), Fail> {
         return Err(Fail::new("not understood"));
     };
     assert!(rt; folder.as_str() == "world" && is_ping_pong && !exits);
-    assert_eq!(rt; (every, port, admission.clients, admission.idle), (64, 0, 100_000, None));
+    assert_eq!(rt;
+        (every, port, admission.clients, admission.idle),
+        (64, 0, 100_000, None)
+    );
     let Some((folder, is_ping_pong, every, port, admission, exits)) = asked(rt.alloc(), &ALL)?
     else {
         return Err(Fail::new("not understood"));
     };
     assert!(rt; folder.as_str() == "other" && !is_ping_pong && exits);
-    assert_eq!(rt; (every, port, admission.clients, admission.idle), (65_536, 65_535, 1, Some(86_400)));
+    assert_eq!(rt;
+        (every, port, admission.clients, admission.idle),
+        (65_536, 65_535, 1, Some(86_400))
+    );
     Ok(())
 }
 
