@@ -135,9 +135,7 @@ fn all_were_served(rt: &impl Abort, accepted: &Accepted) {
     same(rt, "whether all came", all_came, true);
 }
 
-fn try_port<
-    R: Net<Stream = TcpStream> + Threads + Wait + Clock + Abort + Copy + Send + 'static,
->(
+fn try_port<R: Net<Stream = TcpStream> + Threads + Wait + Clock + Abort + Copy + Send + 'static>(
     rt: &R,
     alloc: Global,
     listener: TcpListener,
