@@ -35,6 +35,10 @@ impl Door for Nobody {
     fn listener_failed(&mut self, _error: &io::Error) {}
 
     fn closed(&mut self) {}
+
+    fn is_left(&self) -> bool {
+        false
+    }
 }
 
 // In the place of the workers: it refuses batches, and drops those that begin with a read.

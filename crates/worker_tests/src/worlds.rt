@@ -85,6 +85,10 @@ impl<R: Wait + Copy> Door for Teller<R> {
     fn closed(&mut self) {
         self.tell(Told::Closed);
     }
+
+    fn is_left(&self) -> bool {
+        false
+    }
 }
 
 fn file_of(rt: &impl Abort, alloc: Global, bytes: &[u8]) -> ModelFile {
