@@ -18,7 +18,7 @@ import sys
 import tempfile
 
 TOP = pathlib.Path(__file__).resolve().parent.parent
-FOLDERS = ("must-fail", "wrong-bodies")
+FOLDERS = ("must-fail", "wrong-bodies", "trial-bodies")
 ANSWERS = {
     "refused, as it must be": "refused",
     "NOT REFUSED": "let through",
@@ -56,7 +56,7 @@ def apply(body: pathlib.Path, crate: pathlib.Path) -> dict[pathlib.Path, str]:
 
 
 def can_be_applied() -> int:
-    """Prints each wrong body that can't be applied, and one that stands in both folders."""
+    """Prints each wrong body that can't be applied, and one that stands in two folders."""
     bad = count = 0
     for crate in sorted((TOP / "crates").iterdir()):
         names = collections.Counter()
@@ -66,7 +66,7 @@ def can_be_applied() -> int:
             try:
                 apply(body, crate)
                 if names[body.name] > 1:
-                    raise ValueError("it stands in both folders")
+                    raise ValueError("it stands in two folders")
             except ValueError as error:
                 bad += 1
                 print(f"{body.relative_to(TOP)}: {error}")
