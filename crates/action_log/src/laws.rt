@@ -1,14 +1,15 @@
-ghost use Rattle.std.specs.Prelude.{◌≡◌, ◌↔◌, ◌+◌, ◌<◌, ◌≤◌, ℕ, Bool, true, false, IsTrue, ◌++◌, ◌∷◌, [], List, None};
+ghost use Rattle.std.specs.Prelude.{◌≡◌, ◌↔◌, ◌+◌, ◌<◌, ◌≤◌, ℕ, Bool, true, false, IsTrue, ◌++◌, ◌∷◌, [], List, None, length};
 ghost use Rattle.world_ticks.specs.declared.tick.TheConstants.{TICK_MAX};
 ghost use Rattle.world_ticks.specs.Tick.{Actions};
 ghost use Rattle.file_format.specs.Gate.{HasShutGate, HasNoShutGate};
+ghost use Rattle.file_format.specs.Slot.{of_slot};
 ghost use Rattle.disk_model.specs.Disk.{Only};
 ghost use Rattle.action_log.specs.declared.format.TheConstants.{SEGMENT_TICKS};
 ghost use Rattle.action_log.specs.declared.phase.Phase.TheVariants.{Ready};
 ghost use Rattle.action_log.specs.declared.progress.Progress.{Progress};
 ghost use Rattle.action_log.specs.declared.record.Record.{Record};
 ghost use Rattle.action_log.specs.declared.record.Record.TheVariants as records;
-ghost use Rattle.action_log.specs.Segment.{Segment, IsSegment};
+ghost use Rattle.action_log.specs.Segment.{Tick, Segment, OpenSegment, IsSegment};
 ghost use Rattle.action_log.specs.Spellings.{LawOfSpellings, ReadsOnce, EachReads};
 ghost use Rattle.action_log.specs.Progress.{begun, start_left, QueueFollows, end_of};
 ghost use Rattle.action_log.specs.Logs.{Logs, Writing, JournalIs, LogPlace, start_of, start_moves};
@@ -46,7 +47,7 @@ pub fn log_queues()
 
 /// Laws: what a keeper and its two files stand for, from the beginning of the start on, and that they read so
 /// whatever a crash leaves of them. A keeper just made fits its files by their contents alone, and one that is
-/// ready has nothing in work.
+/// ready has nothing in work and nothing unsynced; its segment is open, with the ticks that it counts.
 pub fn log_outcomes<D: Disk>()
     ensures reads { (keeper : Progress) (a b : _) (place : LogPlace)
         → Stands keeper (D.content a) (D.content b) (D.may_leave a) (D.may_leave b) place
@@ -72,4 +73,10 @@ pub fn log_outcomes<D: Disk>()
         → Stands keeper (D.content a) (D.content b) (D.may_leave a) (D.may_leave b)
         (record { journal = Writing logs; left = left }) → keeper.phase ≡ Ready
         → (logs.pending ≡ []) × (logs.switch ≡ None) × (logs.base ≡ keeper.base) }
+    ensures rests { (keeper : Progress) (a b : _) (place : LogPlace)
+        → Stands keeper (D.content a) (D.content b) (D.may_leave a) (D.may_leave b) place → keeper.phase ≡ Ready
+        → Only (D.content a) (D.may_leave a) × Only (D.content b) (D.may_leave b) }
+    ensures settled { (keeper : Progress) (a b : List ℕ) → FitsFiles keeper a b → keeper.phase ≡ Ready
+        → keeper.starting ≡ false → (ticks : List Tick) × (length ticks ≡ keeper.count)
+        × IsSegment (of_slot keeper.current a b) (OpenSegment keeper.base ticks) }
 {}

@@ -6,7 +6,8 @@ use Rattle.disk_model.specs.Disk.{Torn, Follows, Within, Only, overwritten}
 use Rattle.disk_model.proofs.TornLemmas.{torn_opening}
 use Rattle.file_format.specs.Gate.{HasShutGate}
 use Rattle.file_format.specs.declared.format.Format.TheVariants.{Second}
-use Rattle.file_format.specs.Format.{marked_of, unmarked}
+use Rattle.file_format.specs.Format.{marked_of, unmarked, marked_in}
+use Rattle.file_format.proofs.FormatLemmas.{unmarked-marked_of}
 use Rattle.file_format.specs.Number.{number_of, number_bytes}
 use Rattle.file_format.proofs.NumberLemmas.{length-number_bytes}
 use Rattle.capture_core.specs.declared.taker.Taken.{Taken}
@@ -46,7 +47,7 @@ module _ (xs ys : List ℕ) (same : drop 1 xs ≡ drop 1 ys) where
   pub body_behind : (keeper : Progress) → length xs ≡ length ys → HasBody keeper ys → HasBody keeper xs
   body_behind keeper long body = record {
     room = omega (arith, body.room);
-    cells = ap (λ (m : ℕ). cells_of (unmarked m)) (number_behind 1 (omega arith)) ∙ body.cells;
+    mark = ap unmarked (number_behind 1 (omega arith)) ∙ body.mark;
     tick = number_behind 9 (omega arith) ∙ body.tick;
     words = subst (λ (l : List ℕ). IsTrue (list_all is_word l)) (sym (words_behind 17 keeper.written (omega arith))) body.words;
   }
@@ -64,7 +65,7 @@ in_phase keeper order is = subst (λ (p : Phase). PhaseFits p keeper) is order.b
 -- ---- the header
 
 pub header_fits : (old bytes : List ℕ) (cells tick : ℕ) → 1 ≤ length old → 1 ≤ cells → cells ≤ 1048576 → tick < 256 ^ 8 → HasShutGate old → bytes ≡ header_bytes Second cells tick
-    → HasShutGate (overwritten old 1 bytes) × (cells_in (overwritten old 1 bytes) ≡ Some cells) × (tick_in (overwritten old 1 bytes) ≡ tick) × (17 ≤ length (overwritten old 1 bytes))
+    → HasShutGate (overwritten old 1 bytes) × (marked_in (overwritten old 1 bytes) ≡ Some (Second, cells)) × (tick_in (overwritten old 1 bytes) ≡ tick) × (17 ≤ length (overwritten old 1 bytes))
 header_fits old bytes cells tick long some most small_tick shut is =
     let marked = marked_of Second cells in
     let file = overwritten old 1 bytes in
@@ -77,7 +78,7 @@ header_fits old bytes cells tick long some most small_tick shut is =
     let second : file ≡ (take 1 old ++ number_bytes 8 marked) ++ (number_bytes 8 tick ++ rest) = first ∙ sym (append_assoc (take 1 old) (number_bytes 8 marked) (number_bytes 8 tick ++ rest)) in
     let gate : get_or file 0 0 ≡ get_or old 0 0 = first_kept old (bytes ++ rest) (append_assoc (take 1 old) bytes rest) long in (
       (omega (arith, long_file), λ is_open. shut.1 (sym gate ∙ is_open)),
-      cells_found Second (number_at file 1) cells (ap (λ (l : List ℕ). number_at l 1) first ∙ number_written (take 1 old) (number_bytes 8 tick ++ rest) 1 marked front (marked_fits Second cells most)) some most,
+      ap unmarked (ap (λ (l : List ℕ). number_at l 1) first ∙ number_written (take 1 old) (number_bytes 8 tick ++ rest) 1 marked front (marked_fits Second cells most)) ∙ unmarked-marked_of Second cells (omega (arith, most)),
       ap tick_in second ∙ number_written (take 1 old ++ number_bytes 8 marked) rest 9 tick (omega (arith, length-append (take 1 old) (number_bytes 8 marked), front, length-number_bytes 8 marked)) small_tick,
       omega (arith, long_file),
     )
@@ -102,7 +103,7 @@ header_written keeper old new newest bytes phase shut is bytes_are fits =
         subst HasShutGate (sym is) parts.0,
         record {
           room = omega (arith, ap length is, parts.3, none);
-          cells = ap cells_in is ∙ parts.1;
+          mark = ap marked_in is ∙ parts.1;
           tick = ap tick_in is ∙ parts.2;
           words = ap (λ (n : ℕ). list_all is_word (words_from new 17 n)) none;
         },
@@ -120,13 +121,18 @@ done_whole keeper target newest none =
 pub length_done : (keeper : Progress) (target newest : List ℕ) → keeper.written ≡ keeper.cells → keeper.chunk ≡ [] → length (done keeper target newest) ≡ keeper.cells
 length_done keeper target newest all none = ap length (done_whole keeper target newest none) ∙ length-words_from target 17 keeper.written ∙ all
 
+-- the number of cells that the header has
+body_cells : (keeper : Progress) (file : List ℕ) → IsInOrder keeper → HasBody keeper file → cells_in file ≡ Some keeper.cells
+body_cells keeper file order body =
+    ap cells_of (body.mark ∙ sym (unmarked-marked_of Second keeper.cells (omega (arith, order.most)))) ∙ cells_found Second (marked_of Second keeper.cells) keeper.cells refl order.some order.most
+
 -- an open gate over a whole body is an image
 pub body_reads : (keeper : Progress) (file : List ℕ) → IsInOrder keeper → get_or file 0 0 ≡ 1 → HasBody keeper file → keeper.written ≡ keeper.cells
     → image_of file ≡ Image.Open keeper.tick (words_from file 17 keeper.written)
 body_reads keeper file order gate body all =
     let words = words_from file 17 keeper.written in
     let count : length words ≡ keeper.written = length-words_from file 17 keeper.written in
-    whole_reads file keeper.tick words gate (body.cells ∙ ap (λ (n : ℕ). Some n) (sym all ∙ sym count)) body.tick (ap (words_from file 17) count)
+    whole_reads file keeper.tick words gate (body_cells keeper file order body ∙ ap (λ (n : ℕ). Some n) (sym all ∙ sym count)) body.tick (ap (words_from file 17) count)
     (omega (arith, body.room, count)) order.ticks body.words
 
 module _ (keeper : Progress) (old newest : List ℕ) (phase : keeper.phase ≡ Opening) (fits : Fits keeper old newest) where
@@ -153,7 +159,7 @@ module _ (keeper : Progress) (old newest : List ℕ) (phase : keeper.phase ≡ O
   }
     where
       same_keeper : (file : List ℕ) → HasBody keeper file → HasBody (record keeper { phase = OpeningSync }) file
-      same_keeper file b = record { room = b.room; cells = b.cells; tick = b.tick; words = b.words }
+      same_keeper file b = record { room = b.room; mark = b.mark; tick = b.tick; words = b.words }
 
   -- a gate whose write was torn leaves a closed file, or the whole image
   gate_outcome : (left : List ℕ) → Torn 0 1 old left → (image_of left ≡ Image.Closed) ⊎ (image_of left ≡ Image.Open keeper.tick (done keeper old newest))
@@ -218,6 +224,7 @@ module _ (keeper : Progress) (old newest : List ℕ) (phase : keeper.phase ≡ O
     of_the_round = of_the_round;
     image = opened_reads ∙ ap (λ (t : ℕ). Image.Open t (words_from old 17 keeper.written)) (sym of_the_round) ∙ ap (Image.Open tick) (sym (done_whole keeper old newest opened_order.1));
     whole = length_done keeper old newest opened_order.0 opened_order.1;
+    mark = ap marked_in same ∙ opened_target.1.mark;
     durable = λ left outcome. only left outcome ∙ sym same;
   }
 

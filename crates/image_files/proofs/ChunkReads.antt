@@ -155,6 +155,6 @@ module _ (keeper : Progress) (target newest : List ℕ) (phase : keeper.phase �
         in_order = read_in_order keeper here fits.in_order phase;
         image = fits.image;
         newest_shut = fits.newest_shut;
-        of_target = (part.0, record { room = part.1.room; cells = part.1.cells; tick = part.1.tick; words = part.1.words });
+        of_target = (part.0, record { room = part.1.room; mark = part.1.mark; tick = part.1.tick; words = part.1.words });
         chunk = ap (list_all is_word) (filled_words-map (filled_words keeper.chunk here) []) ∙ limit_filled keeper.chunk here fits.chunk pass;
       }

@@ -123,7 +123,7 @@ module _ (keeper : Progress) (old newest : List ℕ) (phase : keeper.phase ≡ W
   body_after : (next : Phase) → HasBody (after next) new
   body_after next = record {
     room = omega (arith, long);
-    cells = ap (λ (m : ℕ). cells_of (unmarked m)) (number_before new old at 1 kept (omega arith) (omega (arith, long)) (omega (arith, body.room))) ∙ body.cells;
+    mark = ap unmarked (number_before new old at 1 kept (omega arith) (omega (arith, long)) (omega (arith, body.room))) ∙ body.mark;
     tick = number_before new old at 9 kept (omega arith) (omega (arith, long)) (omega (arith, body.room)) ∙ body.tick;
     words = ap (list_all is_word) words_after ∙ list_all-append is_word (words_from old 17 keeper.written) words ∙ rw (body.words, fits.chunk) refl;
   }

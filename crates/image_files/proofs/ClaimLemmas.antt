@@ -13,7 +13,7 @@ use Rattle.image_files.specs.Image.{Image, image_of, words_from}
 use Rattle.image_files.specs.Images.{Round, Images, FirstImages, ImageFiles, NoneYet, Newest, ImageFilesAre, IsTarget}
 use Rattle.image_files.specs.Progress.{Progress, PhaseFits, IsInOrder, made_keeper, target_of, newest_words, round_so_far, round_in_phase, round_of}
 use Rattle.image_files.specs.Keeper.{Fits, TargetFits, TargetEndures}
-use Rattle.image_files.specs.Files.{FitsFiles, Stands, StandsFor, HoldsNewest, IsTold, TellsShut}
+use Rattle.image_files.specs.Files.{FitsFiles, before_in, Stands, StandsFor, HoldsNewest, IsTold, TellsShut}
 use Rattle.image_files.proofs.SpellingLemmas.{open_file}
 use Rattle.image_files.proofs.GateLemmas.{shut_reads_closed}
 use Rattle.image_files.proofs.BodyLemmas.{length_done}
@@ -146,3 +146,19 @@ module _ (cells : ℕ) (some : 1 ≤ cells) (most : cells ≤ CELLS_MAX) where
         subst (MadeStands (NoneYet images)) (sym told.0) (made_without shut_a shut_b image_a image_b outcomes_a outcomes_b only_a only_b a_tells b_tells images told.1 told.2 told.3)
     made_stands newest (Newest images) told =
         subst (MadeStands (Newest images)) (sym told.0) (made_at images.slot images.tick images.words images.before images.round told.1 told.2 told.3 told.4)
+
+-- ---- between two rounds
+
+in_slots : (slot : Slot) (a b : List ℕ) (outcomes_a outcomes_b : List ℕ → Type 0) → Only (of_slot slot a b) (in_slot slot outcomes_a outcomes_b) → Only (of_slot slot b a) (beside_slot slot outcomes_a outcomes_b)
+    → Only a outcomes_a × Only b outcomes_b
+in_slots A a b outcomes_a outcomes_b one other = (one, other)
+in_slots B a b outcomes_a outcomes_b one other = (other, one)
+
+-- nothing of the files is unsynced
+pub idle_rests : (keeper : Progress) (images : ImageFiles) (a b : List ℕ) (outcomes_a outcomes_b : List ℕ → Type 0) → Stands keeper images a b outcomes_a outcomes_b → keeper.phase ≡ Idle
+    → Only a outcomes_a × Only b outcomes_b
+idle_rests keeper images a b outcomes_a outcomes_b stands idle =
+    let slot = target_of keeper.newest in
+    in_slots slot a b outcomes_a outcomes_b
+    (subst (λ (p : Phase). TargetEndures p keeper (before_in images) (of_slot slot a b) (of_slot slot b a) (in_slot slot outcomes_a outcomes_b)) idle stands.endures.of_target).0
+    stands.endures.newest_stays

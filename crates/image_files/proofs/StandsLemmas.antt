@@ -13,8 +13,8 @@ use Rattle.image_files.specs.Image.{Image, image_of, words_from}
 use Rattle.image_files.specs.Images.{Round, ImageFiles, NoneYet, Newest, StepsImages, round_in, with_cell, with_taken, with_opened}
 use Rattle.image_files.specs.Progress.{Progress, target_of, newest_words, done, round_so_far, round_in_phase, round_of, cells_taken, opened_keeper}
 use Rattle.image_files.specs.Keeper.{Fits, Endures}
-use Rattle.image_files.specs.Steps.{IfOpened, OnOpened, OnWorking, IsOpenedImage}
-use Rattle.image_files.specs.Calls.{TookCell, TookWord}
+use Rattle.image_files.specs.Steps.{IfOpened, OnOpened, OnWorking, TookWord, IsOpenedImage}
+use Rattle.image_files.specs.Calls.{TookCell}
 use Rattle.image_files.proofs.TakeLemmas.{length-done}
 use Rattle.image_files.specs.Files.{Stands, StandsFor, IsHeld, before_in}
 

@@ -15,7 +15,8 @@ use Rattle.image_files.specs.Image.{Image, words_from, is_word}
 use Rattle.image_files.specs.Taken.{filled_words, word_of, has_same}
 use Rattle.image_files.specs.Progress.{Progress, PhaseFits, IsInOrder, chunk_size, newest_words, done, cells_taken}
 use Rattle.image_files.specs.Keeper.{Fits, TargetFits, TargetEndures, Endures}
-use Rattle.image_files.specs.Calls.{after_take, with_taken_cell, TookCell, TookWord}
+use Rattle.image_files.specs.Steps.{TookWord}
+use Rattle.image_files.specs.Calls.{after_take, with_taken_cell, TookCell}
 use Rattle.image_files.proofs.WordLemmas.{length-words_from}
 use Rattle.image_files.proofs.ChunkLemmas.{filled_words-push, length-filled_words}
 use Rattle.image_files.proofs.BodyLemmas.{in_phase}
@@ -80,21 +81,21 @@ module _ (keeper : Progress) (cell : Taken) (phase : keeper.phase ≡ Taking) (o
           in_order = in_order_after Taking by_phase;
           image = fits.image;
           newest_shut = fits.newest_shut;
-          of_target = (part.0, record { room = part.1.room; cells = part.1.cells; tick = part.1.tick; words = part.1.words });
+          of_target = (part.0, record { room = part.1.room; mark = part.1.mark; tick = part.1.tick; words = part.1.words });
           chunk = pass;
         })
         (λ by_phase. record {
           in_order = in_order_after Reading by_phase;
           image = fits.image;
           newest_shut = fits.newest_shut;
-          of_target = (part.0, record { room = part.1.room; cells = part.1.cells; tick = part.1.tick; words = part.1.words });
+          of_target = (part.0, record { room = part.1.room; mark = part.1.mark; tick = part.1.tick; words = part.1.words });
           chunk = pass;
         })
         (λ by_phase. record {
           in_order = in_order_after Writing by_phase;
           image = fits.image;
           newest_shut = fits.newest_shut;
-          of_target = (part.0, record { room = part.1.room; cells = part.1.cells; tick = part.1.tick; words = part.1.words });
+          of_target = (part.0, record { room = part.1.room; mark = part.1.mark; tick = part.1.tick; words = part.1.words });
           chunk = pass;
         })
 

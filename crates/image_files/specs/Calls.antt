@@ -1,16 +1,15 @@
 -- Inside: for the contracts of this crate's private functions.
 -- What a step does by its phase, and what a call of one of the two files keeps.
-use Rattle.std.specs.Prelude.{◌≡◌, ℕ, ◌+◌, ◌*◌, Bool, Option, Some, None, is_some, List, [], ◌∷◌, ◌++◌, length, map, get_or, IsTrue, nat_lt, if◌then◌else◌, ◌==◌, ◌&&◌}
-use Rattle.disk_model.specs.Disk.{Call, CalledOnce}
+use Rattle.std.specs.Prelude.{◌≡◌, ℕ, ◌+◌, ◌*◌, Bool, Option, Some, None, is_some, List, [], ◌∷◌, ◌++◌, length, map, IsTrue, nat_lt, if◌then◌else◌, ◌==◌, ◌&&◌}
 use Rattle.capture_core.specs.declared.taker.Taken.{Taken}
 use Rattle.capture_core.specs.declared.taker.Taken.TheVariants.{Word}
 use Rattle.capture_core.specs.Taken.{IsTakenWord}
 use Rattle.image_files.specs.declared.format.TheConstants.{HEADER_BYTES, WORD_BYTES}
 use Rattle.image_files.specs.declared.phase.Phase.{Phase}
-use Rattle.image_files.specs.declared.phase.Phase.TheVariants.{Idle, Taking, Reading, Writing, BodySync, Down}
+use Rattle.image_files.specs.declared.phase.Phase.TheVariants.{Taking, Reading, Writing, BodySync}
 use Rattle.image_files.specs.Image.{Image, words_from}
-use Rattle.image_files.specs.Taken.{word_of, filled_words, has_same}
-use Rattle.image_files.specs.Progress.{Progress, chunk_size, newest_words, done}
+use Rattle.image_files.specs.Taken.{filled_words, has_same}
+use Rattle.image_files.specs.Progress.{Progress, chunk_size, done}
 use Rattle.image_files.specs.Keeper.{Fits, TargetEndures}
 use Rattle.image_files.specs.Steps.{IsOnlyRead, IsOpenedImage}
 
@@ -44,20 +43,6 @@ with_chunk_written keeper = record keeper { phase = after_chunk keeper; chunk = 
 abbrev pub TookCell : Option Taken → Progress → Progress → Type 0
 TookCell None old new = new ≡ old
 TookCell (Some cell) old new = IsTakenWord cell × (new ≡ with_taken_cell cell old)
-
--- the words after it: a cell's own, or the newest image's word of that cell, or 0 where there is no image
-abbrev pub TookWord : Option Taken → Progress → (newest done_before done_after : List ℕ) → Type 0
-TookWord None keeper newest done_before done_after = done_after ≡ done_before
-TookWord (Some cell) keeper newest done_before done_after =
-    done_after ≡ done_before ++ word_of cell (get_or (newest_words keeper newest) (length done_before) 0) ∷ []
-
--- the disk that is called, once, by phase: none, the newest image's, or the target
-abbrev pub CallsIn : Phase → {D : Type 0} → (called : D → Call → Bool → D → Type 0) → (target_before target_after newest_before newest_after : D) → Type 0
-CallsIn Idle called target_before target_after newest_before newest_after = (target_after ≡ target_before) × (newest_after ≡ newest_before)
-CallsIn Taking called target_before target_after newest_before newest_after = (target_after ≡ target_before) × (newest_after ≡ newest_before)
-CallsIn Down called target_before target_after newest_before newest_after = (target_after ≡ target_before) × (newest_after ≡ newest_before)
-CallsIn Reading called target_before target_after newest_before newest_after = (target_after ≡ target_before) × CalledOnce called newest_before newest_after
-CallsIn phase called target_before target_after newest_before newest_after = CalledOnce called target_before target_after × (newest_after ≡ newest_before)
 
 -- ---- by a call of the target, whatever the newest image's file holds
 

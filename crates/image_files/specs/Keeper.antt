@@ -3,20 +3,22 @@ use Rattle.std.specs.Prelude.{◌≡◌, ◌⊎◌, ℕ, ◌+◌, ◌*◌, ◌�
 use Rattle.std.specs.List.{list_all}
 use Rattle.disk_model.specs.Disk.{Only}
 use Rattle.file_format.specs.Gate.{HasShutGate, HasNoShutGate, HasOpenGate}
+use Rattle.file_format.specs.Format.{marked_in}
+use Rattle.file_format.specs.declared.format.Format.TheVariants.{Second}
 use Rattle.image_files.specs.declared.format.TheConstants.{HEADER_BYTES, WORD_BYTES}
 use Rattle.image_files.specs.declared.phase.Phase.{Phase}
 use Rattle.image_files.specs.declared.phase.Phase.TheVariants.{Idle, Closing, ClosingSync, Header, Opening, OpeningSync, Down}
-use Rattle.image_files.specs.Image.{Image, image_of, cells_in, tick_in, words_from, is_word}
+use Rattle.image_files.specs.Image.{Image, image_of, tick_in, words_from, is_word}
 use Rattle.image_files.specs.Images.{IsTarget}
 use Rattle.image_files.specs.Taken.{filled_words}
 use Rattle.image_files.specs.Progress.{Progress, IsInOrder, done, round_so_far}
 
 -- ---- what reads of the files give
 
--- the header, and the words written so far
+-- the header, in the second format, and the words written so far
 pub record HasBody (keeper : Progress) (file : List ℕ) : Type 0 where
   pub room : HEADER_BYTES + WORD_BYTES * keeper.written ≤ length file
-  pub cells : cells_in file ≡ Some keeper.cells
+  pub mark : marked_in file ≡ Some (Second, keeper.cells)
   pub tick : tick_in file ≡ keeper.tick
   pub words : IsTrue (list_all is_word (words_from file HEADER_BYTES keeper.written))
 

@@ -1,13 +1,17 @@
 -- What a step does to its keeper and its two disks, by its answer.
-use Rattle.std.specs.Prelude.{◌≡◌, ◌⊎◌, ℕ, Bool, List, [], ◌∷◌, length, true, false, IsTrue, ⊤}
+use Rattle.std.specs.Prelude.{◌≡◌, ◌⊎◌, ℕ, Bool, Option, Some, None, List, [], ◌∷◌, ◌++◌, length, get_or, true, false, IsTrue, ⊤}
 use Rattle.file_format.specs.declared.gate.TheConstants.{CLOSED_GATE}
-use Rattle.disk_model.specs.Disk.{overwritten, Only, Within, FaultsBy}
+use Rattle.file_format.specs.declared.format.Format.TheVariants.{Second}
+use Rattle.file_format.specs.Format.{marked_in}
+use Rattle.capture_core.specs.declared.taker.Taken.{Taken}
+use Rattle.disk_model.specs.Disk.{overwritten, Only, Within, FaultsBy, Call, CalledOnce}
 use Rattle.image_files.specs.declared.phase.Phase.{Phase}
-use Rattle.image_files.specs.declared.phase.Phase.TheVariants.{Closing, Down}
+use Rattle.image_files.specs.declared.phase.Phase.TheVariants.{Idle, Closing, Taking, Reading, Down}
 use Rattle.image_files.specs.declared.answer.ImageAnswer.{ImageAnswer}
 use Rattle.image_files.specs.declared.answer.ImageAnswer.TheVariants as answer
 use Rattle.image_files.specs.Image.{Image, image_of}
-use Rattle.image_files.specs.Progress.{Progress}
+use Rattle.image_files.specs.Taken.{word_of}
+use Rattle.image_files.specs.Progress.{Progress, newest_words}
 
 -- ---- by its answer
 
@@ -28,6 +32,14 @@ OnWorking other P = ⊤
 
 -- ---- to the disks
 
+-- the disk that is called, once, by phase: none, the newest image's, or the target
+abbrev pub CallsIn : Phase → {D : Type 0} → (called : D → Call → Bool → D → Type 0) → (target_before target_after newest_before newest_after : D) → Type 0
+CallsIn Idle called target_before target_after newest_before newest_after = (target_after ≡ target_before) × (newest_after ≡ newest_before)
+CallsIn Taking called target_before target_after newest_before newest_after = (target_after ≡ target_before) × (newest_after ≡ newest_before)
+CallsIn Down called target_before target_after newest_before newest_after = (target_after ≡ target_before) × (newest_after ≡ newest_before)
+CallsIn Reading called target_before target_after newest_before newest_after = (target_after ≡ target_before) × CalledOnce called newest_before newest_after
+CallsIn phase called target_before target_after newest_before newest_after = CalledOnce called target_before target_after × (newest_after ≡ newest_before)
+
 -- what the answer says of the counts of faults: Down is answered where a call failed now, or one had failed before
 abbrev pub HasCause : ImageAnswer → (was : Phase) → (target_before target_after newest_before newest_after : ℕ) → Type 0
 HasCause answer.Down was target_before target_after newest_before newest_after =
@@ -46,9 +58,16 @@ Closes answer was before after = was ≡ Closing → OnWorking answer (after ≡
 abbrev pub IsOnlyRead : {D : Type 0} → Bool → (content : D → List ℕ) → (may_leave : D → List ℕ → Type 0) → (before after : D) → Type 0
 IsOnlyRead honest content may_leave before after = IsTrue honest → (content after ≡ content before) × Within (may_leave before) (may_leave after)
 
--- the image of the round was opened, durably, with these words
+-- the words after a take: a cell's own, or the newest image's word of that cell, or 0 where there is no image
+abbrev pub TookWord : Option Taken → Progress → (newest done_before done_after : List ℕ) → Type 0
+TookWord None keeper newest done_before done_after = done_after ≡ done_before
+TookWord (Some cell) keeper newest done_before done_after =
+    done_after ≡ done_before ++ word_of cell (get_or (newest_words keeper newest) (length done_before) 0) ∷ []
+
+-- the image of the round was opened, durably, with these words, in the second format
 pub record IsOpenedImage (keeper : Progress) (words file : List ℕ) (outcomes : List ℕ → Type 0) (tick : ℕ) : Type 0 where
   pub of_the_round : tick ≡ keeper.tick
   pub image : image_of file ≡ Image.Open tick words
   pub whole : length words ≡ keeper.cells
+  pub mark : marked_in file ≡ Some (Second, keeper.cells)
   pub durable : Only file outcomes

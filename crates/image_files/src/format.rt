@@ -1,8 +1,10 @@
-ghost use Rattle.std.specs.Prelude.{◌≡◌, ◌*◌, ◌<◌, ◌≤◌, ◌⊎◌, ◌↔◌, ◌++◌, ℕ, List, length, take};
+ghost use Rattle.std.specs.Prelude.{◌≡◌, ◌*◌, ◌^◌, ◌<◌, ◌≤◌, ◌⊎◌, ◌↔◌, ◌++◌, ℕ, List, length, take};
+ghost use Rattle.world_actions.specs.declared.world.TheConstants.{LIMIT};
 ghost use Rattle.world_actions.specs.World.{IsWorld};
 ghost use Rattle.world_ticks.specs.declared.tick.TheConstants.{TICK_MAX};
+ghost use Rattle.file_format.specs.declared.gate.TheConstants.{OPEN_GATE, CLOSED_GATE};
 ghost use Rattle.file_format.specs.Gate.{HasOpenGate};
-ghost use Rattle.file_format.specs.declared.format.TheConstants.{MARK_END, NUMBERS};
+ghost use Rattle.file_format.specs.declared.format.TheConstants.{MARK_PLACE, MARK_END, NUMBERS, SECOND_MARK};
 ghost use Rattle.file_format.specs.declared.format.Format.{Format};
 ghost use Rattle.file_format.specs.Number.{IsBytes};
 ghost use Rattle.image_files.specs.Image.{Image, image_of, image_bytes, header_bytes, cells_most, cells_in, tick_in};
@@ -47,6 +49,15 @@ pub fn images_read_back()
     numbers_read_back();
     marks_read_back();
 }
+
+/// Law: the numbers of an image file. The definitions of the format cite the constants.
+pub fn image_numbers()
+    ensures gates { (OPEN_GATE ≡ 1) × (CLOSED_GATE ≡ 0) }
+    ensures marks { (MARK_PLACE ≡ 1) × (MARK_END ≡ 9) × (NUMBERS ≡ 2 ^ 60) × (SECOND_MARK ≡ 2 ^ 61) }
+    ensures places { (TICK_PLACE ≡ 9) × (HEADER_BYTES ≡ 17) × (WORD_BYTES ≡ 8) }
+    ensures cells { (FIRST_CELLS_MAX ≡ 65_536) × (CELLS_MAX ≡ 1_048_576) }
+    ensures limits { (LIMIT ≡ 999_999_999_999_999_999) × (TICK_MAX ≡ 1_000_000_000_000_000_000) }
+{}
 
 /// The greatest number of cells that an image of a format has.
 pub fn cells_most(format: Format) -> u64

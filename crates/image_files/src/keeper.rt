@@ -1,7 +1,6 @@
-ghost use Rattle.std.specs.Prelude.{◌≡◌, ◌+◌, ◌≤◌, ◌<◌, ◌⊎◌, ◌↔◌, ℕ, List, [], false, get_or, IsTrue, OnOk, OnErr, IfOk, IfErr, IfNone, Option, Some, None, ⊤};
+ghost use Rattle.std.specs.Prelude.{◌≡◌, ◌+◌, ◌*◌, ◌/◌, if◌then◌else◌, ◌≤◌, ◌<◌, ◌⊎◌, ◌↔◌, ℕ, List, [], false, get_or, IsTrue, OnOk, OnErr, IfOk, IfErr, IfNone, Option, Some, None, ⊤};
 ghost use Rattle.world_ticks.specs.declared.tick.TheConstants.{TICK_MAX};
 ghost use Rattle.file_format.specs.Slot.{of_slot};
-ghost use Rattle.disk_model.specs.Disk.{OneCalledAtMostOnce};
 ghost use Rattle.capture_core.specs.declared.taker.Taken.{Taken};
 ghost use Rattle.image_files.specs.declared.format.TheConstants.{CELLS_MAX};
 ghost use Rattle.image_files.specs.declared.phase.Phase.TheVariants.{Idle, Taking, Down};
@@ -10,8 +9,8 @@ ghost use Rattle.image_files.specs.Images.{ImageFiles, StepsImages};
 ghost use Rattle.image_files.specs.Progress.{target_of, done, cells_taken, left_of, made_keeper, begun_keeper, opened_keeper};
 ghost use Rattle.image_files.specs.Keeper.{Fits, Endures};
 ghost use Rattle.image_files.specs.Files.{FitsFiles, Stands, StandsFor};
-ghost use Rattle.image_files.specs.Steps.{IfOpened, OnOpened, OnWorking, Closes, HasCause, IsOnlyRead, IsOpenedImage};
-ghost use Rattle.image_files.specs.Calls.{TookCell, TookWord, CallsIn};
+ghost use Rattle.image_files.specs.Steps.{IfOpened, OnOpened, OnWorking, CallsIn, Closes, TookWord, HasCause, IsOnlyRead, IsOpenedImage};
+ghost use Rattle.image_files.specs.Calls.{TookCell};
 
 use crate::answer::ImageAnswer;
 use crate::chunk::CHUNK_CELLS;
@@ -140,11 +139,14 @@ impl ImageKeeper {
         self.phase != Phase::Idle
     }
 
-    /// Begins a round.
+    /// Begins a round: it needs a move for each cell, at most two for each chunk of 64, and six, two fewer
+    /// where the target is known to be shut.
     pub fn begin(&mut self, tick: u64)
         requires idle { self.old.phase ≡ Idle }
         requires most { tick ≤ TICK_MAX }
         ensures begun { self.new ≡ begun_keeper tick self.old }
+        ensures left { left_of self.new + (if self.old.target_shut then 2 else 0)
+            ≡ self.old.cells + 2 * ((self.old.cells + 63) / 64) + 6 }
         ensures done { (target newest : List ℕ) → done self.new target newest ≡ [] }
         ensures fits { (target newest : List ℕ) → Fits self.old target newest
             → Fits self.new target newest }
@@ -194,9 +196,18 @@ impl ImageKeeper {
             × (target.new ≡ target.old) × (newest.new ≡ newest.old)) }
         ensures all_taken { IfOpened result (cells_taken self.old ≡ self.old.cells) ⊤ }
 
-        // Disks: at most one call on one of them, and the newest image's file is only read. Down comes only once a
-        // call failed, and no failure is passed over.
-        ensures calls { OneCalledAtMostOnce D.called target.old target.new newest.old newest.new }
+        // Words: a take adds the cell's own, or the newest image's word of that cell; no other step changes them.
+        ensures took { self.old.phase ≡ Taking → (cell : Option Taken) × T.took from.old cell from.new
+            × (IsTrue D.honest → TookWord cell self.old (D.content newest.old)
+            (done self.old (D.content target.old) (D.content newest.old))
+            (done self.new (D.content target.new) (D.content newest.new))) }
+        ensures done { (self.old.phase ≡ Taking → ⊥) → IsTrue D.honest → IfOpened result ⊤
+            (done self.new (D.content target.new) (D.content newest.new)
+            ≡ done self.old (D.content target.old) (D.content newest.old)) }
+
+        // Disks: by the keeper's phase no call, or one on one of them, and the newest image's file is only read. Down
+        // comes only once a call failed, and no failure is passed over.
+        ensures calls { CallsIn self.old.phase D.called target.old target.new newest.old newest.new }
         ensures cause { HasCause result self.old.phase (D.faults target.old) (D.faults target.new)
             (D.faults newest.old) (D.faults newest.new) }
         ensures newest { IsOnlyRead D.honest D.content D.may_leave newest.old newest.new }
@@ -257,9 +268,13 @@ impl ImageKeeper {
             × (cells_taken self.new ≡ cells_taken self.old + 1)) }
         ensures all_taken { IfOpened result (cells_taken self.old ≡ self.old.cells) ⊤ }
 
-        // Disks: at most one call on one of them. Down comes only once a call failed, and no failure is passed over.
-        // A file is closed by the closed gate, and by no other byte.
-        ensures calls { OneCalledAtMostOnce D.called image_a.old image_a.new image_b.old image_b.new }
+        // Disks: by the keeper's phase no call, or one on one of them. Down comes only once a call failed, and no
+        // failure is passed over. A file is closed by the closed gate, and by no other byte.
+        ensures calls { CallsIn self.old.phase D.called
+            (of_slot (target_of self.old.newest) image_a.old image_b.old)
+            (of_slot (target_of self.old.newest) image_a.new image_b.new)
+            (of_slot (target_of self.old.newest) image_b.old image_a.old)
+            (of_slot (target_of self.old.newest) image_b.new image_a.new) }
         ensures cause { HasCause result self.old.phase (D.faults image_a.old) (D.faults image_a.new)
             (D.faults image_b.old) (D.faults image_b.new) }
         ensures closes { IsTrue D.honest → Closes result self.old.phase

@@ -13,7 +13,8 @@ use disk_model::Disk;
 
 /// Laws of a keeper and its files by their names: a keeper just made may step, and stands for the
 /// images that it was told of where nothing of the files is unsynced; the round that it begins begins
-/// in them; its newest image and its round are theirs; and they are what a crash may leave.
+/// in them; its newest image and its round are theirs; between two rounds nothing of the files is
+/// unsynced; and the images are what a crash may leave.
 pub fn images_stay<D: Disk>()
     ensures fits { (cells : ℕ) (newest : Option (Slot × ℕ)) (shut_a shut_b : Bool)
         (image_a image_b : List ℕ) → 1 ≤ cells → cells ≤ CELLS_MAX
@@ -42,6 +43,11 @@ pub fn images_stay<D: Disk>()
         → Stands keeper images
         (D.content image_a) (D.content image_b) (D.may_leave image_a) (D.may_leave image_b)
         → keeper.phase ≡ Idle → round_in images ≡ None }
+    ensures rests { (keeper : Progress) (images : ImageFiles) (image_a image_b : D)
+        → Stands keeper images
+        (D.content image_a) (D.content image_b) (D.may_leave image_a) (D.may_leave image_b)
+        → keeper.phase ≡ Idle
+        → Only (D.content image_a) (D.may_leave image_a) × Only (D.content image_b) (D.may_leave image_b) }
     ensures round { (keeper : Progress) (images : ImageFiles) (image_a image_b : D)
         → Stands keeper images
         (D.content image_a) (D.content image_b) (D.may_leave image_a) (D.may_leave image_b)

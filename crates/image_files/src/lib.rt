@@ -23,7 +23,8 @@ pub use answer::ImageAnswer;
 pub use chunk::CHUNK_CELLS;
 pub use file_format::{Slot, is_shut};
 pub use format::{
-    CELLS_MAX, FIRST_CELLS_MAX, HEADER_BYTES, TICK_PLACE, WORD_BYTES, images_read_back,
+    CELLS_MAX, FIRST_CELLS_MAX, HEADER_BYTES, TICK_PLACE, WORD_BYTES, image_numbers,
+    images_read_back,
 };
 pub use keeper::ImageKeeper;
 pub use laws::images_stay;

@@ -1,4 +1,6 @@
 pub mod Beginning
+pub mod FreshlyServed
+pub mod Faults
 pub mod Following
 pub mod LogRuns
 pub mod Recovered

@@ -1,16 +1,20 @@
 -- The steps of the log keep it in step.
-use Rattle.std.proofs.Common.{◌≡◌, ℕ, ◌≤◌, ◌⊎◌, inl, inr, List, true, false, None, sym, ◌∙◌, arith}
+use Rattle.std.proofs.Common.{◌≡◌, ℕ, ◌<◌, ◌≤◌, ◌⊎◌, inl, inr, List, [], ◌∷◌, ◌++◌, length, true, false, None, sym, ap, ◌∙◌, arith}
 use Rattle.image_files.specs.Images.{ImageFiles, round_in}
 use Rattle.action_log.specs.declared.record.Record.{Record}
 use Rattle.action_log.specs.declared.answer.LogAnswer.{LogAnswer}
 use Rattle.action_log.specs.declared.answer.LogAnswer.TheVariants as answer
 use Rattle.action_log.specs.declared.progress.Progress.{Progress}
+use Rattle.file_format.specs.declared.slot.Slot.TheVariants.{A}
+use Rattle.action_log.specs.declared.phase.Phase.TheVariants.{Ready}
+use Rattle.action_log.specs.Queue.{queue_work}
+use Rattle.action_log.specs.Progress.{rest_in, work_of, taken}
 use Rattle.action_log.specs.Logs.{Journal, InStart, Writing, LogPlace}
 use Rattle.action_log.specs.LogSteps.{JournalStep}
 use Rattle.action_log.specs.Stands.{Stands}
 use Rattle.recovery.specs.Events.{acknowledged_after}
 use Rattle.restart.specs.InStep.{LogStepGoesOn, NoneWaitedFor}
-use Rattle.served.specs.Running.{LogGoes}
+use Rattle.served.specs.Running.{IsFirst, LogGoes}
 
 -- a step acknowledges no less
 no_less : (acknowledged : ℕ) (given : LogAnswer) → acknowledged ≤ acknowledged_after acknowledged given
@@ -25,6 +29,22 @@ waits_not : (keeper : Progress) (a b : List ℕ) (leaves_a leaves_b : List ℕ �
 waits_not keeper a b leaves_a leaves_b (InStart start) left images stands (inl over) = absurd (let e : true ≡ false = sym stands.in_work ∙ over in cc)
 waits_not keeper a b leaves_a leaves_b (InStart start) left images stands (inr none) = none
 waits_not keeper a b leaves_a leaves_b (Writing logs) left images stands h = tt
+
+none_behind : (front left : List Record) → [] ≡ front ++ left → left ≡ []
+none_behind [] left e = sym e
+none_behind (first ∷ front) left e = absurd (let h = ap length e in cc)
+
+-- a step with work to do, of a log with nothing queued, is one of its start
+pub first_step : (keeper next : Progress) (queue left : List Record) → IsFirst keeper queue → 0 < work_of keeper queue → queue ≡ taken keeper queue ++ left
+    → (keeper.starting ≡ true → (next.starting ≡ true) ⊎ ((next.current ≡ A) × (next.phase ≡ Ready))) → IsFirst next left
+first_step keeper next queue left (none, inl starting) some front first = (none_behind (taken keeper queue) left (sym none ∙ front), first starting)
+first_step keeper next queue left (none, inr (slot, ready)) some front first =
+    absurd (let rest = ap (λ p. rest_in p keeper.other_shut) ready in let waits = ap queue_work none in omega (arith, some, rest, waits))
+
+-- the start is over
+pub first_over : (keeper : Progress) (queue : List Record) → IsFirst keeper queue → keeper.starting ≡ false → keeper.current ≡ A
+first_over keeper queue (none, inl starting) over = absurd (let e : true ≡ false = sym starting ∙ over in cc)
+first_over keeper queue (none, inr (slot, ready)) over = slot
 
 module _ {D : Type 0} (file : D → List ℕ) (leaves : D → List ℕ → Type 0) where
   pub log_steps : LogStepGoesOn → (keeper next : Progress) (queue left : List Record) (a next_a b next_b : D) (given : LogAnswer)

@@ -1,5 +1,5 @@
 -- The files of a new world are made.
-use Rattle.std.proofs.Common.{◌≡◌, ◌≤◌, ◌⊎◌, ℕ, false, inl, inr, List, [], replicate, None, Result, Ok, Err, refl, sym, ap, subst, ◌∙◌, arith}
+use Rattle.std.proofs.Common.{◌≡◌, ◌≤◌, ◌⊎◌, ℕ, false, inl, inr, List, [], ◌∷◌, length, replicate, None, Result, Ok, Err, refl, sym, ap, subst, ◌∙◌, arith}
 use Rattle.std.specs.Prelude.{IfOk, IfErr, OnOk}
 use Rattle.world_actions.specs.declared.refusal.Refusal.{Refusal}
 use Rattle.world_actions.specs.declared.world.TheConstants.{CELLS}
@@ -8,6 +8,7 @@ use Rattle.disk_model.specs.FourFiles.{EachFile, KeepsFile}
 use Rattle.disk_model.specs.declared.four_files.FourFiles.{FourFiles}
 use Rattle.image_files.specs.Images.{ImageFiles, NoneYet, Newest}
 use Rattle.image_files.specs.Progress.{Progress as ImageProgress}
+use Rattle.action_log.specs.declared.progress.Progress.{Progress as LogProgress}
 use Rattle.action_log.specs.Segment.{ClosedSegment}
 use Rattle.recovery.specs.Sound.{IsSound, IsFresh}
 use Rattle.restart.specs.InStep.{FreshBegins, IsSafe}
@@ -24,9 +25,14 @@ pub if_ok : {T : Type 0} (r : Result T Refusal) (P Q : T → Type 0) → ((value
 if_ok (Ok value) P Q f h = f value h
 if_ok (Err refusal) P Q f h = tt
 
-pub on_ok : {T : Type 0} (r : Result T Refusal) (P Q : Type 0) → (P → Q) → OnOk r P → OnOk r Q
-on_ok (Ok value) P Q f p = f p
-on_ok (Err refusal) P Q f p = tt
+pub on_ok : {T : Type 0} (r : Result T Refusal) (P Q R S X : Type 0) → (P → Q → R → S → X) → OnOk r P → OnOk r Q → OnOk r R → OnOk r S → OnOk r X
+on_ok (Ok value) P Q R S X f p q r s = f p q r s
+on_ok (Err refusal) P Q R S X f p q r s = tt
+
+-- a list of no length
+pub no_items : {T : Type 0} (items : List T) → length items ≡ 0 → items ≡ []
+no_items [] e = refl
+no_items (item ∷ items) e = absurd (omega (arith, e))
 
 pub if_refused : {T : Type 0} (r : Result T Refusal) (P Q : Refusal → Type 0) → ((refusal : Refusal) → P refusal → Q refusal) → IfErr r P → IfErr r Q
 if_refused (Ok value) P Q f h = tt
@@ -43,6 +49,10 @@ module _ {C D : Type 0} (content : C → Content) (file : D → List ℕ) (leave
       let begun = begins_on (read.image_a_is ∙ sym kept.image_a.same_content) (read.image_b_is ∙ sym kept.image_b.same_content) (read.log_a_is ∙ sym kept.log_a.same_content) (read.log_b_is ∙ sym kept.log_b.same_content) cells (replicate cells 0) engine named in
       record {
         closed = there;
+        ended = b.ended;
+        since = b.since;
+        starting = ap (λ (k : LogProgress). k.starting) b.log;
+        queue = b.queue;
         follows = λ synced.
             (let s = synced_on content file leaves files left kept synced in (
               ap (λ (k : ImageProgress). k.cells) begun.images,

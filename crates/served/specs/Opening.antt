@@ -1,14 +1,15 @@
 -- What opening the files of a world gives.
-use Rattle.std.specs.Prelude.{◌≡◌, ◌≢◌, ◌⊎◌, ℕ, Bool, IsTrue, List, take, Ok, Err}
+use Rattle.std.specs.Prelude.{◌≡◌, ◌≢◌, ◌⊎◌, ◌<◌, ℕ, Bool, IsTrue, List, length, take, slice_index, Ok, Err}
 use Rattle.world_actions.specs.declared.action.Action.{Action}
 use Rattle.world_actions.specs.declared.refusal.Refusal.{Refusal}
 use Rattle.world_actions.specs.declared.refusal.Refusal.TheVariants.{Device, NoMemory}
 use Rattle.capture_core.specs.Content.{Content}
-use Rattle.disk_model.specs.Disk.{Only}
+use Rattle.disk_model.specs.Disk.{Only, Grew}
 use Rattle.disk_model.specs.FourFiles.{EachFile, KeepsFile}
 use Rattle.disk_model.specs.declared.four_files.FourFiles.{FourFiles}
 use Rattle.recovery.specs.Recovery.{Recovery, Recovers}
 use Rattle.recovery.specs.Sound.{IsSound}
+use Rattle.served.specs.declared.engine.Engine.{Engine}
 use Rattle.served.specs.declared.serving.Serving.{Serving}
 use Rattle.served.specs.Serving.{words_of, Serves}
 
@@ -45,6 +46,24 @@ abbrev pub IsRefused : {D : Type 0} → (file : D → List ℕ) → (honest : Bo
 IsRefused file honest files refusal =
     (refusal ≡ NoMemory) ⊎ ((refusal ≡ Device)
     ⊎ ((image_a image_b log_a log_b : List ℕ) × Recovers image_a image_b log_a log_b (Err refusal) × (IsTrue honest → AreRead file files image_a image_b log_a log_b)))
+
+-- one of these counts of faults grew, except at its last value
+abbrev pub SomeGrew : List ℕ → List ℕ → Type 0
+SomeGrew old new = (place : ℕ) × (place < length old) × Grew (slice_index old place) (slice_index new place)
+
+-- What was opened: what recovery answers on bytes, which are what the files hold where they keep to the disk model.
+pub record IsRecovered {C D : Type 0} (content : C → Content) (file : D → List ℕ) (honest : Bool) (files : FourFiles D) (engine : Engine C) (tick from : ℕ) : Type 0 where
+  pub image_a : List ℕ
+  pub image_b : List ℕ
+  pub log_a : List ℕ
+  pub log_b : List ℕ
+  pub recovery : Recovery
+  pub recovers : Recovers image_a image_b log_a log_b (Ok recovery)
+  pub tick_is : tick ≡ recovery.tick
+  pub from_is : from ≡ recovery.from
+  pub words : (content engine.store).live ≡ recovery.words
+  pub ended : engine.ended ≡ recovery.tick
+  pub read : IsTrue honest → AreRead file files image_a image_b log_a log_b
 
 -- A world is served: what recovery answers, acknowledged again. Where the files were sound for some ticks, the recovered ones
 -- among them are served, and no fewer than were acknowledged.

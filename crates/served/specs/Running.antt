@@ -1,13 +1,17 @@
 -- Inside: for private functions alone.
 -- What is kept while images and log are stepped to an end.
-use Rattle.std.specs.Prelude.{◌≡◌, ◌⊎◌, ℕ, ◌+◌, ◌≤◌, false, List, [], length, Some, None}
+use Rattle.std.specs.Prelude.{◌≡◌, ◌⊎◌, ℕ, ◌+◌, ◌≤◌, Bool, true, false, List, [], length, Some, None}
 use Rattle.world_actions.specs.declared.action.Action.{Action}
 use Rattle.file_format.specs.declared.slot.Slot.{Slot}
+use Rattle.file_format.specs.declared.slot.Slot.TheVariants.{A}
 use Rattle.capture_core.specs.Content.{Content}
-use Rattle.image_files.specs.declared.phase.Phase.TheVariants.{Idle}
+use Rattle.disk_model.specs.Disk.{Grew}
+use Rattle.image_files.specs.declared.phase.Phase.{Phase}
+use Rattle.image_files.specs.declared.phase.Phase.TheVariants.{Idle, Down}
 use Rattle.image_files.specs.Images.{ImageFiles, round_in}
 use Rattle.image_files.specs.Progress.{Progress as ImageProgress, cells_taken}
 use Rattle.image_files.specs.Files.{Stands as ImagesStand}
+use Rattle.action_log.specs.declared.phase.Phase.TheVariants.{Ready}
 use Rattle.action_log.specs.declared.record.Record.{Record}
 use Rattle.action_log.specs.declared.progress.Progress.{Progress as LogProgress}
 use Rattle.action_log.specs.Logs.{Journal, LogPlace}
@@ -28,6 +32,19 @@ pub record RoundTick (old new : ImageProgress) : Type 0 where
   pub in_work : (new.phase ≡ Idle → ⊥) → new.tick ≡ old.tick
   pub over : new.phase ≡ Idle → (old.phase ≡ Idle) ⊎ ((slot : Slot) × (new.newest ≡ Some (slot, old.tick)))
   pub newest : HasNewest old → HasNewest new
+
+-- The counts of faults of two files while a keeper runs that was up: it is up and neither grew, or it is down and one did.
+abbrev pub RoundFaults : (was now : Phase) → (a now_a b now_b : ℕ) → Type 0
+RoundFaults was now a now_a b now_b =
+    (was ≡ Down → ⊥) → ((now ≡ Down → ⊥) × (now_a ≡ a) × (now_b ≡ b)) ⊎ ((now ≡ Down) × (Grew a now_a ⊎ Grew b now_b))
+
+abbrev pub LogFaults : (was now : Bool) → (a now_a b now_b : ℕ) → Type 0
+LogFaults was now a now_a b now_b =
+    was ≡ false → ((now ≡ false) × (now_a ≡ a) × (now_b ≡ b)) ⊎ ((now ≡ true) × (Grew a now_a ⊎ Grew b now_b))
+
+-- with nothing queued: the log is in its start, or writes to log.a and has no job in work
+abbrev pub IsFirst : LogProgress → List Record → Type 0
+IsFirst keeper queue = (queue ≡ []) × ((keeper.starting ≡ true) ⊎ ((keeper.current ≡ A) × (keeper.phase ≡ Ready)))
 
 module _ {S D : Type 0} (content : S → Content) (file : D → List ℕ) (leaves : D → List ℕ → Type 0) where
   -- the keeper and its files stand for images that are in step with these ticks, beside this log; as many of the ticks are

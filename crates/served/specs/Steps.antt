@@ -116,4 +116,8 @@ module _ {C D : Type 0} (content : C → Content) (file : D → List ℕ) (leave
 -- the engine begins the start of a fresh world
 pub record IsBegunFresh {C D : Type 0} (content : C → Content) (file : D → List ℕ) (leaves : D → List ℕ → Type 0) (files : FourFiles D) (cells : ℕ) (engine : Engine C) (left : FourFiles D) : Type 0 where
   pub closed : FilesAreClosed file files
+  pub ended : engine.ended ≡ 0
+  pub since : engine.since ≡ 0
+  pub starting : engine.log.starting ≡ true
+  pub queue : engine.queue.items ≡ []
   pub follows : AreSynced file leaves files → (engine.images.cells ≡ cells) × Follows content file leaves engine left [] 0

@@ -1,9 +1,11 @@
-ghost use Rattle.std.specs.Prelude.{◌≡◌, ◌≢◌, ◌⊎◌, ◌↔◌, ◌≤◌, IsTrue, IfOk, IfErr, OnOk};
+ghost use Rattle.std.specs.Prelude.{◌≡◌, ◌≢◌, ◌⊎◌, ◌↔◌, ◌≤◌, false, IsTrue, IfOk, IfErr, OnOk};
 ghost use Rattle.world_actions.specs.declared.world.TheConstants.{CELLS};
-ghost use Rattle.disk_model.specs.FourFiles.{EachFile, KeepsFile};
+ghost use Rattle.disk_model.specs.FourFiles.{EachFile, KeepsFile, fault_counts};
+ghost use Rattle.image_files.specs.declared.phase.Phase.TheVariants.{Down};
 ghost use Rattle.image_files.specs.Image.{Closed, image_of};
 ghost use Rattle.action_log.specs.Segment.{ClosedSegment, IsSegment};
 ghost use Rattle.served.specs.Steps.{ImagesInOrder, LogInOrder, IsBegunFresh};
+ghost use Rattle.served.specs.Opening.{SomeGrew};
 ghost use Rattle.served.specs.Fresh.{AreClosed, AreMade, AreNotMade, FilesAreClosed};
 
 use crate::engine::Engine;
@@ -28,6 +30,8 @@ pub fn fresh_files<D: Disk>(
         ⊎ ((refused.1 ≡ Refusal.NoMemory) ⊎ (refused.1 ≡ Refusal.Device))) }
     ensures left { IsTrue D.honest → IfErr result (λ refused.
         AreNotMade D.content D.may_leave files cells refused.1 refused.0) }
+    ensures device { IfErr result (λ refused. refused.1 ≡ Refusal.Device
+        → SomeGrew (fault_counts D.faults files) (fault_counts D.faults refused.0)) }
 {
     let mut files = files;
     match make_fresh::<PlainCopy, D>(alloc, cells, &mut files) {
@@ -47,6 +51,8 @@ fn make_fresh<C: Capture, D: Disk>(
         ⊎ ((refusal ≡ Refusal.NoMemory) ⊎ (refusal ≡ Refusal.Device))) }
     ensures left { IsTrue D.honest → IfErr result (λ refusal.
         AreNotMade D.content D.may_leave files.old cells refusal files.new) }
+    ensures device { IfErr result (λ refusal. refusal ≡ Refusal.Device
+        → SomeGrew (fault_counts D.faults files.old) (fault_counts D.faults files.new)) }
 {
     images_stay::<D>();
     log_outcomes::<D>();
@@ -71,6 +77,11 @@ fn begin_fresh<C: Capture, D: Disk>(
         ⊎ ((refusal ≡ Refusal.NoMemory) ⊎ (refusal ≡ Refusal.Device))) }
     ensures not_empty { IsTrue D.honest → IfErr result (λ refusal.
         refusal ≡ Refusal.NotEmpty → ¬ FilesAreClosed D.content files.old) }
+    ensures up { IfOk result (λ engine. (engine.images.phase ≡ Down → ⊥) × (engine.log.down ≡ false)) }
+    ensures no_fault { IfOk result (λ engine.
+        fault_counts D.faults files.new ≡ fault_counts D.faults files.old) }
+    ensures device { IfErr result (λ refusal. refusal ≡ Refusal.Device
+        → SomeGrew (fault_counts D.faults files.old) (fault_counts D.faults files.new)) }
 {
     images_stay::<D>();
     log_outcomes::<D>();

@@ -1,8 +1,8 @@
 ghost use Rattle.std.specs.Prelude.{◌≡◌, false, IsTrue, IfOk, IfErr};
-ghost use Rattle.disk_model.specs.FourFiles.{EachFile, KeepsFile};
-ghost use Rattle.image_files.specs.declared.phase.Phase.TheVariants.{Idle};
+ghost use Rattle.disk_model.specs.FourFiles.{EachFile, KeepsFile, fault_counts};
+ghost use Rattle.image_files.specs.declared.phase.Phase.TheVariants.{Idle, Down};
 ghost use Rattle.served.specs.Steps.{ImagesInOrder, LogInOrder, IsAtRest, IsRead, IsStarted};
-ghost use Rattle.served.specs.Opening.{IsRefused, IsNotOpened};
+ghost use Rattle.served.specs.Opening.{SomeGrew, IsRecovered, IsRefused, IsNotOpened};
 
 use crate::engine::Engine;
 use action_log::{log_outcomes, log_queues, segments_read_once};
@@ -23,11 +23,15 @@ pub fn open_engine<C: Capture, D: Disk>(
     ensures rest { IfOk result (λ opened. IsAtRest C.content D.content D.honest opened.0 files.new) }
     ensures up { IfOk result (λ opened. opened.0.log.down ≡ false) }
     ensures begun { IfOk result (λ opened. (opened.0.since ≡ 0) × (opened.0.images.phase ≡ Idle)) }
+    ensures recovered { IfOk result (λ opened.
+        IsRecovered C.content D.content D.honest files.old opened.0 opened.0.ended opened.1) }
     ensures started { IsTrue D.honest → IfOk result (λ opened.
         IsStarted C.content D.content D.may_leave files.old opened.0 opened.1 files.new) }
     ensures refused { IfErr result (IsRefused D.content D.honest files.old) }
     ensures left { IsTrue D.honest → IfErr result (λ refusal.
         IsNotOpened D.content D.may_leave files.old refusal files.new) }
+    ensures device { IfErr result (λ refusal. refusal ≡ Refusal.Device
+        → SomeGrew (fault_counts D.faults files.old) (fault_counts D.faults files.new)) }
 {
     images_stay::<D>();
     log_outcomes::<D>();
@@ -47,9 +51,16 @@ fn read_engine<C: Capture, D: Disk>(
     ensures images { IfOk result (λ read. ImagesInOrder C.content D.content D.honest read.0 files.new) }
     ensures log { IfOk result (λ read. LogInOrder C.content D.content D.honest read.0 files.new) }
     ensures since { IfOk result (λ read. read.0.since ≡ 0) }
+    ensures recovered { IfOk result (λ read.
+        IsRecovered C.content D.content D.honest files.old read.0 read.0.ended read.1) }
     ensures read { IsTrue D.honest → IfOk result (λ read.
         IsRead C.content D.content D.may_leave files.old read.0 read.1 files.new) }
     ensures refused { IfErr result (IsRefused D.content D.honest files.old) }
+    ensures up { IfOk result (λ read. (read.0.images.phase ≡ Down → ⊥) × (read.0.log.down ≡ false)) }
+    ensures no_fault { IfOk result (λ read.
+        fault_counts D.faults files.new ≡ fault_counts D.faults files.old) }
+    ensures device { IfErr result (λ refusal. refusal ≡ Refusal.Device
+        → SomeGrew (fault_counts D.faults files.old) (fault_counts D.faults files.new)) }
 {
     images_stay::<D>();
     log_outcomes::<D>();

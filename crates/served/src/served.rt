@@ -1,9 +1,10 @@
 ghost use Rattle.std.specs.Prelude.{◌≡◌, [], List, false, IsTrue, IfOk, IfErr};
 ghost use Rattle.world_actions.specs.declared.action.Action.{Action};
+ghost use Rattle.disk_model.specs.FourFiles.{fault_counts};
 ghost use Rattle.served.specs.Serving.{Runs, Serves};
 ghost use Rattle.image_files.specs.declared.phase.Phase.TheVariants.{Idle};
 ghost use Rattle.served.specs.Parts.{AreAtRest, AreSettled};
-ghost use Rattle.served.specs.Opening.{IsOpened, IsRefused, IsNotOpened};
+ghost use Rattle.served.specs.Opening.{SomeGrew, IsOpened, IsRecovered, IsRefused, IsNotOpened};
 
 use crate::engine::Engine;
 use crate::parts::{Parts, words_of};
@@ -45,6 +46,8 @@ impl<C: Capture, D: Disk> Served<C, D> {
     ) -> Result<Self, (FourFiles<D>, Refusal)>
         ensures opened { IsTrue D.honest
             → IfOk result (IsOpened C.content D.content D.may_leave D.honest files) }
+        ensures recovered { IfOk result (λ served. IsRecovered C.content D.content D.honest files
+            served.engine served.recovered.0 served.recovered.1) }
         ensures up { IfOk result (λ served. served.engine.log.down ≡ false) }
         ensures begun { IfOk result (λ served. (served.engine.since ≡ 0) × (served.engine.images.phase ≡ Idle)) }
         ensures every { IfOk result (λ served. served.every ≡ every) }
@@ -52,6 +55,8 @@ impl<C: Capture, D: Disk> Served<C, D> {
         ensures refused { IfErr result (λ refused. IsRefused D.content D.honest files refused.1) }
         ensures left { IsTrue D.honest → IfErr result (λ refused.
             IsNotOpened D.content D.may_leave files refused.1 refused.0) }
+        ensures device { IfErr result (λ refused. refused.1 ≡ Refusal.Device
+            → SomeGrew (fault_counts D.faults files) (fault_counts D.faults refused.0)) }
     {
         Ok(Served {
             serving: Serving::open(alloc, files, every)?,

@@ -1,10 +1,11 @@
 ghost use Rattle.std.specs.Prelude.{◌≡◌, ◌⊎◌, ◌≤◌, ◌<◌, ℕ, List, Ok, Err, false, IsTrue, IfOk, IfErr};
 ghost use Rattle.world_actions.specs.declared.action.Action.{Action};
+ghost use Rattle.disk_model.specs.FourFiles.{fault_counts};
 ghost use Rattle.image_files.specs.declared.phase.Phase.TheVariants.{Idle, Down};
 ghost use Rattle.served.specs.Engine.{HasImageOf};
 ghost use Rattle.served.specs.Steps.{IsAtRest};
 ghost use Rattle.served.specs.Serving.{Serves, Runs};
-ghost use Rattle.served.specs.Opening.{IsOpened, IsRefused, IsNotOpened};
+ghost use Rattle.served.specs.Opening.{SomeGrew, IsOpened, IsRecovered, IsRefused, IsNotOpened};
 
 use crate::engine::Engine;
 use crate::opening::open_engine;
@@ -40,6 +41,8 @@ impl<C: Capture, D: Disk> Serving<C, D> {
             IsAtRest C.content D.content D.honest serving.engine serving.files) }
         ensures opened { IsTrue D.honest
             → IfOk result (IsOpened C.content D.content D.may_leave D.honest files) }
+        ensures recovered { IfOk result (λ serving. IsRecovered C.content D.content D.honest files
+            serving.engine serving.recovered.0 serving.recovered.1) }
         ensures up { IfOk result (λ serving. serving.engine.log.down ≡ false) }
         ensures begun { IfOk result (λ serving. (serving.engine.since ≡ 0) × (serving.engine.images.phase ≡ Idle)) }
         ensures every { IfOk result (λ serving. serving.every ≡ every) }
@@ -47,6 +50,8 @@ impl<C: Capture, D: Disk> Serving<C, D> {
         ensures refused { IfErr result (λ refused. IsRefused D.content D.honest files refused.1) }
         ensures left { IsTrue D.honest → IfErr result (λ refused.
             IsNotOpened D.content D.may_leave files refused.1 refused.0) }
+        ensures device { IfErr result (λ refused. refused.1 ≡ Refusal.Device
+            → SomeGrew (fault_counts D.faults files) (fault_counts D.faults refused.0)) }
     {
         let mut files = files;
         match open_engine(alloc, &mut files) {

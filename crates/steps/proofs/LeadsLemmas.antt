@@ -18,9 +18,9 @@ use Rattle.steps.specs.declared.line.Line.{Line}
 use Rattle.steps.specs.declared.line.Method.{Method}
 use Rattle.steps.specs.declared.line.Line.TheVariants.{Open, Command, Mark, Image, Log, Cover, Images, Logs, Crash, World}
 use Rattle.steps.specs.Text.{answer_text}
-use Rattle.steps.specs.Script.{LineRuns}
+use Rattle.steps.specs.Script.{Opened, method_after, LineRuns}
 use Rattle.steps.specs.Played.{Played, Opens, Moves, Plays, Runs, Starts}
-use Rattle.steps.specs.OpenCore.{Leads, MovesOn, method_after}
+use Rattle.steps.specs.OpenCore.{OpenState, Leads, MovesOn}
 use Rattle.steps.specs.Progress.{IsAt, LineLeads}
 
 -- a line that is one move
@@ -99,51 +99,62 @@ pub on_ok : {A E : Type 0} (P Q : Type 0) (r : Result A E) → (P → Q) → OnO
 on_ok P Q (Ok a) follows holds = follows holds
 on_ok P Q (Err e) follows holds = tt
 
+pub on_both : {A E : Type 0} (P Q R : Type 0) (r : Result A E) → (P → Q → R) → OnOk r P → OnOk r Q → OnOk r R
+on_both P Q R (Ok a) follows one other = follows one other
+on_both P Q R (Err e) follows one other = tt
+
 -- ---- a line of a script
 
 -- an opening
-pub opens_leads : (method : Method) (cells : ℕ) (core : Option State) (past : Past) (state : State) → IsCoreAt past state
-    → Opens cells (record { past = past; state = state }) → LineLeads (Some (Open method cells)) core (codes "ready 0") (Some state)
-opens_leads method cells core past state stands opens = record { on = on_opening }
+opens_leads : (method : Method) (cells : ℕ) (core : Option OpenState) (past : Past) (opened : OpenState) → opened.method ≡ method → IsCoreAt past opened.state
+    → Opens cells (record { past = past; state = opened.state }) → LineLeads (Some (Open method cells)) core (codes "ready 0") (Some opened)
+opens_leads method cells core past opened same stands opens = record { on = on_opening }
   where
-    on_opening : (from : Option Played) → IsAt from core → (to : Option Played) × IsAt to (Some state) × LineRuns (Some (Open method cells)) from (codes "ready 0") to
-    on_opening None at = (Some (record { past = past; state = state }), record { state = refl; stands = stands }, (record { past = past; state = state }, refl, opens, refl))
-    on_opening (Some from) at = (Some (record { past = past; state = state }), record { state = refl; stands = stands }, (record { past = past; state = state }, refl, (opens, refl)))
+    on_opening : (from : Option Opened) → IsAt from core → (to : Option Opened) × IsAt to (Some opened) × LineRuns (Some (Open method cells)) from (codes "ready 0") to
+    on_opening None at =
+        let to : Opened = record { method = opened.method; played = record { past = past; state = opened.state } } in
+        (Some to, record { state = refl; stands = stands }, (to, refl, same, opens, refl))
+    on_opening (Some from) at =
+        let to : Opened = record { method = opened.method; played = record { past = past; state = opened.state } } in
+        (Some to, record { state = refl; stands = stands }, (to, refl, same, (opens, refl)))
 
 -- any other line on an open core
 moved : (line : Line) (from to : Played) (old : State) (said : List ℕ) → old ≡ from.state → Runs line (record { past = from.past; state = old }) said to → Runs line from said to
 moved line from to old said same runs = subst (λ (s : State). Runs line (record { past = from.past; state = s }) said to) same runs
 
-put_on : (line : Line) (from : Played) (next : Past) (new : State) (said : List ℕ) → IsCoreAt next new → Runs line from said (record { past = next; state = new })
-    → (to : Option Played) × IsAt to (Some new) × LineRuns (Some line) (Some from) said to
-put_on line from next new said stands runs =
-    (Some (record { past = next; state = new }), record { state = refl; stands = stands }, (record { past = next; state = new }, refl, runs))
+put_on : (line : Line) (from : Opened) (next : Past) (new : OpenState) (said : List ℕ) → new.method ≡ method_after from.method line → IsCoreAt next new.state
+    → Runs line from.played said (record { past = next; state = new.state }) → (to : Option Opened) × IsAt to (Some new) × LineRuns (Some line) (Some from) said to
+put_on line from next new said method stands runs =
+    let to : Opened = record { method = new.method; played = record { past = next; state = new.state } } in
+    (Some to, record { state = refl; stands = stands }, (to, refl, method, runs))
 
-at_state : (old : State) (from : Played) → Some old ≡ Some from.state → old ≡ from.state
-at_state old from is = cc
+at_state : (old at : OpenState) → Some old ≡ Some at → old ≡ at
+at_state old at is = cc
 
-on_open : (line : Line) (old new : State) (said : List ℕ) (from : Option Played) → Leads line old said new → IsAt from (Some old)
-    → (to : Option Played) × IsAt to (Some new) × LineRuns (Some line) from said to
-on_open line old new said None leads at = let is = at.state in absurd cc
-on_open line old new said (Some from) leads at =
-    let same = at_state old from at.state in
-    let run = leads.on from.past (subst (IsCoreAt from.past) (sym same) at.stands) in
-    put_on line from run.0 new said run.1 (moved line from (record { past = run.0; state = new }) old said same run.2)
+on_open : (line : Line) (old new : OpenState) (said : List ℕ) (from : Option Opened) → Leads line old.state said new.state → new.method ≡ method_after old.method line → IsAt from (Some old)
+    → (to : Option Opened) × IsAt to (Some new) × LineRuns (Some line) from said to
+on_open line old new said None leads method at = let is = at.state in absurd cc
+on_open line old new said (Some from) leads method at =
+    let is = at_state old (record { method = from.method; state = from.played.state }) at.state in
+    let same : old.state ≡ from.played.state = ap (λ (o : OpenState). o.state) is in
+    let by : old.method ≡ from.method = ap (λ (o : OpenState). o.method) is in
+    let run = leads.on from.played.past (subst (IsCoreAt from.played.past) (sym same) at.stands) in
+    put_on line from run.0 new said (method ∙ ap (λ (m : Method). method_after m line) by) run.1 (moved line from.played (record { past = run.0; state = new.state }) old.state said same run.2)
 
-open_leads : (line : Line) (old new : State) (said : List ℕ) → Leads line old said new → LineLeads (Some line) (Some old) said (Some new)
-open_leads line old new said leads = record { on = λ from at. on_open line old new said from leads at }
+open_leads : (line : Line) (old new : OpenState) (said : List ℕ) → Leads line old.state said new.state → new.method ≡ method_after old.method line → LineLeads (Some line) (Some old) said (Some new)
+open_leads line old new said leads method = record { on = λ from at. on_open line old new said from leads method at }
 
 -- the same, by what is known of the line and of the core
-pub opening_leads : (meaning : Option Line) (line : Line) (method : Method) (cells : ℕ) (core new : Option State) (past : Past) (state : State) → meaning ≡ Some line → line ≡ Open method cells
-    → new ≡ Some state → IsCoreAt past state → Opens cells (record { past = past; state = state }) → LineLeads meaning core (codes "ready 0") new
-opening_leads meaning line method cells core new past state means opening is stands opens = rw (means, opening, is) (opens_leads method cells core past state stands opens)
+pub opening_leads : (meaning : Option Line) (line : Line) (method : Method) (cells : ℕ) (core new : Option OpenState) (past : Past) (opened : OpenState) → meaning ≡ Some line → line ≡ Open method cells
+    → new ≡ Some opened → opened.method ≡ method → IsCoreAt past opened.state → Opens cells (record { past = past; state = opened.state }) → LineLeads meaning core (codes "ready 0") new
+opening_leads meaning line method cells core new past opened means opening is same stands opens = rw (means, opening, is) (opens_leads method cells core past opened same stands opens)
 
-pub spoken_leads : (meaning : Option Line) (line : Line) (core : Option State) (old new : State) (said : List ℕ) → meaning ≡ Some line → core ≡ Some old
-    → Leads line old said new → LineLeads meaning core said (Some new)
-spoken_leads meaning line core old new said means is leads = rw (means, is) (open_leads line old new said leads)
+pub spoken_leads : (meaning : Option Line) (line : Line) (core : Option OpenState) (old new : OpenState) (said : List ℕ) → meaning ≡ Some line → core ≡ Some old
+    → Leads line old.state said new.state → new.method ≡ method_after old.method line → LineLeads meaning core said (Some new)
+spoken_leads meaning line core old new said means is leads method = rw (means, is) (open_leads line old new said leads method)
 
 -- a line that opens no core leaves the method
-method_stays : (line : Line) (method : Method) → ((other : Method) (cells : ℕ) → line ≢ Open other cells) → Some method ≡ method_after (Some method) (Some line)
+pub method_stays : (line : Line) (method : Method) → ((other : Method) (cells : ℕ) → line ≢ Open other cells) → method ≡ method_after method line
 method_stays (Open method cells) kept other = absurd (other method cells refl)
 method_stays (Command command) kept other = refl
 method_stays Mark kept other = refl
@@ -154,8 +165,3 @@ method_stays (Images fate) kept other = refl
 method_stays (Logs fate) kept other = refl
 method_stays (Crash leaving) kept other = refl
 method_stays World kept other = refl
-
-pub method_kept : (meaning : Option Line) (line : Line) (chosen : Option Method) (old new : Method) → meaning ≡ Some line → chosen ≡ Some old
-    → ((other : Method) (cells : ℕ) → line ≢ Open other cells) → new ≡ old → Some new ≡ method_after chosen meaning
-method_kept meaning line chosen old new means is other same =
-    ap Some same ∙ (method_stays line old other ∙ (ap (λ m. method_after m (Some line)) (sym is) ∙ ap (λ m. method_after chosen m) (sym means)))

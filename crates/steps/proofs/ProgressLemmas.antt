@@ -3,20 +3,19 @@ use Rattle.std.proofs.Common.{append-nil, refl, ap, sym, subst, ◌∙◌, ◌�
 use Rattle.std.proofs.lemmas.List.{take-append-drop}
 use Rattle.world_actions.specs.declared.refusal.Refusal.{Refusal}
 use Rattle.world_actions.specs.declared.refusal.Refusal.TheVariants.{Device}
-use Rattle.world_core.specs.State.{State}
 use Rattle.byte_streams.specs.Front.{IsFront}
 use Rattle.line_grammar.specs.Kept.{HasNoNewline, kept_of, KeptMeans}
 use Rattle.line_grammar.proofs.KeptLemmas.{kept_of-snoc, HasNoNewline-snoc}
 use Rattle.steps.specs.declared.line.Line.{Line}
 use Rattle.steps.specs.Line.{LineMeans}
-use Rattle.steps.specs.Played.{Played}
+use Rattle.steps.specs.OpenCore.{OpenState}
 use Rattle.steps.specs.Script.{lines_of, Replies, IsCutOff}
 use Rattle.steps.specs.Progress.{ScriptState, LineLeads, Stands, LeadsOn, Completes, BreaksOff}
 use Rattle.steps.proofs.ScriptLemmas.{lines_of-line, lines_of-last, Replies-snoc, cut_text, cut_off}
 
 -- before anything is read
 pub stands_fresh : (input : List ℕ) → Stands input (record { core = None; kept = [] }) input []
-stands_fresh input = record { answered = []; line = []; split = refl; played = None; is_at = record { state = refl; stands = tt }; replies = (refl, refl); unbroken = tt; kept_is = refl }
+stands_fresh input = record { answered = []; line = []; split = refl; opened = None; is_at = record { state = refl; stands = tt }; replies = (refl, refl); unbroken = tt; kept_is = refl }
 
 -- no byte
 pub leads_nothing : (script : ScriptState) → LeadsOn script [] script []
@@ -37,7 +36,7 @@ leads_kept old new b other core kept = record {
     answered = stands.answered;
     line = stands.line ++ b ∷ [];
     split = rw (append_assoc stands.line (b ∷ []) left) stands.split;
-    played = stands.played;
+    opened = stands.opened;
     is_at = rw (core) stands.is_at;
     replies = rw (append-nil) stands.replies;
     unbroken = HasNoNewline-snoc stands.line b stands.unbroken other;
@@ -51,15 +50,15 @@ pub leads_answered : (old new : ScriptState) (b : ℕ) (meaning : Option Line) (
 leads_answered old new b meaning said newline means leads empty = record {
   on = λ input left prior stands.
       let line_means : LineMeans stands.line meaning = means stands.line (sym stands.kept_is) in
-      let run = leads.on stands.played stands.is_at in
+      let run = leads.on stands.opened stands.is_at in
       record {
         answered = stands.answered ++ stands.line ∷ [];
         line = [];
         split = stands.split ∙ (ap (λ c. stands.answered ++ lines_of (stands.line ++ (c ∷ left))) newline
             ∙ (ap (λ lines. stands.answered ++ lines) (lines_of-line stands.line left stands.unbroken) ∙ sym (append_assoc stands.answered (stands.line ∷ []) (lines_of left))));
-        played = run.0;
+        opened = run.0;
         is_at = run.1;
-        replies = Replies-snoc None stands.played run.0 stands.answered prior stands.line said meaning stands.replies line_means run.2;
+        replies = Replies-snoc None stands.opened run.0 stands.answered prior stands.line said meaning stands.replies line_means run.2;
         unbroken = tt;
         kept_is = empty;
       };
@@ -75,7 +74,7 @@ cut_between input left written script refusal stands = record {
   answered = stands.answered;
   later = lines_of (stands.line ++ left);
   split = stands.split;
-  core = stands.played;
+  core = stands.opened;
   whole = written;
   replies = stands.replies;
   part = [];
@@ -100,16 +99,16 @@ some_line : (script : ScriptState) (line : List ℕ) → script.kept ≡ kept_of
 some_line script line kept some none = some (kept ∙ ap kept_of none)
 
 -- the input ends in a line with no newline
-pub completes_answered : (script : ScriptState) (new : Option State) (meaning : Option Line) (said : List ℕ) → script.kept ≢ [] → KeptMeans LineMeans script.kept meaning
+pub completes_answered : (script : ScriptState) (new : Option OpenState) (meaning : Option Line) (said : List ℕ) → script.kept ≢ [] → KeptMeans LineMeans script.kept meaning
     → LineLeads meaning script.core said new → Completes script (said ++ 10 ∷ [])
 completes_answered script new meaning said some means leads = record {
   on = λ input prior stands.
       let last = last_line stands.line stands.unbroken (some_line script stands.line stands.kept_is some) in
-      let run = leads.on stands.played stands.is_at in
+      let run = leads.on stands.opened stands.is_at in
       record {
         last = run.0;
         replies = rw (stands.split, last)
-            (Replies-snoc None stands.played run.0 stands.answered prior stands.line said meaning stands.replies (means stands.line (sym stands.kept_is)) run.2);
+            (Replies-snoc None stands.opened run.0 stands.answered prior stands.line said meaning stands.replies (means stands.line (sym stands.kept_is)) run.2);
       };
 }
 
@@ -125,7 +124,7 @@ breaks_front {old} {new} {bytes} {said} {front} leads is left = record {
   on = λ input prior stands.
       let after = leads.on input left prior stands in
       cut_off input after.answered (lines_of (after.line ++ left)) (prior ++ front) Device after.split
-      (cut_text after.answered None after.played (prior ++ said) (prior ++ front) after.replies (front_behind prior front said is)) (λ e. cc);
+      (cut_text after.answered None after.opened (prior ++ said) (prior ++ front) after.replies (front_behind prior front said is)) (λ e. cc);
 }
 
 -- and of what is said at the end

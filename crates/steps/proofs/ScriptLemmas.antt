@@ -3,8 +3,7 @@ use Rattle.std.proofs.Common.{arith, refl, ap, sym, ◌∙◌, subst, ◌≡◌,
 use Rattle.std.proofs.lemmas.Bool.Decides.{nat_tests}
 use Rattle.steps.specs.declared.line.Line.{Line}
 use Rattle.steps.specs.Line.{LineMeans}
-use Rattle.steps.specs.Played.{Played}
-use Rattle.steps.specs.Script.{onto_first, lines_of, LineRuns, Replies, IsScriptText, IsCutOff, text_of, AnswersEach}
+use Rattle.steps.specs.Script.{Opened, onto_first, lines_of, LineRuns, Replies, IsScriptText, IsCutOff, text_of, AnswersEach}
 use Rattle.byte_streams.specs.Front.{IsFront}
 use Rattle.world_actions.specs.declared.refusal.Refusal.{Refusal}
 use Rattle.world_actions.specs.declared.refusal.Refusal.TheVariants.{NoMemory}
@@ -26,10 +25,10 @@ lines_of-last b [] unbroken = rw (other_first b [] unbroken.0) refl
 lines_of-last b (c ∷ line) unbroken = rw (other_first b (c ∷ line) unbroken.0, lines_of-last c line unbroken.1) refl
 
 -- some lines and then others
-pub Replies-append : (core middle last : Option Played) (first more : List (List ℕ)) (text rest : List ℕ)
+pub Replies-append : (core middle last : Option Opened) (first more : List (List ℕ)) (text rest : List ℕ)
     → Replies core first text middle → Replies middle more rest last → Replies core (first ++ more) (text ++ rest) last
 Replies-append core middle last [] more text rest one two =
-    subst (λ (c : Option Played). Replies c more (text ++ rest) last) one.1 (subst (λ (t : List ℕ). Replies middle more (t ++ rest) last) (sym one.0) two)
+    subst (λ (c : Option Opened). Replies c more (text ++ rest) last) one.1 (subst (λ (t : List ℕ). Replies middle more (t ++ rest) last) (sym one.0) two)
 Replies-append core middle last (line ∷ first) more text rest one two = (
   one.0,
   one.1,
@@ -42,14 +41,14 @@ Replies-append core middle last (line ∷ first) more text rest one two = (
 )
 
 -- one more line
-pub Replies-snoc : (core middle next : Option Played) (lines : List (List ℕ)) (text line said : List ℕ) (meaning : Option Line)
+pub Replies-snoc : (core middle next : Option Opened) (lines : List (List ℕ)) (text line said : List ℕ) (meaning : Option Line)
     → Replies core lines text middle → LineMeans line meaning → LineRuns meaning middle said next
     → Replies core (lines ++ line ∷ []) (text ++ (said ++ 10 ∷ [])) next
 Replies-snoc core middle next lines text line said meaning replies means runs =
     Replies-append core middle next lines (line ∷ []) text (said ++ 10 ∷ []) replies (meaning, said, next, [], means, runs, (refl, refl), refl)
 
 -- the answers of a text
-answers_of : (lines : List (List ℕ)) (from last : Option Played) (text : List ℕ) → Replies from lines text last
+answers_of : (lines : List (List ℕ)) (from last : Option Opened) (text : List ℕ) → Replies from lines text last
     → (answers : List (List ℕ)) × (length answers ≡ length lines) × (text ≡ text_of answers)
 answers_of [] from last text replies = ([], refl, replies.0)
 answers_of (line ∷ lines) from last text replies =
@@ -76,19 +75,19 @@ either_front (x ∷ a) b (y ∷ c) d e =
     ]
 
 -- whole answers to the first lines, and at most a front of the next one
-pub record IsCut (from : Option Played) (lines : List (List ℕ)) (front : List ℕ) : Type 0 where
+pub record IsCut (from : Option Opened) (lines : List (List ℕ)) (front : List ℕ) : Type 0 where
   pub answered : List (List ℕ)
   pub later : List (List ℕ)
   pub split : lines ≡ answered ++ later
-  pub core : Option Played
+  pub core : Option Opened
   pub whole : List ℕ
   pub replies : Replies from answered whole core
   pub part : List ℕ
   pub are : front ≡ whole ++ part
-  pub next : (part ≡ []) ⊎ ((line : List ℕ) × (others : List (List ℕ)) × (later ≡ line ∷ others) × (text : List ℕ) × (last : Option Played) × Replies core (line ∷ []) text last × IsFront part text)
+  pub next : (part ≡ []) ⊎ ((line : List ℕ) × (others : List (List ℕ)) × (later ≡ line ∷ others) × (text : List ℕ) × (last : Option Opened) × Replies core (line ∷ []) text last × IsFront part text)
 
 -- each front of a text is cut so
-pub cut_text : (lines : List (List ℕ)) (from last : Option Played) (text front : List ℕ) → Replies from lines text last → IsFront front text → IsCut from lines front
+pub cut_text : (lines : List (List ℕ)) (from last : Option Opened) (text front : List ℕ) → Replies from lines text last → IsFront front text → IsCut from lines front
 cut_text [] from last text front replies is =
     let none : front ++ is.0 ≡ [] = sym is.1 ∙ replies.0 in
     record { answered = []; later = []; split = refl; core = from; whole = []; replies = (refl, refl); part = front; are = refl; next = inl (append-none front is.0 none) }

@@ -1,6 +1,6 @@
 -- Inside: for the proofs of this crate's private functions.
 -- What is seen of an open core: its state, and by which method its words are captured.
-use Rattle.std.specs.Prelude.{Option, Some, None, ℕ, List}
+use Rattle.std.specs.Prelude.{ℕ, List}
 use Rattle.world_core.specs.declared.moves.Move.{Move}
 use Rattle.world_core.specs.declared.moves.Answer.{Answer}
 use Rattle.world_core.specs.Past.{Past, past_after}
@@ -30,11 +30,13 @@ method_of (PingPong core) = method.PingPong
 method_of (ZigzagShared core) = method.ZigzagShared
 method_of (PingPongShared core) = method.PingPongShared
 
--- the method after a line with this meaning: an opening chooses it
-abbrev pub method_after : Option Method → Option Line → Option Method
-method_after chosen None = chosen
-method_after chosen (Some (line.Open method cells)) = Some method
-method_after chosen (Some line) = chosen
+-- what is seen of an open core
+pub record OpenState : Type 0 where
+  pub method : Method
+  pub state : State
+
+abbrev pub open_state_of : OpenCore → OpenState
+open_state_of core = record { method = method_of core; state = state_of core }
 
 -- of a core in the one state the line says this and leaves the other, whatever was told before
 pub record Leads (line : Line) (old : State) (said : List ℕ) (new : State) : Type 0 where

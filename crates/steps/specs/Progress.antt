@@ -4,38 +4,37 @@ use Rattle.std.specs.Prelude.{◌≡◌, ℕ, List, [], ◌∷◌, ◌++◌, Opt
 use Rattle.world_actions.specs.declared.refusal.Refusal.{Refusal}
 use Rattle.line_grammar.specs.Kept.{kept_of, HasNoNewline}
 use Rattle.steps.specs.declared.line.Line.{Line}
-use Rattle.world_core.specs.State.{State}
 use Rattle.world_core.specs.Facts.{IsCoreAt}
-use Rattle.steps.specs.Played.{Played}
-use Rattle.steps.specs.Script.{lines_of, LineRuns, Replies, IsScriptText, IsCutOff}
+use Rattle.steps.specs.OpenCore.{OpenState}
+use Rattle.steps.specs.Script.{Opened, lines_of, LineRuns, Replies, IsScriptText, IsCutOff}
 
 -- the open core, and the bytes that are kept of the line that has not ended
 pub record ScriptState : Type 0 where
-  pub core : Option State
+  pub core : Option OpenState
   pub kept : List ℕ
 
 -- a core stands
-abbrev pub Stand : Option Played → Type 0
+abbrev pub Stand : Option Opened → Type 0
 Stand None = Unit {0}
-Stand (Some played) = IsCoreAt played.past played.state
+Stand (Some opened) = IsCoreAt opened.played.past opened.played.state
 
--- what is open was played so
-pub record IsAt (played : Option Played) (core : Option State) : Type 0 where
-  pub state : core ≡ option_map (λ (p : Played). p.state) played
-  pub stands : Stand played
+-- what is open was opened and played so
+pub record IsAt (opened : Option Opened) (core : Option OpenState) : Type 0 where
+  pub state : core ≡ option_map (λ (o : Opened). record { method = o.method; state = o.played.state }) opened
+  pub stands : Stand opened
 
 -- with the one core open, a line with this meaning says this and leaves the other, however it was played
-pub record LineLeads (meaning : Option Line) (old : Option State) (said : List ℕ) (new : Option State) : Type 0 where
-  pub on : (from : Option Played) → IsAt from old → (to : Option Played) × IsAt to new × LineRuns meaning from said to
+pub record LineLeads (meaning : Option Line) (old : Option OpenState) (said : List ℕ) (new : Option OpenState) : Type 0 where
+  pub on : (from : Option Opened) → IsAt from old → (to : Option Opened) × IsAt to new × LineRuns meaning from said to
 
 -- the lines that ended are answered, the line that has not is kept, and these bytes are left of the input
 pub record Stands (input : List ℕ) (script : ScriptState) (left written : List ℕ) : Type 0 where
   pub answered : List (List ℕ)
   pub line : List ℕ
   pub split : lines_of input ≡ answered ++ lines_of (line ++ left)
-  pub played : Option Played
-  pub is_at : IsAt played script.core
-  pub replies : Replies None answered written played
+  pub opened : Option Opened
+  pub is_at : IsAt opened script.core
+  pub replies : Replies None answered written opened
   pub unbroken : HasNoNewline line
   pub kept_is : script.kept ≡ kept_of line
 

@@ -4,26 +4,39 @@ use Rattle.world_actions.specs.declared.refusal.Refusal.{Refusal}
 use Rattle.world_actions.specs.declared.refusal.Refusal.TheVariants.{BadLine, NoMemory, Device}
 use Rattle.world_core.specs.declared.moves.Answer.TheVariants.{Refused}
 use Rattle.byte_streams.specs.Front.{IsFront}
+use Rattle.steps.specs.declared.line.Method.{Method}
 use Rattle.steps.specs.declared.line.Line.{Line}
 use Rattle.steps.specs.declared.line.Line.TheVariants.{Open}
 use Rattle.steps.specs.Line.{LineMeans}
 use Rattle.steps.specs.Text.{answer_text}
 use Rattle.steps.specs.Played.{Played, Opens, Runs}
 
+-- a core that a script opened: the method by which its words are captured, and how it was played
+pub record Opened : Type 0 where
+  pub method : Method
+  pub played : Played
+
+-- the method after a line: an opening chooses it
+abbrev pub method_after : Method → Line → Method
+method_after method (Open chosen cells) = chosen
+method_after method line = method
+
 -- a line that means nothing, and changes nothing
-abbrev pub IsBadLine : Option Played → List ℕ → Option Played → Type 0
+abbrev pub IsBadLine : Option Opened → List ℕ → Option Opened → Type 0
 IsBadLine from text to = (to ≡ from) × (text ≡ answer_text (Refused BadLine))
 
 -- what a line does and says, where no core is open
-abbrev pub RunsFirst : Line → List ℕ → Option Played → Type 0
-RunsFirst (Open method cells) text to = (next : Played) × (to ≡ Some next) × Opens cells next × (text ≡ codes "ready 0")
+abbrev pub RunsFirst : Line → List ℕ → Option Opened → Type 0
+RunsFirst (Open method cells) text to =
+    (next : Opened) × (to ≡ Some next) × (next.method ≡ method) × Opens cells next.played × (text ≡ codes "ready 0")
 RunsFirst line text to = IsBadLine None text to
 
 -- what a line with this meaning does, and says without the newline; at first no core is open
-abbrev pub LineRuns : Option Line → Option Played → List ℕ → Option Played → Type 0
+abbrev pub LineRuns : Option Line → Option Opened → List ℕ → Option Opened → Type 0
 LineRuns None from text to = IsBadLine from text to
 LineRuns (Some line) None text to = RunsFirst line text to
-LineRuns (Some line) (Some from) text to = (next : Played) × (to ≡ Some next) × Runs line from text next
+LineRuns (Some line) (Some from) text to =
+    (next : Opened) × (to ≡ Some next) × (next.method ≡ method_after from.method line) × Runs line from.played text next.played
 
 -- a byte at the front of the first line
 abbrev pub onto_first : ℕ → List (List ℕ) → List (List ℕ)
@@ -36,15 +49,15 @@ lines_of [] = []
 lines_of (b ∷ bytes) = if b == 10 then [] ∷ lines_of bytes else onto_first b (lines_of bytes)
 
 -- the text that answers these lines, from one core to another: for each line what is said to what it means, and a newline
-abbrev pub Replies : Option Played → List (List ℕ) → List ℕ → Option Played → Type 0
+abbrev pub Replies : Option Opened → List (List ℕ) → List ℕ → Option Opened → Type 0
 Replies from [] text last = (text ≡ []) × (last ≡ from)
 Replies from (line ∷ lines) text last =
-    (meaning : Option Line) × (said : List ℕ) × (next : Option Played) × (rest : List ℕ)
+    (meaning : Option Line) × (said : List ℕ) × (next : Option Opened) × (rest : List ℕ)
     × LineMeans line meaning × LineRuns meaning from said next × Replies next lines rest last × (text ≡ said ++ (10 ∷ rest))
 
 -- the text of a script
 pub record IsScriptText (input text : List ℕ) : Type 0 where
-  pub last : Option Played
+  pub last : Option Opened
   pub replies : Replies None (lines_of input) text last
 
 -- the refusals that end a script
@@ -57,12 +70,12 @@ pub record IsCutOff (input written : List ℕ) (refusal : Refusal) : Type 0 wher
   pub answered : List (List ℕ)
   pub later : List (List ℕ)
   pub split : lines_of input ≡ answered ++ later
-  pub core : Option Played
+  pub core : Option Opened
   pub whole : List ℕ
   pub replies : Replies None answered whole core
   pub part : List ℕ
   pub are_written : written ≡ whole ++ part
-  pub next : (part ≡ []) ⊎ ((text : List ℕ) × (last : Option Played) × Replies core (take 1 later) text last × IsFront part text)
+  pub next : (part ≡ []) ⊎ ((text : List ℕ) × (last : Option Opened) × Replies core (take 1 later) text last × IsFront part text)
   pub in_memory : refusal ≡ NoMemory → part ≡ []
 
 -- these answers, each with a newline after it

@@ -2,7 +2,7 @@ ghost use Rattle.std.specs.Prelude.{◌≡◌, ◌++◌, ◌∷◌, ℕ, List, [
 ghost use Rattle.std.specs.Io.KnownBytes.{Appends, IsAtEnd};
 ghost use Rattle.steps.specs.declared.line.Line.{Line};
 ghost use Rattle.steps.specs.Line.{LineMeans, LineIsInBounds};
-ghost use Rattle.steps.specs.OpenCore.{state_of, method_of, method_after};
+ghost use Rattle.steps.specs.OpenCore.{open_state_of};
 ghost use Rattle.steps.specs.Script.{IsScriptText, IsFault, IsCutOff, AnswersEach};
 ghost use Rattle.line_grammar.specs.Kept.{KeptMeans};
 ghost use Rattle.byte_streams.specs.Front.{IsFront};
@@ -63,12 +63,12 @@ struct Script {
 
 impl Model for Script {
     ghost use Rattle.std.specs.Prelude.{option_map};
-    ghost use Rattle.steps.specs.OpenCore.{state_of};
+    ghost use Rattle.steps.specs.OpenCore.{open_state_of};
     ghost use Rattle.steps.specs.Progress.{ScriptState};
 
     ghost Value = { ScriptState };
 
-    ghost view = { λ script. record { core = option_map state_of script.core; kept = script.line } };
+    ghost view = { λ script. record { core = option_map open_state_of script.core; kept = script.line } };
 }
 
 impl Script {
@@ -204,8 +204,7 @@ fn push_reply(
 ) -> Result<(), Refusal>
     requires { IfSome meaning LineIsInBounds }
     ensures says { OnOk result ((said : List ℕ) × (text.new.items ≡ text.old.items ++ said)
-        × LineLeads meaning (option_map state_of core.old) said (option_map state_of core.new)) }
-    ensures method { OnOk result (option_map method_of core.new ≡ method_after (option_map method_of core.old) meaning) }
+        × LineLeads meaning (option_map open_state_of core.old) said (option_map open_state_of core.new)) }
     ensures memory { IfErr result (λ refusal. refusal ≡ Refusal.NoMemory) }
 {
     let Some(line) = meaning else {

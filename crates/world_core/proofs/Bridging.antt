@@ -1,29 +1,37 @@
 -- What lower crates say of their values, as it is of a core's state.
-use Rattle.std.proofs.Common.{◌≡◌, ◌↔◌, ◌<◌, ◌+◌, ◌++◌, min, true, false, Bool, ℕ, List, [], ◌⊎◌, inl, inr, Option, Some, None, refl, sym, ap, subst, ◌∙◌, arith}
+use Rattle.std.proofs.Common.{◌≡◌, ◌↔◌, ◌<◌, ◌+◌, ◌++◌, min, true, false, Bool, ℕ, List, [], ◌∷◌, ◌⊎◌, inl, inr, Option, Some, None, refl, sym, ap, subst, ◌∙◌, arith}
 use Rattle.world_actions.specs.declared.action.Action.{Action}
 use Rattle.capture_core.specs.declared.taker.Taken.{Taken}
 use Rattle.capture_core.specs.Content.{Content, Takes}
-use Rattle.disk_model.specs.Disk.{last_count, Grew, Call, Length, Read, Write, Sync, CalledOnce, OneCalledAtMostOnce}
+use Rattle.file_format.specs.declared.slot.Slot.{Slot}
+use Rattle.file_format.specs.declared.slot.Slot.TheVariants.{A, B}
+use Rattle.file_format.specs.Slot.{of_slot}
+use Rattle.disk_model.specs.Disk.{last_count, Grew, Call, Length, Read, Write, Sync, CalledOnce}
 use Rattle.disk_model.specs.FileState.{FileState, Calls}
 use Rattle.disk_model.specs.Fused.{Fails, CallsThrough}
 use Rattle.image_files.specs.declared.answer.ImageAnswer.{ImageAnswer}
 use Rattle.image_files.specs.declared.answer.ImageAnswer.TheVariants as image_answer
 use Rattle.image_files.specs.declared.phase.Phase.{Phase}
-use Rattle.image_files.specs.declared.phase.Phase.TheVariants.{Idle, Down}
+use Rattle.image_files.specs.declared.phase.Phase.TheVariants.{Idle, Closing, ClosingSync, Header, Taking, Reading, Writing, BodySync, Opening, OpeningSync, Down}
 use Rattle.image_files.specs.Images.{ImageFiles, StepsImages}
-use Rattle.image_files.specs.Progress.{Progress as ImageProgress, left_of, cells_taken, opened_keeper}
-use Rattle.image_files.specs.Steps.{IfOpened, OnWorking, HasCause}
+use Rattle.image_files.specs.Progress.{Progress as ImageProgress, target_of, left_of, cells_taken, opened_keeper}
+use Rattle.image_files.specs.Steps.{IfOpened, OnWorking, CallsIn as ImageCallsIn, HasCause}
+use Rattle.action_log.specs.declared.phase.Phase.{Phase as LogPhase}
+use Rattle.action_log.specs.declared.phase.Phase.TheVariants as log_phase
 use Rattle.action_log.specs.declared.phase.Phase.TheVariants.{Ready, GateSync}
+use Rattle.action_log.specs.declared.record.Record.{Record}
+use Rattle.action_log.specs.declared.record.Record.TheVariants as records
 use Rattle.action_log.specs.declared.progress.Progress.{Progress as LogProgress}
 use Rattle.action_log.specs.declared.answer.LogAnswer.{LogAnswer}
 use Rattle.action_log.specs.declared.answer.LogAnswer.TheVariants as log_answer
 use Rattle.action_log.specs.Progress.{QueueFollows, end_of, work_of, taken}
+use Rattle.action_log.specs.Calls.{CallsIn as LogCallsIn}
 use Rattle.action_log.specs.Logs.{LogPlace}
 use Rattle.action_log.specs.LogSteps.{JournalStep}
 use Rattle.world_core.specs.declared.moves.Fate.{Fate}
 use Rattle.world_core.specs.declared.moves.Fate.TheVariants as fate_
 use Rattle.world_core.specs.State.{File, State, ImagesIn, LogIn, failures, HasFailed}
-use Rattle.world_core.specs.Moving.{calls_before_failure, FailsBy, StepsImageKeeper, StepsLogKeeper}
+use Rattle.world_core.specs.Moving.{calls_before_failure, CallsBy, FailsBy, CallsNone, StepsImageKeeper, StepsLogKeeper}
 
 module _ {S : Type 0} (content : S → Content) (took : S → Option Taken → S → Type 0)
     (after_take : (old new : S) (given : Option Taken) → took old given new → Takes (content old) given (content new)) where
@@ -86,19 +94,48 @@ counts Sync armed stepped (same, own) = (let below = ap (λ (file : FileState). 
 grows : (file armed stepped : File) → armed ≡ record file { left = Some 0 } → CalledOnce called armed stepped → failures armed < last_count → failures stepped ≡ failures armed → ⊥
 grows file armed stepped e c few same = (let g = counts c.0 armed stepped (c.2.due (due file armed e)).1 in absurd (omega (arith, g, same, few)))
 
-pub fails_by : (fate : Fate) (is_down : Type 0) (a armed_a stepped_a new_a b armed_b stepped_b new_b : File) → IsMoved fate a armed_a stepped_a new_a → IsMoved fate b armed_b stepped_b new_b
-    → OneCalledAtMostOnce called armed_a stepped_a armed_b stepped_b → is_down ⊎ ((failures stepped_a ≡ failures armed_a) × (failures stepped_b ≡ failures armed_b)) → FailsBy fate is_down a b new_a new_b
-fails_by fate_.Done is_down a aa sa na b ab sb nb ma mb (inl (inl none, same)) counts = (same_faults fate_.Done a aa sa na ma none, same_faults fate_.Done b ab sb nb mb same)
-fails_by fate_.Done is_down a aa sa na b ab sb nb ma mb (inl (inr call, same)) counts = (own_faults fate_.Done a aa sa na ma (not_due a aa ma.armed_is) call, same_faults fate_.Done b ab sb nb mb same)
-fails_by fate_.Done is_down a aa sa na b ab sb nb ma mb (inr (same, inl none)) counts = (same_faults fate_.Done a aa sa na ma same, same_faults fate_.Done b ab sb nb mb none)
-fails_by fate_.Done is_down a aa sa na b ab sb nb ma mb (inr (same, inr call)) counts = (same_faults fate_.Done a aa sa na ma same, own_faults fate_.Done b ab sb nb mb (not_due b ab mb.armed_is) call)
-fails_by fate_.Failed is_down a aa sa na b ab sb nb ma mb calls (inl down) = λ few_a few_b. inl down
-fails_by fate_.Failed is_down a aa sa na b ab sb nb ma mb (inl (inl none, same)) (inr counts) = λ few_a few_b. inr (rests fate_.Failed a aa sa na ma none, rests fate_.Failed b ab sb nb mb same)
-fails_by fate_.Failed is_down a aa sa na b ab sb nb ma mb (inl (inr call, same)) (inr counts) = λ few_a few_b.
+-- one of two files is called, once
+abbrev pub OneCalledOnce : (one one' other other' : File) → Type 0
+OneCalledOnce one one' other other' = (CalledOnce called one one' × (other' ≡ other)) ⊎ ((one' ≡ one) × CalledOnce called other other')
+
+-- no file was called, or one of the two, once
+abbrev pub MayCall : (rests : Type 0) → (armed_a stepped_a armed_b stepped_b : File) → Type 0
+MayCall rests armed_a stepped_a armed_b stepped_b = (rests × (stepped_a ≡ armed_a) × (stepped_b ≡ armed_b)) ⊎ OneCalledOnce armed_a stepped_a armed_b stepped_b
+
+pub fails_by : (fate : Fate) (is_down rests : Type 0) (a armed_a stepped_a new_a b armed_b stepped_b new_b : File) → IsMoved fate a armed_a stepped_a new_a → IsMoved fate b armed_b stepped_b new_b
+    → MayCall rests armed_a stepped_a armed_b stepped_b → is_down ⊎ ((failures stepped_a ≡ failures armed_a) × (failures stepped_b ≡ failures armed_b)) → FailsBy fate is_down rests a b new_a new_b
+fails_by fate_.Done is_down rest a aa sa na b ab sb nb ma mb (inl (at_rest, none, same)) counts = (same_faults fate_.Done a aa sa na ma none, same_faults fate_.Done b ab sb nb mb same)
+fails_by fate_.Done is_down rest a aa sa na b ab sb nb ma mb (inr (inl (call, same))) counts = (own_faults fate_.Done a aa sa na ma (not_due a aa ma.armed_is) call, same_faults fate_.Done b ab sb nb mb same)
+fails_by fate_.Done is_down rest a aa sa na b ab sb nb ma mb (inr (inr (same, call))) counts = (same_faults fate_.Done a aa sa na ma same, own_faults fate_.Done b ab sb nb mb (not_due b ab mb.armed_is) call)
+fails_by fate_.Failed is_down rest a aa sa na b ab sb nb ma mb calls (inl down) = λ few_a few_b. inl down
+fails_by fate_.Failed is_down rest a aa sa na b ab sb nb ma mb (inl (at_rest, none, same)) (inr counts) = λ few_a few_b. inr at_rest
+fails_by fate_.Failed is_down rest a aa sa na b ab sb nb ma mb (inr (inl (call, same))) (inr counts) = λ few_a few_b.
     absurd (grows a aa sa ma.armed_is call (let e = failures_before fate_.Failed a aa sa na ma in omega (arith, few_a, e)) counts.0)
-fails_by fate_.Failed is_down a aa sa na b ab sb nb ma mb (inr (same, inl none)) (inr counts) = λ few_a few_b. inr (rests fate_.Failed a aa sa na ma same, rests fate_.Failed b ab sb nb mb none)
-fails_by fate_.Failed is_down a aa sa na b ab sb nb ma mb (inr (same, inr call)) (inr counts) = λ few_a few_b.
+fails_by fate_.Failed is_down rest a aa sa na b ab sb nb ma mb (inr (inr (same, call))) (inr counts) = λ few_a few_b.
     absurd (grows b ab sb mb.armed_is call (let e = failures_before fate_.Failed b ab sb nb mb in omega (arith, few_b, e)) counts.1)
+
+-- the call that is due fails, also by the file without its fuse
+fails_on : (fate : Fate) (call : Call) (file armed stepped new : File) → IsMoved fate file armed stepped new → Fails Calls armed call stepped → Fails Calls file call new
+fails_on fate (Write at bytes) file armed stepped new m h = subst (λ (f : File). Fails Calls f (Write at bytes) new) m.armed_is (subst (λ (f : File). Fails Calls armed (Write at bytes) f) (sym m.new_is) h)
+fails_on fate Length file armed stepped new m h = subst (λ (f : File). Fails Calls f Length new) m.armed_is (subst (λ (f : File). Fails Calls armed Length f) (sym m.new_is) h)
+fails_on fate (Read at count) file armed stepped new m h = subst (λ (f : File). Fails Calls f (Read at count) new) m.armed_is (subst (λ (f : File). Fails Calls armed (Read at count) f) (sym m.new_is) h)
+fails_on fate Sync file armed stepped new m h = subst (λ (f : File). Fails Calls f Sync new) m.armed_is (subst (λ (f : File). Fails Calls armed Sync f) (sym m.new_is) h)
+
+-- one call of an armed file is one by its fate
+called_by : (fate : Fate) (file armed stepped new : File) → IsMoved fate file armed stepped new → CalledOnce called armed stepped → CalledOnce (CallsBy fate) file new
+called_by fate_.Done file armed stepped new m c =
+    let none = not_due file armed m.armed_is in
+    let passed = c.2.passed none in (
+      c.0,
+      c.1,
+      (
+        subst (λ (f : File). Calls f.inner c.0 c.1 new.inner) m.armed_is (subst (λ (f : File). Calls armed.inner c.0 c.1 f.inner) (sym m.new_is) passed.0),
+        own_faults fate_.Done file armed stepped new m none c,
+      ),
+    )
+called_by fate_.Failed file armed stepped new m c =
+    let failed = c.2.due (due file armed m.armed_is) in
+    (c.0, c.1, (failed.0, fails_on fate_.Failed c.0 file armed stepped new m failed.1))
 
 -- a failure between the armed file and the one after the step is one of the move
 pub has_failed : (fate : Fate) (a armed_a stepped_a new_a b armed_b stepped_b new_b : File) → IsMoved fate a armed_a stepped_a new_a → IsMoved fate b armed_b stepped_b new_b
@@ -107,6 +144,88 @@ has_failed fate a aa sa na b ab sb nb ma mb (inl g) = inl (failures_after fate a
 has_failed fate a aa sa na b ab sb nb ma mb (inr g) = inr (failures_after fate b ab sb nb mb ∙ g ∙ ap (λ n. min (n + 1) last_count) (failures_before fate b ab sb nb mb))
 
 -- ---- the image keeper
+
+-- which file a step calls, by its phase: none, or one of the two
+abbrev IsCalled : Phase → (one one' other other' : File) → Type 0
+IsCalled phase one one' other other' =
+    (CallsNone phase × (one' ≡ one) × (other' ≡ other)) ⊎ ((CallsNone phase → ⊥) × OneCalledOnce one one' other other')
+
+by_phase : (phase : Phase) (target target' newest newest' : File) → ImageCallsIn phase called target target' newest newest' → IsCalled phase target target' newest newest'
+by_phase Idle t t' n n' c = inl (tt, c.0, c.1)
+by_phase Taking t t' n n' c = inl (tt, c.0, c.1)
+by_phase Down t t' n n' c = inl (tt, c.0, c.1)
+by_phase Reading t t' n n' c = inr (λ none. none, inr c)
+by_phase Closing t t' n n' c = inr (λ none. none, inl c)
+by_phase ClosingSync t t' n n' c = inr (λ none. none, inl c)
+by_phase Header t t' n n' c = inr (λ none. none, inl c)
+by_phase Writing t t' n n' c = inr (λ none. none, inl c)
+by_phase BodySync t t' n n' c = inr (λ none. none, inl c)
+by_phase Opening t t' n n' c = inr (λ none. none, inl c)
+by_phase OpeningSync t t' n n' c = inr (λ none. none, inl c)
+
+exchanged : (phase : Phase) (one one' other other' : File) → IsCalled phase one one' other other' → IsCalled phase other other' one one'
+exchanged phase one one' other other' (inl (none, first, second)) = inl (none, second, first)
+exchanged phase one one' other other' (inr (some, inl (call, same))) = inr (some, inr (same, call))
+exchanged phase one one' other other' (inr (some, inr (same, call))) = inr (some, inl (call, same))
+
+by_slot : (phase : Phase) (slot : Slot) (a a' b b' : File) → ImageCallsIn phase called (of_slot slot a b) (of_slot slot a' b') (of_slot slot b a) (of_slot slot b' a') → IsCalled phase a a' b b'
+by_slot phase A a a' b b' c = by_phase phase a a' b b' c
+by_slot phase B a a' b b' c = exchanged phase b b' a a' (by_phase phase b b' a a' c)
+
+may_call : (phase : Phase) (a a' b b' : File) → IsCalled phase a a' b b' → MayCall (CallsNone phase) a a' b b'
+may_call phase a a' b b' (inl none) = inl none
+may_call phase a a' b b' (inr (some, call)) = inr call
+
+-- a step's call is one by the fate
+module _ (fate : Fate) (t at st nt n an sn nn : File) (mt : IsMoved fate t at st nt) (mn : IsMoved fate n an sn nn) where
+  neither : (st ≡ at) × (sn ≡ an) → (nt ≡ t) × (nn ≡ n)
+  neither c = (rests fate t at st nt mt c.0, rests fate n an sn nn mn c.1)
+
+  first_called : CalledOnce called at st × (sn ≡ an) → CalledOnce (CallsBy fate) t nt × (nn ≡ n)
+  first_called c = (called_by fate t at st nt mt c.0, rests fate n an sn nn mn c.1)
+
+  second_called : (st ≡ at) × CalledOnce called an sn → (nt ≡ t) × CalledOnce (CallsBy fate) n nn
+  second_called c = (rests fate t at st nt mt c.0, called_by fate n an sn nn mn c.1)
+
+  images_called : (phase : Phase) → ImageCallsIn phase called at st an sn → ImageCallsIn phase (CallsBy fate) t nt n nn
+  images_called Idle c = neither c
+  images_called Taking c = neither c
+  images_called Down c = neither c
+  images_called Reading c = second_called c
+  images_called Closing c = first_called c
+  images_called ClosingSync c = first_called c
+  images_called Header c = first_called c
+  images_called Writing c = first_called c
+  images_called BodySync c = first_called c
+  images_called Opening c = first_called c
+  images_called OpeningSync c = first_called c
+
+  log_called : (phase : LogPhase) (queue : List Record) → LogCallsIn called at st an sn phase queue → LogCallsIn (CallsBy fate) t nt n nn phase queue
+  log_called Ready [] c = neither c
+  log_called Ready (records.Tick tick ∷ queue) c = first_called c
+  log_called Ready (records.Switch tick ∷ queue) c = second_called c
+  log_called log_phase.Retiring queue c = first_called c
+  log_called log_phase.RetiringSync queue c = first_called c
+  log_called log_phase.BodySync queue c = first_called c
+  log_called log_phase.Gate queue c = first_called c
+  log_called GateSync queue c = first_called c
+  log_called log_phase.Closing queue c = second_called c
+  log_called log_phase.ClosingSync queue c = second_called c
+  log_called log_phase.Header queue c = second_called c
+  log_called log_phase.HeaderSync queue c = second_called c
+  log_called log_phase.Opening queue c = second_called c
+  log_called log_phase.OpeningSync queue c = second_called c
+
+module _ (fate : Fate) (a aa sa na b ab sb nb : File) (ma : IsMoved fate a aa sa na) (mb : IsMoved fate b ab sb nb) where
+  images_called_at : (slot : Slot) (phase : Phase) → ImageCallsIn phase called (of_slot slot aa ab) (of_slot slot sa sb) (of_slot slot ab aa) (of_slot slot sb sa)
+      → ImageCallsIn phase (CallsBy fate) (of_slot slot a b) (of_slot slot na nb) (of_slot slot b a) (of_slot slot nb na)
+  images_called_at A phase c = images_called fate a aa sa na b ab sb nb ma mb phase c
+  images_called_at B phase c = images_called fate b ab sb nb a aa sa na mb ma phase c
+
+  log_called_at : (slot : Slot) (phase : LogPhase) (queue : List Record) → LogCallsIn called (of_slot slot aa ab) (of_slot slot sa sb) (of_slot slot ab aa) (of_slot slot sb sa) phase queue
+      → LogCallsIn (CallsBy fate) (of_slot slot a b) (of_slot slot na nb) (of_slot slot b a) (of_slot slot nb na) phase queue
+  log_called_at A phase queue c = log_called fate a aa sa na b ab sb nb ma mb phase queue c
+  log_called_at B phase queue c = log_called fate b ab sb nb a aa sa na mb ma phase queue c
 
 pub image_counts : (given : ImageAnswer) (was : Phase) (a new_a b new_b : ℕ) → HasCause given was a new_a b new_b → (given ≡ image_answer.Down) ⊎ ((new_a ≡ a) × (new_b ≡ b))
 image_counts image_answer.Idle was a na b nb h = inr h
@@ -150,7 +269,8 @@ pub record StepsArmedImages (was : State) (armed_a armed_b : File) (given : Imag
   pub down : (given ≡ image_answer.Down) ↔ (new.images.phase ≡ Down)
   pub rests_down : was.images.phase ≡ Down → new.images.phase ≡ Down
   pub cause : HasCause given was.images.phase (failures armed_a) (failures stepped_a) (failures armed_b) (failures stepped_b)
-  pub calls : OneCalledAtMostOnce called armed_a stepped_a armed_b stepped_b
+  pub calls : ImageCallsIn was.images.phase called (of_slot (target_of was.images.newest) armed_a armed_b) (of_slot (target_of was.images.newest) stepped_a stepped_b)
+      (of_slot (target_of was.images.newest) armed_b armed_a) (of_slot (target_of was.images.newest) stepped_b stepped_a)
   pub working : OnWorking given ((left_of new.images < left_of was.images) ⊎ ((cells_taken was.images < was.images.cells) × Takes was.content None new.content))
   pub opened : IfOpened given (new.images ≡ opened_keeper was.images) (Unit {0})
 
@@ -158,6 +278,9 @@ pub image_step_at : (fate : Fate) (was old new : State) (given : ImageAnswer) (a
     → IsMoved fate was.image_a armed_a stepped_a new.image_a → IsMoved fate was.image_b armed_b stepped_b new.image_b
     → StepsArmedImages was armed_a armed_b given stepped_a stepped_b new → StepsImageKeeper fate old given new
 image_step_at fate was old new given aa ab sa sb e ma mb s =
+    let phase = was.images.phase in
+    let called_in = by_slot phase (target_of was.images.newest) aa sa ab sb s.calls in
+    let may = may_call phase aa sa ab sb called_in in
     subst (λ o. StepsImageKeeper fate o given new) e (record {
       rest = s.rest;
       stands = λ images has.
@@ -171,8 +294,9 @@ image_step_at fate was old new given aa ab sa sb e ma mb s =
         | inl d ↦ inl d
         | inr g ↦ inr (has_failed fate was.image_a aa sa new.image_a was.image_b ab sb new.image_b ma mb g)
       ];
-      fails = fails_by fate (given ≡ image_answer.Down) was.image_a aa sa new.image_a was.image_b ab sb new.image_b ma mb s.calls
+      fails = fails_by fate (given ≡ image_answer.Down) (CallsNone phase) was.image_a aa sa new.image_a was.image_b ab sb new.image_b ma mb may
           (image_counts given was.images.phase (failures aa) (failures sa) (failures ab) (failures sb) s.cause);
+      calls = images_called_at fate was.image_a aa sa new.image_a was.image_b ab sb new.image_b ma mb (target_of was.images.newest) phase s.calls;
       working = s.working;
       opened = s.opened;
     })
@@ -200,16 +324,74 @@ pub record StepsArmedLog (was : State) (armed_a armed_b : File) (given : LogAnsw
   pub idle : (given ≡ log_answer.Idle) ↔ ((was.log.down ≡ false) × (was.log.phase ≡ Ready) × (was.queue ≡ []))
   pub receipt : (tick : ℕ) → (given ≡ log_answer.Acked tick) ↔ ((was.log.phase ≡ GateSync) × (was.log.down ≡ false) × (new.log.down ≡ false) × (tick ≡ new.log.base + new.log.count))
   pub down : (given ≡ log_answer.Down) ↔ (new.log.down ≡ true)
-  pub rests : (given ≡ log_answer.Idle) ⊎ (was.log.down ≡ true) → (new.log ≡ was.log) × (new.queue ≡ was.queue)
+  pub rests : (given ≡ log_answer.Idle) ⊎ (was.log.down ≡ true) → (new.log ≡ was.log) × (new.queue ≡ was.queue) × (stepped_a ≡ armed_a) × (stepped_b ≡ armed_b)
   pub cause : given ≡ log_answer.Down → (was.log.down ≡ true) ⊎ (Grew (failures armed_a) (failures stepped_a) ⊎ Grew (failures armed_b) (failures stepped_b))
   pub faults : new.log.down ≡ false → (failures stepped_a ≡ failures armed_a) × (failures stepped_b ≡ failures armed_b)
-  pub calls : OneCalledAtMostOnce called armed_a stepped_a armed_b stepped_b
+  pub calls : was.log.down ≡ false → LogCallsIn called (of_slot was.log.current armed_a armed_b) (of_slot was.log.current stepped_a stepped_b)
+      (of_slot was.log.current armed_b armed_a) (of_slot was.log.current stepped_b stepped_a) was.log.phase was.queue
   pub lowers : new.log.down ≡ false → 0 < work_of was.log was.queue → work_of new.log new.queue < work_of was.log was.queue
+
+-- no file is called where there is no job, else one, once
+abbrev IsLogCalled : LogPhase → List Record → (one one' other other' : File) → Type 0
+IsLogCalled phase queue one one' other other' = ((phase ≡ Ready) × (queue ≡ [])) ⊎ OneCalledOnce one one' other other'
+
+by_log_phase : (phase : LogPhase) (queue : List Record) (c c' o o' : File) → LogCallsIn called c c' o o' phase queue → IsLogCalled phase queue c c' o o'
+by_log_phase Ready [] c c' o o' h = inl (refl, refl)
+by_log_phase Ready (records.Tick tick ∷ queue) c c' o o' h = inr (inl h)
+by_log_phase Ready (records.Switch tick ∷ queue) c c' o o' h = inr (inr h)
+by_log_phase log_phase.Retiring queue c c' o o' h = inr (inl h)
+by_log_phase log_phase.RetiringSync queue c c' o o' h = inr (inl h)
+by_log_phase log_phase.BodySync queue c c' o o' h = inr (inl h)
+by_log_phase log_phase.Gate queue c c' o o' h = inr (inl h)
+by_log_phase GateSync queue c c' o o' h = inr (inl h)
+by_log_phase log_phase.Closing queue c c' o o' h = inr (inr h)
+by_log_phase log_phase.ClosingSync queue c c' o o' h = inr (inr h)
+by_log_phase log_phase.Header queue c c' o o' h = inr (inr h)
+by_log_phase log_phase.HeaderSync queue c c' o o' h = inr (inr h)
+by_log_phase log_phase.Opening queue c c' o o' h = inr (inr h)
+by_log_phase log_phase.OpeningSync queue c c' o o' h = inr (inr h)
+
+log_exchanged : (phase : LogPhase) (queue : List Record) (one one' other other' : File) → IsLogCalled phase queue one one' other other' → IsLogCalled phase queue other other' one one'
+log_exchanged phase queue one one' other other' (inl none) = inl none
+log_exchanged phase queue one one' other other' (inr (inl (call, same))) = inr (inr (same, call))
+log_exchanged phase queue one one' other other' (inr (inr (same, call))) = inr (inl (call, same))
+
+by_log_slot : (phase : LogPhase) (queue : List Record) (slot : Slot) (a a' b b' : File) → LogCallsIn called (of_slot slot a b) (of_slot slot a' b') (of_slot slot b a) (of_slot slot b' a') phase queue → IsLogCalled phase queue a a' b b'
+by_log_slot phase queue A a a' b b' c = by_log_phase phase queue a a' b b' c
+by_log_slot phase queue B a a' b b' c = log_exchanged phase queue b b' a a' (by_log_phase phase queue b b' a a' c)
+
+true_or_false : (b : Bool) → (b ≡ true) ⊎ (b ≡ false)
+true_or_false true = inl refl
+true_or_false false = inr refl
+
+log_calls : (was : State) (given : LogAnswer) (new : State) (armed_a armed_b stepped_a stepped_b : File) → StepsArmedLog was armed_a armed_b given stepped_a stepped_b new
+    → MayCall ((given ≡ log_answer.Idle) ⊎ (was.log.down ≡ true)) armed_a stepped_a armed_b stepped_b
+log_calls was given new aa ab sa sb s = elim (true_or_false was.log.down) [
+  | inl down ↦ inl (inr down, (s.rests (inr down)).2, (s.rests (inr down)).3)
+  | inr up ↦ elim (by_log_slot was.log.phase was.queue was.log.current aa sa ab sb (s.calls up)) [
+    | inl none ↦ (let idle = s.idle.1 (up, none.0, none.1) in inl (inl idle, (s.rests (inl idle)).2, (s.rests (inl idle)).3))
+    | inr call ↦ inr call
+  ]
+]
+
+-- a step that rests and isn't idle was down before
+is_idle_or_down : (given : LogAnswer) (was new : LogProgress) → (given ≡ log_answer.Down) ↔ (new.down ≡ true) → ((given ≡ log_answer.Idle) ⊎ (was.down ≡ true) → new ≡ was)
+    → (given ≡ log_answer.Down) ⊎ ((given ≡ log_answer.Idle) ⊎ (was.down ≡ true)) → (given ≡ log_answer.Down) ⊎ (given ≡ log_answer.Idle)
+is_idle_or_down given was new down rests (inl e) = inl e
+is_idle_or_down given was new down rests (inr (inl e)) = inr e
+is_idle_or_down given was new down rests (inr (inr e)) = inl (down.1 (ap (λ (k : LogProgress). k.down) (rests (inr e)) ∙ e))
+
+log_fails : (fate : Fate) (given : LogAnswer) (was new : LogProgress) (a b new_a new_b : File) → (given ≡ log_answer.Down) ↔ (new.down ≡ true) → ((given ≡ log_answer.Idle) ⊎ (was.down ≡ true) → new ≡ was)
+    → FailsBy fate (given ≡ log_answer.Down) ((given ≡ log_answer.Idle) ⊎ (was.down ≡ true)) a b new_a new_b → FailsBy fate (given ≡ log_answer.Down) (given ≡ log_answer.Idle) a b new_a new_b
+log_fails fate_.Done given was new a b na nb down rests f = f
+log_fails fate_.Failed given was new a b na nb down rests f = λ few_a few_b. is_idle_or_down given was new down rests (f few_a few_b)
 
 pub log_step_at : (fate : Fate) (was old new : State) (given : LogAnswer) (armed_a armed_b stepped_a stepped_b : File) → was ≡ old
     → IsMoved fate was.log_a armed_a stepped_a new.log_a → IsMoved fate was.log_b armed_b stepped_b new.log_b
     → StepsArmedLog was armed_a armed_b given stepped_a stepped_b new → StepsLogKeeper fate old given new
 log_step_at fate was old new given aa ab sa sb e ma mb s =
+    let rest = (given ≡ log_answer.Idle) ⊎ (was.log.down ≡ true) in
+    let may = log_calls was given new aa ab sa sb s in
     subst (λ o. StepsLogKeeper fate o given new) e (record {
       rest = s.rest;
       front = s.front;
@@ -221,9 +403,13 @@ log_step_at fate was old new given aa ab sa sb e ma mb s =
       idle = s.idle;
       receipt = s.receipt;
       down = s.down;
-      rests = s.rests;
+      rests = λ h.
+          (let r = s.rests h in
+          (r.0, r.1, rests fate was.log_a aa sa new.log_a ma r.2, rests fate was.log_b ab sb new.log_b mb r.3));
+      calls = λ up. log_called_at fate was.log_a aa sa new.log_a was.log_b ab sb new.log_b ma mb was.log.current was.log.phase was.queue (s.calls up);
       cause = λ h. elim (s.cause h) [ inl d ↦ inl d | inr g ↦ inr (has_failed fate was.log_a aa sa new.log_a was.log_b ab sb new.log_b ma mb g) ];
-      fails = fails_by fate (given ≡ log_answer.Down) was.log_a aa sa new.log_a was.log_b ab sb new.log_b ma mb s.calls
-          (log_counts given new.log.down (failures aa) (failures sa) (failures ab) (failures sb) s.down s.faults);
+      fails = log_fails fate given was.log new.log was.log_a was.log_b new.log_a new.log_b s.down (λ h. (s.rests h).0)
+          (fails_by fate (given ≡ log_answer.Down) rest was.log_a aa sa new.log_a was.log_b ab sb new.log_b ma mb may
+          (log_counts given new.log.down (failures aa) (failures sa) (failures ab) (failures sb) s.down s.faults));
       lowers = s.lowers;
     })

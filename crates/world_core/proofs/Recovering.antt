@@ -22,7 +22,7 @@ use Rattle.restart.specs.Start.{images_begun, is_shut}
 use Rattle.restart.specs.InStep.{InStep}
 use Rattle.world_core.specs.Standing.{standing_at}
 use Rattle.world_core.specs.Past.{Past, past_after, fresh_past}
-use Rattle.world_core.specs.State.{State}
+use Rattle.world_core.specs.State.{State, files_in}
 use Rattle.world_core.specs.Laws.{EventLaws, QueueLaws, KeeperLaws, SafetyLaws}
 use Rattle.world_core.specs.Starting.{Begins, BeginsFresh, StandsOn}
 use Rattle.world_core.specs.Exact.{MayLeave, IsCrashAnswer}
@@ -31,8 +31,7 @@ use Rattle.world_core.specs.declared.moves.Move.TheVariants as move
 use Rattle.world_core.specs.declared.moves.Answer.{Answer}
 use Rattle.world_core.specs.declared.moves.Answer.TheVariants as answer
 use Rattle.world_core.specs.Facts.{IsCoreAt}
-use Rattle.world_core.specs.Headline.{AreSafeFor}
-use Rattle.world_core.proofs.Safe.{core_is_safe}
+use Rattle.world_core.proofs.Safe.{AreSafeFor, core_is_safe_for}
 use Rattle.world_core.proofs.Crashing.{start_at, begins_core}
 
 ok_not_err : (r : Recovery) (refusal : Refusal) → ◌≡◌ {A = Result Recovery Refusal} (Ok r) (Err refusal) → ⊥
@@ -120,7 +119,7 @@ pub recovered_keeps : EventLaws → QueueLaws → KeeperLaws → SafetyLaws → 
     → IsCoreAt (recovered_past past r la lb) new
 recovered_keeps events queues keepers safety past old new c r ia ib la lb oa ob ola olb e numbered b =
     let ticks = past.history.ticks in
-    let s = restarts safety old.cells ticks past.acknowledged ia ib la lb e.a e.b e.reads_a e.reads_b (IsCrashOutcome old.image_a.inner) (IsCrashOutcome old.image_b.inner) (IsCrashOutcome old.log_a.inner) (IsCrashOutcome old.log_b.inner) past.has_image (core_is_safe safety past old c) oa ob ola olb r e.holds in
+    let s = restarts safety old.cells ticks past.acknowledged ia ib la lb e.a e.b e.reads_a e.reads_b (IsCrashOutcome old.image_a.inner) (IsCrashOutcome old.image_b.inner) (IsCrashOutcome old.log_a.inner) (IsCrashOutcome old.log_b.inner) past.has_image (core_is_safe_for safety past old c) oa ob ola olb r e.holds in
     begins_core queues keepers old.cells (Some (r.slot, r.from)) r.tick r.words (nat_lt r.from r.tick) ia ib la lb (recovered_past past r la lb) new b c.some_cells c.few_cells numbered
     (Newest (recovered_images r (image_of ia) (image_of ib))) (refl, refl, s.newest_whole, by_slot r.slot ia ib ∙ s.chosen, by_other r.slot ia ib) refl e.a e.b e.reads_a e.reads_b
     (length-take-le r.tick ticks s.world.ended) refl s.whole s.world.words_are refl refl refl
@@ -146,7 +145,7 @@ pub blank_keeps : EventLaws → QueueLaws → KeeperLaws → SafetyLaws → (pas
     → Begins old.cells None 0 (replicate old.cells 0) true ia ib la lb new
     → IsCoreAt (blank_past past la lb) new
 blank_keeps events queues keepers safety past old new c ia ib la lb oa ob ola olb e b =
-    let s = blank safety old.cells past.history.ticks past.acknowledged ia ib la lb e.a e.b e.reads_a e.reads_b (IsCrashOutcome old.image_a.inner) (IsCrashOutcome old.image_b.inner) (IsCrashOutcome old.log_a.inner) (IsCrashOutcome old.log_b.inner) past.has_image (core_is_safe safety past old c) oa ob ola olb e.holds in
+    let s = blank safety old.cells past.history.ticks past.acknowledged ia ib la lb e.a e.b e.reads_a e.reads_b (IsCrashOutcome old.image_a.inner) (IsCrashOutcome old.image_b.inner) (IsCrashOutcome old.log_a.inner) (IsCrashOutcome old.log_b.inner) past.has_image (core_is_safe_for safety past old c) oa ob ola olb e.holds in
     begins_blank events queues keepers old.cells past new ia ib la lb c.some_cells c.few_cells s.unknown s.none_acknowledged s.image_a_closed s.image_b_closed
     (subst (IsSegment la) s.log_a_closed e.reads_a) (subst (IsSegment lb) s.log_b_closed e.reads_b) b
 
@@ -154,7 +153,7 @@ blank_keeps events queues keepers safety past old new c ia ib la lb oa ob ola ol
 pub crash_refuses : SafetyLaws → (past : Past) (old : State) (c : IsCoreAt past old) (ia ib la lb : List ℕ) → IsCrashOutcome old.image_a.inner ia → IsCrashOutcome old.image_b.inner ib → IsCrashOutcome old.log_a.inner la → IsCrashOutcome old.log_b.inner lb
     → (refusal : Refusal) → Recovers ia ib la lb (Err refusal) → refusal ≡ NoImage
 crash_refuses safety past old c ia ib la lb oa ob ola olb refusal e =
-    only_none safety old.cells past.history.ticks past.acknowledged ia ib la lb e.a e.b e.reads_a e.reads_b (IsCrashOutcome old.image_a.inner) (IsCrashOutcome old.image_b.inner) (IsCrashOutcome old.log_a.inner) (IsCrashOutcome old.log_b.inner) past.has_image (core_is_safe safety past old c) oa ob ola olb refusal e.holds
+    only_none safety old.cells past.history.ticks past.acknowledged ia ib la lb e.a e.b e.reads_a e.reads_b (IsCrashOutcome old.image_a.inner) (IsCrashOutcome old.image_b.inner) (IsCrashOutcome old.log_a.inner) (IsCrashOutcome old.log_b.inner) past.has_image (core_is_safe_for safety past old c) oa ob ola olb refusal e.holds
 
 -- ---- a fresh world
 
@@ -175,7 +174,7 @@ fresh_core events queues keepers cells new some few b = begins_blank events queu
 
 -- ---- a core that stands on what a crash left
 
-pub stands_keeps : EventLaws → QueueLaws → KeeperLaws → SafetyLaws → (past : Past) (old new : State) (c : IsCoreAt past old) (left : Remains) → MayLeave old left.image_a.items left.image_b.items left.log_a.items left.log_b.items
+pub stands_keeps : EventLaws → QueueLaws → KeeperLaws → SafetyLaws → (past : Past) (old new : State) (c : IsCoreAt past old) (left : Remains) → MayLeave (files_in old) left.image_a.items left.image_b.items left.log_a.items left.log_b.items
     → (given : Answer) → StandsOn old.cells left.image_a.items left.image_b.items left.log_a.items left.log_b.items given new → IsCoreAt (past_after past (move.Crash left) given) new
 stands_keeps events queues keepers safety past old new c left may (answer.Recovered tick from) s =
     let k = recovered_keeps events queues keepers safety past old new c s.0 left.image_a.items left.image_b.items left.log_a.items left.log_b.items may.0 may.1 may.2 may.3 s.1 s.4 s.5 in
@@ -189,7 +188,7 @@ stands_keeps events queues keepers safety past old new c left may (answer.Image 
 stands_keeps events queues keepers safety past old new c left may (answer.Log given) s = absurd s
 stands_keeps events queues keepers safety past old new c left may (answer.Refused refusal) s = absurd s
 
-pub stands_exact : (state new : State) (cells : ℕ) (ia ib la lb : List ℕ) → MayLeave state ia ib la lb → (given : Answer) → StandsOn cells ia ib la lb given new → IsCrashAnswer state ia ib la lb given
+pub stands_exact : (state new : State) (cells : ℕ) (ia ib la lb : List ℕ) → MayLeave (files_in state) ia ib la lb → (given : Answer) → StandsOn cells ia ib la lb given new → IsCrashAnswer (files_in state) ia ib la lb given
 stands_exact state new cells ia ib la lb may (answer.Recovered tick from) s = (may, (s.0, s.1, s.2, s.3))
 stands_exact state new cells ia ib la lb may answer.Blank s = (may, s.0)
 stands_exact state new cells ia ib la lb may answer.Did s = absurd s
@@ -200,8 +199,8 @@ stands_exact state new cells ia ib la lb may (answer.Image given) s = absurd s
 stands_exact state new cells ia ib la lb may (answer.Log given) s = absurd s
 stands_exact state new cells ia ib la lb may (answer.Refused refusal) s = absurd s
 
-pub refused_exact : SafetyLaws → (past : Past) (state : State) (c : IsCoreAt past state) (ia ib la lb : List ℕ) → MayLeave state ia ib la lb → (refusal : Refusal)
-    → (refusal ≡ NoMemory) ⊎ ((refusal ≢ NoImage) × Recovers ia ib la lb (Err refusal)) → IsCrashAnswer state ia ib la lb (answer.Refused refusal)
+pub refused_exact : SafetyLaws → (past : Past) (state : State) (c : IsCoreAt past state) (ia ib la lb : List ℕ) → MayLeave (files_in state) ia ib la lb → (refusal : Refusal)
+    → (refusal ≡ NoMemory) ⊎ ((refusal ≢ NoImage) × Recovers ia ib la lb (Err refusal)) → IsCrashAnswer (files_in state) ia ib la lb (answer.Refused refusal)
 refused_exact safety past state c ia ib la lb may refusal (inl e) = inr (e, may)
 refused_exact safety past state c ia ib la lb may refusal (inr e) = absurd (e.0 (crash_refuses safety past state c ia ib la lb may.0 may.1 may.2 may.3 refusal e.1))
 

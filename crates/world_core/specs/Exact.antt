@@ -1,9 +1,11 @@
 -- What is answered to each move, by what moves and answers tell and by what the core holds.
-use Rattle.std.specs.Prelude.{◌<◌, ◌≡◌, ◌≢◌, ◌⊎◌, ℕ, ◌+◌, List, length, true, false, Option, Some, None, Result, Ok, Err, IsOk}
+use Rattle.std.specs.Prelude.{◌<◌, ◌≡◌, ◌≢◌, ◌⊎◌, ℕ, ◌+◌, List, length, true, false, Option, Some, None, Ok, Err, IsOk}
 use Rattle.world_actions.specs.declared.action.Action.{Action}
 use Rattle.world_actions.specs.declared.refusal.Refusal.{Refusal}
 use Rattle.world_actions.specs.declared.refusal.Refusal.TheVariants.{NoMemory, NoImage, Impossible}
+use Rattle.disk_model.specs.FileState.{FileState}
 use Rattle.disk_model.specs.CrashOutcome.{IsCrashOutcome}
+use Rattle.disk_model.specs.declared.four_files.FourFiles.{FourFiles}
 use Rattle.recovery.specs.Recovery.{Recovery, Recovers}
 use Rattle.recovery.specs.Events.{ticks_in}
 use Rattle.world_ticks.specs.Tick.{decision}
@@ -20,29 +22,31 @@ use Rattle.action_log.specs.Progress.{work_of}
 use Rattle.action_log.specs.Cover.{uncovered, cover_answer}
 use Rattle.world_core.specs.Standing.{Standing, is_starting, is_round_open, is_log_waiting, unless_refused, action_answer, get_answer, end_answer, tick_refusal_at, mark_refusal_at, cover_refusal_at}
 use Rattle.world_core.specs.Past.{Past}
-use Rattle.world_core.specs.State.{State}
+use Rattle.world_core.specs.State.{State, files_in}
 
 -- why no tick can be added to
 abbrev pub tick_refusal_in : Past → Option Refusal
 tick_refusal_in past = tick_refusal_at past.standing (length past.history.ticks)
 
--- what is decided on an action
-abbrev pub decision_in : Past → State → Action → Result (List ℕ) Refusal
-decision_in past state action = decision state.content.live past.history.running action
+-- what is answered to an action, where these are the words; want of memory refuses only one that would be accepted
+abbrev pub IsActionAnswer : Past → (words : List ℕ) → Action → Answer → Type 0
+IsActionAnswer past words action given =
+    (given ≢ answer.Refused NoMemory → given ≡ unless_refused (tick_refusal_in past) (action_answer (decision words past.history.running action)))
+    × (given ≡ answer.Refused NoMemory → (tick_refusal_in past ≡ None) × IsOk (decision words past.history.running action))
 
--- a crash may leave these bytes of the four files
-abbrev pub MayLeave : State → (image_a image_b log_a log_b : List ℕ) → Type 0
-MayLeave state image_a image_b log_a log_b =
-    IsCrashOutcome state.image_a.inner image_a × IsCrashOutcome state.image_b.inner image_b × IsCrashOutcome state.log_a.inner log_a × IsCrashOutcome state.log_b.inner log_b
+-- a crash may leave these bytes of four files
+abbrev pub MayLeave : FourFiles FileState → (image_a image_b log_a log_b : List ℕ) → Type 0
+MayLeave files image_a image_b log_a log_b =
+    IsCrashOutcome files.image_a image_a × IsCrashOutcome files.image_b image_b × IsCrashOutcome files.log_a log_a × IsCrashOutcome files.log_b log_b
 
--- what is answered to a crash that leaves these bytes
-abbrev pub IsCrashAnswer : State → (image_a image_b log_a log_b : List ℕ) → Answer → Type 0
-IsCrashAnswer state image_a image_b log_a log_b (answer.Refused refusal) =
-    ((refusal ≡ Impossible) × ¬ MayLeave state image_a image_b log_a log_b) ⊎ ((refusal ≡ NoMemory) × MayLeave state image_a image_b log_a log_b)
-IsCrashAnswer state image_a image_b log_a log_b (answer.Recovered tick from) =
-    MayLeave state image_a image_b log_a log_b × ((r : Recovery) × Recovers image_a image_b log_a log_b (Ok r) × (tick ≡ r.tick) × (from ≡ r.from))
-IsCrashAnswer state image_a image_b log_a log_b answer.Blank = MayLeave state image_a image_b log_a log_b × Recovers image_a image_b log_a log_b (Err NoImage)
-IsCrashAnswer state image_a image_b log_a log_b given = ⊥
+-- what is answered to a crash that leaves these bytes of four files
+abbrev pub IsCrashAnswer : FourFiles FileState → (image_a image_b log_a log_b : List ℕ) → Answer → Type 0
+IsCrashAnswer files image_a image_b log_a log_b (answer.Refused refusal) =
+    ((refusal ≡ Impossible) × ¬ MayLeave files image_a image_b log_a log_b) ⊎ ((refusal ≡ NoMemory) × MayLeave files image_a image_b log_a log_b)
+IsCrashAnswer files image_a image_b log_a log_b (answer.Recovered tick from) =
+    MayLeave files image_a image_b log_a log_b × ((r : Recovery) × Recovers image_a image_b log_a log_b (Ok r) × (tick ≡ r.tick) × (from ≡ r.from))
+IsCrashAnswer files image_a image_b log_a log_b answer.Blank = MayLeave files image_a image_b log_a log_b × Recovers image_a image_b log_a log_b (Err NoImage)
+IsCrashAnswer files image_a image_b log_a log_b given = ⊥
 
 -- what is answered to a step of the image keeper: Idle exactly with no round open, and once it is down only Down; the
 -- round's own tick is opened
@@ -72,9 +76,7 @@ pub record IsCoverAnswer (past : Past) (state : State) (tick : ℕ) (given : Ans
 
 -- what is answered, want of memory apart
 abbrev pub IsExact : Past → State → Move → Answer → Type 0
-IsExact past state (move.Act action) given =
-    (given ≢ answer.Refused NoMemory → given ≡ unless_refused (tick_refusal_in past) (action_answer (decision_in past state action)))
-    × (given ≡ answer.Refused NoMemory → (tick_refusal_in past ≡ None) × IsOk (decision_in past state action))
+IsExact past state (move.Act action) given = IsActionAnswer past state.content.live action given
 IsExact past state (move.Get cell) given = given ≡ get_answer state.content.live cell
 IsExact past state move.End given = given ≡ end_answer (tick_refusal_in past) (length past.history.ticks) (length state.queue)
 IsExact past state move.Mark given =
@@ -85,7 +87,7 @@ IsExact past state (move.Log fate) (answer.Log given) = IsLogAnswer past state g
 IsExact past state (move.Log fate) given = ⊥
 IsExact past state (move.Cover tick) given = IsCoverAnswer past state tick given
 IsExact past state (move.Crash left) given =
-    IsCrashAnswer state left.image_a.items left.image_b.items left.log_a.items left.log_b.items given
+    IsCrashAnswer (files_in state) left.image_a.items left.image_b.items left.log_a.items left.log_b.items given
 
 -- a step of a keeper that does its work leaves less to do, as does a cover that takes a record, and the one that opens an image nothing of the round
 abbrev pub Progresses : Move → Answer → (old new : State) → Type 0

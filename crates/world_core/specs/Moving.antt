@@ -1,21 +1,26 @@
 -- What each move does to the state of a core.
-use Rattle.std.specs.Prelude.{◌≡◌, ◌↔◌, ◌⊎◌, ◌<◌, Option, Some, None, ℕ, ◌+◌, List, [], ◌∷◌, ◌++◌, length, true, false, ◌&&◌, Ok}
+use Rattle.std.specs.Prelude.{◌≡◌, ◌↔◌, ◌⊎◌, ◌<◌, Option, Some, None, ℕ, ◌+◌, Bool, List, [], ◌∷◌, ◌++◌, length, true, false, ◌&&◌, Ok}
 use Rattle.world_actions.specs.declared.action.Action.{Action}
 use Rattle.world_actions.specs.Effect.{writes_of}
 use Rattle.world_ticks.specs.Tick.{Actions, decision}
 use Rattle.capture_core.specs.Content.{content_after, Marks, Takes, Covers}
-use Rattle.disk_model.specs.Disk.{last_count}
-use Rattle.image_files.specs.declared.phase.Phase.TheVariants.{Idle, Down}
+use Rattle.file_format.specs.Slot.{of_slot}
+use Rattle.disk_model.specs.Disk.{last_count, Call}
+use Rattle.disk_model.specs.FileState.{Calls}
+use Rattle.disk_model.specs.Fused.{Fails}
+use Rattle.image_files.specs.declared.phase.Phase.{Phase}
+use Rattle.image_files.specs.declared.phase.Phase.TheVariants.{Idle, Taking, Down}
 use Rattle.image_files.specs.declared.answer.ImageAnswer.{ImageAnswer}
 use Rattle.image_files.specs.declared.answer.ImageAnswer.TheVariants as image_answer
-use Rattle.image_files.specs.Progress.{begun_keeper, opened_keeper, left_of, cells_taken}
-use Rattle.image_files.specs.Steps.{IfOpened, OnWorking}
+use Rattle.image_files.specs.Progress.{target_of, begun_keeper, opened_keeper, left_of, cells_taken}
+use Rattle.image_files.specs.Steps.{IfOpened, OnWorking, CallsIn as ImageCallsIn}
 use Rattle.image_files.specs.Images.{ImageFiles, StepsImages}
 use Rattle.action_log.specs.declared.phase.Phase.TheVariants.{Ready, GateSync}
 use Rattle.action_log.specs.declared.answer.LogAnswer.{LogAnswer}
 use Rattle.action_log.specs.declared.answer.LogAnswer.TheVariants as log_answer
 use Rattle.action_log.specs.declared.record.Record.TheVariants as records
 use Rattle.action_log.specs.Progress.{QueueFollows, end_of, work_of, taken}
+use Rattle.action_log.specs.Calls.{CallsIn as LogCallsIn}
 use Rattle.action_log.specs.Logs.{Logs, LogPlace}
 use Rattle.action_log.specs.LogSteps.{is_idle, JournalStep}
 use Rattle.action_log.specs.Cover.{covered, uncovered, cover_answer, CoverStep}
@@ -51,12 +56,23 @@ abbrev pub calls_before_failure : Fate → Option ℕ
 calls_before_failure fate_.Done = None
 calls_before_failure fate_.Failed = Some 0
 
--- Which calls of two files fail: with Done none but by the file itself; with Failed the one that is made, as long as its
--- failures can be counted.
-abbrev pub FailsBy : Fate → (is_down : Type 0) → (a b new_a new_b : File) → Type 0
-FailsBy fate_.Done is_down a b new_a new_b = (new_a.faults ≡ a.faults) × (new_b.faults ≡ b.faults)
-FailsBy fate_.Failed is_down a b new_a new_b =
-    failures a < last_count → failures b < last_count → is_down ⊎ ((new_a ≡ a) × (new_b ≡ b))
+-- a call of a file: with Done as the file itself lets it go, with Failed it fails
+abbrev pub CallsBy : Fate → (old : File) → Call → (succeeded : Bool) → (new : File) → Type 0
+CallsBy fate_.Done old call succeeded new = Calls old.inner call succeeded new.inner × (new.faults ≡ old.faults)
+CallsBy fate_.Failed old call succeeded new = (succeeded ≡ false) × Fails Calls old call new
+
+-- Which steps a fate lets fail: with Done no call but by the file itself; with Failed the keeper goes down, unless the step
+-- makes no call, as long as the file's failures can be counted.
+abbrev pub FailsBy : Fate → (is_down calls_none : Type 0) → (a b new_a new_b : File) → Type 0
+FailsBy fate_.Done is_down calls_none a b new_a new_b = (new_a.faults ≡ a.faults) × (new_b.faults ≡ b.faults)
+FailsBy fate_.Failed is_down calls_none a b new_a new_b = failures a < last_count → failures b < last_count → is_down ⊎ calls_none
+
+-- a step of the image keeper makes no call with no round in work, where it takes a cell, and once a call failed
+abbrev pub CallsNone : Phase → Type 0
+CallsNone Idle = Unit {0}
+CallsNone Taking = Unit {0}
+CallsNone Down = Unit {0}
+CallsNone phase = ⊥
 
 -- a step of the image keeper
 pub record StepsImageKeeper (fate : Fate) (old : State) (given : ImageAnswer) (new : State) : Type 0 where
@@ -67,7 +83,11 @@ pub record StepsImageKeeper (fate : Fate) (old : State) (given : ImageAnswer) (n
   pub down : (given ≡ image_answer.Down) ↔ (new.images.phase ≡ Down)
   pub stays_down : old.images.phase ≡ Down → given ≡ image_answer.Down
   pub cause : given ≡ image_answer.Down → (old.images.phase ≡ Down) ⊎ HasFailed old.image_a new.image_a old.image_b new.image_b
-  pub fails : FailsBy fate (given ≡ image_answer.Down) old.image_a old.image_b new.image_a new.image_b
+  pub fails : FailsBy fate (given ≡ image_answer.Down) (CallsNone old.images.phase) old.image_a old.image_b new.image_a new.image_b
+  -- by the phase no file is called, or one, once: the one that the round writes, or the newest image's
+  pub calls : ImageCallsIn old.images.phase (CallsBy fate)
+      (of_slot (target_of old.images.newest) old.image_a old.image_b) (of_slot (target_of old.images.newest) new.image_a new.image_b)
+      (of_slot (target_of old.images.newest) old.image_b old.image_a) (of_slot (target_of old.images.newest) new.image_b new.image_a)
   -- it goes on, but where a take gave no cell with cells still to be taken
   pub working : OnWorking given ((left_of new.images < left_of old.images) ⊎ ((cells_taken old.images < old.images.cells) × Takes old.content None new.content))
   pub opened : IfOpened given (new.images ≡ opened_keeper old.images) (Unit {0})
@@ -82,9 +102,13 @@ pub record StepsLogKeeper (fate : Fate) (old : State) (given : LogAnswer) (new :
   pub idle : (given ≡ log_answer.Idle) ↔ ((old.log.down ≡ false) × (old.log.phase ≡ Ready) × (old.queue ≡ []))
   pub receipt : (tick : ℕ) → (given ≡ log_answer.Acked tick) ↔ ((old.log.phase ≡ GateSync) × (old.log.down ≡ false) × (new.log.down ≡ false) × (tick ≡ new.log.base + new.log.count))
   pub down : (given ≡ log_answer.Down) ↔ (new.log.down ≡ true)
-  pub rests : (given ≡ log_answer.Idle) ⊎ (old.log.down ≡ true) → (new.log ≡ old.log) × (new.queue ≡ old.queue)
+  pub rests : (given ≡ log_answer.Idle) ⊎ (old.log.down ≡ true) → (new.log ≡ old.log) × (new.queue ≡ old.queue) × (new.log_a ≡ old.log_a) × (new.log_b ≡ old.log_b)
+  -- by the phase and the record in front no file is called, or one, once: the current segment's, or the other one
+  pub calls : old.log.down ≡ false → LogCallsIn (CallsBy fate)
+      (of_slot old.log.current old.log_a old.log_b) (of_slot old.log.current new.log_a new.log_b)
+      (of_slot old.log.current old.log_b old.log_a) (of_slot old.log.current new.log_b new.log_a) old.log.phase old.queue
   pub cause : given ≡ log_answer.Down → (old.log.down ≡ true) ⊎ HasFailed old.log_a new.log_a old.log_b new.log_b
-  pub fails : FailsBy fate (given ≡ log_answer.Down) old.log_a old.log_b new.log_a new.log_b
+  pub fails : FailsBy fate (given ≡ log_answer.Down) (given ≡ log_answer.Idle) old.log_a old.log_b new.log_a new.log_b
   pub lowers : new.log.down ≡ false → 0 < work_of old.log old.queue → work_of new.log new.queue < work_of old.log old.queue
 
 -- what stands before the switch at a tick leaves the queue

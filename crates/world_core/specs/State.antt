@@ -6,6 +6,7 @@ use Rattle.disk_model.specs.Disk.{last_count, Grew}
 use Rattle.disk_model.specs.FileState.{FileState}
 use Rattle.disk_model.specs.Fused.{Fuse, fault_count}
 use Rattle.disk_model.specs.CrashOutcome.{IsCrashOutcome}
+use Rattle.disk_model.specs.declared.four_files.FourFiles.{FourFiles}
 use Rattle.file_format.specs.declared.slot.Slot.{Slot}
 use Rattle.image_files.specs.declared.phase.Phase.{Phase}
 use Rattle.image_files.specs.declared.phase.Phase.TheVariants.{Idle, Closing, ClosingSync, Header, Taking, Reading, Writing, BodySync, Opening, OpeningSync, Down}
@@ -36,6 +37,10 @@ pub record State : Type 0 where
   pub image_b : File
   pub log_a : File
   pub log_b : File
+
+-- its four files, without what may let their calls fail
+abbrev pub files_in : State → FourFiles FileState
+files_in state = record { image_a = state.image_a.inner; image_b = state.image_b.inner; log_a = state.log_a.inner; log_b = state.log_b.inner }
 
 -- a call of the image keeper failed
 abbrev pub is_down : Phase → Bool

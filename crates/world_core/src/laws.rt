@@ -1,4 +1,5 @@
 ghost use Rattle.world_core.specs.Laws.{EventLaws, QueueLaws, KeeperLaws, SafetyLaws};
+ghost use Rattle.world_core.specs.Headline.{CoresAreSafe, FreshAreRecovered};
 
 use action_log::{log_outcomes, log_queues, segments_read_once};
 use capture_core::PlainCopy;
@@ -48,4 +49,14 @@ pub fn safety_laws()
     worlds_are_safe::<File>();
     crash_restarts();
     segments_read_once();
+}
+
+/// Laws: the files of a core are safe for the ticks that ended and the acknowledged count, so that
+/// `Core::step` keeps the promise of `run` move by move. Before there is an image recovery of safe files
+/// finds none, or zeros at tick 0.
+pub fn cores_are_safe()
+    ensures safe { CoresAreSafe }
+    ensures fresh { FreshAreRecovered }
+{
+    safety_laws();
 }

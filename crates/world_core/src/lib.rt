@@ -13,6 +13,7 @@ mod parts;
 mod running;
 mod world_core;
 
+pub use laws::cores_are_safe;
 pub use moves::{Answer, Fate, FileName, Move, Remains};
 pub use running::run;
 pub use world_core::Core;

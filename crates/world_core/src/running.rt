@@ -1,9 +1,11 @@
 ghost use Rattle.std.specs.Prelude.{◌≡◌, ◌≤◌, IfOk, IfErr};
 ghost use Rattle.world_actions.specs.declared.world.TheConstants.{CELLS};
-ghost use Rattle.world_core.specs.Past.{fresh_past};
+ghost use Rattle.world_core.specs.Past.{past_of, fresh_past};
 ghost use Rattle.world_core.specs.State.{State};
 ghost use Rattle.world_core.specs.Starting.{BeginsFresh};
-ghost use Rattle.world_core.specs.Headline.{Headline, Runs, HasRun};
+ghost use Rattle.world_core.specs.Facts.{IsCoreAt};
+ghost use Rattle.world_core.specs.Headline.{Headline, Runs};
+ghost use Rattle.world_core.specs.Plain.{AreAnswered, HasRun};
 
 use crate::laws::safety_laws;
 use crate::moves::{Answer, Move};
@@ -14,14 +16,22 @@ use world_actions::Refusal;
 
 /// Runs moves over a fresh world: the answers, one for each, and the core after them. Whatever a crash
 /// leaves of its files then, recovery gives the world after the first ended ticks, all acknowledged ones
-/// among them, and each open image is the world after exactly its tick.
+/// among them, and each open image is the world after exactly its tick. Each move is answered by its
+/// refusal or its plain answer, a crash by recovery. `Core::step` goes on with the core from there.
 pub fn run<C: Capture>(
     alloc: Global,
     cells: u32,
     moves: Vec<Move>,
 ) -> Result<(Vec<Answer>, Core<C>), Refusal>
     requires { (1 ≤ cells) × (cells ≤ CELLS) }
-    ensures headline { IfOk result (λ r. Headline moves.items r.0.items r.1) }
+    ensures headline { IfOk result (λ r. Headline cells moves.items r.0.items (record {
+      image_a = r.1.image_a.inner;
+      image_b = r.1.image_b.inner;
+      log_a = r.1.log_a.inner;
+      log_b = r.1.log_b.inner;
+    })) }
+    ensures plain { IfOk result (λ r. AreAnswered cells fresh_past moves.items r.0.items) }
+    ensures stands { IfOk result (λ r. IsCoreAt (past_of fresh_past moves.items r.0.items) r.1) }
     ensures cells { IfOk result (λ r. r.1.cells ≡ cells) }
     ensures answers { IfOk result (λ r. (first : State) × BeginsFresh cells first
         × Runs fresh_past first moves.items r.0.items r.1) }
@@ -40,6 +50,7 @@ fn run_all<C: Capture>(
     ensures has_run { IfOk result (λ r. HasRun cells moves.items r.0.items r.1) }
     ensures memory { IfErr result (λ refusal. refusal ≡ Refusal.NoMemory) }
 {
+    safety_laws();
     let mut core = Core::fresh(alloc, cells)?;
     let mut answers = Vec::new(alloc);
     for asked in moves {

@@ -3,7 +3,7 @@ ghost use Rattle.world_actions.specs.declared.action.Action.{Action};
 ghost use Rattle.image_files.specs.declared.phase.Phase.TheVariants.{Idle, Down};
 ghost use Rattle.image_files.specs.Images.{round_in};
 ghost use Rattle.action_log.specs.Progress.{work_of};
-ghost use Rattle.served.specs.Running.{RoundTick};
+ghost use Rattle.served.specs.Running.{RoundTick, RoundFaults, LogFaults, IsFirst};
 ghost use Rattle.served.specs.Engine.{Follows};
 ghost use Rattle.served.specs.Steps.{ImagesInOrder, LogInOrder};
 
@@ -26,6 +26,9 @@ impl<C: Capture> Engine<C> {
         ensures same { self.new ≡ record self.old { store = self.new.store; images = self.new.images } }
         ensures same_files { files.new
             ≡ record files.old { image_a = files.new.image_a; image_b = files.new.image_b } }
+        ensures faults { RoundFaults self.old.images.phase self.new.images.phase
+            (D.faults files.old.image_a) (D.faults files.new.image_a)
+            (D.faults files.old.image_b) (D.faults files.new.image_b) }
         ensures follows { IsTrue D.honest → (ticks : List (List Action)) (acknowledged : ℕ)
             → Follows C.content D.content D.may_leave self.old files.old ticks acknowledged
             → Follows C.content D.content D.may_leave self.new files.new ticks acknowledged }
@@ -45,9 +48,14 @@ impl<C: Capture> Engine<C> {
         ensures log { LogInOrder C.content D.content D.honest self.new files.new }
         ensures rests { (self.new.log.down ≡ true) ⊎ (work_of self.new.log self.new.queue.items ≡ 0) }
         ensures started { self.old.log.starting ≡ false → self.new.log.starting ≡ false }
+        ensures first { self.old.log.starting ≡ true → self.old.queue.items ≡ []
+            → IsFirst self.new.log self.new.queue.items }
         ensures same { self.new ≡ record self.old { log = self.new.log; queue = self.new.queue } }
         ensures same_files { files.new
             ≡ record files.old { log_a = files.new.log_a; log_b = files.new.log_b } }
+        ensures faults { LogFaults self.old.log.down self.new.log.down
+            (D.faults files.old.log_a) (D.faults files.new.log_a)
+            (D.faults files.old.log_b) (D.faults files.new.log_b) }
         ensures follows { IsTrue D.honest → (ticks : List (List Action)) (acknowledged : ℕ)
             → Follows C.content D.content D.may_leave self.old files.old ticks acknowledged
             → Follows C.content D.content D.may_leave self.new files.new ticks acknowledged }

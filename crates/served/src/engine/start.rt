@@ -1,11 +1,14 @@
-ghost use Rattle.std.specs.Prelude.{◌≡◌, ◌≤◌, ℕ, List, All, false, IsTrue, IfOk, IfErr, OnOk};
+ghost use Rattle.std.specs.Prelude.{◌≡◌, ◌≤◌, ℕ, List, [], All, true, false, IsTrue, IfOk, IfErr, OnOk, OnErr};
 ghost use Rattle.world_actions.specs.declared.action.Action.{Action};
 ghost use Rattle.world_actions.specs.declared.world.TheConstants.{CELLS};
 ghost use Rattle.world_actions.specs.World.{IsWord};
 ghost use Rattle.world_ticks.specs.declared.tick.TheConstants.{TICK_MAX};
-ghost use Rattle.image_files.specs.declared.phase.Phase.TheVariants.{Idle};
+ghost use Rattle.file_format.specs.declared.slot.Slot.TheVariants.{A};
+ghost use Rattle.disk_model.specs.FourFiles.{fault_counts};
+ghost use Rattle.image_files.specs.declared.phase.Phase.TheVariants.{Idle, Down};
 ghost use Rattle.served.specs.Running.{HasNewest};
 ghost use Rattle.served.specs.Engine.{Follows};
+ghost use Rattle.served.specs.Opening.{SomeGrew};
 ghost use Rattle.served.specs.Steps.{Begins, ImagesInOrder, LogInOrder, IsAtRest};
 
 use crate::engine::{Engine, QUEUE_RECORDS};
@@ -64,6 +67,8 @@ impl<C: Capture> Engine<C> {
         requires log { LogInOrder C.content D.content D.honest self.old files.old }
         ensures rest { OnOk result (IsAtRest C.content D.content D.honest self.new files.new) }
         ensures up { OnOk result (self.new.log.down ≡ false) }
+        ensures first { self.old.log.starting ≡ true → self.old.queue.items ≡ []
+            → OnOk result (self.new.log.current ≡ A) }
         ensures idle { OnOk result (self.new.images.phase ≡ Idle) }
         ensures ended { (self.new.ended ≡ self.old.ended) × (self.new.since ≡ self.old.since) }
         ensures cells { self.new.images.cells ≡ self.old.images.cells }
@@ -76,6 +81,8 @@ impl<C: Capture> Engine<C> {
             → Follows C.content D.content D.may_leave self.old files.old ticks acknowledged
             → OnOk result (Follows C.content D.content D.may_leave self.new files.new ticks self.new.ended) }
         ensures refused { IfErr result (λ refusal. refusal ≡ Refusal.Device) }
+        ensures device { (self.old.images.phase ≡ Down → ⊥) → self.old.log.down ≡ false → OnErr result
+            (SomeGrew (fault_counts D.faults files.old) (fault_counts D.faults files.new)) }
     {
         worlds_go_on();
         log_outcomes::<D>();

@@ -1,4 +1,4 @@
-use Rattle.image_files.proofs.ClaimLemmas.{made_fits, made_stands, files_left}
+use Rattle.image_files.proofs.ClaimLemmas.{made_fits, made_stands, files_left, idle_rests}
 use Rattle.image_files.proofs.StandsLemmas.{round_stands}
 use Rattle.image_files.proofs.laws.images_stay.Goals as goal
 
@@ -15,3 +15,7 @@ returns-clause-round g c keeper images image_a image_b stands = round_stands ima
 pub returns-clause-left : goal.returns-clause-left
 returns-clause-left g c keeper images image_a image_b stands =
     files_left keeper (g.D.Disk.content image_a) (g.D.Disk.content image_b) (g.D.Disk.may_leave image_a) (g.D.Disk.may_leave image_b) images stands
+
+pub returns-clause-rests : goal.returns-clause-rests
+returns-clause-rests g c keeper images image_a image_b stands idle =
+    idle_rests keeper images (g.D.Disk.content image_a) (g.D.Disk.content image_b) (g.D.Disk.may_leave image_a) (g.D.Disk.may_leave image_b) stands idle

@@ -1,5 +1,7 @@
-use Rattle.std.proofs.Common.{◌≡◌, subst, ◌∙◌, arith, take}
-use Rattle.served.specs.Opening.{IsNotOpened, AreSound}
+use Rattle.std.proofs.Common.{◌≡◌, ℕ, List, subst, ◌∙◌, arith, take}
+use Rattle.world_actions.specs.declared.refusal.Refusal.TheVariants.{Device}
+use Rattle.disk_model.specs.FourFiles.{fault_counts}
+use Rattle.served.specs.Opening.{SomeGrew, IsNotOpened, AreSound}
 use Rattle.served.specs.Engine.{Follows}
 use Rattle.served.proofs.Recovered.{if_err}
 use Rattle.served.proofs.Sound.{follows_sound, sound_of_more}
@@ -46,3 +48,30 @@ returns-clause-started g c = λ honest.
             subst (λ n. Follows g.C.Capture.content file leaves last after (take read.recovery.tick ticks) n) ended (c.in_ok-start.ensures.acknowledges honest (take read.recovery.tick ticks) acknowledged f.1),
           ));
     }
+
+pub returns-clause-recovered : goal.returns-clause-recovered
+returns-clause-recovered g c =
+    let read = c.in_ok-engine.ensures.recovered in
+    let ended = c.start.ensures.ended.0 ∙ read.ended in
+    record {
+      image_a = read.image_a;
+      image_b = read.image_b;
+      log_a = read.log_a;
+      log_b = read.log_b;
+      recovery = read.recovery;
+      recovers = read.recovers;
+      tick_is = ended;
+      from_is = read.from_is;
+      words = c.start.ensures.live ∙ read.words;
+      ended = ended;
+      read = read.read;
+    }
+
+pub returns-in_err-start-clause-device : goal.returns-in_err-start-clause-device
+returns-in_err-start-clause-device g c =
+    let faults = g.D.Disk.faults in
+    let old = fault_counts faults c.args.files.now in
+    let new = fault_counts faults c.start.new.files in
+    let up = c.in_ok-engine.ensures.up in
+    if_err c.from_residual-in_err-start.result c.in_err-start.field-0.0 (λ refusal. refusal ≡ Device → SomeGrew old new) c.from_residual-in_err-start.ensures.1
+    (λ device. subst (λ (counts : List ℕ). SomeGrew counts new) c.in_ok-engine.ensures.no_fault (c.in_err-start.ensures.device up.0 up.1))

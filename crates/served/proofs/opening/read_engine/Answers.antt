@@ -1,8 +1,8 @@
-use Rattle.std.proofs.Common.{◌≡◌, refl, sym, ap, ◌∙◌, inl, inr, length, Some, Ok}
+use Rattle.std.proofs.Common.{◌≡◌, refl, sym, ap, ◌∙◌, inl, inr, length, nat_lt, Some, Ok}
 use Rattle.served.specs.Opening.{IsRefused}
 use Rattle.recovery.specs.Recovered.{recovery_of_answer}
 use Rattle.served.proofs.Recovered.{if_err, recovers_on, holds_newest, is_read}
-use Rattle.served.proofs.Beginning.{images_order}
+use Rattle.served.proofs.Beginning.{images_order, built_live}
 use Rattle.served.proofs.opening.read_engine.Goals as goal
 
 pub returns-in_err-found-clause-refused : goal.returns-in_err-found-clause-refused
@@ -59,3 +59,26 @@ returns-clause-read g c = λ honest.
     (sym all ∙ ap length c.deref-5.ensures.value) refl
     (recovers_on (Ok (recovery_of_answer found)) c.deref.ensures.value c.deref-2.ensures.value c.deref-3.ensures.value c.deref-4.ensures.value c.in_ok-found.ensures.recovered)
     c.in_ok-engine.ensures.begins
+
+pub returns-clause-recovered : goal.returns-clause-recovered
+returns-clause-recovered g c =
+    let found = c.in_ok-found.found in
+    let b = c.in_ok-engine.ensures.begins in
+    record {
+      image_a = c.deref.result.now;
+      image_b = c.deref-2.result.now;
+      log_a = c.deref-3.result.now;
+      log_b = c.deref-4.result.now;
+      recovery = recovery_of_answer found;
+      recovers = c.in_ok-found.ensures.recovered;
+      tick_is = b.ended;
+      from_is = refl;
+      words = built_live c.deref-5.result.now (nat_lt found.from found.tick) (g.C.Capture.content c.in_ok-engine.engine.store) b.store ∙ c.deref-5.ensures.value;
+      ended = b.ended;
+      read = λ honest. (let b = c.in_ok-bytes.ensures.bytes honest in record {
+        image_a_is = c.deref.ensures.value ∙ b.image_a;
+        image_b_is = c.deref-2.ensures.value ∙ b.image_b;
+        log_a_is = c.deref-3.ensures.value ∙ b.log_a;
+        log_b_is = c.deref-4.ensures.value ∙ b.log_b;
+      });
+    }

@@ -1,5 +1,6 @@
 use Rattle.std.proofs.Common.{arith, ◌∙◌, ◌<◌}
 use Rattle.image_files.specs.Progress.{left_of}
+use Rattle.served.proofs.Faults.{round_faults}
 use Rattle.served.proofs.Rounds.{cells_step, smaller_step, live_step, tick_step, round_steps}
 use Rattle.served.proofs.round.run_round.Goals as goal
 
@@ -17,6 +18,8 @@ loop-keeper-preserved g c =
       same = e.cells ∙ inv.same;
       ticks = tick_step c.step_files.result c.args.keeper.now c.loop-keeper.keeper c.step_files.new.self e.idle e.goes_on e.down e.ended some inv.ticks;
       live = live_step content took after_take c.step_files.result c.loop-keeper.keeper c.step_files.new.self c.loop-keeper.store c.step_files.new.from e.taken ∙ inv.live;
+      faults = round_faults c.step_files.result c.args.keeper.now.phase c.loop-keeper.keeper c.step_files.new.self.phase (g.D.Disk.faults c.args.image_a.now) (g.D.Disk.faults c.loop-keeper.image_a) (g.D.Disk.faults c.step_files.new.image_a)
+          (g.D.Disk.faults c.args.image_b.now) (g.D.Disk.faults c.loop-keeper.image_b) (g.D.Disk.faults c.step_files.new.image_b) inv.faults some e.down e.cause;
       goes = λ honest ticks acknowledged journal queue r.
           round_steps content took after_take g.D.Disk.content g.D.Disk.may_leave c.worlds_go_on.ensures.image_step c.loop-keeper.keeper c.step_files.new.self c.loop-keeper.store c.step_files.new.from
           c.loop-keeper.image_a c.step_files.new.image_a c.loop-keeper.image_b c.step_files.new.image_b c.step_files.result e.cells (e.stands honest) ticks acknowledged journal queue

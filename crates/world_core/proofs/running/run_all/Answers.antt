@@ -9,6 +9,6 @@ pub loop-asked-preserved : goal.loop-asked-preserved
 loop-asked-preserved g c =
     let answers = c.loop-asked.answers.items in
     let pushed : c.push.new.self.items ≡ answers ++ c.step-given.result ∷ [] = search rules in
-    has_run_more c.args.cells c.loop-asked.core c.step-given.new.self c.loop-asked.yielded answers c.push.new.self.items c.in-Some.asked c.step-given.result c.loop-asked.invariant
+    has_run_more c.safety_laws.ensures c.args.cells c.loop-asked.core c.step-given.new.self c.loop-asked.yielded answers c.push.new.self.items c.in-Some.asked c.step-given.result c.loop-asked.invariant
     (λ past h. (c.step-given.ensures.keeps past h, record { exact = c.step-given.ensures.exact past h; does = c.step-given.ensures.does; progress = c.step-given.ensures.progress }))
     c.step-given.ensures.cells pushed

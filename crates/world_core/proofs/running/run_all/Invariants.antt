@@ -1,4 +1,4 @@
-use Rattle.world_core.specs.Headline.{HasRun}
+use Rattle.world_core.specs.Plain.{HasRun}
 use Rattle.world_core.proofs.running.run_all.Given as goal
 
 abbrev pub invariant-loop-asked : goal.invariant-loop-asked

@@ -25,3 +25,6 @@ returns-clause-stands g c honest images stands =
       rests = e.rests;
       stays = (e.newest honest).0;
     })
+
+pub returns-clause-took : goal.returns-clause-took
+returns-clause-took g c phase = let took = c.step_by_phase.ensures.took phase in (took.0, took.1, took.4)

@@ -1,6 +1,12 @@
-use Rattle.std.proofs.Common.{sym}
+use Rattle.std.proofs.Common.{◌≡◌, ◌⊎◌, true, false, refl, sym, ap, subst, ◌∙◌}
+use Rattle.disk_model.specs.Disk.{Grew}
+use Rattle.disk_model.specs.declared.four_files.FourFiles.{FourFiles}
+use Rattle.served.specs.declared.engine.Engine.{Engine}
+use Rattle.served.proofs.LogRuns.{first_over}
+use Rattle.served.proofs.Faults.{images_grew, logs_grew, round_failed, log_failed, start_is_down}
 use Rattle.served.proofs.Following.{no_work, all_follows}
 use Rattle.served.proofs.engine.Engine.start.Goals as goal
+use Rattle.served.proofs.engine.Engine.start.Goals.{then-is_down-2-via-then-is_down-2, then-is_down-2-via-else-is_down-2+then-starting}
 
 pub returns-clause-acknowledges : goal.returns-clause-acknowledges
 returns-clause-acknowledges g c = λ honest ticks acknowledged f.
@@ -8,3 +14,32 @@ returns-clause-acknowledges g c = λ honest ticks acknowledged f.
     all_follows g.C.Capture.content g.D.Disk.content g.D.Disk.may_leave c.worlds_go_on.ensures.all_acknowledged c.log_outcomes.ensures.ready last c.write_log.new.files ticks acknowledged
     (sym c.if-starting.ensures.starting) (no_work last.log last.queue.items c.write_log.ensures.rests (sym c.if-is_down-2.ensures))
     (c.write_log.ensures.follows honest ticks acknowledged (c.write_image.ensures.follows honest ticks acknowledged f))
+
+pub returns-clause-first : goal.returns-clause-first
+returns-clause-first g c = λ starting none.
+    let last = c.write_log.new.self in
+    first_over last.log last.queue.items
+    (c.write_log.ensures.first (ap (λ (e : Engine g.row.C.Denot). e.log.starting) c.write_image.ensures.same ∙ starting) (ap (λ (e : Engine g.row.C.Denot). e.queue.items) c.write_image.ensures.same ∙ none))
+    (sym c.if-starting.ensures.starting)
+
+pub returns-then-is_down-clause-device : goal.returns-then-is_down-clause-device
+returns-then-is_down-clause-device g c = λ up log_up.
+    images_grew g.D.Disk.faults c.args.files.now c.write_image.new.files
+    (round_failed c.args.self.now.images.phase c.write_image.new.self.images.phase (g.D.Disk.faults c.args.files.now.image_a) (g.D.Disk.faults c.write_image.new.files.image_a)
+    (g.D.Disk.faults c.args.files.now.image_b) (g.D.Disk.faults c.write_image.new.files.image_b) c.write_image.ensures.faults up (c.if-is_down.ensures.0 refl))
+
+pub returns-then-is_down-2-clause-device : goal.returns-then-is_down-2-clause-device
+returns-then-is_down-2-clause-device g c = λ up log_up.
+    let faults = g.D.Disk.faults in
+    let old = c.args.files.now in
+    let mid = c.write_image.new.files in
+    let new = c.write_log.new.files in
+    let last = c.write_log.new.self in
+    let down : last.log.down ≡ true = elim c.then-is_down-2.branch as (λ b. last.log.down ≡ true) [
+      | then-is_down-2-via-then-is_down-2 w ↦ sym w.if-is_down-2.ensures
+      | then-is_down-2-via-else-is_down-2+then-starting w ↦ start_is_down last.log last.queue.items c.write_log.ensures.rests (w.if-starting.ensures.left.0 refl)
+    ] in
+    let was : c.write_image.new.self.log.down ≡ false = ap (λ (e : Engine g.row.C.Denot). e.log.down) c.write_image.ensures.same ∙ log_up in
+    logs_grew faults old new
+    (subst (λ (files : FourFiles g.row.D.Denot). Grew (faults files.log_a) (faults new.log_a) ⊎ Grew (faults files.log_b) (faults new.log_b)) c.write_image.ensures.same_files
+    (log_failed c.write_image.new.self.log.down last.log.down (faults mid.log_a) (faults new.log_a) (faults mid.log_b) (faults new.log_b) c.write_log.ensures.faults was down))

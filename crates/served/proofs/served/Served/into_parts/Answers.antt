@@ -1,4 +1,4 @@
-use Rattle.std.proofs.Common.{◌≡◌, ℕ, sym, ap, ◌∙◌, subst, length, arith}
+use Rattle.std.proofs.Common.{◌≡◌, sym, ap, ◌∙◌, subst, length, arith}
 use Rattle.served.specs.declared.serving.Serving.{Serving}
 use Rattle.served.proofs.Following.{none_waits, no_work, log_is_ready, none_left, settles}
 use Rattle.restart.specs.InStep.{IsSettled}

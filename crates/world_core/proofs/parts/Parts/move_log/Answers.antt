@@ -16,7 +16,7 @@ returns g c = record {
         idle = c.step-answer.ensures.idle;
         receipt = c.step-answer.ensures.receipt;
         down = c.step-answer.ensures.down;
-        rests = λ h. (let r = c.step-answer.ensures.rests h in (r.0, ap (λ q. q.items) r.1));
+        rests = λ h. (let r = c.step-answer.ensures.rests h in (r.0, ap (λ q. q.items) r.1, r.2, r.3));
         cause = c.step-answer.ensures.cause;
         faults = c.step-answer.ensures.faults;
         calls = c.step-answer.ensures.calls;
