@@ -46,12 +46,39 @@ log*
 crash lose
 world
 """
+# The image is ahead of the log; and a cell that stays as it is comes from the other image.
+AHEAD = """\
+open {store} 1
+set 0 5
+end
+mark
+set 0 9
+end
+image*
+crash lose
+get 0
+"""
+OTHER_IMAGE = """\
+open {store} 2
+set 0 5
+set 1 7
+end
+mark
+image*
+set 1 8
+end
+mark
+image*
+crash lose
+world
+"""
 # What tells that a growth of a file in memory was refused; in a start the lines before it are refused too.
 REFUSED_LINES = "image down", "log down"
 STARTING = "- 19"
 FAULT = "fault 17"
 UNREADABLE = ": unreadable: out of memory"
 BATCHES: tuple[Batch, ...] = (
+    (("set", 0, 5), ("get", 0), ("move", 0, 1, 9), ("foo",)),
     (("set", 0, 5), ("get", 0), ("move", 0, 1, 2)),
     (("add", 1, 1),) * 40,
     (("get", 0), ("get", 1), ("foo",)),
@@ -163,18 +190,27 @@ def kind_of(run: Run, whole: str) -> str:
         return "ended by the fault"
     given, wanted = run.printed.splitlines(), whole.splitlines()
     others = [told for told, right in zip(given, wanted) if told != right]
-    refused = next((told for told in others if told in REFUSED_LINES), None)
-    if refused and others[0] in (refused, STARTING) and len(given) == len(wanted) and run.status == 0:
+    refused = next((told for told in others if told in REFUSED_LINES), STARTING)
+    if others and others[0] in (refused, STARTING) and len(given) == len(wanted) and run.status == 0:
         return f"gone on after `{refused}`"
     raise Wrong(f"a script ended with status {run.status}, `{run.printed}` and `{run.told}`")
 
 
-def try_script(worldd: str, refuser: Refuser, store: str) -> collections.Counter[str]:
-    """Runs a script over a store."""
-    command, script = [worldd, "steps"], SCRIPT.format(store=store)
+def try_script(worldd: str, refuser: Refuser, script: str) -> collections.Counter[str]:
+    """Runs a script."""
+    command = [worldd, "steps"]
     whole = refuser.run(command, 0, script).printed
     kinds = collections.Counter(kind_of(run, whole) for run in refuser.runs(command, script))
-    require(kinds, "whole", "ended by the fault", *(f"gone on after `{line}`" for line in REFUSED_LINES))
+    require(kinds, "whole", "ended by the fault")
+    return kinds
+
+
+def try_scripts(worldd: str, refuser: Refuser, store: str) -> collections.Counter[str]:
+    """Runs each script over a store."""
+    kinds: collections.Counter[str] = collections.Counter()
+    for script in (SCRIPT, AHEAD, OTHER_IMAGE):
+        kinds += try_script(worldd, refuser, script.format(store=store))
+    require(kinds, *(f"gone on after `{line}`" for line in REFUSED_LINES))
     return kinds
 
 
@@ -337,7 +373,7 @@ def main() -> int:
         calls = try_calls(refuser)
         print(f"{len(calls)} calls refused {calls.total()} times, and answered then: {line_of(calls)}")
         for store in STORES:
-            print(f"steps over {store}: {line_of(try_script(given.worldd, refuser, store))}")
+            print(f"steps over {store}: {line_of(try_scripts(given.worldd, refuser, store))}")
         print(f"create: refused {try_create(given.worldd, refuser, room)} times, and made once there was memory")
         for command, *flags in (("recover",), ("inspect", "--words")):
             print(f"{command}: refused {try_reading(given.worldd, refuser, room / 'create-1', command, *flags)} times")

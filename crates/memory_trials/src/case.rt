@@ -10,6 +10,11 @@ pub trait Case: Sized + Drop {
     /// What it answers where an allocation is refused.
     fn refusal() -> Refusal;
 
+    /// Whether this refusal, with the values as before or not, may come of a refused allocation.
+    fn is_refused(refusal: Refusal, is_same: bool) -> bool {
+        is_same && refusal == Self::refusal()
+    }
+
     /// The values, as they are before.
     fn set_up(alloc: Global) -> Result<Self, Refusal>;
 
@@ -42,7 +47,7 @@ pub fn try_case<X: Case>(alloc: Global) -> Result<Outcome, Refusal> {
     end_stretch(alloc);
     let (outcome, answer) = match first {
         Ok(answer) => (Outcome::Answered, answer),
-        Err(refusal) if refusal == X::refusal() && case.seen() == before => {
+        Err(refusal) if X::is_refused(refusal, case.seen() == before) => {
             (Outcome::Refused, case.call()?)
         }
         Err(_) => return Ok(Outcome::Wrong),

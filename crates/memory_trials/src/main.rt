@@ -8,6 +8,8 @@ mod case;
 mod cores;
 mod files;
 mod free;
+mod growth;
+mod keepers;
 mod plays;
 mod stores;
 mod worlds;
@@ -17,6 +19,8 @@ use case::{Case, Outcome, try_case};
 use cores::{Crash, Fresh, Run};
 use files::{GrowFile, NewFile, ReadImage, ReadLog, Recover, ReserveFile};
 use free::try_free_calls;
+use growth::{GrowNew, GrowOpen, GrowServe};
+use keepers::{CoverPair, Images, Log, PingPongPair, ZigzagPair};
 use ping_pong::PingPong;
 use plays::{Act, CopyBatch, NewReader, Play, ReserveTick};
 use shared_capture::{Joined, Pong, Zig};
@@ -33,7 +37,11 @@ fn main(rt: HostRuntime) -> ExitCode {
 
 // Whether all went right.
 fn try_all<R: Print + AllocGlobal>(rt: &R) -> io::Result<bool> {
-    let are_right = try_values(rt)? & try_stores(rt)? & try_worlds(rt)?;
+    let are_right = try_values(rt)?
+        & try_stores(rt)?
+        & try_keepers(rt)?
+        & try_worlds(rt)?
+        & try_growth(rt)?;
     match try_free_calls(rt.alloc()) {
         Ok(are_same) => {
             println!(rt; "calls that take none: {}", told(are_same))?;
@@ -73,6 +81,16 @@ fn try_stores<R: Print + AllocGlobal>(rt: &R) -> io::Result<bool> {
     )
 }
 
+fn try_keepers<R: Print + AllocGlobal>(rt: &R) -> io::Result<bool> {
+    Ok(
+        tell::<R, ZigzagPair>(rt)?
+            & tell::<R, PingPongPair>(rt)?
+            & tell::<R, CoverPair>(rt)?
+            & tell::<R, Images>(rt)?
+            & tell::<R, Log>(rt)?,
+    )
+}
+
 fn try_worlds<R: Print + AllocGlobal>(rt: &R) -> io::Result<bool> {
     Ok(
         tell::<R, ReadImage>(rt)?
@@ -85,6 +103,10 @@ fn try_worlds<R: Print + AllocGlobal>(rt: &R) -> io::Result<bool> {
             & tell::<R, Open>(rt)?
             & tell::<R, Serve>(rt)?,
     )
+}
+
+fn try_growth<R: Print + AllocGlobal>(rt: &R) -> io::Result<bool> {
+    Ok(tell::<R, GrowNew>(rt)? & tell::<R, GrowOpen>(rt)? & tell::<R, GrowServe>(rt)?)
 }
 
 // Tells how a call went, and whether that is right.

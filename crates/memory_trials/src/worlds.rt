@@ -28,8 +28,8 @@ fn reserved(alloc: Global, bytes: &[u8]) -> Result<ModelFile, Refusal> {
     Ok(file)
 }
 
-// A number for what is durable in files that are there.
-fn number_of(files: &Option<FourFiles<ModelFile>>) -> u64 {
+/// A number for what is durable in files that are there.
+pub fn number_of(files: &Option<FourFiles<ModelFile>>) -> u64 {
     match files {
         Some(files) => folded(
             folded(
@@ -130,6 +130,14 @@ impl Case for Open {
     }
 }
 
+/// A batch of an action and a look at its cell.
+pub fn batch_of(alloc: Global) -> Result<Batch, Refusal> {
+    let mut batch = Batch::new(alloc)?;
+    batch.push_reserved(Request::Act(Action::Add { cell: 0, by: 2 }));
+    batch.push_reserved(Request::Get(0));
+    Ok(batch)
+}
+
 /// A batch of a served world.
 #[derive(Drop)]
 pub struct Serve {
@@ -147,9 +155,7 @@ impl Case for Serve {
     }
 
     fn set_up(alloc: Global) -> Result<Self, Refusal> {
-        let mut batch = Batch::new(alloc)?;
-        batch.push_reserved(Request::Act(Action::Add { cell: 0, by: 2 }));
-        batch.push_reserved(Request::Get(0));
+        let batch = batch_of(alloc)?;
         let files = files_of(alloc, &IMAGE, &LOG)?;
         match Served::open(alloc, files, 1) {
             Ok(served) => Ok(Serve { served, batch }),

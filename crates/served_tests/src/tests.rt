@@ -6,10 +6,11 @@ use same::same;
 use served::Parts;
 use std::alloc::Global;
 use std::process::Abort;
+use streams::{FIRST_ANSWER, INPUT, TEXT, WHOLE, try_broken};
 use world_actions::Refusal;
 use worlds::{
-    Case, IMAGE, NONE, Session, files_of, fresh, long_batch, open, play, stands, told, try_case,
-    try_new,
+    Case, IMAGE, NONE, Session, created, files_of, fresh, long_batch, open, play, stands, told,
+    try_case, try_new,
 };
 use zigzag::Zigzag;
 
@@ -18,6 +19,7 @@ mod disks;
 mod real_files;
 mod refused;
 mod same;
+mod streams;
 mod worlds;
 
 const BATCH: &[u8] = b"set 0 5\nget 0\nmove 0 1 9\nfoo\nend\n";
@@ -247,6 +249,67 @@ fn opens_again(rt: HostRuntime) {
     let files = try_case::<Zigzag>(&rt, rt.alloc(), files, &OPENED_AGAIN, usize::MAX);
     let files = try_case::<PingPong>(&rt, rt.alloc(), files, &OPENED_LAST, usize::MAX);
     drop(files);
+}
+
+static CREATED: Session<'static> = Session {
+    recovered: (0, 0),
+    input: SET_TWICE,
+    ends: Ok(()),
+    text: b"tick 1: +\ntick 2: +\n",
+    acked: 2,
+};
+
+fn try_created<C: Capture>(rt: &impl Abort, alloc: Global) {
+    let mut served = created::<C>(rt, alloc, 2, 2);
+    play(rt, alloc, &mut served, &CREATED, usize::MAX);
+    let files = served.into_files();
+    stands(rt, alloc, &files, (2, 2), &[6, 0]);
+    drop(files);
+}
+
+#[test]
+fn creates_and_opens(rt: HostRuntime) {
+    try_created::<PlainCopy>(&rt, rt.alloc());
+    try_created::<Zigzag>(&rt, rt.alloc());
+    try_created::<PingPong>(&rt, rt.alloc());
+}
+
+#[test]
+fn a_reader_that_fails_leaves_whole_batches(rt: HostRuntime) {
+    for length in 0..INPUT.len() + 1 {
+        let (text, batches) = if length < WHOLE[0] {
+            (NONE, 0)
+        } else if length < WHOLE[1] {
+            (&TEXT[..FIRST_ANSWER], 1)
+        } else {
+            (TEXT, 2)
+        };
+        try_broken(&rt, rt.alloc(), &INPUT[..length], usize::MAX, text, batches);
+    }
+}
+
+#[test]
+fn a_writer_that_fails_leaves_whole_batches(rt: HostRuntime) {
+    for room in 0..TEXT.len() {
+        let batches = if room < FIRST_ANSWER { 1 } else { 2 };
+        try_broken(&rt, rt.alloc(), INPUT, room, &TEXT[..room], batches);
+    }
+}
+
+static LARGEST: Session<'static> = Session {
+    recovered: (0, 0),
+    input: b"set 1048575 5\nend\nget 1048575\nend\n",
+    ends: Ok(()),
+    text: b"tick 1: +\ntick 2: =5\n",
+    acked: 2,
+};
+
+#[test]
+fn opens_a_world_of_the_most_cells(rt: HostRuntime) {
+    let files = fresh(&rt, rt.alloc(), 1_048_576);
+    let mut served = open::<Zigzag>(&rt, rt.alloc(), files, 2);
+    play(&rt, rt.alloc(), &mut served, &LARGEST, usize::MAX);
+    drop(served);
 }
 
 static MARKED: Session<'static> = Session {

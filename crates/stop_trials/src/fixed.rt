@@ -64,6 +64,30 @@ pub fn fixed_run<C: Capture>(alloc: Global) -> Result<(Vec<Step>, Shape), Refusa
     Ok((steps, shape))
 }
 
+/// The moves of a run whose log is left behind: two ticks, and the round between them up to its image.
+pub fn run_before_the_log<C: Capture>(alloc: Global) -> Result<Vec<Step>, Refusal> {
+    let mut steps = Vec::new(alloc);
+    let mut run = Run::<C>::started(alloc)?;
+    add_images(&mut run, &mut steps)?;
+    Ok(steps)
+}
+
+// The first part without the moves of the log.
+fn add_images<C: Capture>(run: &mut Run<C>, steps: &mut Vec<Step>) -> Result<(), Refusal> {
+    for step in &FIRST {
+        run.step(*step, Fate::Done);
+        steps.push(*step)?;
+    }
+    let mut images = Some(0);
+    for _ in 0..MOVES {
+        images = added(run, Step::Image, images, steps)?;
+        if images.is_none() {
+            break;
+        }
+    }
+    Ok(())
+}
+
 fn add_parts<C: Capture>(run: &mut Run<C>, steps: &mut Vec<Step>) -> Result<Shape, Refusal> {
     let first = add_part(run, &FIRST, steps)?;
     let second = add_part(run, &SECOND, steps)?;

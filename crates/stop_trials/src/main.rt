@@ -1,7 +1,7 @@
 //! The program `stop_trials`: one run of two ticks, a round, a third tick and another round is stopped after each of
-//! its moves, by crashes of five kinds, and stopped again after each move of the restart; and each call of a device that
-//! it makes fails in turn. It tells how often each tick stood after a crash, and fails where another one did, where a
-//! tick never did, or where the run has other moves than it is to have.
+//! its moves, by crashes of five kinds, and stopped again after each move of the restart. Each call of a device that it
+//! makes fails in turn. A second run, whose log is left behind, is stopped so too. It prints how often each tick stood
+//! after a crash. It fails if another one did, if a tick never did, or if the run has other moves than it is to have.
 #![tactic(auto)]
 
 mod failures;
@@ -11,7 +11,7 @@ mod stops;
 
 use capture_core::Capture;
 use failures::try_failures;
-use fixed::{Shape, fixed_run};
+use fixed::{Shape, fixed_run, run_before_the_log};
 use ping_pong::PingPong;
 use shared_capture::{Joined, Pong, Zig};
 use std::alloc::Global;
@@ -30,6 +30,9 @@ const SECOND: (u32, u32) = (9, 10);
 
 /// Those of its second part by Ping-Pong, which reads the cell that was never written since from the other image.
 const SECOND_BY_PING_PONG: (u32, u32) = (10, 10);
+
+/// The moves of the run whose log is left behind: six, and those of an image.
+const BEFORE_THE_LOG: usize = 15;
 
 fn main(rt: HostRuntime) -> ExitCode {
     ended(&rt, try_all(&rt))
@@ -77,5 +80,8 @@ fn seen_of<C: Capture>(alloc: Global, shape: Shape) -> Result<StopTally, Refusal
     tally.judge(found == shape);
     try_stops::<C>(alloc, &steps, &mut tally)?;
     try_failures::<C>(alloc, &steps, &mut tally)?;
+    let images = run_before_the_log::<C>(alloc)?;
+    tally.judge(images.len() == BEFORE_THE_LOG);
+    try_stops::<C>(alloc, &images, &mut tally)?;
     Ok(tally)
 }

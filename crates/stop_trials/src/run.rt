@@ -30,7 +30,7 @@ impl<C: Capture> Run<C> {
         Ok(run)
     }
 
-    /// The greatest tick of a receipt.
+    /// The greatest tick of a receipt or of an opened image.
     pub fn acked(&self) -> u64 {
         self.acked
     }
@@ -42,7 +42,19 @@ impl<C: Capture> Run<C> {
                 self.ended = tick;
                 Answer::Ended(tick)
             }
+            Answer::Image(given) => Answer::Image(self.follow_images(given)),
             Answer::Log(given) => Answer::Log(self.follow_log(given)),
+            given => given,
+        }
+    }
+
+    // An image that is open has its ticks, whether the log has them or not.
+    fn follow_images(&mut self, given: ImageAnswer) -> ImageAnswer {
+        match given {
+            ImageAnswer::Opened(tick) => {
+                self.acked = self.acked.max(tick);
+                ImageAnswer::Opened(tick)
+            }
             given => given,
         }
     }
@@ -50,7 +62,7 @@ impl<C: Capture> Run<C> {
     fn follow_log(&mut self, given: LogAnswer) -> LogAnswer {
         match given {
             LogAnswer::Acked(receipt) => {
-                self.acked = receipt.tick();
+                self.acked = self.acked.max(receipt.tick());
                 LogAnswer::Acked(receipt)
             }
             given => given,

@@ -1,6 +1,7 @@
 mod bits;
 mod capture;
 mod entries;
+mod largest;
 mod listed;
 mod marks;
 mod moves;

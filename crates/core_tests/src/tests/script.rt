@@ -117,7 +117,7 @@ fn run(alloc: Global, input: &[u8], most: usize) -> (Result<(), Refusal>, Page) 
 }
 
 // Scripts and their texts.
-const SCRIPTS: [(&[u8], &[u8]); 15] = [
+const SCRIPTS: [(&[u8], &[u8]); 16] = [
     (b"", b""),
     (TRANSFERS, TRANSFERS_TEXT),
     (
@@ -166,6 +166,11 @@ const SCRIPTS: [(&[u8], &[u8]); 15] = [
     (
         b"open plain 1\nget 0\nget 0000000000000000000000000000000000000000000000000000000000000000000000000000\nget 00000000000000000000000000000000000000000000000000000000000000000000000000000 get 0\nget 0\n",
         b"ready 0\n= 0\n- 16\n- 16\n= 0\n",
+    ),
+    // A line of one byte more than a line has.
+    (
+        b"open plain 1\nset 0 5\nget 00000000000000000000000000000000000000000000000000000000000000000000000000000\nget 0\n",
+        b"ready 0\n+\n- 16\n= 5\n",
     ),
     (
         b"open plain 1048576\nget 1048575\nget 1048576",

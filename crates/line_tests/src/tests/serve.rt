@@ -114,10 +114,16 @@ fn try_pieces(rt: &impl Abort, alloc: Global, bytes: &[u8], end: End<'_>) {
 }
 
 // Inputs, what is answered to each, and how many ticks end.
-const SESSIONS: [(&[u8], &[u8], u64); 5] = [
+const SESSIONS: [(&[u8], &[u8], u64); 6] = [
     (BATCH, ANSWER, 1),
     (b"set 0 5\nget 0\nmove 0 1 9\nfoo\n", b"", 0),
     (b"end\n", b"tick 1:\n", 1),
+    // A line of one byte more than a line has.
+    (
+        b"set 0 5\nget 00000000000000000000000000000000000000000000000000000000000000000000000000000\nget 0\nend\n",
+        b"tick 1: + -16 =5\n",
+        1,
+    ),
     (
         b"set 0 5\nend\nget 0\nset 0 6\nend\nset 0 7\nend",
         b"tick 1: +\ntick 2: =5 +\n",

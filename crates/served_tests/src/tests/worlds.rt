@@ -7,7 +7,7 @@ use capture_core::Capture;
 use disk_model::{Disk, FourFiles, ModelFile};
 use line_service::serve_lines;
 use recovery::{Recovered, recover};
-use served::{Served, fresh_files};
+use served::{Served, create_and_open, fresh_files};
 use std::alloc::Global;
 use std::io::{self, Read};
 use std::process::Abort;
@@ -89,6 +89,19 @@ pub fn open<C: Capture>(
     every: u32,
 ) -> Served<C, ModelFile> {
     told(Served::open(alloc, files, every)).expect(rt, "a world")
+}
+
+/// A new world, made and opened in one call.
+pub fn created<C: Capture>(
+    rt: &impl Abort,
+    alloc: Global,
+    cells: u32,
+    every: u32,
+) -> Served<C, ModelFile>
+    requires { (1 ≤ cells) × (cells ≤ CELLS) }
+{
+    let files = files_of(rt, alloc, [NONE; 4]);
+    told(create_and_open(alloc, cells, files, every)).expect(rt, "a new world")
 }
 
 fn durable(alloc: Global, files: &FourFiles<ModelFile>) -> Result<Recovered, Refusal> {
