@@ -26,6 +26,14 @@ StandsOpened file leaves files words writer log ended =
     (cells : ℕ) (ticks : List (List Action)) (acknowledged : ℕ) → AreSynced file leaves files → AreSound file leaves files cells ticks acknowledged
     → WorldStands file leaves cells (take ended ticks) words writer log × (ended ≡ length (take ended ticks))
 
+-- A server recovers what stands in these files at some tick. Where they were sound for some ticks, what it leaves is sound for
+-- the recovered ones and all that were played.
+abbrev pub GoesOnFrom : {D : Type 0} → (file : D → List ℕ) → (leaves : D → List ℕ → Type 0) → FourFiles D → Playing → Imaging D → Logging D → Type 0
+GoesOnFrom file leaves files m c w =
+    (ended from : ℕ) × IsRecovered file files m.opening ended from
+    × ((cells : ℕ) (ticks : List (List Action)) (acknowledged : ℕ) → AreSynced file leaves files → AreSound file leaves files cells ticks acknowledged
+    → LeaveSound file leaves cells (take ended ticks) m c w)
+
 -- Where a world stood in what a server opened, the workers that it leaves make their files sound for the ticks that were there
 -- and all that were played.
 abbrev pub StaysSound : {D : Type 0} → (file : D → List ℕ) → (leaves : D → List ℕ → Type 0) → (words : List ℕ) → ImageWriter D → Log D → (ended : ℕ) → Playing → Imaging D → Logging D → Type 0

@@ -19,5 +19,5 @@ pub use accept::{Accepted, Admission, Closed, accept_sessions};
 pub use door::{Door, Unserved};
 pub use opening::{Seats, open_world};
 pub use remote::Remote;
-pub use serving::{NotServed, Stopped, serve_tcp};
-pub use session::{Joined, Over, serve_session};
+pub use serving::{FilesNotServed, NotServed, Stopped, serve_files, serve_tcp};
+pub use session::{Joined, Over, serve_batches, serve_session};

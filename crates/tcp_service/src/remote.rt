@@ -1,59 +1,83 @@
-use crossbeam_channel::{SendError, Sender, bounded};
+ghost use Rattle.std.specs.Prelude.{◌≡◌};
+ghost use Rattle.tcp_service.specs.Remote.{given_by};
+
+use crossbeam_channel::{Receiver, SendError, Sender, bounded};
 use line_service::World;
 use sessions::Batch;
 use std::alloc::Global;
 use std::marker::Model;
 use std::snapshot::Snapshot;
 use std::sync::Wait;
-use workers::{Ask, Post, Reply};
+use workers::{Ask, Asker, Post, Reply};
 use world_actions::Refusal;
 
-/// The world that the workers run, for one session. Contracts see the post that answered its last batch.
+/// The world that the workers run, for one session. Contracts see the session's number, how often it asked, and the post
+/// that answered its last batch.
 #[derive(Drop)]
 pub struct Remote<R: Wait + Copy> {
     rt: R,
     alloc: Global,
     requests: Sender<Ask>,
+    asker: Asker,
     last: Option<Snapshot<Post>>,
+    /// The tick of the last post, or 0.
+    tick: u64,
 }
 
 impl<R: Wait + Copy> Model for Remote<R> {
-    ghost use Rattle.std.specs.Prelude.{Option, option_map};
-    ghost use Rattle.workers.specs.Posts.{Posted};
+    ghost use Rattle.std.specs.Prelude.{option_map};
+    ghost use Rattle.tcp_service.specs.Remote.{Asking, IsLast};
 
-    ghost Value = { Option Posted };
+    ghost Value = { Asking };
 
-    ghost view = { λ remote. option_map (λ post. post.value) remote.last };
+    ghost view = { λ remote. record { session = remote.asker.session; asked = remote.asker.asked; last = option_map (λ post. post.value) remote.last } };
+
+    ghost invariant = { λ remote. IsLast (option_map (λ post. post.value) remote.last) remote.tick };
 }
 
 impl<R: Wait + Copy> Remote<R> {
-    ghost use Rattle.std.specs.Prelude.{◌≡◌, None};
+    ghost use Rattle.std.specs.Prelude.{◌≡◌, ◌⊎◌, None, IfOk, OnOk, OnErr};
+    ghost use Rattle.tcp_service.specs.Remote.{asked_more, next_ask};
 
-    /// A session's world, whose batches go to the mutator by this channel.
-    pub fn new(rt: R, alloc: Global, requests: Sender<Ask>) -> Self
-        ensures { result ≡ None }
+    /// The world of the session of this number, whose batches go to the mutator by this channel.
+    pub fn new(rt: R, alloc: Global, session: u64, requests: Sender<Ask>) -> Self
+        ensures { result ≡ record { session = session; asked = 0; last = None } }
     {
         Remote {
             rt,
             alloc,
             requests,
+            asker: Asker::new(session),
             last: None,
+            tick: 0,
         }
     }
 
-    // Sends a batch, and waits for its post. It has a channel of its own, so that an answer that can't come any
-    // more is known.
-    fn ask(&self, b: &Batch) -> Result<Post, Refusal> {
+    // What asks for a batch. Its answer has a channel of its own, so that one that can't come any more is known.
+    fn asking(&mut self, b: &Batch) -> Result<(Ask, Receiver<Reply>), Refusal>
+        ensures asks { IfOk result (λ asking. asking.0 ≡ next_ask self.old b.now.list) }
+        ensures counts { OnOk result (self.new ≡ asked_more self.old) }
+        ensures unchanged { OnErr result (self.new ≡ self.old) }
+    {
         let batch = b.try_copy(self.alloc)?;
         let (to, from) = bounded(self.alloc, 1)?;
-        match self.requests.send(&self.rt, Ask { batch, to }) {
+        let ask = self.asker.ask(batch, to)?;
+        Ok((ask, from))
+    }
+
+    // Sends a batch, and waits for its post.
+    fn ask(&mut self, b: &Batch) -> Result<Post, Refusal>
+        ensures ok { OnOk result (self.new ≡ asked_more self.old) }
+        ensures err { OnErr result ((self.new ≡ self.old) ⊎ (self.new ≡ asked_more self.old)) }
+    {
+        let (ask, from) = self.asking(b)?;
+        match self.requests.send(&self.rt, ask) {
             Ok(()) => {}
             Err(SendError::OutOfMemory(_)) => return Err(Refusal::NoMemory),
             Err(SendError::Disconnected(_)) => return Err(Refusal::LogDown),
         }
         match from.recv(&self.rt) {
-            Ok(Reply::Post(post)) => Ok(post),
-            Ok(Reply::Fault(refusal)) => Err(refusal),
+            Ok(reply) => given_by(reply),
             Err(_) => Err(Refusal::LogDown),
         }
     }
@@ -62,11 +86,25 @@ impl<R: Wait + Copy> Remote<R> {
 impl<R: Wait + Copy> World for Remote<R> {
     ghost use Rattle.tcp_service.specs.Remote.{IsPosted};
 
-    ghost runs = { λ old requests given new. IsPosted old given new };
+    ghost runs = { IsPosted };
 
     fn batch(&mut self, b: &Batch) -> Result<Vec<u8>, Refusal> {
         let post = self.ask(b)?;
+        if post.tick() <= self.tick || !post.is_for(&self.asker, b) {
+            return Err(Refusal::LogDown);
+        }
+        self.tick = post.tick();
         self.last = Some(Snapshot::of(&post));
         Ok(post.into_text())
+    }
+}
+
+// What a reply gives.
+fn given_by(reply: Reply) -> Result<Post, Refusal>
+    ensures { result ≡ given_by reply }
+{
+    match reply {
+        Reply::Post(post) => Ok(post),
+        Reply::Fault(refusal) => Err(refusal),
     }
 }

@@ -1,10 +1,12 @@
 ghost use Rattle.std.specs.Prelude.{◌≡◌, ◌≢◌, ◌+◌, ◌≤◌, IsTrue, IfOk};
+ghost use Rattle.workers.specs.Meeting.{HeardOnlyOfDown};
 ghost use Rattle.worker_threads.specs.Begun.{IsWhole};
-ghost use Rattle.tcp_service.specs.Opening.{StaysSound};
+ghost use Rattle.tcp_service.specs.Opening.{GoesOnFrom, StaysSound};
 
 use crate::accept::{Accepted, Admission, Closed, accept_sessions};
 use crate::door::Door;
-use disk_model::Disk;
+use crate::opening::{Seats, open_world};
+use disk_model::{Disk, FourFiles};
 use shared_capture::Method;
 use std::alloc::{AllocError, Global};
 use std::net::TcpListener;
@@ -13,11 +15,12 @@ use std::thread::Threads;
 use std::time::Clock;
 use worker_threads::{Ends, Gates, NotStarted, Opened, Watch, ends_meet, start, stop};
 use workers::Gate;
+use world_actions::Refusal;
 
 /// What a server leaves once it has stopped.
 #[derive(Drop)]
-pub struct Stopped<M: Method, D: Disk + Drop, G: Gate + Drop> {
-    pub ends: Ends<M, D, G>,
+pub struct Stopped<M: Method, D: Disk + Drop, A: Gate + Drop, B: Gate + Drop, C: Gate + Drop> {
+    pub ends: Ends<M, D, A, B, C>,
     pub accepted: Accepted,
 }
 
@@ -64,18 +67,20 @@ pub fn serve_tcp<
     R: Threads + Wait + Clock + Copy + Send + 'static,
     M: Method + Send + 'static,
     D: Disk + Drop + Send + 'static,
-    G: Gate + Drop + Send + 'static,
+    A: Gate + Drop + Send + 'static,
+    B: Gate + Drop + Send + 'static,
+    C: Gate + Drop + Send + 'static,
     W: Watch<D> + Door + Clone + Drop + Send + 'static,
 >(
     rt: &R,
     alloc: Global,
-    gates: Gates<G>,
+    gates: Gates<A, B, C>,
     watch: W,
     opened: Opened<M, D>,
     every: u32,
     listener: TcpListener,
     admission: Admission,
-) -> Result<Stopped<M, D, G>, NotServed>
+) -> Result<Stopped<M, D, A, B, C>, NotServed>
     requires { IsWhole D.honest D.content opened.front opened.back opened.images opened.log opened.ended }
     ensures all { IfOk result (λ stopped. stopped.accepted.closed ≡ Closed.AllCame
         → stopped.accepted.connections ≡ admission.clients) }
@@ -89,6 +94,8 @@ pub fn serve_tcp<
         StaysSound D.content D.may_leave opened.front.live opened.images opened.log opened.ended
         stopped.ends.mutator stopped.ends.checkpointer stopped.ends.log_writer) }
     ensures every { IfOk result (λ stopped. stopped.ends.mutator.every ≡ every) }
+    ensures heard { IfOk result (λ stopped.
+        HeardOnlyOfDown stopped.ends.mutator.heard.ticks stopped.ends.log_writer.down) }
 {
     let door = watch.clone()?;
     let (workers, requests) = start(rt, alloc, gates, watch, opened, every)?;
@@ -99,4 +106,46 @@ pub fn serve_tcp<
     let mut ends = stop(rt, workers);
     ends_meet(&mut ends);
     Ok(Stopped { ends, accepted })
+}
+
+/// Why the world in some files isn't served to the end.
+#[derive(Drop)]
+pub enum FilesNotServed<D: Disk + Drop> {
+    /// It isn't opened: its files, and why.
+    Unopened(FourFiles<D>, Refusal),
+    NotServed(NotServed),
+}
+
+/// Opens the world that stands in the files, and serves it to the connections of a listener. On disks that keep to the
+/// disk model files that are sound are left sound, for the recovered ticks and all that were played.
+pub fn serve_files<
+    R: Threads + Wait + Clock + Copy + Send + 'static,
+    M: Seats + Send + 'static,
+    D: Disk + Drop + Send + 'static,
+    A: Gate + Drop + Send + 'static,
+    B: Gate + Drop + Send + 'static,
+    C: Gate + Drop + Send + 'static,
+    W: Watch<D> + Door + Clone + Drop + Send + 'static,
+>(
+    rt: &R,
+    alloc: Global,
+    gates: Gates<A, B, C>,
+    watch: W,
+    files: FourFiles<D>,
+    every: u32,
+    listener: TcpListener,
+    admission: Admission,
+) -> Result<Stopped<M, D, A, B, C>, FilesNotServed<D>>
+    ensures sound { IsTrue D.honest → IfOk result (λ stopped. GoesOnFrom D.content D.may_leave files
+        stopped.ends.mutator stopped.ends.checkpointer stopped.ends.log_writer) }
+    ensures every { IfOk result (λ stopped. stopped.ends.mutator.every ≡ every) }
+{
+    let opened = match open_world::<M, D>(alloc, files) {
+        Ok((opened, _)) => opened,
+        Err((files, refusal)) => return Err(FilesNotServed::Unopened(files, refusal)),
+    };
+    match serve_tcp(rt, alloc, gates, watch, opened, every, listener, admission) {
+        Ok(stopped) => Ok(stopped),
+        Err(reason) => Err(FilesNotServed::NotServed(reason)),
+    }
 }

@@ -1,10 +1,14 @@
-ghost use Rattle.std.specs.Prelude.{◌≡◌, ◌+◌, ◌<◌};
+ghost use Rattle.std.specs.Prelude.{◌≡◌, ◌⊎◌, ◌+◌, ◌<◌, ℕ, List, true, false, OnOk, IfErr, Err};
+ghost use Rattle.std.specs.Io.KnownBytes.{Appends, Consumes, IsAtEnd};
+ghost use Rattle.line_service.specs.Session.{IsSession, IsCutOff};
+ghost use Rattle.tcp_service.specs.Remote.{IsPosted};
 
 use crate::door::{Door, Unserved};
 use crate::remote::Remote;
 use crossbeam_channel::Sender;
 use line_service::serve_lines;
 use std::alloc::Global;
+use std::io::{Read, Write};
 use std::net::TcpStream;
 use std::sync::Wait;
 use std::time::Duration;
@@ -15,13 +19,41 @@ use world_actions::Refusal;
 #[derive(Drop)]
 pub struct Over(());
 
-/// Serves a connection until its client leaves, or neither sends nor takes a byte for so many seconds, or until a fault,
-/// which ends no other session. The door hears of a session that has no memory.
+/// Answers the batches that the reader gives, one line each, as the session of this world: each line that isn't a fault
+/// is the text of a new post of that very batch. It ends as `serve_lines` does.
+pub fn serve_batches<R: Wait + Copy, B: Read, W: Write>(
+    alloc: Global,
+    r: &mut B,
+    w: &mut W,
+    world: &mut Remote<R>,
+) -> Result<(), Refusal>
+    ensures whole { OnOk result (IsAtEnd (B.remaining r.new)
+        × (input : List ℕ) × Consumes (B.remaining r.old) (B.remaining r.new) input
+        × (text : List ℕ) × Appends (W.contents w.old) (W.contents w.new) text
+        × IsSession IsPosted world.old input text world.new false) }
+    ensures too_long { result ≡ Err Refusal.BadLine
+        → (input : List ℕ) × Consumes (B.remaining r.old) (B.remaining r.new) input
+        × (text : List ℕ) × Appends (W.contents w.old) (W.contents w.new) text
+        × IsSession IsPosted world.old input text world.new true }
+    ensures cut_off { result ≡ Err Refusal.Device
+        → (input : List ℕ) × Consumes (B.remaining r.old) (B.remaining r.new) input
+        × (written : List ℕ) × Appends (W.contents w.old) (W.contents w.new) written
+        × IsCutOff IsPosted world.old input written world.new }
+    ensures memory { result ≡ Err Refusal.NoMemory → (r.new ≡ r.old) × (w.new ≡ w.old) × (world.new ≡ world.old) }
+    ensures fault { IfErr result (λ refusal. (refusal ≡ Refusal.NoMemory)
+        ⊎ ((refusal ≡ Refusal.BadLine) ⊎ (refusal ≡ Refusal.Device))) }
+{
+    serve_lines(alloc, r, w, world)
+}
+
+/// Serves a connection as the session of this number, until its client leaves, or neither sends nor takes a byte for so
+/// many seconds, or until a fault, which ends no other session. The door hears of a session that has no memory.
 pub fn serve_session<R: Wait + Copy, W: Door + Drop>(
     rt: &R,
     alloc: Global,
     stream: TcpStream,
     idle: Option<u32>,
+    session: u64,
     requests: Sender<Ask>,
     door: W,
 ) -> Over {
@@ -32,8 +64,8 @@ pub fn serve_session<R: Wait + Copy, W: Door + Drop>(
         let _ = stream.set_read_timeout(silence);
         let _ = stream.set_write_timeout(silence);
     }
-    let mut world = Remote::new(*rt, alloc, requests);
-    let served = serve_lines(alloc, &mut &stream, &mut &stream, &mut world);
+    let mut world = Remote::new(*rt, alloc, session, requests);
+    let served = serve_batches(alloc, &mut &stream, &mut &stream, &mut world);
     if served == Err(Refusal::NoMemory) {
         door.session_refused(Unserved::NoMemory);
     }

@@ -68,7 +68,8 @@ impl Sessions {
             return Err(Unserved::NoMemory);
         };
         let key = self.running.vacant_key();
-        let session = start_thread(rt, stream, shared, ends, key)?;
+        let number = u64::from(self.started);
+        let session = start_thread(rt, stream, shared, number, ends, key)?;
         self.running.insert_reserved(session);
         self.started += 1;
         Ok(())
@@ -125,11 +126,12 @@ impl Sessions {
     }
 }
 
-// Gives the session of a connection a thread, which sends its key as it ends.
+// Gives the session of a connection a number and a thread, which sends its key as it ends.
 fn start_thread<R: Threads + Wait + Copy + Send + 'static, W: Door + Clone + Drop + Send + 'static>(
     rt: &R,
     stream: TcpStream,
     shared: &Shared<W>,
+    number: u64,
     ends: Sender<usize>,
     key: usize,
 ) -> Result<JoinHandle<Over>, Unserved> {
@@ -141,7 +143,7 @@ fn start_thread<R: Threads + Wait + Copy + Send + 'static, W: Door + Clone + Dro
     };
     let (here, alloc, idle) = (*rt, shared.alloc, shared.idle);
     let serve = move || {
-        let over = serve_session(&here, alloc, stream, idle, requests, door);
+        let over = serve_session(&here, alloc, stream, idle, number, requests, door);
         let _ = ends.try_send(&here, key);
         over
     };

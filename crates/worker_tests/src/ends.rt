@@ -27,13 +27,51 @@ const BATCHES: u64 = 3;
 /// The ticks of all sessions.
 const TICKS: u64 = 9;
 
-/// More steps than the first round of two cells has.
+/// More steps than the first round of two cells has, and than there are ticks.
 const STEPS: u64 = 16;
 
-/// Lets a worker make so many steps on a device, and then holds it for good, or never.
+/// Lets a worker make so many steps, and then holds it for good, or never.
 #[derive(Clone, Copy)]
 struct Steps {
     left: Option<u64>,
+}
+
+/// How many steps each worker makes before it is held for good.
+#[derive(Clone, Copy)]
+struct Limits {
+    mutator: Option<u64>,
+    checkpointer: Option<u64>,
+    log_writer: Option<u64>,
+}
+
+/// Which workers are held.
+#[derive(Clone, Copy)]
+enum Stopped {
+    Mutator,
+    LogWriter,
+    All,
+}
+
+// These workers make so many steps.
+fn limits_of(stopped: Stopped, steps: u64) -> Limits {
+    let steps = Some(steps);
+    match stopped {
+        Stopped::Mutator => Limits {
+            mutator: steps,
+            checkpointer: None,
+            log_writer: None,
+        },
+        Stopped::LogWriter => Limits {
+            mutator: None,
+            checkpointer: None,
+            log_writer: steps,
+        },
+        Stopped::All => Limits {
+            mutator: steps,
+            checkpointer: steps,
+            log_writer: steps,
+        },
+    }
 }
 
 impl Gate for Steps {
@@ -41,13 +79,10 @@ impl Gate for Steps {
 
     ghost told = { λ old place pass new. ⊤ };
 
-    fn at(&mut self, place: Place) -> Pass {
+    fn at(&mut self, _place: Place) -> Pass {
         let Some(left) = self.left else {
             return Pass::Go;
         };
-        if place != Place::Device {
-            return Pass::Go;
-        }
         if left == 0 {
             return Pass::Stuck;
         }
@@ -71,8 +106,8 @@ fn play_one<R: Wait + Copy>(alloc: Global, world: &mut Remote<R>) -> u64 {
 }
 
 // How many batches of a session are answered by a tick.
-fn play<R: Wait + Copy>(rt: &R, alloc: Global, requests: Sender<Ask>) -> u64 {
-    let mut world = Remote::new(*rt, alloc, requests);
+fn play<R: Wait + Copy>(rt: &R, alloc: Global, session: u64, requests: Sender<Ask>) -> u64 {
+    let mut world = Remote::new(*rt, alloc, session, requests);
     let mut answered = 0u64;
     for _ in 0..BATCHES {
         answered = answered.saturating_add(play_one(alloc, &mut world));
@@ -83,11 +118,12 @@ fn play<R: Wait + Copy>(rt: &R, alloc: Global, requests: Sender<Ask>) -> u64 {
 fn start_session<R: Threads + Wait + Abort + Copy + Send + 'static>(
     rt: &R,
     alloc: Global,
+    session: u64,
     requests: &Sender<Ask>,
 ) -> JoinHandle<u64> {
     let requests = requests.clone().expect(rt, "a sender");
     let here = *rt;
-    match thread::spawn(rt, move || play(&here, alloc, requests)) {
+    match thread::spawn(rt, move || play(&here, alloc, session, requests)) {
         Ok(session) => session,
         Err(_) => panic!(rt; "no thread"),
     }
@@ -100,9 +136,9 @@ fn start_sessions<R: Threads + Wait + Abort + Copy + Send + 'static>(
     requests: &Sender<Ask>,
 ) -> Vec<JoinHandle<u64>> {
     let mut sessions = Vec::new(alloc);
-    for _ in 0..SESSIONS {
+    for session in 0..SESSIONS {
         sessions
-            .push(start_session(rt, alloc, requests))
+            .push(start_session(rt, alloc, session, requests))
             .expect(rt, "memory");
     }
     sessions
@@ -127,17 +163,23 @@ fn play_sessions<R: Threads + Wait + Abort + Copy + Send + 'static>(
     join_sessions(rt, sessions)
 }
 
-// Runs workers in a new world of two cells, of which the checkpointer makes so many steps, and brings their ends
-// together. It tells how many batches were answered by a tick, too.
+// Runs workers in a new world of two cells, which make so many steps, and brings their ends together. It tells how many
+// batches were answered by a tick, too.
 fn run<M: Seats + Send + 'static, R: Threads + Wait + Abort + Copy + Send + 'static>(
     rt: &R,
     alloc: Global,
-    steps: Option<u64>,
-) -> (Ends<M, ModelFile, Steps>, u64) {
+    limits: Limits,
+) -> (Ends<M, ModelFile, Steps, Steps, Steps>, u64) {
     let gates = Gates {
-        mutator: Steps { left: None },
-        checkpointer: Steps { left: steps },
-        log_writer: Steps { left: None },
+        mutator: Steps {
+            left: limits.mutator,
+        },
+        checkpointer: Steps {
+            left: limits.checkpointer,
+        },
+        log_writer: Steps {
+            left: limits.log_writer,
+        },
     };
     let (to, _heard) = unbounded(alloc).expect(rt, "a channel");
     let files = new_files(rt, alloc, 2);
@@ -150,7 +192,7 @@ fn run<M: Seats + Send + 'static, R: Threads + Wait + Abort + Copy + Send + 'sta
 fn check_ends<M: Method>(
     rt: &impl Abort,
     alloc: Global,
-    ends: &Ends<M, ModelFile, Steps>,
+    ends: &Ends<M, ModelFile, Steps, Steps, Steps>,
     answered: u64,
 ) {
     let ticks = (answered, ends.mutator.ended(), ends.acked());
@@ -166,7 +208,7 @@ fn check_ends<M: Method>(
 fn found_after<M: Method>(
     rt: &impl Abort,
     alloc: Global,
-    ends: &Ends<M, ModelFile, Steps>,
+    ends: &Ends<M, ModelFile, Steps, Steps, Steps>,
     leaving: Leaving,
 ) -> (u64, u64) {
     let (images, log) = (ends.checkpointer.images(), ends.log_writer.log());
@@ -184,7 +226,7 @@ fn left_of(rt: &impl Abort, alloc: Global, file: &ModelFile, leaving: Leaving) -
 }
 
 // Whether the newest image is that of the new world.
-fn has_first_image<M: Method>(ends: &Ends<M, ModelFile, Steps>) -> bool {
+fn has_first_image<M: Method>(ends: &Ends<M, ModelFile, Steps, Steps, Steps>) -> bool {
     match ends.checkpointer.images().keeper.newest() {
         Some((_, tick)) => tick == 0,
         None => false,
@@ -198,7 +240,12 @@ fn try_steps<M: Seats + Send + 'static, R: Threads + Wait + Abort + Copy + Send 
     alloc: Global,
     steps: Option<u64>,
 ) -> bool {
-    let (ends, answered) = run::<M, R>(rt, alloc, steps);
+    let limits = Limits {
+        mutator: None,
+        checkpointer: steps,
+        log_writer: None,
+    };
+    let (ends, answered) = run::<M, R>(rt, alloc, limits);
     check_ends(rt, alloc, &ends, answered);
     let has_first_image = has_first_image(&ends);
     drop(ends);
@@ -236,4 +283,67 @@ fn try_ends<M: Seats + Send + 'static, R: Threads + Wait + Abort + Copy + Send +
 fn what_was_answered_is_there_once_the_ends_have_met(rt: HostRuntime) {
     try_ends::<Zig, HostRuntime>(&rt, rt.alloc());
     try_ends::<Pong, HostRuntime>(&rt, rt.alloc());
+}
+
+// The ticks that stand are among those that ended, and no fewer than were acknowledged, among which all are that were
+// answered.
+fn are_between(rt: &impl Abort, answered: u64, acked: u64, stands: u64, ended: u64) {
+    assert!(rt;
+        answered <= acked && acked <= stands && stands <= ended,
+        "{answered} answered, {acked} acknowledged, {stands} stand, {ended} ended"
+    );
+}
+
+// Whatever a crash leaves, what was answered is there, and nothing that wasn't played.
+fn check_held<M: Method>(
+    rt: &impl Abort,
+    alloc: Global,
+    ends: &Ends<M, ModelFile, Steps, Steps, Steps>,
+    answered: u64,
+) {
+    for leaving in [Leaving::Lose, Leaving::Keep, Leaving::Fill(1)] {
+        let (tick, word) = found_after(rt, alloc, ends, leaving);
+        same(rt, "the word after the ticks", word, tick);
+        are_between(rt, answered, ends.acked(), tick, ends.mutator.ended());
+    }
+}
+
+// Runs workers that make so many steps, and tells how many batches were answered by a tick.
+fn try_limits<M: Seats + Send + 'static, R: Threads + Wait + Abort + Copy + Send + 'static>(
+    rt: &R,
+    alloc: Global,
+    limits: Limits,
+) -> u64 {
+    let (ends, answered) = run::<M, R>(rt, alloc, limits);
+    check_held(rt, alloc, &ends, answered);
+    drop(ends);
+    answered
+}
+
+// With these workers held after each of their steps. Before the first one no batch is answered.
+fn try_held<M: Seats + Send + 'static, R: Threads + Wait + Abort + Copy + Send + 'static>(
+    rt: &R,
+    alloc: Global,
+    stopped: Stopped,
+) {
+    let answered = try_limits::<M, R>(rt, alloc, limits_of(stopped, 0));
+    same(rt, "batches answered with no step", answered, 0);
+    for steps in 1..STEPS {
+        try_limits::<M, R>(rt, alloc, limits_of(stopped, steps));
+    }
+}
+
+fn try_all_held<M: Seats + Send + 'static, R: Threads + Wait + Abort + Copy + Send + 'static>(
+    rt: &R,
+    alloc: Global,
+) {
+    try_held::<M, R>(rt, alloc, Stopped::Mutator);
+    try_held::<M, R>(rt, alloc, Stopped::LogWriter);
+    try_held::<M, R>(rt, alloc, Stopped::All);
+}
+
+#[test]
+fn what_was_answered_is_there_wherever_workers_are_held(rt: HostRuntime) {
+    try_all_held::<Zig, HostRuntime>(&rt, rt.alloc());
+    try_all_held::<Pong, HostRuntime>(&rt, rt.alloc());
 }

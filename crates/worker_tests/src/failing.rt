@@ -71,7 +71,7 @@ fn first_call<M: Seats>(rt: &impl Abort, alloc: Global, broken: Broken) -> u64 {
 // What workers leave who play in files of which one fails.
 #[derive(Drop)]
 struct Left<M: Method> {
-    ends: Ends<M, BrokenFile, Open>,
+    ends: Ends<M, BrokenFile, Open, Open, Open>,
     page: Page,
     heard: Receiver<Told>,
 }
@@ -125,7 +125,11 @@ fn is_told(rt: &(impl Wait + Abort), heard: &Receiver<Told>, told: Told) {
     same(rt, "what is told then", heard.recv(rt).ok(), None);
 }
 
-fn are_ends<M: Method>(rt: &impl Abort, ends: &Ends<M, BrokenFile, Open>, outcome: Outcome) {
+fn are_ends<M: Method>(
+    rt: &impl Abort,
+    ends: &Ends<M, BrokenFile, Open, Open, Open>,
+    outcome: Outcome,
+) {
     let (mutator, log_writer) = (&ends.mutator, &ends.log_writer);
     same(rt, "ticks ended", mutator.ended(), outcome.ended);
     same(rt, "ticks acknowledged", log_writer.acked(), outcome.acked);

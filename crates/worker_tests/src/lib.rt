@@ -14,6 +14,10 @@ mod failing;
 #[cfg(test)]
 mod held;
 #[cfg(test)]
+mod over_port;
+#[cfg(test)]
+mod refusals;
+#[cfg(test)]
 mod rounds;
 #[cfg(test)]
 mod running;

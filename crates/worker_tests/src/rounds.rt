@@ -5,14 +5,13 @@ use crate::same::same;
 use crate::worlds::{Told, new_files, stands_in};
 use crossbeam_channel::{Receiver, Sender, unbounded};
 use disk_model::ModelFile;
-use line_service::serve_lines;
 use shared_capture::{Method, Pong, Zig};
 use std::alloc::Global;
 use std::process::Abort;
 use std::sync::atomic::{AtomicU64, Ordering};
 use std::sync::{Arc, Wait};
 use std::thread::Threads;
-use tcp_service::{Remote, Seats};
+use tcp_service::{Remote, Seats, serve_batches};
 use worker_threads::{Ends, Gates, stop};
 use workers::Ask;
 use world_actions::Refusal;
@@ -27,7 +26,7 @@ fn play_batch<R: Wait + Copy>(
     text: &mut Vec<u8>,
 ) -> Result<(), Refusal> {
     let mut input = BATCH;
-    serve_lines(alloc, &mut input, text, world)
+    serve_batches(alloc, &mut input, text, world)
 }
 
 // As many batches as hold the round of the first one open.
@@ -55,7 +54,7 @@ fn play_held(
     answered: &AtomicU64,
     heard: &Receiver<Told>,
 ) -> Page {
-    let mut world = Remote::new(*rt, alloc, requests);
+    let mut world = Remote::new(*rt, alloc, 0, requests);
     let mut text = Vec::new(alloc);
     let ends = play_batches(rt, alloc, &mut world, &mut text, answered, heard);
     Page { ends, text }
@@ -64,12 +63,12 @@ fn play_held(
 // What is left, told and answered once the rounds are over.
 #[derive(Drop)]
 struct Left<M: Method> {
-    ends: Ends<M, ModelFile, Held>,
+    ends: Ends<M, ModelFile, Held, Held, Held>,
     heard: Receiver<Told>,
     page: Page,
 }
 
-fn held_until(rt: &impl Abort, answered: &Arc<AtomicU64, Global>) -> Gates<Held> {
+fn held_until(rt: &impl Abort, answered: &Arc<AtomicU64, Global>) -> Gates<Held, Held, Held> {
     let answered = answered.clone().expect(rt, "a share");
     Gates {
         mutator: Held::nothing(),
@@ -97,7 +96,11 @@ fn play_round<M: Seats + Send + 'static, R: Threads + Wait + Abort + Copy + Send
 }
 
 // No worker is down, and all four ticks are acknowledged and stand in the files.
-fn check_ends<M: Method>(rt: &impl Abort, alloc: Global, ends: &Ends<M, ModelFile, Held>) {
+fn check_ends<M: Method>(
+    rt: &impl Abort,
+    alloc: Global,
+    ends: &Ends<M, ModelFile, Held, Held, Held>,
+) {
     let (mutator, log_writer) = (&ends.mutator, &ends.log_writer);
     let checkpointer = &ends.checkpointer;
     let ticks = (mutator.ended(), log_writer.acked());

@@ -3,13 +3,12 @@ use crate::same::same;
 use crate::worlds::{Teller, Told, open_files};
 use crossbeam_channel::Sender;
 use disk_model::{Disk, FourFiles};
-use line_service::serve_lines;
 use shared_capture::Method;
 use std::alloc::Global;
 use std::process::Abort;
 use std::sync::Wait;
 use std::thread::Threads;
-use tcp_service::{Remote, Seats};
+use tcp_service::{Remote, Seats, serve_batches};
 use worker_threads::{Ends, Gates, Workers, ends_meet, start, stop};
 use workers::{Ask, Gate};
 use world_actions::Refusal;
@@ -19,25 +18,27 @@ pub fn begin<
     R: Threads + Wait + Abort + Copy + Send + 'static,
     M: Seats + Send + 'static,
     D: Disk + Drop + Send + 'static,
-    G: Gate + Drop + Send + 'static,
+    A: Gate + Drop + Send + 'static,
+    B: Gate + Drop + Send + 'static,
+    C: Gate + Drop + Send + 'static,
 >(
     rt: &R,
     alloc: Global,
     files: FourFiles<D>,
-    gates: Gates<G>,
+    gates: Gates<A, B, C>,
     to: Sender<Told>,
     every: u32,
-) -> (Workers<M, D, G>, Sender<Ask>) {
+) -> (Workers<M, D, A, B, C>, Sender<Ask>) {
     let opened = open_files::<M, D>(rt, alloc, files);
     let watch = Teller { rt: *rt, to };
     start(rt, alloc, gates, watch, opened, every).expect(rt, "workers")
 }
 
 /// Waits until the workers have ended, and brings their ends together.
-pub fn end<R: Threads, M: Method, D: Disk + Drop, G: Gate + Drop>(
+pub fn end<R: Threads, M: Method, D: Disk + Drop, A: Gate + Drop, B: Gate + Drop, C: Gate + Drop>(
     rt: &R,
-    workers: Workers<M, D, G>,
-) -> Ends<M, D, G> {
+    workers: Workers<M, D, A, B, C>,
+) -> Ends<M, D, A, B, C> {
     let mut ends = stop(rt, workers);
     ends_meet(&mut ends);
     ends
@@ -52,10 +53,10 @@ pub struct Page {
 
 /// Serves a session on this input, behind which no other begins.
 pub fn play(rt: &(impl Wait + Copy), alloc: Global, requests: Sender<Ask>, input: &[u8]) -> Page {
-    let mut world = Remote::new(*rt, alloc, requests);
+    let mut world = Remote::new(*rt, alloc, 0, requests);
     let mut text = Vec::new(alloc);
     let mut rest = input;
-    let ends = serve_lines(alloc, &mut rest, &mut text, &mut world);
+    let ends = serve_batches(alloc, &mut rest, &mut text, &mut world);
     Page { ends, text }
 }
 

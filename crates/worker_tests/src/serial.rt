@@ -1,5 +1,5 @@
 //! Workers that take their turns in one thread.
-ghost use Rattle.std.specs.Prelude.{◌≡◌, ◌≤◌, ◌∷◌, []};
+ghost use Rattle.std.specs.Prelude.{◌≡◌, ◌≤◌, ◌∷◌, [], false};
 ghost use Rattle.world_ticks.specs.declared.tick.TheConstants.{TICK_MAX};
 ghost use Rattle.workers.specs.declared.item.Item.TheVariants.{Start};
 ghost use Rattle.workers.specs.Logging.{IsAtRest};
@@ -14,11 +14,13 @@ use sessions::{Batch, Request};
 use shared_capture::{CoverIn, CoverOut, Method, Pong, Zig, cover_pair};
 use std::alloc::Global;
 use std::process::Abort;
-use std::sync::atomic::{AtomicBool, AtomicU64, Ordering};
+use std::sync::atomic::{AtomicU64, Ordering};
 use std::sync::{Arc, Wait};
 use tcp_service::Seats;
 use worker_threads::Opened;
-use workers::{Ask, Checkpointer, ItemReceiver, ItemSender, LogWriter, Mutator, Open, Reply, open};
+use workers::{
+    Ask, Asker, Checkpointer, ItemReceiver, ItemSender, LogWriter, Mutator, Open, Reply, open,
+};
 use world_actions::Action;
 
 /// The workers of a world.
@@ -29,24 +31,25 @@ pub struct Serial<M: Method, D: Disk + Drop> {
     pub checkpointer: Checkpointer<M, D, Held>,
 }
 
-// What the workers tell one another beside the items.
+// What the workers tell one another beside the items: the bell, and that the log is down.
 #[derive(Drop)]
 struct Signals {
     bell: Sender<()>,
     rung: Receiver<()>,
-    is_down: Arc<AtomicBool, Global>,
-    told_down: Arc<AtomicBool, Global>,
+    told_down: CoverOut,
+    heard: CoverIn,
 }
 
-fn new_signals(rt: &impl Abort, alloc: Global) -> Signals {
+fn new_signals(rt: &impl Abort, alloc: Global) -> Signals
+    ensures { result.told_down.ticks ≡ [] }
+{
     let (bell, rung) = bounded(alloc, 1).expect(rt, "a channel");
-    let is_down = Arc::new(alloc, AtomicBool::new(false)).expect(rt, "a flag");
-    let told_down = is_down.clone().expect(rt, "a share");
+    let (told_down, heard) = cover_pair(alloc).expect(rt, "a word");
     Signals {
         bell,
         rung,
-        is_down,
         told_down,
+        heard,
     }
 }
 
@@ -62,6 +65,7 @@ struct Channel {
 fn new_channel(rt: &(impl Wait + Abort), alloc: Global, ended: u64) -> Channel
     requires { ended ≤ TICK_MAX }
     ensures to { result.to.items ≡ Start ended ∷ [] }
+    ensures pushes { result.to.refused ≡ false }
     ensures from { result.from.items ≡ Start ended ∷ [] }
     ensures out { result.out.ticks ≡ [] }
 {
@@ -100,8 +104,10 @@ fn joined<M: Method, D: Disk + Drop>(
 ) -> Serial<M, D>
     requires whole { IsWhole D.honest D.content opened.front opened.back opened.images opened.log opened.ended }
     requires to { channel.to.items ≡ Start opened.ended ∷ [] }
+    requires pushes { channel.to.refused ≡ false }
     requires from { channel.from.items ≡ Start opened.ended ∷ [] }
     requires out { channel.out.ticks ≡ [] }
+    requires untold { signals.told_down.ticks ≡ [] }
     ensures { IsAtRest result.log_writer }
 {
     let Opened {
@@ -114,8 +120,8 @@ fn joined<M: Method, D: Disk + Drop>(
     let Signals {
         bell,
         rung,
-        is_down,
         told_down,
+        heard,
     } = signals;
     let Channel {
         to,
@@ -123,9 +129,9 @@ fn joined<M: Method, D: Disk + Drop>(
         out,
         told,
     } = channel;
-    let mutator = Mutator::new(Open, alloc, front, to, ended, 1, bell, told_down);
+    let mutator = Mutator::new(Open, alloc, front, to, ended, 1, bell, heard);
     let checkpointer = Checkpointer::new(held, back, out, images, rung);
-    let log_writer = LogWriter::new(alloc, Open, from, told, log, is_down, ended).expect(
+    let log_writer = LogWriter::new(alloc, Open, from, told, log, told_down, ended).expect(
         rt, "memory",
     );
     Serial {
@@ -147,11 +153,13 @@ pub fn send<M: Method>(
     from
 }
 
-fn ask_for(rt: &impl Abort, alloc: Global, to: Sender<Reply>) -> Ask {
+/// A batch that adds 1 to the first cell and reads it, and where its answer goes.
+pub fn ask_for(rt: &impl Abort, alloc: Global, to: Sender<Reply>) -> Ask {
     let mut batch = Batch::new(alloc).expect(rt, "a batch");
     batch.push_reserved(Request::Act(Action::Add { cell: 0, by: 1 }));
     batch.push_reserved(Request::Get(0));
-    Ask { batch, to }
+    let mut asker = Asker::new(0);
+    asker.ask(batch, to).expect(rt, "an ask")
 }
 
 /// Logs what was played.

@@ -10,7 +10,7 @@ use std::sync::Wait;
 use std::thread::{self, JoinHandle, Threads};
 use std::time::Clock;
 use tcp_service::{Accepted, Admission, Closed, Door, Unserved, accept_sessions};
-use workers::{Ask, Reply};
+use workers::Ask;
 use world_actions::Refusal;
 
 mod opening;
@@ -46,12 +46,12 @@ fn refuse<R: Wait>(rt: &R, asks: Receiver<Ask>) -> u64 {
     let mut count = 0u64;
     for ask in asks.iter(rt) {
         count = count.saturating_add(1);
-        let refusal = match ask.batch.requests().first() {
+        let refusal = match ask.batch().requests().first() {
             Some(Request::Get(_)) => continue,
             Some(_) => Refusal::SegmentFull,
             None => Refusal::TicksEnded,
         };
-        let _ = ask.to.send(rt, Reply::Fault(refusal));
+        ask.refuse(rt, refusal);
     }
     count
 }
@@ -97,8 +97,8 @@ fn talk(stream: &mut TcpStream, input: &[u8], page: &mut Vec<u8>) -> io::Result<
     Ok(())
 }
 
-// A client that writes this is answered so.
-fn try_client<R: Net<Stream = TcpStream> + Abort>(
+/// A client that writes this is answered so.
+pub fn try_client<R: Net<Stream = TcpStream> + Abort>(
     rt: &R,
     alloc: Global,
     to: SocketAddr,

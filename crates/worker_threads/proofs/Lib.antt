@@ -1,2 +1,3 @@
+mod Hearing
 mod Keeping
 mod Sends

@@ -15,6 +15,7 @@ use Rattle.workers.specs.contracts.ends.ItemSender as ItemSender
 use Rattle.workers.specs.contracts.ends.ItemReceiver as ItemReceiver
 use Rattle.workers.specs.contracts.mutator.Mutator as Mutator
 use Rattle.workers.specs.contracts.checkpointer.Checkpointer as Checkpointer
+use Rattle.workers.specs.contracts.checkpointer.publisher.Publisher as Publisher
 use Rattle.workers.specs.contracts.log_writer.LogWriter as LogWriter
 use Rattle.workers.specs.contracts.log_writer.answers.Answers as Answers
 use Rattle.workers.specs.contracts.post.Waiting as Waiting
@@ -24,18 +25,24 @@ use Rattle.std.specs.contracts.alloc.Global as Heap
 use Rattle.std.specs.contracts.impls.GlobalAllocator.TheImpl.{ghosts}
 
 pub mutator_sends : (M G : RattleType) (m : method.Ghosts M.Denot) (h : gate.Ghosts G.Denot)
-    → IsSend G → IsSend (Front.the_row M m) → IsSend ItemSender.the_row → IsSend (Mutator.the_row M G m h)
-mutator_sends M G m h gates front to =
+    → IsSend G → IsSend (Front.the_row M m) → IsSend ItemSender.the_row → IsSend CoverIn.the_row → IsSend (Mutator.the_row M G m h)
+mutator_sends M G m h gates front to heard =
     let T = Mutator.TheInside.the_type M G m h in
     view_send (Mutator.TheInside.the_row M G m h) _ _ _ _ (recorded_send (Struct (shape T)) T.D T.to T.to_one (struct_send (shape T)
-    (gates, (search (sendable, crosses) depth 60 fits 20000, (front, (to, (search (sendable, crosses) depth 60 fits 20000, (search (sendable, crosses) depth 60 fits 20000, (search (sendable, crosses) depth 60 fits 20000, (search (sendable, crosses) depth 60 fits 20000, (search (sendable, crosses) depth 60 fits 20000, (search (sendable, crosses) depth 60 fits 20000, (search (sendable, crosses) depth 60 fits 20000, tt)))))))))))))
+    (gates, (search (sendable, crosses) depth 60 fits 20000, (front, (to, (search (sendable, crosses) depth 60 fits 20000, (search (sendable, crosses) depth 60 fits 20000, (heard, (search (sendable, crosses) depth 60 fits 20000, (search (sendable, crosses) depth 60 fits 20000, (search (sendable, crosses) depth 60 fits 20000, (search (sendable, crosses) depth 60 fits 20000, tt)))))))))))))
+
+publisher_sends : IsSend CoverOut.the_row → IsSend Publisher.the_row
+publisher_sends covers =
+    let T = Publisher.TheInside.the_type in
+    view_send Publisher.TheInside.the_row _ _ _ _ (recorded_send (Struct (shape T)) T.D T.to T.to_one (struct_send (shape T)
+    (covers, tt)))
 
 pub checkpointer_sends : (M D G : RattleType) (m : method.Ghosts M.Denot) (d : disk.Ghosts D.Denot) (h : gate.Ghosts G.Denot)
     → IsSend D → IsSend G → IsSend (Back.the_row M m) → IsSend CoverOut.the_row → IsSend (Checkpointer.the_row M D G m d h)
 checkpointer_sends M D G m d h disks gates back covers =
     let T = Checkpointer.TheInside.the_type M D G m d h in
     view_send (Checkpointer.TheInside.the_row M D G m d h) _ _ _ _ (recorded_send (Struct (shape T)) T.D T.to T.to_one (struct_send (shape T)
-    (gates, (back, (covers, (search (sendable, crosses) depth 60 fits 20000, (search (sendable, crosses) depth 60 fits 20000, (search (sendable, crosses) depth 60 fits 20000, (search (sendable, crosses) depth 60 fits 20000, tt)))))))))
+    (gates, (back, (publisher_sends covers, (search (sendable, crosses) depth 60 fits 20000, (search (sendable, crosses) depth 60 fits 20000, (search (sendable, crosses) depth 60 fits 20000, (search (sendable, crosses) depth 60 fits 20000, tt)))))))))
 
 pub answers_send : IsSend (Ring.the_row Waiting.the_row Heap.the_row ghosts) → IsSend Answers.the_row
 answers_send waiting =
@@ -45,9 +52,9 @@ answers_send waiting =
 
 pub log_writer_sends : (D G : RattleType) (d : disk.Ghosts D.Denot) (h : gate.Ghosts G.Denot)
     → IsSend D → IsSend G → IsSend ItemReceiver.the_row → IsSend CoverIn.the_row → IsSend (Ring.the_row Record.the_row Heap.the_row ghosts) → IsSend (Ring.the_row Waiting.the_row Heap.the_row ghosts)
-    → IsSend (LogWriter.the_row D G d h)
-log_writer_sends D G d h disks gates from covers ring waiting =
+    → IsSend CoverOut.the_row → IsSend (LogWriter.the_row D G d h)
+log_writer_sends D G d h disks gates from covers ring waiting told =
     let T = LogWriter.TheInside.the_type D G d h in
     let answers = answers_send waiting in
     view_send (LogWriter.TheInside.the_row D G d h) _ _ _ _ (recorded_send (Struct (shape T)) T.D T.to T.to_one (struct_send (shape T)
-    (gates, (from, (covers, (search (sendable, crosses) depth 60 fits 20000, (ring, (answers, (search (sendable, crosses) depth 60 fits 20000, (search (sendable, crosses) depth 60 fits 20000, (search (sendable, crosses) depth 60 fits 20000, (search (sendable, crosses) depth 60 fits 20000, (search (sendable, crosses) depth 60 fits 20000, tt)))))))))))))
+    (gates, (from, (covers, (told, (search (sendable, crosses) depth 60 fits 20000, (ring, (answers, (search (sendable, crosses) depth 60 fits 20000, (search (sendable, crosses) depth 60 fits 20000, (search (sendable, crosses) depth 60 fits 20000, (search (sendable, crosses) depth 60 fits 20000, tt)))))))))))))

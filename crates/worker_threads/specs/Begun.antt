@@ -33,11 +33,13 @@ pub record Started (D : Type 0) : Type 0 where
   pub checkpointer : Imaging D
   pub log_writer : Logging D
 
--- two of them are at one pair of seats, two at one channel, and two at the word of open images
+-- two of them are at one pair of seats, two at one channel, two at the word of open images, and two at the word of a log
+-- that is down
 pub record AreTogether {D : Type 0} (workers : Started D) : Type 0 where
   pub pair : workers.mutator.front.pair ≡ workers.checkpointer.back.pair
   pub channel : AreOneChannel workers.log_writer.from.end workers.mutator.to.end
   pub word : workers.log_writer.covers.pair ≡ workers.checkpointer.covers.pair
+  pub flag : workers.mutator.heard.pair ≡ workers.log_writer.told_down.pair
 
 -- They began with this world: these seats, keepers and files, after so many ticks, and a round is due after every so many.
 pub record IsBegun {D : Type 0} (front : FrontState) (back : BackState) (writer : ImageWriter D) (log : Log D) (ended every : ℕ) (workers : Started D) : Type 0 where
@@ -49,6 +51,7 @@ pub record IsBegun {D : Type 0} (front : FrontState) (back : BackState) (writer 
   pub due : workers.mutator.every ≡ every
   pub up : workers.mutator.down ≡ false
   pub checkpointer : workers.checkpointer ≡ record { back = back; covers = workers.checkpointer.covers; images = writer; opening = writer; over = false }
-  pub log_writer : workers.log_writer ≡ writer_at workers.log_writer.from workers.log_writer.covers log ended
+  pub log_writer : workers.log_writer ≡ writer_at workers.log_writer.from workers.log_writer.covers workers.log_writer.told_down log ended
   pub none_told : (workers.checkpointer.covers.ticks ≡ []) × (workers.log_writer.covers.ticks ≡ [])
+  pub none_heard : (workers.log_writer.told_down.ticks ≡ []) × (workers.mutator.heard.ticks ≡ [])
   pub popped : workers.log_writer.from.items ≡ Start ended ∷ []

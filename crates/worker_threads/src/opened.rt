@@ -15,8 +15,8 @@ pub struct Opened<M: Method, D: Disk + Drop> {
 
 /// What may hold each worker.
 #[derive(Drop)]
-pub struct Gates<G: Gate + Drop> {
-    pub mutator: G,
-    pub checkpointer: G,
-    pub log_writer: G,
+pub struct Gates<A: Gate + Drop, B: Gate + Drop, C: Gate + Drop> {
+    pub mutator: A,
+    pub checkpointer: B,
+    pub log_writer: C,
 }

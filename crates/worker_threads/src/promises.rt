@@ -10,9 +10,9 @@ use workers::{Checkpointer, Gate, LogWriter, Mutator};
 pub(crate) struct SameMutator<M: Method, G: Gate + Drop>(pub(crate) Snapshot<Mutator<M, G>>);
 
 impl<M: Method, G: Gate + Drop> Promise<Mutator<M, G>> for SameMutator<M, G> {
-    ghost use Rattle.worker_threads.specs.Kept.{KeepsFront};
+    ghost use Rattle.worker_threads.specs.Kept.{EndsFront};
 
-    ghost kept_by = { λ p m. KeepsFront p.0.value m };
+    ghost kept_by = { λ p m. EndsFront p.0.value m };
 }
 
 /// The checkpointer that ends is the one that began.
@@ -23,9 +23,9 @@ pub(crate) struct SameCheckpointer<M: Method, D: Disk + Drop, G: Gate + Drop>(
 
 impl<M: Method, D: Disk + Drop, G: Gate + Drop> Promise<Checkpointer<M, D, G>>
     for SameCheckpointer<M, D, G> {
-    ghost use Rattle.worker_threads.specs.Kept.{KeepsBack};
+    ghost use Rattle.worker_threads.specs.Kept.{EndsBack};
 
-    ghost kept_by = { λ p c. KeepsBack p.0.value c };
+    ghost kept_by = { λ p c. EndsBack p.0.value c };
 }
 
 /// The log writer that ends is the one that began.
@@ -35,7 +35,7 @@ pub(crate) struct SameLogWriter<D: Disk + Drop, G: Gate + Drop>(
 );
 
 impl<D: Disk + Drop, G: Gate + Drop> Promise<LogWriter<D, G>> for SameLogWriter<D, G> {
-    ghost use Rattle.worker_threads.specs.Kept.{KeepsLog};
+    ghost use Rattle.worker_threads.specs.Kept.{EndsLog};
 
-    ghost kept_by = { λ p w. KeepsLog p.0.value w };
+    ghost kept_by = { λ p w. EndsLog p.0.value w };
 }

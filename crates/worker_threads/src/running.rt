@@ -1,7 +1,6 @@
 //! What each worker does in its thread until it ends.
 ghost use Rattle.std.specs.Prelude.{◌≡◌, false};
-ghost use Rattle.workers.specs.Logging.{IsAtRest};
-ghost use Rattle.worker_threads.specs.Kept.{KeepsFront, KeepsBack, KeepsLog};
+ghost use Rattle.worker_threads.specs.Kept.{EndsFront, EndsBack, MayWrite, EndsLog};
 
 use crate::watch::Watch;
 use crate::work::Work;
@@ -18,7 +17,7 @@ fn play_batches<R: Wait, M: Method, G: Gate + Drop>(
     asks: Receiver<Ask>,
     mut mutator: Mutator<M, G>,
 ) -> Mutator<M, G>
-    ensures { KeepsFront mutator result }
+    ensures { EndsFront mutator result }
 {
     for ask in asks.iter(rt) {
         let _ = mutator.turn(rt, ask);
@@ -33,7 +32,7 @@ fn write_images<R: Wait, M: Method, D: Disk + Drop, G: Gate + Drop, W: Watch<D>>
     watch: &mut W,
     mut checkpointer: Checkpointer<M, D, G>,
 ) -> Checkpointer<M, D, G>
-    ensures { KeepsBack checkpointer result }
+    ensures { EndsBack checkpointer result }
 {
     for _ in rt.forever() {
         if checkpointer.is_over() {
@@ -55,8 +54,8 @@ fn write_log<R: Wait, D: Disk + Drop, G: Gate + Drop, W: Watch<D>>(
     watch: &mut W,
     mut log_writer: LogWriter<D, G>,
 ) -> LogWriter<D, G>
-    requires { IsAtRest log_writer }
-    ensures { KeepsLog log_writer result }
+    requires { MayWrite log_writer }
+    ensures { EndsLog log_writer result }
 {
     for _ in rt.forever() {
         if log_writer.is_over() {
@@ -73,11 +72,11 @@ fn write_log<R: Wait, D: Disk + Drop, G: Gate + Drop, W: Watch<D>>(
 
 impl<M: Method, G: Gate + Drop> Work<Receiver<Ask>> for Mutator<M, G> {
     ghost use Rattle.std.specs.Prelude.{⊤};
-    ghost use Rattle.worker_threads.specs.Kept.{KeepsFront};
+    ghost use Rattle.worker_threads.specs.Kept.{EndsFront};
 
     ghost ready = { λ mutator. ⊤ };
 
-    ghost ended = { KeepsFront };
+    ghost ended = { EndsFront };
 
     fn work<R: Wait>(self, rt: &R, asks: Receiver<Ask>) -> Self {
         play_batches(rt, asks, self)
@@ -87,11 +86,11 @@ impl<M: Method, G: Gate + Drop> Work<Receiver<Ask>> for Mutator<M, G> {
 impl<M: Method, D: Disk + Drop, G: Gate + Drop, W: Watch<D> + Drop> Work<W>
     for Checkpointer<M, D, G> {
     ghost use Rattle.std.specs.Prelude.{⊤};
-    ghost use Rattle.worker_threads.specs.Kept.{KeepsBack};
+    ghost use Rattle.worker_threads.specs.Kept.{EndsBack};
 
     ghost ready = { λ checkpointer. ⊤ };
 
-    ghost ended = { KeepsBack };
+    ghost ended = { EndsBack };
 
     fn work<R: Wait>(self, rt: &R, mut watch: W) -> Self {
         write_images(rt, &mut watch, self)
@@ -99,12 +98,11 @@ impl<M: Method, D: Disk + Drop, G: Gate + Drop, W: Watch<D> + Drop> Work<W>
 }
 
 impl<D: Disk + Drop, G: Gate + Drop, W: Watch<D> + Drop> Work<W> for LogWriter<D, G> {
-    ghost use Rattle.workers.specs.Logging.{IsAtRest};
-    ghost use Rattle.worker_threads.specs.Kept.{KeepsLog};
+    ghost use Rattle.worker_threads.specs.Kept.{MayWrite, EndsLog};
 
-    ghost ready = { IsAtRest };
+    ghost ready = { MayWrite };
 
-    ghost ended = { KeepsLog };
+    ghost ended = { EndsLog };
 
     fn work<R: Wait>(self, rt: &R, mut watch: W) -> Self {
         write_log(rt, &mut watch, self)

@@ -1,11 +1,10 @@
 //! The workers of a world started and stopped, and what they leave.
-ghost use Rattle.std.specs.Prelude.{◌≡◌, [], IfOk};
+ghost use Rattle.std.specs.Prelude.{◌≡◌, IfOk};
 ghost use Rattle.std.specs.Thread.{IsSend};
-ghost use Rattle.workers.specs.Logging.{IsAtRest};
 ghost use Rattle.workers.specs.Channel.{AreOneChannel};
 ghost use Rattle.worker_ends.specs.Ends.{acknowledged_by};
 ghost use Rattle.worker_threads.specs.Begun.{IsWhole, IsBegun};
-ghost use Rattle.worker_threads.specs.Kept.{KeepsFront, KeepsBack, KeepsLog};
+ghost use Rattle.worker_threads.specs.Kept.{MayWrite, EndsFront, EndsBack, EndsLog};
 
 use crate::opened::{Gates, Opened};
 use crate::promises::{SameCheckpointer, SameLogWriter, SameMutator};
@@ -16,7 +15,7 @@ use action_log::Record;
 use circular_buffer::HeapCircularBuffer;
 use crossbeam_channel::{Receiver, Sender, bounded};
 use disk_model::Disk;
-use shared_capture::{Back, CoverIn, CoverOut, Front, Method, cover_pair};
+use shared_capture::{Back, CoverIn, CoverOut, Front, Method};
 use std::alloc::{AllocError, Global};
 use std::marker::Model;
 use std::snapshot::Snapshot;
@@ -50,13 +49,14 @@ pub const ASKS: usize = 64;
 
 /// The workers of a world, each in its thread. Contracts see them as they began. Dropped, they run on.
 #[derive(Drop)]
-pub struct Workers<M: Method, D: Disk + Drop, G: Gate + Drop> {
-    mutator: PromisedHandle<Mutator<M, G>, SameMutator<M, G>>,
-    checkpointer: PromisedHandle<Checkpointer<M, D, G>, SameCheckpointer<M, D, G>>,
-    log_writer: PromisedHandle<LogWriter<D, G>, SameLogWriter<D, G>>,
+pub struct Workers<M: Method, D: Disk + Drop, A: Gate + Drop, B: Gate + Drop, C: Gate + Drop> {
+    mutator: PromisedHandle<Mutator<M, A>, SameMutator<M, A>>,
+    checkpointer: PromisedHandle<Checkpointer<M, D, B>, SameCheckpointer<M, D, B>>,
+    log_writer: PromisedHandle<LogWriter<D, C>, SameLogWriter<D, C>>,
 }
 
-impl<M: Method, D: Disk + Drop, G: Gate + Drop> Model for Workers<M, D, G> {
+impl<M: Method, D: Disk + Drop, A: Gate + Drop, B: Gate + Drop, C: Gate + Drop> Model
+    for Workers<M, D, A, B, C> {
     ghost use Rattle.worker_threads.specs.Begun.{Started, AreTogether};
 
     ghost Value = { Started D };
@@ -68,16 +68,23 @@ impl<M: Method, D: Disk + Drop, G: Gate + Drop> Model for Workers<M, D, G> {
 
 /// What the workers of a world leave.
 #[derive(Drop)]
-pub struct Ends<M: Method, D: Disk + Drop, G: Gate + Drop> {
-    pub mutator: Mutator<M, G>,
-    pub checkpointer: Checkpointer<M, D, G>,
-    pub log_writer: LogWriter<D, G>,
+pub struct Ends<M: Method, D: Disk + Drop, A: Gate + Drop, B: Gate + Drop, C: Gate + Drop> {
+    pub mutator: Mutator<M, A>,
+    pub checkpointer: Checkpointer<M, D, B>,
+    pub log_writer: LogWriter<D, C>,
     ghost pair: { mutator.front.pair ≡ checkpointer.back.pair },
     ghost channel: { AreOneChannel log_writer.from.end mutator.to.end },
     ghost word: { log_writer.covers.pair ≡ checkpointer.covers.pair },
+    ghost flag: { mutator.heard.pair ≡ log_writer.told_down.pair },
 }
 
-impl<M: Method, D: Disk + Drop, G: Gate + Drop> Ends<M, D, G> {
+impl<M: Method, D: Disk + Drop, A: Gate + Drop, B: Gate + Drop, C: Gate + Drop> Ends<
+    M,
+    D,
+    A,
+    B,
+    C,
+> {
     /// The greatest tick that is acknowledged: by a receipt of the log, or by an image that was opened.
     pub fn acked(&self) -> u64
         ensures { result ≡ acknowledged_by self.now.checkpointer self.now.log_writer }
@@ -90,9 +97,9 @@ impl<M: Method, D: Disk + Drop, G: Gate + Drop> Ends<M, D, G> {
     }
 }
 
-type Players<M, D, G> = (
-    PromisedHandle<Mutator<M, G>, SameMutator<M, G>>,
-    PromisedHandle<Checkpointer<M, D, G>, SameCheckpointer<M, D, G>>,
+type Players<M, D, A, B> = (
+    PromisedHandle<Mutator<M, A>, SameMutator<M, A>>,
+    PromisedHandle<Checkpointer<M, D, B>, SameCheckpointer<M, D, B>>,
 );
 
 /// Starts the workers of a world, where a round is due after every `every` ticks. What is sent on the channel
@@ -101,16 +108,18 @@ pub fn start<
     R: Threads + Wait + Copy + Send + 'static,
     M: Method + Send + 'static,
     D: Disk + Drop + Send + 'static,
-    G: Gate + Drop + Send + 'static,
+    A: Gate + Drop + Send + 'static,
+    B: Gate + Drop + Send + 'static,
+    C: Gate + Drop + Send + 'static,
     W: Watch<D> + Clone + Send + 'static,
 >(
     rt: &R,
     alloc: Global,
-    gates: Gates<G>,
+    gates: Gates<A, B, C>,
     watch: W,
     opened: Opened<M, D>,
     every: u32,
-) -> Result<(Workers<M, D, G>, Sender<Ask>), NotStarted>
+) -> Result<(Workers<M, D, A, B, C>, Sender<Ask>), NotStarted>
     requires { IsWhole D.honest D.content opened.front opened.back opened.images opened.log opened.ended }
     ensures { IfOk result (λ made. IsBegun opened.front opened.back opened.images opened.log opened.ended every made.0) }
 {
@@ -126,30 +135,30 @@ pub fn start<
 
 // The workers before they have threads.
 #[derive(Drop)]
-struct Made<M: Method, D: Disk + Drop, G: Gate + Drop> {
-    mutator: Mutator<M, G>,
-    checkpointer: Checkpointer<M, D, G>,
-    log_writer: LogWriter<D, G>,
+struct Made<M: Method, D: Disk + Drop, A: Gate + Drop, B: Gate + Drop, C: Gate + Drop> {
+    mutator: Mutator<M, A>,
+    checkpointer: Checkpointer<M, D, B>,
+    log_writer: LogWriter<D, C>,
 }
 
-fn make<R: Wait, M: Method, D: Disk + Drop, G: Gate + Drop>(
+fn make<R: Wait, M: Method, D: Disk + Drop, A: Gate + Drop, B: Gate + Drop, C: Gate + Drop>(
     rt: &R,
     alloc: Global,
-    gates: Gates<G>,
+    gates: Gates<A, B, C>,
     opened: Opened<M, D>,
     every: u32,
-) -> Result<Made<M, D, G>, AllocError>
+) -> Result<Made<M, D, A, B, C>, AllocError>
     requires { IsWhole D.honest D.content opened.front opened.back opened.images opened.log opened.ended }
     ensures begun { IfOk result (λ made. IsBegun opened.front opened.back opened.images opened.log opened.ended every
         (record { mutator = made.mutator; checkpointer = made.checkpointer; log_writer = made.log_writer })) }
     ensures pair { IfOk result (λ made. made.mutator.front.pair ≡ made.checkpointer.back.pair) }
     ensures channel { IfOk result (λ made. AreOneChannel made.log_writer.from.end made.mutator.to.end) }
     ensures word { IfOk result (λ made. made.log_writer.covers.pair ≡ made.checkpointer.covers.pair) }
-    ensures rest { IfOk result (λ made. IsAtRest made.log_writer) }
+    ensures flag { IfOk result (λ made. made.mutator.heard.pair ≡ made.log_writer.told_down.pair) }
+    ensures rest { IfOk result (λ made. MayWrite made.log_writer) }
 {
     let signals = Signals::new(alloc)?;
     let (to, from) = open(rt, alloc, opened.ended)?;
-    let (out, told) = cover_word(alloc)?;
     let Opened {
         front,
         back,
@@ -165,12 +174,14 @@ fn make<R: Wait, M: Method, D: Disk + Drop, G: Gate + Drop>(
     let Signals {
         bell,
         rung,
-        is_down,
+        out,
+        told,
         told_down,
+        heard,
     } = signals;
-    let mutator = Mutator::new(mutator, alloc, front, to, ended, every, bell, told_down);
+    let mutator = Mutator::new(mutator, alloc, front, to, ended, every, bell, heard);
     let checkpointer = Checkpointer::new(checkpointer, back, out, images, rung);
-    let log_writer = LogWriter::new(alloc, log_writer, from, told, log, is_down, ended)?;
+    let log_writer = LogWriter::new(alloc, log_writer, from, told, log, told_down, ended)?;
     Ok(Made {
         mutator,
         checkpointer,
@@ -178,35 +189,28 @@ fn make<R: Wait, M: Method, D: Disk + Drop, G: Gate + Drop>(
     })
 }
 
-// The two seats of the word that tells the newest open image.
-fn cover_word(alloc: Global) -> Result<(CoverOut, CoverIn), AllocError>
-    ensures { IfOk result (λ pair. (pair.0.pair ≡ pair.1.pair) × (pair.0.ticks ≡ []) × (pair.1.ticks ≡ [])) }
-{
-    match cover_pair(alloc) {
-        Ok(pair) => Ok(pair),
-        Err(_) => Err(AllocError),
-    }
-}
-
 // Starts the threads. Where one can't be made the others end, since the channels between them close.
 fn start_threads<
     R: Threads + Wait + Copy + Send + 'static,
     M: Method + Send + 'static,
     D: Disk + Drop + Send + 'static,
-    G: Gate + Drop + Send + 'static,
+    A: Gate + Drop + Send + 'static,
+    B: Gate + Drop + Send + 'static,
+    C: Gate + Drop + Send + 'static,
     W: Watch<D> + Clone + Send + 'static,
 >(
     rt: &R,
     watch: W,
     asked: Receiver<Ask>,
-    mutator: Mutator<M, G>,
-    checkpointer: Checkpointer<M, D, G>,
-    log_writer: LogWriter<D, G>,
-) -> Result<Workers<M, D, G>, NotStarted>
+    mutator: Mutator<M, A>,
+    checkpointer: Checkpointer<M, D, B>,
+    log_writer: LogWriter<D, C>,
+) -> Result<Workers<M, D, A, B, C>, NotStarted>
     requires pair { mutator.front.pair ≡ checkpointer.back.pair }
     requires channel { AreOneChannel log_writer.from.end mutator.to.end }
     requires word { log_writer.covers.pair ≡ checkpointer.covers.pair }
-    requires rest { IsAtRest log_writer }
+    requires flag { mutator.heard.pair ≡ log_writer.told_down.pair }
+    requires rest { MayWrite log_writer }
     ensures { IfOk result (λ workers. workers ≡ record { mutator = mutator; checkpointer = checkpointer; log_writer = log_writer }) }
 {
     let watch_too = watch.clone()?;
@@ -229,15 +233,16 @@ fn start_players<
     R: Threads + Wait + Copy + Send + 'static,
     M: Method + Send + 'static,
     D: Disk + Drop + Send + 'static,
-    G: Gate + Drop + Send + 'static,
+    A: Gate + Drop + Send + 'static,
+    B: Gate + Drop + Send + 'static,
     W: Watch<D> + Clone + Send + 'static,
 >(
     rt: &R,
     watch: W,
     asked: Receiver<Ask>,
-    mutator: Mutator<M, G>,
-    checkpointer: Checkpointer<M, D, G>,
-) -> Result<Players<M, D, G>, NotStarted>
+    mutator: Mutator<M, A>,
+    checkpointer: Checkpointer<M, D, B>,
+) -> Result<Players<M, D, A, B>, NotStarted>
     ensures mutator { IfOk result (λ players. players.0.promise.0.value ≡ mutator) }
     ensures checkpointer { IfOk result (λ players. players.1.promise.0.value ≡ checkpointer) }
 {
@@ -269,6 +274,7 @@ fn start_mutator<
 {
     crosses::<Front<M>>();
     crosses::<ItemSender>();
+    crosses::<CoverIn>();
     let same = SameMutator(Snapshot::of(&mutator));
     spawn(rt, same, asked, mutator)
 }
@@ -302,25 +308,26 @@ fn start_log_writer<
     watch: W,
     log_writer: LogWriter<D, G>,
 ) -> Result<PromisedHandle<LogWriter<D, G>, SameLogWriter<D, G>>, NotStarted>
-    requires { IsAtRest log_writer }
+    requires { MayWrite log_writer }
     ensures { IfOk result (λ handle. handle.promise.0.value ≡ log_writer) }
 {
     crosses::<ItemReceiver>();
     crosses::<CoverIn>();
     crosses::<HeapCircularBuffer<Record>>();
     crosses::<HeapCircularBuffer<Waiting>>();
+    crosses::<CoverOut>();
     let same = SameLogWriter(Snapshot::of(&log_writer));
     spawn(rt, same, watch, log_writer)
 }
 
 /// Waits until the workers have ended, which they do once no session can send a batch any more.
-pub fn stop<R: Threads, M: Method, D: Disk + Drop, G: Gate + Drop>(
+pub fn stop<R: Threads, M: Method, D: Disk + Drop, A: Gate + Drop, B: Gate + Drop, C: Gate + Drop>(
     rt: &R,
-    workers: Workers<M, D, G>,
-) -> Ends<M, D, G>
-    ensures mutator { KeepsFront workers.mutator result.mutator }
-    ensures checkpointer { KeepsBack workers.checkpointer result.checkpointer }
-    ensures log_writer { KeepsLog workers.log_writer result.log_writer }
+    workers: Workers<M, D, A, B, C>,
+) -> Ends<M, D, A, B, C>
+    ensures mutator { EndsFront workers.mutator result.mutator }
+    ensures checkpointer { EndsBack workers.checkpointer result.checkpointer }
+    ensures log_writer { EndsLog workers.log_writer result.log_writer }
 {
     let Workers {
         mutator,

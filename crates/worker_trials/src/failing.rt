@@ -71,7 +71,7 @@ fn fail_call<R: Threads + Wait + Copy + Send + 'static, M: Seats + Send + 'stati
 fn play<R: Threads + Wait + Copy, M: Seats>(
     rt: &R,
     alloc: Global,
-    workers: Workers<M, File, Open>,
+    workers: Workers<M, File, Open, Open, Open>,
     requests: Sender<Ask>,
     failures: &mut FailureTally,
 ) -> Result<bool, Refusal> {
@@ -94,7 +94,7 @@ fn judge_opening(alloc: Global, files: FourFiles<File>, failures: &mut FailureTa
 // Judges what stands in what the workers left, and tells whether a call had failed.
 fn judge_end<M: Seats>(
     alloc: Global,
-    ends: &Ends<M, File, Open>,
+    ends: &Ends<M, File, Open, Open, Open>,
     answered: Result<u64, Refusal>,
     failures: &mut FailureTally,
 ) -> Result<bool, Refusal> {
@@ -147,7 +147,7 @@ fn run_batches<R: Wait + Copy>(
     alloc: Global,
     requests: Sender<Ask>,
 ) -> Result<u64, Refusal> {
-    let mut world = Remote::new(*rt, alloc, requests);
+    let mut world = Remote::new(*rt, alloc, 0, requests);
     let batch = one_more(alloc, 0)?;
     let mut answered = 0;
     for _ in 0..BATCHES {

@@ -26,7 +26,7 @@ pub fn play<R: Wait + Copy>(
     cell: u32,
     batches: u32,
 ) -> Result<Vec<Answered>, Refusal> {
-    let mut world = Remote::new(*rt, alloc, requests);
+    let mut world = Remote::new(*rt, alloc, u64::from(cell), requests);
     let batch = one_more(alloc, cell)?;
     let mut answered = Vec::new(alloc);
     for _ in 0..batches {

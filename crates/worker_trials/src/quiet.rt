@@ -32,7 +32,7 @@ pub fn start_quiet<
     alloc: Global,
     opened: Opened<M, D>,
     every: u32,
-) -> Result<(Workers<M, D, Open>, Sender<Ask>), Refusal>
+) -> Result<(Workers<M, D, Open, Open, Open>, Sender<Ask>), Refusal>
     requires { IsWhole D.honest D.content opened.front opened.back opened.images opened.log opened.ended }
 {
     let gates = Gates {

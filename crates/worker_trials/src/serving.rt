@@ -25,7 +25,7 @@ type Answers = Result<Vec<Answered>, Refusal>;
 /// What a run leaves: the workers, and the answers of each player.
 #[derive(Drop)]
 pub struct Served<M: Seats> {
-    pub ends: Ends<M, Recorded, Open>,
+    pub ends: Ends<M, Recorded, Open, Open, Open>,
     pub answers: Vec<Vec<Answered>>,
 }
 
@@ -49,7 +49,7 @@ pub fn serve<R: Threads + Wait + Copy + Send + 'static, M: Seats + Send + 'stati
 fn let_play<R: Threads + Wait + Copy + Send + 'static, M: Seats>(
     rt: &R,
     alloc: Global,
-    workers: Workers<M, Recorded, Open>,
+    workers: Workers<M, Recorded, Open, Open, Open>,
     requests: Sender<Ask>,
     clock: &Clock,
 ) -> Result<Served<M>, Refusal> {

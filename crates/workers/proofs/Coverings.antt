@@ -1,5 +1,5 @@
 -- What is left out stays left out, whatever comes behind it, and so does what a cover takes.
-use Rattle.std.proofs.Common.{◌≡◌, ◌⊎◌, inl, inr, ℕ, List, [], ◌∷◌, ◌++◌, refl, sym, ap, ◌∙◌, subst}
+use Rattle.std.proofs.Common.{◌≡◌, ◌<◌, ◌⊎◌, inl, inr, ℕ, Some, None, slice_get, List, [], ◌∷◌, ◌++◌, refl, sym, ap, ◌∙◌, subst}
 use Rattle.std.specs.Prelude.{Contains}
 use Rattle.std.proofs.lemmas.List.{append_assoc}
 use Rattle.std.proofs.lemmas.List.Elements.{Contains-append_left}
@@ -69,7 +69,11 @@ cover_leaves ticks tick all given taken behind lost at is =
     leaves_covered ticks tick at (behind ++ lost) all given taken
     (subst (λ (l : List Record). LeavesOut ticks all (given ++ l)) (append_assoc taken (records.Switch tick ∷ behind) lost) is)
 
--- ---- loads of the word
+-- ---- loads of the word, and what is told first
+
+-- none was told before
+pub none_before : (ticks : List ℕ) (tick : ℕ) → ticks ≡ [] → (i earlier : ℕ) → slice_get ticks i ≡ Some earlier → earlier < tick
+none_before ticks tick none i earlier is = absurd (let e : None ≡ Some earlier = ap (λ (l : List ℕ). slice_get l i) (sym none) ∙ is in cc)
 
 pub loads_one : (old inside new : CoverState) (tick : ℕ) → inside ≡ old → new ≡ loaded inside tick → LoadsOn old new
 loads_one old inside new tick is e = (tick ∷ [], e ∙ ap (λ (c : CoverState). loaded c tick) is)

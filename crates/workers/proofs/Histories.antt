@@ -1,18 +1,19 @@
 -- What the mutator pushed goes on with what it does.
-use Rattle.std.proofs.Common.{arith, ◌≡◌, inl, inr, ℕ, ◌+◌, ◌<◌, ◌≤◌, Bool, true, false, List, [], ◌∷◌, ◌++◌, All, length, get_or, refl, sym, ap, ◌∙◌, subst, append-nil}
+use Rattle.std.proofs.Common.{arith, ◌≡◌, inl, inr, ℕ, ◌+◌, ◌<◌, ◌≤◌, Bool, true, false, List, [], ◌∷◌, ◌++◌, All, get_or, refl, sym, ap, ◌∙◌, subst, append-nil}
 use Rattle.std.proofs.lemmas.List.Elements.{All-nil, All-push, All-weaker}
 use Rattle.world_ticks.specs.declared.tick.TheConstants.{TICK_MAX}
 use Rattle.action_log.specs.Queue.{QueueEnd}
 use Rattle.sessions.specs.declared.batch.Request.{Request}
 use Rattle.sessions.specs.Answer.{answer, accepted_of, words_after}
 use Rattle.shared_capture.specs.declared.view.Round.{Round}
+use Rattle.shared_capture.specs.CoverWord.{CoverState}
 use Rattle.shared_capture.specs.Rounds.{round}
 use Rattle.shared_capture.specs.States.{FrontState, HasFlags, KeepsUntouched, SameRounds, marked_rounds}
 use Rattle.workers.specs.declared.item.Item.{Item}
 use Rattle.workers.specs.declared.item.Ended.{Ended}
 use Rattle.workers.specs.declared.item.Item.TheVariants.{Start, Tick, Switch, End}
 use Rattle.workers.specs.Items.{Goes, items_end, end_after}
-use Rattle.workers.specs.Channel.{Pushing}
+use Rattle.workers.specs.Channel.{Pushing, with_refusal}
 use Rattle.workers.specs.Worlds.{World, after_item, Leads, begun, world_of, IsUnchanged, AreUnchanged, IsLate, History, Counts}
 use Rattle.workers.specs.Mutating.{Playing, IsMutator}
 use Rattle.workers.proofs.Numbers.{end_more}
@@ -73,10 +74,10 @@ UpTo base rounds = All (λ (r : Round). r.tick ≤ base) rounds
 up_to_more : (base most : ℕ) (rounds : List Round) (r : Round) → base ≤ most → UpTo base rounds → r.tick ≤ most → UpTo most (rounds ++ r ∷ [])
 up_to_more base most rounds r le known this = All-push (λ (s : Round). s.tick ≤ most) rounds r (All-weaker (λ (s : Round). s.tick ≤ base) (λ (s : Round). s.tick ≤ most) (λ s l. omega (arith, l, le)) rounds known) this
 
-module _ (m : Playing) (front : FrontState) (to : Pushing) (is : IsMutator m) (up : m.down ≡ false) where
+module _ (m : Playing) (front : FrontState) (to : Pushing) (heard : CoverState) (is : IsMutator m) (up : m.down ≡ false) where
   pub ran : (ended : Ended) (requests : List Request) → to.items ≡ m.to.items ++ Tick ended ∷ [] → SameRounds m.front front → ended.tick.list ≡ accepted_of requests m.front.live
-      → ended.answer.text.items ≡ answer requests m.front.live ended.answer.number → front.live ≡ words_after requests m.front.live → m.ended < TICK_MAX → (HasFlags m.front → KeepsUntouched m.front front)
-      → IsMutator (record m { front = front; to = to; ended = m.ended + 1; since = m.since + 1 })
+      → ended.answer.text ≡ answer requests m.front.live ended.answer.number → front.live ≡ words_after requests m.front.live → m.ended < TICK_MAX → (HasFlags m.front → KeepsUntouched m.front front)
+      → IsMutator (record m { front = front; to = to; heard = heard; ended = m.ended + 1; since = m.since + 1 })
   ran ended requests pushed same tick text words room keeps =
       let last : items_end to.items ≡ end_after (items_end m.to.items) (Tick ended) = ap items_end pushed ∙ end_more m.to.items (Tick ended) in
       let counts = is.counts in record {
@@ -90,7 +91,7 @@ module _ (m : Playing) (front : FrontState) (to : Pushing) (is : IsMutator m) (u
       }
 
   -- a batch was run, and the push of its tick refused
-  pub lost_tick : SameRounds m.front front → to ≡ m.to → (HasFlags m.front → KeepsUntouched m.front front) → IsMutator (record m { front = front; to = to; down = true })
+  pub lost_tick : SameRounds m.front front → to ≡ with_refusal m.to → (HasFlags m.front → KeepsUntouched m.front front) → IsMutator (record m { front = front; to = to; heard = heard; down = true })
   lost_tick same refused keeps =
       let h = is.history in record {
         history = record {
@@ -113,7 +114,7 @@ module _ (m : Playing) (front : FrontState) (to : Pushing) (is : IsMutator m) (u
   switch_goes some = let counts = is.counts in (omega (arith, counts.all, counts.count), omega (arith, some, counts.count))
 
   pub marked : to.items ≡ m.to.items ++ Switch m.ended ∷ [] → front.live ≡ m.front.live → front.rounds ≡ m.front.rounds ++ round m.ended m.front.live m.front.touched ∷ [] → HasFlags front
-      → IsMutator (record m { front = front; to = to; since = 0 })
+      → IsMutator (record m { front = front; to = to; heard = heard; since = 0 })
   marked pushed live rounds flags =
       let last : items_end to.items ≡ end_after (items_end m.to.items) (Switch m.ended) = ap items_end pushed ∙ end_more m.to.items (Switch m.ended) in
       let counts = is.counts in record {
@@ -128,8 +129,8 @@ module _ (m : Playing) (front : FrontState) (to : Pushing) (is : IsMutator m) (u
       }
 
   -- a round was opened, and the push of its switch refused
-  pub lost_switch : (m.since ≡ 0 → ⊥) → to ≡ m.to → front.live ≡ m.front.live → front.rounds ≡ m.front.rounds ++ round m.ended m.front.live m.front.touched ∷ [] → HasFlags front
-      → IsMutator (record m { front = front; to = to; down = true })
+  pub lost_switch : (m.since ≡ 0 → ⊥) → to ≡ with_refusal m.to → front.live ≡ m.front.live → front.rounds ≡ m.front.rounds ++ round m.ended m.front.live m.front.touched ∷ [] → HasFlags front
+      → IsMutator (record m { front = front; to = to; heard = heard; down = true })
   lost_switch some refused live rounds flags =
       let now = leads_now m.opening m.to.items m.down m.front is.history up in record {
         history = record {
@@ -149,9 +150,9 @@ module _ (m : Playing) (front : FrontState) (to : Pushing) (is : IsMutator m) (u
       }
 
 -- a mutator of a world whose start has ended
-pub begins : (front : FrontState) (to : Pushing) (opening : List ℕ) (tick every : ℕ) → front.rounds ≡ [] → to.items ≡ Start tick ∷ [] → opening ≡ front.live → tick ≤ TICK_MAX → HasFlags front
-    → IsMutator (record { front = front; to = to; opening = opening; ended = tick; since = 0; every = every; down = false })
-begins front to opening tick every none start words numbered flags = record {
+pub begins : (front : FrontState) (to : Pushing) (heard : CoverState) (opening : List ℕ) (tick every : ℕ) → front.rounds ≡ [] → to.items ≡ Start tick ∷ [] → opening ≡ front.live → tick ≤ TICK_MAX → HasFlags front
+    → IsMutator (record { front = front; to = to; heard = heard; opening = opening; ended = tick; since = 0; every = every; down = false })
+begins front to heard opening tick every none start words numbered flags = record {
   history = record {
     late = [];
     is_late = inl refl;

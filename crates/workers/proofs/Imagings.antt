@@ -301,13 +301,13 @@ module _ {D : Type 0} (file : D → List ℕ) (leaves : D → List ℕ → Type 
     rest = λ on. (rests on, (runs.done (rests on)).4);
   }
 
-pub turned_round : {D : Type 0} (old next : Imaging D) (tick : ℕ) (found : BackState) → SameDone old.back found → FoundRound old.back tick found → RoundRuns found next.images.keeper next.back
-    → (next.over ≡ false → next.images.keeper.phase ≡ Idle) → (next.over ≡ true → HasRound next.images.keeper) → Turned old next
-turned_round {D} old next tick found same is runs rests busy = inr (tick, (is.0, runs.same.2 ∙ is.4, by_over next.over refl))
+pub turned_round : {D : Type 0} (stuck : Type 0) (old next : Imaging D) (tick : ℕ) (found : BackState) → SameDone old.back found → FoundRound old.back tick found → RoundRuns found next.images.keeper next.back
+    → (next.over ≡ false → next.images.keeper.phase ≡ Idle) → (next.over ≡ true → HasRound next.images.keeper) → (next.over ≡ true → (next.images.keeper.phase ≡ Down) ⊎ stuck) → Turned stuck old next
+turned_round {D} stuck old next tick found same is runs rests busy cause = inr (tick, (is.0, runs.same.2 ∙ is.4, by_over next.over refl))
   where
-    by_over : (over : Bool) → next.over ≡ over → ((next.over ≡ false) × IsDone old.back tick next.back) ⊎ ((next.over ≡ true) × IsInWork old.back tick next.back × (IsNoneDue old.images.keeper.newest tick ⊎ HasRound next.images.keeper))
+    by_over : (over : Bool) → next.over ≡ over → ((next.over ≡ false) × IsDone old.back tick next.back) ⊎ ((next.over ≡ true) × IsInWork old.back tick next.back × (IsNoneDue old.images.keeper.newest tick ⊎ (HasRound next.images.keeper × ((next.images.keeper.phase ≡ Down) ⊎ stuck))))
     by_over false on = (let d = runs.done (rests on) in inl (on, (d.0, d.1 ∙ is.2, d.2 ∙ same.1, d.3 ∙ ap (λ (l : List Snapshot). l ++ d.0 ∷ []) same.2, d.4)))
-    by_over true on = (let w = runs.in_work (busy on) in inr (on, (w.0, w.1 ∙ is.2, w.2 ∙ same.2), inr (busy on)))
+    by_over true on = (let w = runs.in_work (busy on) in inr (on, (w.0, w.1 ∙ is.2, w.2 ∙ same.2), inr (busy on, cause on)))
 
 -- what a turn answers of the round that it found
 pub answers_round : (given : Option ℕ) (over : Bool) (tick : ℕ) (keeper : Progress) (old found new : BackState) → SameDone old found → FoundRound old tick found → RoundRuns found keeper new

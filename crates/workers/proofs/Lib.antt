@@ -1,10 +1,12 @@
 pub mod Numbers
 mod Orders
+mod Same
 mod Sides
 pub mod Histories
 mod Turning
 pub mod Waits
 mod Coverings
+mod Failing
 pub mod Tellings
 pub mod Loggings
 mod Imagings

@@ -16,7 +16,7 @@ use Rattle.recovery.specs.Events.{with_work}
 use Rattle.shared_capture.specs.CoverWord.{CoverState}
 use Rattle.workers.specs.declared.item.Item.{Item}
 use Rattle.workers.specs.declared.item.Item.TheVariants.{Start, Tick, Switch, End}
-use Rattle.workers.specs.declared.post.Waiting.{Waiting}
+use Rattle.workers.specs.Posts.{Unposted}
 use Rattle.workers.specs.declared.log_writer.Log.{Log}
 use Rattle.workers.specs.Items.{Goes, end_after, items_end, record_of, records_of}
 use Rattle.workers.specs.Channel.{Popping}
@@ -30,7 +30,7 @@ pub records_more : (items : List Item) (x : Item) → records_of (items ++ x ∷
 records_more [] x = append-nil (record_of x)
 records_more (y ∷ items) x = ap (λ (l : List Record). record_of y ++ l) (records_more items x) ∙ sym (append_assoc (record_of y) (records_of items) (record_of x))
 
-numbers_after : (end : QueueEnd) (item : Item) (number : ℕ) (waiting : List Waiting) → Goes end item → number + length waiting ≡ end.base + end.count → number + length (waiting ++ answers_of item) ≡ (end_after end item).base + (end_after end item).count
+numbers_after : (end : QueueEnd) (item : Item) (number : ℕ) (waiting : List Unposted) → Goes end item → number + length waiting ≡ end.base + end.count → number + length (waiting ++ answers_of item) ≡ (end_after end item).base + (end_after end item).count
 numbers_after end (Start n) number waiting goes is = absurd goes
 numbers_after end (Tick ended) number waiting goes is = omega (arith, length-append waiting (ended.answer ∷ []), is)
 numbers_after end (Switch n) number waiting goes is = omega (arith, ap length (append-nil waiting), is, goes.0)
@@ -61,6 +61,7 @@ module _ {D : Type 0} (file : D → List ℕ) (leaves : D → List ℕ → Type 
         most = subst (λ (e : QueueEnd). e.base + e.count ≤ TICK_MAX) (sym last) (most_after (items_end w.from.items) item goes is.most);
         posted = λ u. ap (λ (a : Answering). a.posted) answers_is ∙ (is.posted u ∙ sym (ap (λ (a : Answering). a.answered) answers_is));
         durable = subst (λ (a : Answering). a.posted ≤ w.acked) (sym answers_is) is.durable;
+        tells = is.tells;
         writes = λ h logs stands.
             (subst (λ (r : List Record). Writes file leaves w.log ring.items w.covers.ticks w.acked w.down (told_in logs) r) (sym (ap records_of popped ∙ records_more w.from.items item))
             (subst (λ (b : Buffer Record). Writes file leaves w.log b.items w.covers.ticks w.acked w.down (told_in logs) (records_of w.from.items ++ record_of item)) (sym ring_is)
@@ -84,6 +85,7 @@ module _ {D : Type 0} (file : D → List ℕ) (leaves : D → List ℕ → Type 
     most = is.most;
     posted = λ up. posted (is.posted up);
     durable = durable;
+    tells = is.tells;
     writes = λ h logs stands. subst (λ (c : CoverState). Writes file leaves log ring.items c.ticks acked w.down (told_in logs) (records_of w.from.items)) (sym told)
         (writes_on file leaves w.log log w.ring.items ring.items tick w.covers.ticks given w.acked acked w.down (told_in logs) (records_of w.from.items) is.follows which (advances h) (is.writes h logs stands));
   }
@@ -107,13 +109,14 @@ module _ {D : Type 0} (file : D → List ℕ) (leaves : D → List ℕ → Type 
         most = subst (λ (e : QueueEnd). e.base + e.count ≤ TICK_MAX) (sym last) (most_after (items_end w.from.items) item goes is.most);
         posted = λ up. absurd (let e : true ≡ false = sym down ∙ up in cc);
         durable = subst (λ k. k ≤ w.acked) (sym posted) is.durable;
+        tells = is.tells;
         writes = λ h logs stands.
             (subst (λ (r : List Record). Writes file leaves w.log w.ring.items w.covers.ticks w.acked w.down (told_in logs) r) (sym (ap records_of popped ∙ records_more w.from.items item))
             (writes_lost file leaves w.log w.ring.items (record_of item) w.covers.ticks w.acked w.down (told_in logs) (records_of w.from.items) down (is.writes h logs stands)));
       }
 
 -- the answer of an item is the next one
-pub next_of : (end : QueueEnd) (item : Item) (number : ℕ) (waiting : List Waiting) → Goes end item → waiting ≡ [] → number + length waiting ≡ end.base + end.count → AreNext number (answers_of item)
+pub next_of : (end : QueueEnd) (item : Item) (number : ℕ) (waiting : List Unposted) → Goes end item → waiting ≡ [] → number + length waiting ≡ end.base + end.count → AreNext number (answers_of item)
 next_of end (Start n) number waiting goes none is = tt
 next_of end (Tick ended) number waiting goes none is = (omega (arith, goes.2, is, ap length none), tt)
 next_of end (Switch n) number waiting goes none is = tt
@@ -141,7 +144,7 @@ records_append (x ∷ xs) ys = ap (λ (l : List Record). record_of x ++ l) (reco
 
 pub answers_append : (xs ys : List Item) → all_answers_of (xs ++ ys) ≡ all_answers_of xs ++ all_answers_of ys
 answers_append [] ys = refl
-answers_append (x ∷ xs) ys = ap (λ (l : List Waiting). answers_of x ++ l) (answers_append xs ys) ∙ sym (append_assoc (answers_of x) (all_answers_of xs) (all_answers_of ys))
+answers_append (x ∷ xs) ys = ap (λ (l : List Unposted). answers_of x ++ l) (answers_append xs ys) ∙ sym (append_assoc (answers_of x) (all_answers_of xs) (all_answers_of ys))
 
 pub end_append : (xs ys : List Item) → has_end xs ≡ false → has_end (xs ++ ys) ≡ has_end ys
 end_append [] ys none = refl
@@ -166,7 +169,7 @@ module _ {D : Type 0} where
     popped = sym (append-nil w.from.items);
     end = refl;
     ring = ap (λ (l : List Record). let b : Buffer Record = record w.ring { items = l } in b) (sym (append-nil w.ring.items));
-    answers = ap (λ (l : List Waiting). let a : Answering = record w.answers { waiting = l } in a) (sym (append-nil w.answers.waiting));
+    answers = ap (λ (l : List Unposted). let a : Answering = record w.answers { waiting = l } in a) (sym (append-nil w.answers.waiting));
     same = refl;
   }
 
@@ -177,7 +180,7 @@ module _ {D : Type 0} where
     ring = t.ring ∙ (ap (λ (b : Buffer Record). let c : Buffer Record = record b { items = b.items ++ records_of ys } in c) s.ring
         ∙ ap (λ (l : List Record). let b : Buffer Record = record u.ring { items = l } in b) (append_assoc u.ring.items (records_of xs) (records_of ys) ∙ ap (λ (l : List Record). u.ring.items ++ l) (sym (records_append xs ys))));
     answers = t.answers ∙ (ap (λ (a : Answering). let b : Answering = record a { waiting = a.waiting ++ all_answers_of ys } in b) s.answers
-        ∙ ap (λ (l : List Waiting). let a : Answering = record u.answers { waiting = l } in a) (append_assoc u.answers.waiting (all_answers_of xs) (all_answers_of ys) ∙ ap (λ (l : List Waiting). u.answers.waiting ++ l) (sym (answers_append xs ys))));
+        ∙ ap (λ (l : List Unposted). let a : Answering = record u.answers { waiting = l } in a) (append_assoc u.answers.waiting (all_answers_of xs) (all_answers_of ys) ∙ ap (λ (l : List Unposted). u.answers.waiting ++ l) (sym (answers_append xs ys))));
     same = t.same ∙ ap (λ (x : Logging D). let y : Logging D = record x { from = w.from; ring = w.ring; answers = w.answers; over = w.over } in y) s.same;
   }
 
@@ -204,9 +207,9 @@ module _ {D : Type 0} (file : D → List ℕ) (leaves : D → List ℕ → Type 
     switched = λ number is. absurd (let none = ready_switch log tick logs ready stands in cc);
   }
 
-  begins : (from : Popping) (covers : CoverState) (log : Log D) (tick : ℕ) → from.items ≡ Start tick ∷ [] → tick ≤ TICK_MAX → IsReady log.keeper tick → (IsTrue honest → FitsFiles log.keeper (file log.a) (file log.b))
-      → IsLogging file leaves honest (writer_at from covers log tick)
-  begins from covers log tick opened most ready fits =
+  begins : (from : Popping) (covers told_down : CoverState) (log : Log D) (tick : ℕ) → from.items ≡ Start tick ∷ [] → told_down.ticks ≡ [] → tick ≤ TICK_MAX → IsReady log.keeper tick → (IsTrue honest → FitsFiles log.keeper (file log.a) (file log.b))
+      → IsLogging file leaves honest (writer_at from covers told_down log tick)
+  begins from covers told_down log tick opened untold most ready fits =
       let k = log.keeper in
       let last : items_end from.items ≡ record { base = tick; count = 0 } = ap items_end opened in record {
         started = ready.started;
@@ -219,6 +222,7 @@ module _ {D : Type 0} (file : D → List ℕ) (leaves : D → List ℕ → Type 
         most = subst (λ (e : QueueEnd). e.base + e.count ≤ TICK_MAX) (sym last) (omega (arith, most));
         posted = λ up. refl;
         durable = omega arith;
+        tells = (λ up. untold, λ no. absurd (cc));
         writes = λ h logs stands. let none = ready_switch log tick logs ready stands in record {
           logs = logs;
           stands = stands;
@@ -232,11 +236,11 @@ module _ {D : Type 0} (file : D → List ℕ) (leaves : D → List ℕ → Type 
         };
       }
 
-  pub begins_of : (from : Popping) (covers : CoverState) (log opening : Log D) (ring : Buffer Record) (answers : Answering) (tick : ℕ) → from.items ≡ Start tick ∷ [] → tick ≤ TICK_MAX → IsReady log.keeper tick → (IsTrue honest → FitsFiles log.keeper (file log.a) (file log.b))
-      → ring ≡ (writer_at from covers log tick).ring → answers ≡ (writer_at from covers log tick).answers → opening ≡ log → IsLogging file leaves honest (record (writer_at from covers log tick) { ring = ring; answers = answers; opening = opening })
-  begins_of from covers log opening ring answers tick opened most ready fits ring_is answers_is opening_is =
-      subst (λ (x : Buffer Record × Answering × Log D). IsLogging file leaves honest (record (writer_at from covers log tick) { ring = x.0; answers = x.1; opening = x.2 }))
-      (λ i. (sym ring_is i, sym answers_is i, sym opening_is i)) (begins from covers log tick opened most ready fits)
+  pub begins_of : (from : Popping) (covers told_down : CoverState) (log opening : Log D) (ring : Buffer Record) (answers : Answering) (tick : ℕ) → from.items ≡ Start tick ∷ [] → told_down.ticks ≡ [] → tick ≤ TICK_MAX → IsReady log.keeper tick → (IsTrue honest → FitsFiles log.keeper (file log.a) (file log.b))
+      → ring ≡ (writer_at from covers told_down log tick).ring → answers ≡ (writer_at from covers told_down log tick).answers → opening ≡ log → IsLogging file leaves honest (record (writer_at from covers told_down log tick) { ring = ring; answers = answers; opening = opening })
+  begins_of from covers told_down log opening ring answers tick opened untold most ready fits ring_is answers_is opening_is =
+      subst (λ (x : Buffer Record × Answering × Log D). IsLogging file leaves honest (record (writer_at from covers told_down log tick) { ring = x.0; answers = x.1; opening = x.2 }))
+      (λ i. (sym ring_is i, sym answers_is i, sym opening_is i)) (begins from covers told_down log tick opened untold most ready fits)
 
 pub ready_rests : (keeper : Progress) (tick : ℕ) → IsReady keeper tick → work_of keeper [] ≡ 0
 ready_rests keeper tick ready = ap (λ p. rest_in p keeper.other_shut + 0) ready.phase

@@ -1,7 +1,11 @@
 -- What a gate may answer.
 use Rattle.workers.specs.declared.gate.Place.{Place}
 use Rattle.workers.specs.declared.gate.Pass.{Pass}
-use Rattle.workers.specs.declared.gate.Pass.TheVariants.{Stuck}
+use Rattle.workers.specs.declared.gate.Pass.TheVariants.{Go, Stuck}
+
+-- in some state it lets the step be made
+abbrev pub MayGo : {G : Type 0} → (told : G → Place → Pass → G → Type 0) → Place → Type 0
+MayGo {G = G} told place = (old new : G) × told old place Go new
 
 -- in some state it answers that the step is never made
 abbrev pub MayStick : {G : Type 0} → (told : G → Place → Pass → G → Type 0) → Place → Type 0

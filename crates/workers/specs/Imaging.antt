@@ -134,14 +134,15 @@ abbrev pub Waited : {D : Type 0} → Imaging D → Imaging D → Type 0
 Waited old new =
     (new.images ≡ old.images) × SameDone old.back new.back × (new.back.working ≡ false) × (new.back.loads ≡ old.back.loads ++ 0 ∷ [])
 
--- the open round of this tick was found: it is done, or it stays open and nothing more is done; its
--- image was begun, unless none is made of this tick
-abbrev pub Found : {D : Type 0} → Imaging D → (tick : ℕ) → Imaging D → Type 0
-Found old tick new =
+-- The open round of this tick was found. It is done, or it stays open and nothing more is done: no image is made of this
+-- tick, or its image was begun, and a call of a device failed or the gate lets no other be made.
+abbrev pub Found : {D : Type 0} → (stuck : Type 0) → Imaging D → (tick : ℕ) → Imaging D → Type 0
+Found stuck old tick new =
     (tick ≢ 0) × (new.back.loads ≡ old.back.loads ++ tick ∷ [])
     × (((new.over ≡ false) × IsDone old.back tick new.back)
-    ⊎ ((new.over ≡ true) × IsInWork old.back tick new.back × (IsNoneDue old.images.keeper.newest tick ⊎ HasRound new.images.keeper)))
+    ⊎ ((new.over ≡ true) × IsInWork old.back tick new.back
+    × (IsNoneDue old.images.keeper.newest tick ⊎ (HasRound new.images.keeper × ((new.images.keeper.phase ≡ Down) ⊎ stuck)))))
 
 -- what a turn did
-abbrev pub Turned : {D : Type 0} → Imaging D → Imaging D → Type 0
-Turned old new = Waited old new ⊎ ((tick : ℕ) × Found old tick new)
+abbrev pub Turned : {D : Type 0} → (stuck : Type 0) → Imaging D → Imaging D → Type 0
+Turned stuck old new = Waited old new ⊎ ((tick : ℕ) × Found stuck old tick new)

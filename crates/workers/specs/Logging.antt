@@ -1,6 +1,7 @@
 -- The log writer as contracts see it.
-use Rattle.std.specs.Prelude.{◌≡◌, ◌⊎◌, ℕ, ◌+◌, ◌≤◌, Bool, true, false, IsTrue, List, [], ◌∷◌, ◌++◌, length, Some, IfSome}
+use Rattle.std.specs.Prelude.{◌≡◌, ◌⊎◌, ℕ, ◌+◌, ◌<◌, ◌≤◌, Bool, true, false, IsTrue, List, [], ◌∷◌, ◌++◌, length, Some, IfSome}
 use Rattle.world_ticks.specs.declared.tick.TheConstants.{TICK_MAX}
+use Rattle.disk_model.specs.Disk.{FaultsBy}
 use Rattle.circular_buffer.specs.Buffer.{Buffer}
 use Rattle.action_log.specs.declared.record.Record.{Record}
 use Rattle.action_log.specs.declared.record.Record.TheVariants as records
@@ -69,9 +70,11 @@ pub record HasAcked (acked : ℕ) (logs : Logs) : Type 0 where
 
 -- ---- the log writer
 
+-- the items that it popped, the word that it loads, the word by which it tells that the log is down, and the rest
 pub record Logging (D : Type 0) : Type 0 where
   pub from : Popping
   pub covers : CoverState
+  pub told_down : CoverState
   pub log : Log D
   pub ring : Buffer Record
   pub answers : Answering
@@ -88,10 +91,11 @@ pub record IsReady (keeper : Progress) (tick : ℕ) : Type 0 where
   pub count : keeper.count ≡ 0
 
 -- how it begins
-abbrev pub writer_at : {D : Type 0} → Popping → CoverState → Log D → (tick : ℕ) → Logging D
-writer_at from covers log tick = record {
+abbrev pub writer_at : {D : Type 0} → Popping → (covers told_down : CoverState) → Log D → (tick : ℕ) → Logging D
+writer_at from covers told_down log tick = record {
   from = from;
   covers = covers;
+  told_down = told_down;
   log = log;
   ring = record { items = []; capacity = RING_ITEMS };
   answers = record { waiting = []; room = RING_ITEMS; answered = tick; posted = tick };
@@ -106,10 +110,27 @@ pub record IsAtRest {D : Type 0} (w : Logging D) : Type 0 where
   pub written : w.down ≡ false → work_of w.log.keeper w.ring.items ≡ 0
   pub answered : w.answers.waiting ≡ []
 
+-- The keeper goes down only by a failed call of a device, and no failure is passed over. Down, it makes no call.
+pub record LogTellsFaults {D : Type 0} (faults : D → ℕ) (old new : Log D) : Type 0 where
+  pub down : old.keeper.down ≡ false → new.keeper.down ≡ true → FaultsBy true (faults old.a) (faults new.a) (faults old.b) (faults new.b)
+  pub up : new.keeper.down ≡ false → FaultsBy false (faults old.a) (faults new.a) (faults old.b) (faults new.b)
+  pub stays : old.keeper.down ≡ true → new ≡ old
+
+-- Why it falls: its keeper is down, or its gate never lets another call be made, or all is written and an answer has no
+-- receipt.
+abbrev pub FallsBy : {D : Type 0} → (stuck : Type 0) → Logging D → Type 0
+FallsBy stuck w =
+    (w.log.keeper.down ≡ true)
+    ⊎ (stuck ⊎ ((work_of w.log.keeper w.ring.items ≡ 0) × (w.answers.posted < w.answers.answered)))
+
 -- the ticks popped are posted, up to the last one, and all of them are acknowledged
 pub record IsPosted {D : Type 0} (w : Logging D) : Type 0 where
   pub all : w.answers.posted ≡ (items_end w.from.items).base + (items_end w.from.items).count
   pub acknowledged : w.answers.posted ≤ w.acked
+
+-- it has told that the log is down, by a 1, once it is, and nothing before
+abbrev pub TellsDown : Bool → List ℕ → Type 0
+TellsDown down told = (down ≡ false → told ≡ []) × (down ≡ true → told ≡ 1 ∷ [])
 
 module _ {D : Type 0} (file : D → List ℕ) (leaves : D → List ℕ → Type 0) where
   -- the keeper and its files stand for this log
@@ -141,6 +162,7 @@ module _ {D : Type 0} (file : D → List ℕ) (leaves : D → List ℕ → Type 
     pub most : (items_end w.from.items).base + (items_end w.from.items).count ≤ TICK_MAX
     pub posted : w.down ≡ false → w.answers.posted ≡ w.answers.answered
     pub durable : w.answers.posted ≤ w.acked
+    pub tells : TellsDown w.down w.told_down.ticks
     pub writes : IsTrue honest → (logs : Logs) → LogStands w.opening logs → Writes w.log w.ring.items w.covers.ticks w.acked w.down (told_in logs) (records_of w.from.items)
 
 -- these items were popped, their records are queued, and their answers wait

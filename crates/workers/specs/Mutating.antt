@@ -1,23 +1,25 @@
 -- The mutator as contracts see it, and what a turn of it does.
-use Rattle.std.specs.Prelude.{◌≡◌, ◌⊎◌, ℕ, ◌+◌, ◌<◌, ◌≤◌, Bool, true, false, List, [], ◌∷◌, ◌++◌, All, Some, Result, MatchResult}
+use Rattle.std.specs.Prelude.{◌≡◌, ◌⊎◌, ℕ, ◌+◌, ◌<◌, ◌≤◌, Bool, true, false, List, [], ◌∷◌, ◌++◌, All, Result, MatchResult}
 use Rattle.world_actions.specs.declared.refusal.Refusal.{Refusal}
-use Rattle.world_actions.specs.declared.refusal.Refusal.TheVariants.{NoMemory, LogDown, Busy}
+use Rattle.world_actions.specs.declared.refusal.Refusal.TheVariants.{LogDown, Busy}
 use Rattle.world_ticks.specs.declared.tick.TheConstants.{TICK_MAX}
-use Rattle.action_log.specs.Refusals.{tick_refusal}
 use Rattle.shared_capture.specs.declared.view.Round.{Round}
+use Rattle.shared_capture.specs.CoverWord.{CoverState}
 use Rattle.shared_capture.specs.States.{FrontState, HasFlags, KeepsUntouched, SameWords, marked_rounds, IsRefused}
 use Rattle.workers.specs.declared.item.Ended.{Ended}
 use Rattle.workers.specs.declared.item.Item.TheVariants.{Tick, Switch, End}
-use Rattle.workers.specs.declared.mutator.Ask.{Ask}
 use Rattle.workers.specs.Items.{items_end}
-use Rattle.workers.specs.Channel.{Pushing}
-use Rattle.workers.specs.Worlds.{AreUnchanged, History, Counts, RanBatch, world_of}
+use Rattle.workers.specs.Posts.{AskedBatch}
+use Rattle.workers.specs.Channel.{Pushing, with_item, with_refusal}
+use Rattle.workers.specs.Covering.{loaded}
+use Rattle.workers.specs.Worlds.{AreUnchanged, History, Counts, RanBatch, IsRefusedTick, world_of}
 
--- its front, its end of the channel, the words that it began with, how many ticks ended, how many of them since the last
--- switch or start, after how many a round is due, and whether it has stopped
+-- its front, its end of the channel, the word by which it hears that the log is down, the words that it began with, how many
+-- ticks ended, how many of them since the last switch or start, after how many a round is due, and whether it has stopped
 pub record Playing : Type 0 where
   pub front : FrontState
   pub to : Pushing
+  pub heard : CoverState
   pub opening : List ℕ
   pub ended : ℕ
   pub since : ℕ
@@ -44,6 +46,10 @@ IsEarly m = (m.since ≡ 0) ⊎ (m.since < m.every)
 abbrev pub OpensRound : Playing → FrontState → Type 0
 OpensRound old front = SameWords old.front front × (front.rounds ≡ marked_rounds old.front old.ended) × HasFlags front
 
+-- the last round is of this tick
+abbrev pub IsLastRound : FrontState → ℕ → Type 0
+IsLastRound front tick = (before : List Round) × (r : Round) × (front.rounds ≡ before ++ r ∷ []) × (r.tick ≡ tick)
+
 -- a round was open
 abbrev pub FindsRound : Playing → Playing → Type 0
 FindsRound old new = (new ≡ record old { front = new.front }) × SameWords old.front new.front × IsRefused old.front Busy new.front
@@ -51,11 +57,11 @@ FindsRound old new = (new ≡ record old { front = new.front }) × SameWords old
 -- a round was opened, and its switch pushed directly after
 abbrev pub Marks : Playing → Playing → Type 0
 Marks old new = (new ≡ record old { front = new.front; to = new.to; since = 0 }) × OpensRound old new.front
-    × (new.to.end ≡ old.to.end) × (new.to.items ≡ old.to.items ++ Switch old.ended ∷ [])
+    × (new.to ≡ with_item old.to (Switch old.ended))
 
 -- a round was opened, and the push of its switch refused
 abbrev pub LosesSwitch : Playing → Playing → Type 0
-LosesSwitch old new = (new ≡ record old { front = new.front; down = true }) × OpensRound old new.front
+LosesSwitch old new = (new ≡ record old { front = new.front; to = with_refusal old.to; down = true }) × OpensRound old new.front
 
 -- where a round is due it is opened, if none is open
 abbrev pub MarksIfDue : Playing → Playing → Type 0
@@ -63,43 +69,48 @@ MarksIfDue old new = ((new ≡ old) × ((old.down ≡ true) ⊎ IsEarly old)) �
 
 -- ---- a batch
 
--- the batch was run as the next tick, whose answer is for the session that asked
-pub record Runs (old : Playing) (ask : Ask) (ended : Ended) (front : FrontState) : Type 0 where
+-- this batch was run as the next tick, and the answer is for this very batch
+pub record Runs (old : Playing) (asked : AskedBatch) (ended : Ended) (front : FrontState) : Type 0 where
   pub number : ended.answer.number ≡ old.ended + 1
-  pub session : ended.answer.to ≡ ask.to
+  pub answers : ended.answer.asked ≡ asked
   pub pair : front.pair ≡ old.front.pair
-  pub ran : RanBatch ask.batch.list (world_of old.front) ended (world_of front)
+  pub ran : RanBatch asked.requests (world_of old.front) ended (world_of front)
   pub untouched : KeepsUntouched old.front front
 
--- the tick was pushed
-abbrev pub PushesTick : Playing → Ask → Playing → Type 0
-PushesTick old ask new = (new ≡ record old { front = new.front; to = new.to; ended = old.ended + 1; since = old.since + 1 })
-    × (new.to.end ≡ old.to.end) × ((ended : Ended) × Runs old ask ended new.front × (new.to.items ≡ old.to.items ++ Tick ended ∷ []))
+-- the tick was pushed, before which the log wasn't told to be down
+abbrev pub PushesTick : Playing → AskedBatch → Playing → Type 0
+PushesTick old asked new = (new ≡ record old { front = new.front; to = new.to; heard = loaded old.heard 0; ended = old.ended + 1; since = old.since + 1 })
+    × ((ended : Ended) × Runs old asked ended new.front × (new.to ≡ with_item old.to (Tick ended)))
 
 -- the push of the tick was refused
-abbrev pub LosesTick : Playing → Ask → Playing → Type 0
-LosesTick old ask new = (new ≡ record old { front = new.front; down = true }) × ((ended : Ended) × Runs old ask ended new.front)
+abbrev pub LosesTick : Playing → AskedBatch → Playing → Type 0
+LosesTick old asked new = (new ≡ record old { front = new.front; to = with_refusal old.to; heard = loaded old.heard 0; down = true }) × ((ended : Ended) × Runs old asked ended new.front)
 
--- Nothing was run: memory was refused, no tick may end, or the gate never lets another one.
+-- the log was told to be down
+abbrev pub HearsDown : Playing → Refusal → Playing → Type 0
+HearsDown old reason new = (flag : ℕ) × (1 ≤ flag) × (new ≡ record old { heard = loaded old.heard flag }) × (reason ≡ LogDown)
+
+-- Nothing was run: no tick may end or memory was refused, or the log was told to be down, or the mutator has stopped, or stops
+-- here because its gate never lets another batch run.
 abbrev pub RefusesBatch : (stuck : Type 0) → Playing → Refusal → Playing → Type 0
 RefusesBatch stuck old reason new =
-    ((new ≡ old) × ((reason ≡ NoMemory) ⊎ ((down : Bool) × (tick_refusal down old.ended old.since ≡ Some reason))))
-    ⊎ ((new ≡ record old { down = true }) × (reason ≡ LogDown) × ((old.down ≡ true) ⊎ stuck))
+    ((new ≡ record old { heard = loaded old.heard 0 }) × IsRefusedTick false old.ended old.since reason)
+    ⊎ (HearsDown old reason new ⊎ ((new ≡ record old { down = true }) × (reason ≡ LogDown) × ((old.down ≡ true) ⊎ stuck)))
 
-abbrev pub AnswersBatch : (stuck : Type 0) → Playing → Ask → Result (Unit {0}) Refusal → Playing → Type 0
-AnswersBatch stuck old ask given new = MatchResult given (λ _. PushesTick old ask new ⊎ LosesTick old ask new) (λ reason. RefusesBatch stuck old reason new)
+-- a batch is run, by a mutator that hasn't stopped and where the gate lets it, or refused
+abbrev pub AnswersBatch : (go stuck : Type 0) → Playing → AskedBatch → Result (Unit {0}) Refusal → Playing → Type 0
+AnswersBatch go stuck old asked given new = MatchResult given (λ _. go × (old.down ≡ false) × (PushesTick old asked new ⊎ LosesTick old asked new)) (λ reason. RefusesBatch stuck old reason new)
 
 -- a batch, and a mark before it and after it where one is due
-pub record Turns (stuck : Type 0) (old : Playing) (ask : Ask) (given : Result (Unit {0}) Refusal) (new : Playing) : Type 0 where
+pub record Turns (go stuck : Type 0) (old : Playing) (asked : AskedBatch) (given : Result (Unit {0}) Refusal) (new : Playing) : Type 0 where
   pub before : Playing
   pub after : Playing
   pub marks_before : MarksIfDue old before
-  pub batch : AnswersBatch stuck before ask given after
+  pub batch : AnswersBatch go stuck before asked given after
   pub marks_after : MarksIfDue after new
 
 -- ---- the end
 
 -- the last item was pushed, or its push refused
 abbrev pub EndsPlay : Playing → Playing → Type 0
-EndsPlay old new = ((new ≡ record old { to = new.to }) × (new.to.end ≡ old.to.end) × (new.to.items ≡ old.to.items ++ End ∷ []))
-    ⊎ (new ≡ record old { down = true })
+EndsPlay old new = (new ≡ record old { to = with_item old.to End }) ⊎ (new ≡ record old { to = with_refusal old.to; down = true })

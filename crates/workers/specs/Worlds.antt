@@ -1,6 +1,9 @@
 -- What the mutator did, by what it pushed.
-use Rattle.std.specs.Prelude.{◌≡◌, ◌⊎◌, ℕ, ◌+◌, Bool, false, List, [], ◌∷◌, ◌++◌, slice_index, ⊤}
+use Rattle.std.specs.Prelude.{◌≡◌, ◌⊎◌, ℕ, ◌+◌, Bool, false, Some, None, List, [], ◌∷◌, ◌++◌, slice_index, ⊤}
+use Rattle.world_actions.specs.declared.refusal.Refusal.{Refusal}
+use Rattle.world_actions.specs.declared.refusal.Refusal.TheVariants.{NoMemory}
 use Rattle.action_log.specs.Queue.{QueueEnd}
+use Rattle.action_log.specs.Refusals.{tick_refusal}
 use Rattle.sessions.specs.declared.batch.Request.{Request}
 use Rattle.sessions.specs.Answer.{answer, accepted_of, words_after}
 use Rattle.shared_capture.specs.declared.view.Round.{Round}
@@ -19,9 +22,14 @@ pub record World : Type 0 where
 -- these requests were run as a batch: the tick is what was accepted of them, and the text is their answer
 pub record RanBatch (requests : List Request) (w : World) (ended : Ended) (v : World) : Type 0 where
   pub tick : ended.tick.list ≡ accepted_of requests w.words
-  pub text : ended.answer.text.items ≡ answer requests w.words ended.answer.number
+  pub text : ended.answer.text ≡ answer requests w.words ended.answer.number
   pub words : v.words ≡ words_after requests w.words
   pub rounds : v.rounds ≡ w.rounds
+
+-- No tick may end, for this reason; only where one may, memory was refused.
+abbrev pub IsRefusedTick : (down : Bool) → (ended since : ℕ) → Refusal → Type 0
+IsRefusedTick down ended since reason =
+    ((tick_refusal down ended since ≡ None) × (reason ≡ NoMemory)) ⊎ (tick_refusal down ended since ≡ Some reason)
 
 -- some batch was run
 abbrev pub Ran : World → Ended → World → Type 0

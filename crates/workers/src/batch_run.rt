@@ -1,10 +1,10 @@
 //! A batch on the front.
-ghost use Rattle.std.specs.Prelude.{◌≡◌, ◌⊎◌, ◌+◌, ◌<◌, Some, false, IfOk, IfErr, OnOk, OnErr};
+ghost use Rattle.std.specs.Prelude.{◌≡◌, ◌+◌, ◌<◌, false, IfOk, IfErr, OnOk, OnErr};
 ghost use Rattle.world_ticks.specs.declared.tick.TheConstants.{TICK_MAX};
 ghost use Rattle.action_log.specs.declared.format.TheConstants.{SEGMENT_TICKS};
-ghost use Rattle.action_log.specs.Refusals.{tick_refusal};
 ghost use Rattle.sessions.specs.Answer.{answer, accepted_of, words_after};
 ghost use Rattle.shared_capture.specs.States.{HasFlags, KeepsUntouched, SameRounds};
+ghost use Rattle.workers.specs.Worlds.{IsRefusedTick};
 
 use action_log::tick_refusal;
 use sessions::{Batch, answer_text};
@@ -29,7 +29,7 @@ pub fn play<M: Method>(
     ensures rounds { SameRounds front.old front.new }
     ensures untouched { HasFlags front.old → KeepsUntouched front.old front.new }
     ensures room { OnOk result ((down ≡ false) × (ended < TICK_MAX) × (since < SEGMENT_TICKS)) }
-    ensures refused { IfErr result (λ reason. (reason ≡ Refusal.NoMemory) ⊎ (tick_refusal down ended since ≡ Some reason)) }
+    ensures refused { IfErr result (IsRefusedTick down ended since) }
     ensures unchanged { OnErr result (front.new ≡ front.old) }
 {
     accesses_keep();

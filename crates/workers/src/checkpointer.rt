@@ -1,10 +1,13 @@
 //! The worker that writes the images.
-ghost use Rattle.std.specs.Prelude.{◌≡◌, ◌↔◌, ◌<◌, ◌≤◌, true, false, [], IsTrue, MatchOption};
+ghost use Rattle.std.specs.Prelude.{◌≡◌, ◌⊎◌, ◌↔◌, ◌<◌, ◌≤◌, true, false, [], IsTrue, MatchOption};
 ghost use Rattle.world_ticks.specs.declared.tick.TheConstants.{TICK_MAX};
 ghost use Rattle.image_files.specs.declared.phase.Phase.TheVariants.{Down};
+ghost use Rattle.workers.specs.declared.gate.Place.TheVariants.{Device};
+ghost use Rattle.workers.specs.Gates.{MayGo, MayStick};
 ghost use Rattle.workers.specs.Imaging.{IsAtRest, IsDone, TellsFaults, Turned, WriterFits};
 ghost use Rattle.workers.specs.Publishing.{newest_tick, IsNoneDue};
 
+use crate::checkpointer::publisher::Publisher;
 use crate::checkpointer::round::run_round;
 use crate::gate::Gate;
 use crossbeam_channel::Receiver;
@@ -16,6 +19,7 @@ use std::snapshot::Snapshot;
 use std::sync::Wait;
 use world_ticks::TICK_MAX;
 
+mod publisher;
 mod round;
 
 pub use round::ImageWriter;
@@ -26,7 +30,7 @@ pub struct Checkpointer<M: Method, D: Disk + Drop, G: Gate + Drop> {
     gate: G,
     pub(crate) back: Back<M>,
     /// Told the tick of each image that is open.
-    pub(crate) covers: CoverOut,
+    pub(crate) covers: Publisher,
     images: ImageWriter<D>,
     opening: Snapshot<ImageWriter<D>>,
     bell: Receiver<()>,
@@ -64,7 +68,7 @@ impl<M: Method, D: Disk + Drop, G: Gate + Drop> Checkpointer<M, D, G> {
         Checkpointer {
             gate,
             back,
-            covers,
+            covers: Publisher::new(covers),
             images,
             opening,
             bell,
@@ -98,7 +102,9 @@ impl<M: Method, D: Disk + Drop, G: Gate + Drop> Checkpointer<M, D, G> {
     pub fn turn<R: Wait>(&mut self, rt: &R) -> Option<u64>
         requires { self.old.over ≡ false }
         ensures same { (self.new.back.pair ≡ self.old.back.pair) × (self.new.back.cells ≡ self.old.back.cells) × (self.new.covers.pair ≡ self.old.covers.pair) × (self.new.opening ≡ self.old.opening) }
-        ensures turned { Turned self.old self.new }
+        ensures turned { Turned (MayStick G.told Device) self.old self.new }
+        ensures asks { ((self.new.images.image_a ≡ self.old.images.image_a) × (self.new.images.image_b ≡ self.old.images.image_b))
+            ⊎ MayGo G.told Device }
         ensures opened { MatchOption result (self.new.back.done ≡ self.old.back.done) (λ tick. IsDone self.old.back tick self.new.back) }
         ensures faults { TellsFaults D.faults self.old.images self.new.images }
     {

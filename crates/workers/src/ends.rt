@@ -1,13 +1,13 @@
 //! The two ends of the channel.
 ghost use Rattle.std.specs.Prelude.{◌≡◌, ◌++◌, ◌∷◌, [], true, false, List, IfOk, MatchResult};
 ghost use Rattle.crossbeam_channel.specs.Claims.{view, IsSeatAt};
-ghost use Rattle.crossbeam_channel.specs.Ends.{sends_on, receives_on};
+ghost use Rattle.crossbeam_channel.specs.Ends.{sends_on, receives_on, ruled_capacity};
 ghost use Rattle.workers.specs.declared.item.Item.{Item as Pushed};
 ghost use Rattle.workers.specs.declared.item.Item.TheVariants.{Start};
 ghost use Rattle.workers.specs.declared.item.View.TheVariants.{Pushes, Pops};
 ghost use Rattle.workers.specs.Items.{AreNumbered, Goes, items_end};
 ghost use Rattle.workers.specs.Order.{pushed_of, popped_of};
-ghost use Rattle.workers.specs.Channel.{IsBegun, AreOneChannel};
+ghost use Rattle.workers.specs.Channel.{IsBegun, AreOneChannel, with_item, with_refusal};
 
 use crate::item::{Item, View};
 use crate::plays::{All, InOrder, Move, Part, Pop, Push, Whole};
@@ -26,11 +26,12 @@ pub struct ReceiveEnd {
     end: RuledReceiver<Item, View, InOrder>,
 }
 
-/// The end that pushes. Contracts see the items that it pushed.
+/// The end that pushes. Contracts see the items that it pushed, and whether a push was refused.
 #[derive(Drop)]
 pub struct ItemSender {
     end: SendEnd,
     pass: Pass<Item, View>,
+    refused: bool,
 }
 
 impl Model for ItemSender {
@@ -40,7 +41,7 @@ impl Model for ItemSender {
 
     ghost Value = { Pushing };
 
-    ghost view = { λ s. record { end = s.end; items = pushed_of (seen s.pass) } };
+    ghost view = { λ s. record { end = s.end; items = pushed_of (seen s.pass); refused = s.refused } };
 
     ghost invariant = { λ s. IsSender s.end s.pass };
 }
@@ -73,6 +74,8 @@ pub fn open<R: Wait>(
     ensures channel { IfOk result (λ e. AreOneChannel e.1.end e.0.end) }
     ensures pushed { IfOk result (λ e. e.0.items ≡ Start tick ∷ []) }
     ensures popped { IfOk result (λ e. e.1.items ≡ Start tick ∷ []) }
+    ensures pushes { IfOk result (λ e. e.0.refused ≡ false) }
+    ensures room { IfOk result (λ e. ruled_capacity (sends_on e.0.end.end) ≡ 64) }
 {
     let (to, from, mut pass) = bounded_with::<Item, View, InOrder, Global>(alloc, 64)?;
     let mut other = to.another::<Part>(&mut pass);
@@ -90,6 +93,7 @@ pub fn open<R: Wait>(
         ItemSender {
             end: SendEnd { end: to },
             pass,
+            refused: false,
         },
         ItemReceiver {
             end: ReceiveEnd { end: from },
@@ -103,12 +107,15 @@ impl ItemSender {
     pub fn push<R: Wait>(&mut self, rt: &R, item: Item) -> bool
         requires goes { Goes (items_end self.old.items) item }
         ensures end { self.new.end ≡ self.old.end }
-        ensures pushed { result ≡ true → self.new.items ≡ self.old.items ++ item ∷ [] }
-        ensures refused { result ≡ false → self.new ≡ self.old }
+        ensures pushed { result ≡ true → self.new ≡ with_item self.old item }
+        ensures refused { result ≡ false → self.new ≡ with_refusal self.old }
     {
         match self.end.end.send_as::<Push, R>(rt, &mut self.pass, item) {
             Ok(()) => true,
-            Err(_) => false,
+            Err(_) => {
+                self.refused = true;
+                false
+            }
         }
     }
 }

@@ -1,6 +1,6 @@
 //! What holds a worker at a step.
-ghost use Rattle.std.specs.Prelude.{◌≡◌, false};
-ghost use Rattle.workers.specs.Gates.{MayStick};
+ghost use Rattle.std.specs.Prelude.{◌≡◌, true, false};
+ghost use Rattle.workers.specs.Gates.{MayGo, MayStick};
 
 use std::sync::Wait;
 use std::thread;
@@ -55,7 +55,8 @@ impl Gate for Open {
 
 /// Asks until the gate lets the step go on, or never will.
 pub(crate) fn passes<R: Wait, G: Gate>(rt: &R, gate: &mut G, place: Place) -> bool
-    ensures { result ≡ false → MayStick G.told place }
+    ensures goes { result ≡ true → MayGo G.told place }
+    ensures sticks { result ≡ false → MayStick G.told place }
 {
     for _ in rt.forever() {
         match gate.at(place) {
@@ -64,5 +65,5 @@ pub(crate) fn passes<R: Wait, G: Gate>(rt: &R, gate: &mut G, place: Place) -> bo
             Pass::Again => thread::yield_now(),
         }
     }
-    true
+    unreachable!()
 }

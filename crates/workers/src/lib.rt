@@ -24,6 +24,6 @@ pub use gate::{Gate, Open, Pass, Place};
 pub use item::{Ended, Item, View};
 pub use log_writer::{Log, LogWriter};
 pub use meeting::meet_workers;
-pub use mutator::{Ask, Mutator};
+pub use mutator::Mutator;
 pub use plays::InOrder;
-pub use post::{Post, Reply, Waiting};
+pub use post::{Ask, Asker, Post, Reply, SessionBatch, Waiting};

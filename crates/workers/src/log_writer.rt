@@ -9,11 +9,14 @@ ghost use Rattle.action_log.specs.declared.answer.LogAnswer.TheVariants.{Idle};
 ghost use Rattle.action_log.specs.Cover.{uncovered, cover_answer};
 ghost use Rattle.action_log.specs.Files.{FitsFiles};
 ghost use Rattle.action_log.specs.Progress.{work_of};
+ghost use Rattle.workers.specs.declared.gate.Place.TheVariants.{Device};
 ghost use Rattle.workers.specs.declared.item.Item.{Item as Popped};
 ghost use Rattle.workers.specs.declared.item.Item.TheVariants.{Start};
 ghost use Rattle.workers.specs.Answering.{AreLater};
 ghost use Rattle.workers.specs.Covering.{loaded, LoadsOn};
-ghost use Rattle.workers.specs.Logging.{is_end, has_end, is_over, refused, writer_at, Took, IsReady, IsAtRest, IsPosted, IsLogging};
+ghost use Rattle.workers.specs.Gates.{MayGo, MayStick};
+ghost use Rattle.workers.specs.Publishing.{told};
+ghost use Rattle.workers.specs.Logging.{is_end, has_end, is_over, refused, writer_at, Took, IsReady, IsAtRest, LogTellsFaults, FallsBy, IsPosted, IsLogging};
 
 use crate::ends::ItemReceiver;
 use crate::gate::{Gate, Place, passes};
@@ -23,12 +26,11 @@ use answers::Answers;
 use circular_buffer::HeapCircularBuffer;
 use disk_model::Disk;
 use keep::{keep, lose};
-use shared_capture::CoverIn;
+use shared_capture::{CoverIn, CoverOut};
 use std::alloc::{AllocError, Global};
 use std::marker::Model;
 use std::snapshot::Snapshot;
-use std::sync::atomic::{AtomicBool, Ordering};
-use std::sync::{Arc, Wait};
+use std::sync::Wait;
 
 /// How many records may wait for the log, and how many answers for their ticks.
 pub const RING_ITEMS: usize = 64;
@@ -49,24 +51,27 @@ pub struct LogWriter<D: Disk + Drop, G: Gate + Drop> {
     pub(crate) from: ItemReceiver,
     /// Tells the tick of the newest open image.
     pub(crate) covers: CoverIn,
+    /// Told 1 once the log is down.
+    pub(crate) told_down: CoverOut,
     log: Log<D>,
     ring: HeapCircularBuffer<Record>,
     answers: Answers,
     opening: Snapshot<Log<D>>,
-    log_is_down: Arc<AtomicBool, Global>,
     acked: u64,
     down: bool,
     over: bool,
 }
 
 impl<D: Disk + Drop, G: Gate + Drop> Model for LogWriter<D, G> {
+    ghost use Rattle.workers.specs.Gates.{MayGo, MayStick};
+    ghost use Rattle.workers.specs.Publishing.{told};
     ghost use Rattle.workers.specs.Logging.{Logging, IsLogging};
 
     ghost Value = { Logging D };
 
-    ghost view = { λ w. record { from = w.from; covers = w.covers; log = w.log; ring = w.ring; answers = w.answers; opening = w.opening.value; acked = w.acked; down = w.down; over = w.over } };
+    ghost view = { λ w. record { from = w.from; covers = w.covers; told_down = w.told_down; log = w.log; ring = w.ring; answers = w.answers; opening = w.opening.value; acked = w.acked; down = w.down; over = w.over } };
 
-    ghost invariant = { λ w. IsLogging D.content D.may_leave D.honest (record { from = w.from; covers = w.covers; log = w.log; ring = w.ring; answers = w.answers; opening = w.opening.value; acked = w.acked; down = w.down; over = w.over }) };
+    ghost invariant = { λ w. IsLogging D.content D.may_leave D.honest (record { from = w.from; covers = w.covers; told_down = w.told_down; log = w.log; ring = w.ring; answers = w.answers; opening = w.opening.value; acked = w.acked; down = w.down; over = w.over }) };
 }
 
 impl<D: Disk + Drop, G: Gate + Drop> LogWriter<D, G> {
@@ -78,14 +83,15 @@ impl<D: Disk + Drop, G: Gate + Drop> LogWriter<D, G> {
         from: ItemReceiver,
         covers: CoverIn,
         log: Log<D>,
-        log_is_down: Arc<AtomicBool, Global>,
+        told_down: CoverOut,
         tick: u64,
     ) -> Result<Self, AllocError>
         requires opened { from.items ≡ Start tick ∷ [] }
+        requires untold { told_down.ticks ≡ [] }
         requires most { tick ≤ TICK_MAX }
         requires ready { IsReady log.keeper tick }
         requires fits { IsTrue D.honest → FitsFiles log.keeper (D.content log.a) (D.content log.b) }
-        ensures begun { IfOk result (λ w. w ≡ writer_at from covers log tick) }
+        ensures begun { IfOk result (λ w. w ≡ writer_at from covers told_down log tick) }
         ensures rest { IfOk result (λ w. IsAtRest w) }
     {
         let ring = HeapCircularBuffer::with_capacity(alloc, RING_ITEMS)?;
@@ -95,11 +101,11 @@ impl<D: Disk + Drop, G: Gate + Drop> LogWriter<D, G> {
             gate,
             from,
             covers,
+            told_down,
             log,
             ring,
             answers,
             opening,
-            log_is_down,
             acked: tick,
             down: false,
             over: false,
@@ -136,10 +142,12 @@ impl<D: Disk + Drop, G: Gate + Drop> LogWriter<D, G> {
 
     // The log is down: tells it, and refuses each answer that waits.
     fn fall<R: Wait>(&mut self, rt: &R)
-        ensures { self.new ≡ record self.old { down = true; answers = refused self.old.answers } }
+        requires up { self.old.down ≡ false }
+        ensures { self.new
+            ≡ record self.old { down = true; told_down = told self.old.told_down 1; answers = refused self.old.answers } }
     {
         self.down = true;
-        self.log_is_down.store(true, Ordering::SeqCst);
+        self.told_down.publish(1);
         self.answers.refuse_all(rt);
     }
 
@@ -207,8 +215,9 @@ impl<D: Disk + Drop, G: Gate + Drop> LogWriter<D, G> {
     fn step<R: Wait>(&mut self, rt: &R)
         requires up { self.old.down ≡ false }
         ensures same { self.new
-            ≡ record self.old { covers = self.new.covers; log = self.new.log; ring = self.new.ring; answers = self.new.answers; acked = self.new.acked; down = self.new.down } }
+            ≡ record self.old { covers = self.new.covers; told_down = self.new.told_down; log = self.new.log; ring = self.new.ring; answers = self.new.answers; acked = self.new.acked; down = self.new.down } }
         ensures loads { LoadsOn self.old.covers self.new.covers }
+        ensures word { self.new.told_down.pair ≡ self.old.told_down.pair }
         ensures covers { self.new.down ≡ false → (tick : ℕ) × (self.new.covers ≡ loaded self.old.covers tick)
             × (cover_answer self.old.log.keeper tick self.old.ring.items ≢ Idle → (self.new.log ≡ self.old.log)
             × (self.new.ring.items ≡ uncovered self.old.log.keeper tick self.old.ring.items)) }
@@ -216,6 +225,10 @@ impl<D: Disk + Drop, G: Gate + Drop> LogWriter<D, G> {
         ensures posts { (self.new.acked ≡ self.old.acked) ⊎ AreLater self.new.acked self.new.answers.waiting }
         ensures lowers { self.new.down ≡ false → 0 < work_of self.old.log.keeper self.old.ring.items
             → work_of self.new.log.keeper self.new.ring.items < work_of self.old.log.keeper self.old.ring.items }
+        ensures faults { LogTellsFaults D.faults self.old.log self.new.log }
+        ensures asks { (self.new.log ≡ self.old.log) ⊎ MayGo G.told Device }
+        ensures cause { self.new.down ≡ true → (self.new.log.keeper.down ≡ true)
+            ⊎ ((self.new.log ≡ self.old.log) × MayStick G.told Device) }
         ensures refused { self.new.down ≡ true → self.new.answers.waiting ≡ [] }
     {
         if !passes(rt, &mut self.gate, Place::Device) {
@@ -238,9 +251,13 @@ impl<D: Disk + Drop, G: Gate + Drop> LogWriter<D, G> {
     fn write_all<R: Wait>(&mut self, rt: &R)
         requires up { self.old.down ≡ false }
         ensures same { self.new
-            ≡ record self.old { covers = self.new.covers; log = self.new.log; ring = self.new.ring; answers = self.new.answers; acked = self.new.acked; down = self.new.down } }
+            ≡ record self.old { covers = self.new.covers; told_down = self.new.told_down; log = self.new.log; ring = self.new.ring; answers = self.new.answers; acked = self.new.acked; down = self.new.down } }
         ensures loads { LoadsOn self.old.covers self.new.covers }
+        ensures word { self.new.told_down.pair ≡ self.old.told_down.pair }
         ensures acked { self.old.acked ≤ self.new.acked }
+        ensures faults { LogTellsFaults D.faults self.old.log self.new.log }
+        ensures asks { (self.new.log ≡ self.old.log) ⊎ MayGo G.told Device }
+        ensures cause { self.new.down ≡ true → FallsBy (MayStick G.told Device) self.new }
         ensures rest { IsAtRest self.new }
         ensures posted { self.new.down ≡ false → IsPosted self.new }
     {
@@ -279,7 +296,11 @@ impl<D: Disk + Drop, G: Gate + Drop> LogWriter<D, G> {
         ensures popped { (more : List Popped) × (self.new.from.items ≡ self.old.from.items ++ more) × (self.new.over ≡ is_over more) }
         ensures same { (self.new.from.end ≡ self.old.from.end) × (self.new.opening ≡ self.old.opening) }
         ensures loads { LoadsOn self.old.covers self.new.covers }
+        ensures word { self.new.told_down.pair ≡ self.old.told_down.pair }
         ensures down { self.old.down ≡ true → self.new ≡ record self.old { from = self.new.from; answers = self.new.answers; over = self.new.over } }
+        ensures faults { LogTellsFaults D.faults self.old.log self.new.log }
+        ensures asks { (self.new.log ≡ self.old.log) ⊎ MayGo G.told Device }
+        ensures cause { self.old.down ≡ false → self.new.down ≡ true → FallsBy (MayStick G.told Device) self.new }
         ensures posted { self.new.down ≡ false → IsPosted self.new }
         ensures acked { self.old.acked ≤ self.new.acked }
     {

@@ -15,16 +15,17 @@ use crate::mutator::Mutator;
 use disk_model::Disk;
 use shared_capture::{Method, meet, meet_cover};
 
-/// The ends of a world's workers meet: their seats, their channel and their word. The checkpointer does no more. What is
+/// The ends of a world's workers meet: their seats, their channel and their two words. The checkpointer does no more. What is
 /// true of each worker between two turns is told with it, for whom it is only a value.
-pub fn meet_workers<M: Method, D: Disk + Drop, G: Gate + Drop>(
-    mutator: &mut Mutator<M, G>,
-    checkpointer: &mut Checkpointer<M, D, G>,
-    log_writer: &mut LogWriter<D, G>,
+pub fn meet_workers<M: Method, D: Disk + Drop, A: Gate + Drop, B: Gate + Drop, C: Gate + Drop>(
+    mutator: &mut Mutator<M, A>,
+    checkpointer: &mut Checkpointer<M, D, B>,
+    log_writer: &mut LogWriter<D, C>,
 )
     requires pair { mutator.old.front.pair ≡ checkpointer.old.back.pair }
     requires channel { AreOneChannel log_writer.old.from.end mutator.old.to.end }
     requires word { log_writer.old.covers.pair ≡ checkpointer.old.covers.pair }
+    requires flag { mutator.old.heard.pair ≡ log_writer.old.told_down.pair }
     ensures met { HaveMet mutator.new checkpointer.new log_writer.new }
     ensures mutator { mutator.new ≡ record mutator.old { front = record mutator.old.front { closed = mutator.new.front.closed } } }
     ensures checkpointer { checkpointer.new ≡ record checkpointer.old { back = checkpointer.new.back; over = true } }
@@ -37,5 +38,6 @@ pub fn meet_workers<M: Method, D: Disk + Drop, G: Gate + Drop>(
     meet(&mut mutator.front, &mut checkpointer.back);
     checkpointer.over = true;
     compare(&mut mutator.to, &mut log_writer.from);
-    meet_cover(&mut checkpointer.covers, &mut log_writer.covers);
+    checkpointer.covers.meet(&mut log_writer.covers);
+    meet_cover(&mut log_writer.told_down, &mut mutator.heard);
 }

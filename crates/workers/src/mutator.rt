@@ -1,33 +1,25 @@
 //! The worker that runs the batches.
-ghost use Rattle.std.specs.Prelude.{◌≡◌, ◌++◌, ◌∷◌, [], ◌≤◌, true, false, Err};
+ghost use Rattle.std.specs.Prelude.{◌≡◌, ◌++◌, ◌∷◌, [], ℕ, ◌≤◌, true, false, Err};
 ghost use Rattle.world_ticks.specs.declared.tick.TheConstants.{TICK_MAX};
 ghost use Rattle.shared_capture.specs.States.{HasFlags};
 ghost use Rattle.workers.specs.declared.gate.Place.TheVariants.{Tick};
 ghost use Rattle.workers.specs.declared.item.Item.TheVariants.{Start};
-ghost use Rattle.workers.specs.Gates.{MayStick};
-ghost use Rattle.workers.specs.Mutating.{MarksIfDue, AnswersBatch, Turns, EndsPlay};
+ghost use Rattle.workers.specs.Covering.{loaded};
+ghost use Rattle.workers.specs.Gates.{MayGo, MayStick};
+ghost use Rattle.workers.specs.Mutating.{IsLastRound, MarksIfDue, AnswersBatch, Turns, EndsPlay};
 
 use crate::batch_run::play;
 use crate::ends::ItemSender;
 use crate::gate::{Gate, Place, passes};
 use crate::item::{Ended, Item};
-use crate::post::{Reply, Waiting};
+use crate::post::Ask;
 use crossbeam_channel::Sender;
-use sessions::Batch;
-use shared_capture::{Front, Method};
+use shared_capture::{CoverIn, Front, Method};
 use std::alloc::Global;
 use std::marker::Model;
 use std::snapshot::Snapshot;
-use std::sync::atomic::{AtomicBool, Ordering};
-use std::sync::{Arc, Wait};
+use std::sync::Wait;
 use world_actions::Refusal;
-
-/// A batch of a session, and where its answer goes.
-#[derive(Drop)]
-pub struct Ask {
-    pub batch: Batch,
-    pub to: Sender<Reply>,
-}
 
 /// Runs batches on the front, and pushes their ticks and the switches of the rounds that it opens. Contracts
 /// see that what it pushed tells what the front did: each answer is that of its batch at its place, and each
@@ -41,7 +33,8 @@ pub struct Mutator<M: Method, G: Gate + Drop> {
     opening: Snapshot<Front<M>>,
     /// Rung after each switch.
     bell: Option<Sender<()>>,
-    log_is_down: Arc<AtomicBool, Global>,
+    /// Tells 1 once the log is down.
+    pub(crate) heard: CoverIn,
     ended: u64,
     since: u64,
     every: u64,
@@ -49,13 +42,13 @@ pub struct Mutator<M: Method, G: Gate + Drop> {
 }
 
 impl<M: Method, G: Gate + Drop> Model for Mutator<M, G> {
-    ghost use Rattle.workers.specs.Mutating.{Playing, IsMutator};
+    ghost use Rattle.workers.specs.Mutating.{IsLastRound, Playing, IsMutator};
 
     ghost Value = { Playing };
 
-    ghost view = { λ m. record { front = m.front; to = m.to; opening = m.opening.value.live; ended = m.ended; since = m.since; every = m.every; down = m.down } };
+    ghost view = { λ m. record { front = m.front; to = m.to; heard = m.heard; opening = m.opening.value.live; ended = m.ended; since = m.since; every = m.every; down = m.down } };
 
-    ghost invariant = { λ m. IsMutator (record { front = m.front; to = m.to; opening = m.opening.value.live; ended = m.ended; since = m.since; every = m.every; down = m.down }) };
+    ghost invariant = { λ m. IsMutator (record { front = m.front; to = m.to; heard = m.heard; opening = m.opening.value.live; ended = m.ended; since = m.since; every = m.every; down = m.down }) };
 }
 
 impl<M: Method, G: Gate + Drop> Mutator<M, G> {
@@ -69,13 +62,14 @@ impl<M: Method, G: Gate + Drop> Mutator<M, G> {
         tick: u64,
         every: u32,
         bell: Sender<()>,
-        log_is_down: Arc<AtomicBool, Global>,
+        heard: CoverIn,
     ) -> Self
         requires none { front.rounds ≡ [] }
         requires flags { HasFlags front }
         requires start { to.items ≡ Start tick ∷ [] }
+        requires pushes { to.refused ≡ false }
         requires numbered { tick ≤ TICK_MAX }
-        ensures { result ≡ record { front = front; to = to; opening = front.live; ended = tick; since = 0; every = every; down = false } }
+        ensures { result ≡ record { front = front; to = to; heard = heard; opening = front.live; ended = tick; since = 0; every = every; down = false } }
     {
         let opening = Snapshot::of(&front);
         Mutator {
@@ -85,7 +79,7 @@ impl<M: Method, G: Gate + Drop> Mutator<M, G> {
             to,
             opening,
             bell: Some(bell),
-            log_is_down,
+            heard,
             ended: tick,
             since: 0,
             every: u64::from(every),
@@ -103,7 +97,7 @@ impl<M: Method, G: Gate + Drop> Mutator<M, G> {
     /// Runs a batch and pushes its tick, and opens a round before it and after it where one is due and none
     /// is open. A batch that isn't run is answered here, by the refusal that is given back.
     pub fn turn<R: Wait>(&mut self, rt: &R, ask: Ask) -> Result<(), Refusal>
-        ensures { Turns (MayStick G.told Tick) self.old ask result self.new }
+        ensures { Turns (MayGo G.told Tick) (MayStick G.told Tick) self.old ask result self.new }
     {
         self.mark_if_due(rt);
         let played = self.run(rt, ask);
@@ -126,14 +120,12 @@ impl<M: Method, G: Gate + Drop> Mutator<M, G> {
             return;
         }
         self.since = 0;
-        if let Some(bell) = &self.bell {
-            let _ = bell.try_send(rt, ());
-        }
+        ring(rt, &self.bell, &self.front, self.ended);
     }
 
     // Runs a batch, and pushes its tick with the answer, or answers the refusal.
     fn run<R: Wait>(&mut self, rt: &R, ask: Ask) -> Result<(), Refusal>
-        ensures { AnswersBatch (MayStick G.told Tick) self.old ask result self.new }
+        ensures { AnswersBatch (MayGo G.told Tick) (MayStick G.told Tick) self.old ask result self.new }
     {
         if self.down {
             return refuse(rt, ask, Refusal::LogDown);
@@ -142,13 +134,15 @@ impl<M: Method, G: Gate + Drop> Mutator<M, G> {
             self.down = true;
             return refuse(rt, ask, Refusal::LogDown);
         }
-        let log_is_down = self.log_is_down.load(Ordering::SeqCst);
+        if hears_down(&mut self.heard) {
+            return refuse(rt, ask, Refusal::LogDown);
+        }
         let number = self.ended;
         let played = play(
             self.alloc,
             &mut self.front,
-            &ask.batch,
-            log_is_down,
+            ask.batch(),
+            false,
             number,
             self.since,
         );
@@ -157,7 +151,7 @@ impl<M: Method, G: Gate + Drop> Mutator<M, G> {
             Err(reason) => return refuse(rt, ask, reason),
         };
         let number = number + 1;
-        let answer = Waiting::new(number, text, ask.to);
+        let answer = ask.wait(number, text);
         if !self.to.push(rt, Item::Tick(Ended { tick, answer })) {
             self.down = true;
             return Ok(());
@@ -178,10 +172,27 @@ impl<M: Method, G: Gate + Drop> Mutator<M, G> {
     }
 }
 
+// Rings the bell: the round of this tick is open.
+fn ring<R: Wait, M: Method>(rt: &R, bell: &Option<Sender<()>>, _front: &Front<M>, _tick: u64)
+    requires { IsLastRound _front.now _tick }
+{
+    if let Some(bell) = bell {
+        let _ = bell.try_send(rt, ());
+    }
+}
+
+// Whether the log writer has told that the log is down.
+fn hears_down(heard: &mut CoverIn) -> bool
+    ensures up { result ≡ false → heard.new ≡ loaded heard.old 0 }
+    ensures down { result ≡ true → (flag : ℕ) × (1 ≤ flag) × (heard.new ≡ loaded heard.old flag) }
+{
+    heard.latest() != 0
+}
+
 // Answers a batch that isn't run.
 fn refuse<R: Wait>(rt: &R, ask: Ask, reason: Refusal) -> Result<(), Refusal>
     ensures { result ≡ Err reason }
 {
-    let _ = ask.to.send(rt, Reply::Fault(reason));
+    ask.refuse(rt, reason);
     Err(reason)
 }

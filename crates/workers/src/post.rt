@@ -1,44 +1,157 @@
-//! The answer to a batch, before and after its tick is durable.
-ghost use Rattle.std.specs.Prelude.{◌≤◌};
+//! A batch on its way: asked for, waiting for its tick to be durable, and posted.
+ghost use Rattle.std.specs.Prelude.{◌≡◌, ◌+◌, ◌≤◌, true, IfOk, IfErr, OnOk, OnErr};
+ghost use Rattle.workers.specs.Posts.{IsAnswer};
 
 use action_log::Receipt;
 use crossbeam_channel::Sender;
+use sessions::{Batch, Request};
 use std::marker::Model;
 use std::sync::Wait;
 use world_actions::Refusal;
 
-/// The answer of a batch whose tick is durable. Contracts see its tick, its text, and the number of the
+/// A batch of a session. Contracts see the session's number, which of its asks this is, and the requests.
+#[derive(Drop)]
+pub struct SessionBatch {
+    session: u64,
+    ask: u64,
+    batch: Batch,
+}
+
+impl Model for SessionBatch {
+    ghost use Rattle.workers.specs.Posts.{AskedBatch};
+
+    ghost Value = { AskedBatch };
+
+    ghost view = { λ asked. record { session = asked.session; ask = asked.ask; requests = asked.batch.list } };
+}
+
+impl SessionBatch {
+    fn batch(&self) -> &Batch
+        ensures { result.now.list ≡ self.now.requests }
+    {
+        &self.batch
+    }
+
+    // Whether it is the last ask of this session, for this batch.
+    fn is_last_of(&self, asker: &Asker, batch: &Batch) -> bool
+        ensures { result ≡ true
+            → self.now ≡ record { session = asker.now.session; ask = asker.now.asked; requests = batch.now.list } }
+    {
+        if self.session != asker.session || self.ask != asker.asked {
+            return false;
+        }
+        are_same(self.batch.requests(), batch.requests())
+    }
+}
+
+// Whether two batches ask for the same.
+fn are_same(xs: &[Request], ys: &[Request]) -> bool
+    ensures { result ≡ true → xs.now ≡ ys.now }
+{
+    xs == ys
+}
+
+/// Makes the asks of a session, each with a number of its own: 1, 2 and so on.
+#[derive(Drop)]
+pub struct Asker {
+    session: u64,
+    asked: u64,
+}
+
+impl Asker {
+    /// No ask was made yet in the session of this number.
+    pub fn new(session: u64) -> Self
+        ensures { result ≡ record { session = session; asked = 0 } }
+    {
+        Asker { session, asked: 0 }
+    }
+
+    /// Asks for the answer of this batch, which goes to this sender.
+    pub fn ask(&mut self, batch: Batch, to: Sender<Reply>) -> Result<Ask, Refusal>
+        ensures asks { IfOk result (λ ask.
+            ask ≡ record { session = self.old.session; ask = self.old.asked + 1; requests = batch.list }) }
+        ensures counts { OnOk result (self.new ≡ record self.old { asked = self.old.asked + 1 }) }
+        ensures unchanged { OnErr result (self.new ≡ self.old) }
+        ensures ended { IfErr result (λ refusal. refusal ≡ Refusal.TicksEnded) }
+    {
+        let Some(ask) = self.asked.checked_add(1) else {
+            return Err(Refusal::TicksEnded);
+        };
+        self.asked = ask;
+        let asked = SessionBatch {
+            session: self.session,
+            ask,
+            batch,
+        };
+        Ok(Ask { asked, to })
+    }
+}
+
+/// A batch of a session, which alone knows where its answer goes. Only an `Asker` makes one.
+#[derive(Drop)]
+pub struct Ask {
+    asked: SessionBatch,
+    to: Sender<Reply>,
+}
+
+impl Model for Ask {
+    ghost use Rattle.workers.specs.Posts.{AskedBatch};
+
+    ghost Value = { AskedBatch };
+
+    ghost view = { λ ask. ask.asked };
+}
+
+impl Ask {
+    /// The batch.
+    pub fn batch(&self) -> &Batch
+        ensures { result.now.list ≡ self.now.requests }
+    {
+        self.asked.batch()
+    }
+
+    /// Its answer, which waits for the tick of this number.
+    pub(crate) fn wait(self, number: u64, text: Vec<u8>) -> Waiting
+        requires answers { IsAnswer self text.items number }
+        ensures { result ≡ record { number = number; asked = self; text = text.items } }
+    {
+        let Ask { asked, to } = self;
+        Waiting {
+            number,
+            asked,
+            text,
+            to,
+        }
+    }
+
+    /// Tells its session why it isn't run.
+    pub fn refuse<R: Wait>(self, rt: &R, reason: Refusal) {
+        let _ = self.to.send(rt, Reply::Fault(reason));
+    }
+}
+
+/// The answer of a batch whose tick is durable. Contracts see its tick, its batch, its text, and the number of the
 /// receipt that it was made with.
 #[derive(Drop)]
 pub struct Post {
     tick: u64,
+    asked: SessionBatch,
     text: Vec<u8>,
     receipt: Receipt,
-    ghost durable: { tick ≤ receipt },
 }
 
 impl Model for Post {
-    ghost use Rattle.workers.specs.Posts.{Posted};
+    ghost use Rattle.workers.specs.Posts.{Posted, IsPost};
 
     ghost Value = { Posted };
 
-    ghost view = { λ post. record { tick = post.tick; text = post.text.items; receipt = post.receipt } };
+    ghost view = { λ post. record { tick = post.tick; asked = post.asked; text = post.text.items; receipt = post.receipt } };
+
+    ghost invariant = { λ post. IsPost (record { tick = post.tick; asked = post.asked; text = post.text.items; receipt = post.receipt }) };
 }
 
 impl Post {
-    ghost use Rattle.std.specs.Prelude.{◌≡◌, ◌≤◌};
-
-    // Only the log writer makes one, which has the receipt of the tick or of a later one.
-    pub(crate) fn new(tick: u64, text: Vec<u8>, receipt: Receipt) -> Self
-        requires durable { tick ≤ receipt }
-        ensures { result ≡ record { tick = tick; text = text.items; receipt = receipt } }
-    {
-        Post {
-            tick,
-            text,
-            receipt,
-        }
-    }
+    ghost use Rattle.std.specs.Prelude.{◌≡◌, ◌≤◌, true};
 
     /// The number of the tick.
     pub fn tick(&self) -> u64
@@ -48,13 +161,23 @@ impl Post {
         self.tick
     }
 
+    /// Whether it answers the last ask of this session, which was for this batch.
+    pub fn is_for(&self, asker: &Asker, batch: &Batch) -> bool
+        ensures { result ≡ true → self.now.asked
+            ≡ record { session = asker.now.session; ask = asker.now.asked; requests = batch.now.list } }
+    {
+        self.asked.is_last_of(asker, batch)
+    }
+
     /// The line that answers the batch, with its newline.
     pub fn into_text(self) -> Vec<u8>
         ensures text { result.items ≡ self.text }
         ensures durable { self.tick ≤ self.receipt }
+        ensures answers { IsAnswer self.asked self.text self.tick }
     {
         let Post {
             tick: _,
+            asked: _,
             text,
             receipt: _,
         } = self;
@@ -73,21 +196,23 @@ pub enum Reply {
 #[derive(Drop)]
 pub struct Waiting {
     number: u64,
+    asked: SessionBatch,
     text: Vec<u8>,
     to: Sender<Reply>,
 }
 
+impl Model for Waiting {
+    ghost use Rattle.workers.specs.Posts.{Unposted, IsAnswer};
+
+    ghost Value = { Unposted };
+
+    ghost view = { λ answer. record { number = answer.number; asked = answer.asked; text = answer.text.items } };
+
+    ghost invariant = { λ answer. IsAnswer answer.asked answer.text.items answer.number };
+}
+
 impl Waiting {
     ghost use Rattle.std.specs.Prelude.{◌≡◌, ◌≤◌};
-
-    /// The answer of the tick of this number: the line for the batch of this session.
-    pub(crate) fn new(number: u64, text: Vec<u8>, to: Sender<Reply>) -> Self
-        ensures number { result.number ≡ number }
-        ensures text { result.text ≡ text }
-        ensures session { result.to ≡ to }
-    {
-        Waiting { number, text, to }
-    }
 
     /// The number of the tick.
     pub(crate) fn number(&self) -> u64
@@ -112,10 +237,20 @@ impl Waiting {
     // The post that it becomes, and its session.
     fn into_post(self, receipt: Receipt) -> (Post, Sender<Reply>)
         requires durable { self.number ≤ receipt }
-        ensures post { result.0 ≡ record { tick = self.number; text = self.text.items; receipt = receipt } }
-        ensures session { result.1 ≡ self.to }
+        ensures post { result.0 ≡ record { tick = self.number; asked = self.asked; text = self.text; receipt = receipt } }
     {
-        let Waiting { number, text, to } = self;
-        (Post::new(number, text, receipt), to)
+        let Waiting {
+            number,
+            asked,
+            text,
+            to,
+        } = self;
+        let post = Post {
+            tick: number,
+            asked,
+            text,
+            receipt,
+        };
+        (post, to)
     }
 }

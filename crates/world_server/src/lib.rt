@@ -12,5 +12,6 @@ mod service;
 mod serving;
 mod streams;
 
+pub use lines::Announce;
 pub use service::Service;
-pub use serving::serve;
+pub use serving::{serve, serve_opened};

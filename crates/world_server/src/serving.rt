@@ -1,8 +1,9 @@
-ghost use Rattle.std.specs.Prelude.{◌≡◌, ◌≢◌, true, false, IfErr};
+ghost use Rattle.std.specs.Prelude.{◌≡◌, ◌≢◌, true, false, IsTrue, IfOk, IfErr};
 ghost use Rattle.std.specs.declared.io.Error.{Error};
 ghost use Rattle.image_files.specs.declared.phase.Phase.TheVariants.{Down};
 ghost use Rattle.world_folder.specs.Ending.{IsFault};
 ghost use Rattle.worker_threads.specs.Begun.{IsWhole};
+ghost use Rattle.tcp_service.specs.Opening.{StaysSound};
 
 use crate::front::Front;
 use crate::lines::Announce;
@@ -75,12 +76,61 @@ fn serve_by<
         lines,
     } = Front::open(rt, service, opened.ended, from)?;
     let (every, admission) = (service.every, service.admission);
-    let ending = serve_opened(rt, alloc, lines, opened, every, listener, admission);
+    let ending = ending_served(rt, alloc, lines, opened, every, listener, admission);
     Ok(streams.finish(rt, ending))
 }
 
-// Serves a world that was opened.
-fn serve_opened<
+/// Serves a world that was opened, and tells how the program ends, and what the server leaves once it has stopped. On
+/// disks that keep to the disk model the files are then sound for all ticks that were played.
+pub fn serve_opened<
+    R: Threads + Wait + Clock + Copy + Send + 'static,
+    M: Method + Send + 'static,
+    D: Disk + Drop + Send + 'static,
+    W: Watch<D> + Door + Announce + Clone + Drop + Send + 'static,
+>(
+    rt: &R,
+    alloc: Global,
+    watch: W,
+    opened: Opened<M, D>,
+    every: u32,
+    listener: TcpListener,
+    admission: Admission,
+) -> Result<(Ending, Stopped<M, D, Open, Open, Open>), Ending>
+    requires { IsWhole D.honest D.content opened.front opened.back opened.images opened.log opened.ended }
+    ensures log { IfOk result (λ served. served.1.ends.log_writer.down ≡ true
+        → served.0 ≡ Ending.Server ServerEnding.LogDown) }
+    ensures images { IfOk result (λ served. served.1.ends.log_writer.down ≡ false
+        → served.1.ends.checkpointer.images.keeper.phase ≡ Down → served.0 ≡ Ending.Server ServerEnding.ImagesDown) }
+    ensures well { IfOk result (λ served. served.1.ends.log_writer.down ≡ false
+        → served.1.ends.checkpointer.images.keeper.phase ≢ Down → served.1.accepted.closed ≡ Closed.AllCame
+        → served.0 ≡ Ending.Ran) }
+    ensures all { IfOk result (λ served. served.1.accepted.closed ≡ Closed.AllCame
+        → served.1.accepted.connections ≡ admission.clients) }
+    ensures every { IfOk result (λ served. served.1.ends.mutator.every ≡ every) }
+    ensures sound { IsTrue D.honest → IfOk result (λ served.
+        StaysSound D.content D.may_leave opened.front.live opened.images opened.log opened.ended
+        served.1.ends.mutator served.1.ends.checkpointer served.1.ends.log_writer) }
+{
+    let gates = Gates {
+        mutator: Open,
+        checkpointer: Open,
+        log_writer: Open,
+    };
+    let Ok(announce) = watch.clone() else {
+        return Err(Ending::Fault(Refusal::NoMemory));
+    };
+    match serve_tcp(rt, alloc, gates, watch, opened, every, listener, admission) {
+        Ok(stopped) => {
+            announce.stopped(stopped.ends.mutator.ended(), stopped.ends.acked());
+            let ending = ending_of(&stopped);
+            Ok((ending, stopped))
+        }
+        Err(reason) => Err(not_served(reason)),
+    }
+}
+
+// Serves a world that was opened, and tells how the program ends.
+fn ending_served<
     R: Threads + Wait + Clock + Copy + Send + 'static,
     M: Method + Send + 'static,
     D: Disk + Drop + Send + 'static,
@@ -96,20 +146,9 @@ fn serve_opened<
 ) -> Ending
     requires { IsWhole D.honest D.content opened.front opened.back opened.images opened.log opened.ended }
 {
-    let gates = Gates {
-        mutator: Open,
-        checkpointer: Open,
-        log_writer: Open,
-    };
-    let Ok(announce) = watch.clone() else {
-        return Ending::Fault(Refusal::NoMemory);
-    };
-    match serve_tcp(rt, alloc, gates, watch, opened, every, listener, admission) {
-        Ok(stopped) => {
-            announce.stopped(stopped.ends.mutator.ended(), stopped.ends.acked());
-            ending_of(&stopped)
-        }
-        Err(reason) => not_served(reason),
+    match serve_opened(rt, alloc, watch, opened, every, listener, admission) {
+        Ok((ending, _)) => ending,
+        Err(ending) => ending,
     }
 }
 
@@ -145,7 +184,9 @@ fn not_opened(alloc: Global, folder: &str, files: FourFiles<FileDisk>, refusal: 
 }
 
 // How the program ends after a server has stopped: by its log, else by its images, else by its listener.
-fn ending_of<M: Method, D: Disk + Drop, G: Gate + Drop>(stopped: &Stopped<M, D, G>) -> Ending
+fn ending_of<M: Method, D: Disk + Drop, A: Gate + Drop, B: Gate + Drop, C: Gate + Drop>(
+    stopped: &Stopped<M, D, A, B, C>,
+) -> Ending
     ensures log { stopped.now.ends.log_writer.down ≡ true → result ≡ Ending.Server ServerEnding.LogDown }
     ensures images { stopped.now.ends.log_writer.down ≡ false → stopped.now.ends.checkpointer.images.keeper.phase ≡ Down
         → result ≡ Ending.Server ServerEnding.ImagesDown }

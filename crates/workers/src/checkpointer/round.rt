@@ -1,15 +1,18 @@
 //! A round from its first step to its last.
 ghost use Rattle.std.specs.Prelude.{◌≡◌, ◌⊎◌, ◌<◌, IsTrue, false, true};
-ghost use Rattle.image_files.specs.declared.phase.Phase.TheVariants.{Idle};
+ghost use Rattle.image_files.specs.declared.phase.Phase.TheVariants.{Idle, Down};
 ghost use Rattle.image_files.specs.Progress.{left_of};
+ghost use Rattle.workers.specs.declared.gate.Place.TheVariants.{Device};
 ghost use Rattle.workers.specs.declared.checkpointer.round.ImageWriter.{ImageWriter as Writer};
+ghost use Rattle.workers.specs.Gates.{MayGo, MayStick};
 ghost use Rattle.workers.specs.Imaging.{HasRound, AreInStep, FollowsRounds, Publishes, RoundRuns, TellsFaults, WriterFits};
-ghost use Rattle.workers.specs.Publishing.{IsNext, told};
+ghost use Rattle.workers.specs.Publishing.{IsNext};
 
+use crate::checkpointer::publisher::Publisher;
 use crate::gate::{Gate, Place, passes};
 use disk_model::Disk;
 use image_files::{ImageAnswer, ImageKeeper};
-use shared_capture::{Back, CoverOut, Method};
+use shared_capture::{Back, Method};
 use std::sync::Wait;
 
 /// The keeper of the images, and its two files.
@@ -23,7 +26,7 @@ pub struct ImageWriter<D: Disk> {
 // A step of the round in work. Where it opens the image its tick is published, and the back ends the round.
 fn step<M: Method, D: Disk>(
     back: &mut Back<M>,
-    covers: &mut CoverOut,
+    covers: &mut Publisher,
     images: &mut ImageWriter<D>,
     tick: u64,
 )
@@ -46,18 +49,8 @@ fn step<M: Method, D: Disk>(
     else {
         return;
     };
-    publish(back, covers, tick);
+    covers.publish(back, tick);
     back.finish();
-}
-
-// Publishes the tick of an image that is open, while the back still has its round: who sees that the round has ended
-// finds the tick published.
-fn publish<M: Method>(_back: &Back<M>, covers: &mut CoverOut, tick: u64)
-    requires in_work { _back.now.working ≡ true }
-    requires next { IsNext covers.old tick }
-    ensures { covers.new ≡ told covers.old tick }
-{
-    covers.publish(tick);
 }
 
 // Steps the round in work to its end, and answers whether it stays open: a call of a device failed, or the gate is stuck.
@@ -65,7 +58,7 @@ pub(crate) fn run_round<M: Method, D: Disk, G: Gate, R: Wait>(
     rt: &R,
     gate: &mut G,
     back: &mut Back<M>,
-    covers: &mut CoverOut,
+    covers: &mut Publisher,
     images: &mut ImageWriter<D>,
     tick: u64,
 ) -> bool
@@ -78,6 +71,8 @@ pub(crate) fn run_round<M: Method, D: Disk, G: Gate, R: Wait>(
     ensures runs { RoundRuns back.old images.new.keeper back.new }
     ensures publishes { Publishes tick images.new.keeper covers.old covers.new }
     ensures faults { TellsFaults D.faults images.old images.new }
+    ensures asks { (images.new ≡ images.old) ⊎ MayGo G.told Device }
+    ensures stuck { result ≡ true → (images.new.keeper.phase ≡ Down) ⊎ MayStick G.told Device }
     ensures ends { (result ≡ false → images.new.keeper.phase ≡ Idle) × (result ≡ true → HasRound images.new.keeper) }
     ensures follows { (opening : Writer D) → FollowsRounds D.content D.may_leave D.honest opening images.old back.old
         → FollowsRounds D.content D.may_leave D.honest opening images.new back.new }

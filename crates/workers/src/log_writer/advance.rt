@@ -6,7 +6,7 @@ ghost use Rattle.action_log.specs.Files.{FitsFiles};
 ghost use Rattle.action_log.specs.Logs.{Logs};
 ghost use Rattle.action_log.specs.Progress.{QueueFollows, end_of, work_of};
 ghost use Rattle.workers.specs.Covering.{Advances};
-ghost use Rattle.workers.specs.Logging.{LogStands};
+ghost use Rattle.workers.specs.Logging.{LogStands, LogTellsFaults};
 
 use super::Log;
 use action_log::{LogAnswer, Record, log_outcomes};
@@ -33,6 +33,7 @@ pub(crate) fn advance<D: Disk + Drop>(
     ensures end { end_of log.new.keeper queue.new.items ≡ end_of log.old.keeper queue.old.items }
     ensures ring { queue.new.capacity ≡ queue.old.capacity }
     ensures down { (result ≡ Down) ↔ (log.new.keeper.down ≡ true) }
+    ensures faults { LogTellsFaults D.faults log.old log.new }
     ensures lowers { log.new.keeper.down ≡ false → 0 < work_of log.old.keeper queue.old.items
         → work_of log.new.keeper queue.new.items < work_of log.old.keeper queue.old.items }
 {

@@ -1,6 +1,6 @@
 //! The answers that wait until their ticks are durable.
 ghost use Rattle.std.specs.Prelude.{◌≡◌, ◌+◌, ◌<◌, ◌≤◌, ◌++◌, ◌∷◌, [], length, IfOk, IsTrue, ◌↔◌, List, false};
-ghost use Rattle.workers.specs.declared.post.Waiting.{Waiting as Answer};
+ghost use Rattle.workers.specs.Posts.{Unposted};
 ghost use Rattle.workers.specs.Answering.{AreLater, Posts};
 
 use crate::post::Waiting;
@@ -118,7 +118,7 @@ impl Answers {
     }
 
     fn first_is_durable(&self, receipt: Receipt) -> bool
-        ensures first { IsTrue result → (first : Answer) × (rest : List Answer) × (self.now.waiting ≡ first ∷ rest) × (first.number ≤ receipt) }
+        ensures first { IsTrue result → (first : Unposted) × (rest : List Unposted) × (self.now.waiting ≡ first ∷ rest) × (first.number ≤ receipt) }
         ensures others { result ≡ false → AreLater receipt self.now.waiting }
     {
         match self.waiting.front() {

@@ -14,15 +14,15 @@ returns-clause-sound g c = λ honest cells ticks stands all.
     let D = g.D.Disk in
     let opened = c.args.opened in
     let begun = c.in_ok-workers.ensures in
-    let kept = c.stop-ends.ensures in
+    let ended = c.stop-ends.ensures in
     let met = c.ends_meet.ensures in
     let ends = c.ends_meet.new.ends in
-    let more : List Item = kept.mutator.items.0 in
-    let words = ap (λ (m : Playing). m.opening) met.mutator ∙ kept.mutator.opening ∙ begun.words in
-    let images = ap (λ (p : Imaging g.row.D.Denot). p.opening) met.checkpointer ∙ kept.checkpointer.opening ∙ ap (λ (p : Imaging g.row.D.Denot). p.opening) begun.checkpointer in
-    let log = ap (λ (w : Logging g.row.D.Denot). w.opening) met.log_writer ∙ kept.log_writer.opening ∙ ap (λ (w : Logging g.row.D.Denot). w.opening) begun.log_writer in
+    let more : List Item = ended.mutator.keeps.items.0 in
+    let words = ap (λ (m : Playing). m.opening) met.mutator ∙ ended.mutator.keeps.opening ∙ begun.words in
+    let images = ap (λ (p : Imaging g.row.D.Denot). p.opening) met.checkpointer ∙ ended.checkpointer.keeps.opening ∙ ap (λ (p : Imaging g.row.D.Denot). p.opening) begun.checkpointer in
+    let log = ap (λ (w : Logging g.row.D.Denot). w.opening) met.log_writer ∙ ended.log_writer.keeps.opening ∙ ap (λ (w : Logging g.row.D.Denot). w.opening) begun.log_writer in
     let items : ends.mutator.to.items ≡ Start (length ticks) ∷ more =
-    ap (λ (m : Playing). m.to.items) met.mutator ∙ kept.mutator.items.1 ∙ ap (λ (l : List Item). l ++ more) begun.pushed ∙ ap (λ n. Start n ∷ more) all in
+    ap (λ (m : Playing). m.to.items) met.mutator ∙ ended.mutator.keeps.items.1 ∙ ap (λ (l : List Item). l ++ more) begun.pushed ∙ ap (λ n. Start n ∷ more) all in
     met.sound honest cells ticks
     (subst (λ (x : List _ × ImageWriter g.row.D.Denot × Log g.row.D.Denot). WorldStands D.content D.may_leave cells ticks x.0 x.1 x.2) (λ i. (sym words i, sym images i, sym log i)) stands)
     (more, items)

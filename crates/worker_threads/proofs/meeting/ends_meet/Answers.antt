@@ -1,6 +1,11 @@
+use Rattle.worker_threads.proofs.Hearing.{heard_of_down}
 use Rattle.worker_threads.proofs.meeting.ends_meet.Goals as goal
 
 pub returns-clause-sound : goal.returns-clause-sound
 returns-clause-sound g c = λ honest.
     c.ends_are_sound.ensures c.meet_workers.new.mutator c.meet_workers.new.checkpointer c.meet_workers.new.log_writer honest
     c.meet_workers.ensures.is_mutator c.meet_workers.ensures.is_checkpointer c.meet_workers.ensures.is_log_writer c.meet_workers.ensures.met
+
+pub returns-clause-heard : goal.returns-clause-heard
+returns-clause-heard g c = heard_of_down c.meet_workers.new.log_writer.told_down.ticks c.meet_workers.new.mutator.heard.ticks c.meet_workers.new.log_writer.down
+    c.meet_workers.ensures.is_log_writer.tells c.meet_workers.ensures.met.heard

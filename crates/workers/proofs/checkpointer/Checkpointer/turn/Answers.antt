@@ -2,6 +2,8 @@ use Rattle.std.proofs.Common.{rules, ◌≡◌, inl, inr, MatchOption, ap, sym, 
 use Rattle.image_files.specs.Images.{with_round}
 use Rattle.image_files.specs.Progress.{Progress}
 use Rattle.workers.specs.declared.checkpointer.round.ImageWriter.{ImageWriter}
+use Rattle.workers.specs.declared.gate.Place.TheVariants.{Device}
+use Rattle.workers.specs.Gates.{MayStick}
 use Rattle.workers.specs.Imaging.{Imaging, ImagesStand, IsDone, Turned}
 use Rattle.workers.proofs.Imagings.{Begins, begun_follows, checkpointer_goes_on, turned_round, answers_round}
 use Rattle.workers.proofs.Publishings.{published_on}
@@ -36,9 +38,9 @@ returns-clause-turned g c =
     let e = c.run_round-self-inside.ensures in
     let inside = c.self.inside in
     let new : Imaging g.row.D.Denot = record { back = c.run_round-self-inside.new.back; covers = c.run_round-self-inside.new.covers; images = c.run_round-self-inside.new.images; opening = inside.opening.value; over = c.run_round-self-inside.result } in
-    subst (λ (o : Imaging g.row.D.Denot). Turned o new) c.self.view_is
-    (turned_round (record { back = inside.back; covers = inside.covers; images = inside.images; opening = inside.opening.value; over = inside.over }) new c.in-Some.tick c.look.new.self
-    c.look.ensures.same ((c.in-Some.ensures.found rest.1).0) e.runs e.ends.0 e.ends.1)
+    subst (λ (o : Imaging g.row.D.Denot). Turned (MayStick g.G.Gate.told Device) o new) c.self.view_is
+    (turned_round (MayStick g.G.Gate.told Device) (record { back = inside.back; covers = inside.covers; images = inside.images; opening = inside.opening.value; over = inside.over }) new c.in-Some.tick c.look.new.self
+    c.look.ensures.same ((c.in-Some.ensures.found rest.1).0) e.runs e.ends.0 e.ends.1 e.stuck)
 
 pub returns-clause-opened : goal.returns-clause-opened
 returns-clause-opened g c =

@@ -1,6 +1,8 @@
-use Rattle.std.proofs.Common.{IsTrue}
+use Rattle.std.proofs.Common.{◌≡◌, ◌⊎◌, IsTrue}
 use Rattle.image_files.specs.Progress.{left_of}
 use Rattle.workers.specs.declared.checkpointer.round.ImageWriter.{ImageWriter as Writer}
+use Rattle.workers.specs.declared.gate.Place.TheVariants.{Device}
+use Rattle.workers.specs.Gates.{MayGo}
 use Rattle.workers.specs.Imaging.{AreInStep, FollowsRounds, Publishes, RoundRuns, TellsFaults, WriterFits}
 use Rattle.workers.proofs.checkpointer.round.run_round.Given as goal
 
@@ -12,6 +14,7 @@ invariant-loop-gate g l = record {
   faults : TellsFaults g.D.Disk.faults l.fn.images l.images;
   runs : RoundRuns l.fn.back l.images.keeper l.back;
   publishes : Publishes l.tick l.images.keeper l.fn.covers l.covers;
+  asks : (l.images ≡ l.fn.images) ⊎ MayGo g.G.Gate.told Device;
   follows : (opening : Writer g.row.D.Denot) → FollowsRounds g.D.Disk.content g.D.Disk.may_leave g.D.Disk.honest opening l.fn.images l.fn.back
       → FollowsRounds g.D.Disk.content g.D.Disk.may_leave g.D.Disk.honest opening l.images l.back;
 }

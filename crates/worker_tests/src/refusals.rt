@@ -1,0 +1,91 @@
+//! A mutator that may run no batch: all ticks have ended, or the segment of the log is full.
+ghost use Rattle.std.specs.Prelude.{◌≤◌};
+ghost use Rattle.world_ticks.specs.declared.tick.TheConstants.{TICK_MAX};
+
+use crate::same::same;
+use crate::serial::{ask_for, send};
+use crate::worlds::{new_files, open_files};
+use action_log::SEGMENT_TICKS;
+use crossbeam_channel::bounded;
+use disk_model::ModelFile;
+use shared_capture::{Method, Pong, Zig, cover_pair};
+use std::alloc::Global;
+use std::process::Abort;
+use std::sync::Wait;
+use tcp_service::Seats;
+use workers::{ItemReceiver, Mutator, Open, Reply, open};
+use world_actions::Refusal;
+use world_ticks::TICK_MAX;
+
+// A mutator after so many ticks, which opens no round, and the end that pops its items.
+fn mutator_at<M: Seats>(
+    rt: &(impl Wait + Abort),
+    alloc: Global,
+    ended: u64,
+) -> (Mutator<M, Open>, ItemReceiver)
+    requires { ended ≤ TICK_MAX }
+{
+    let opened = open_files::<M, ModelFile>(rt, alloc, new_files(rt, alloc, 2));
+    let (to, from) = open(rt, alloc, ended).expect(rt, "a channel");
+    let (bell, _rung) = bounded(alloc, 1).expect(rt, "a channel");
+    let (_told_down, heard) = cover_pair(alloc).expect(rt, "a word");
+    let mutator = Mutator::new(Open, alloc, opened.front, to, ended, u32::MAX, bell, heard);
+    (mutator, from)
+}
+
+// A batch isn't run for this reason, and its session is told so.
+fn is_refused<M: Method>(
+    rt: &(impl Wait + Abort),
+    alloc: Global,
+    mutator: &mut Mutator<M, Open>,
+    refusal: Refusal,
+) {
+    let (to, from) = bounded(alloc, 1).expect(rt, "a channel");
+    let ask = ask_for(rt, alloc, to);
+    let given = mutator.turn(rt, ask);
+    same(rt, "a batch that isn't run", given, Err(refusal));
+    match from.recv(rt) {
+        Ok(Reply::Fault(told)) => same(rt, "what is told", told, refusal),
+        _ => panic!(rt; "no fault"),
+    }
+}
+
+// As many ticks end as a segment takes.
+fn fill_segment<M: Method>(
+    rt: &(impl Wait + Abort),
+    alloc: Global,
+    mutator: &mut Mutator<M, Open>,
+    from: &mut ItemReceiver,
+) {
+    for _ in 0..SEGMENT_TICKS {
+        drop(send(rt, alloc, mutator));
+        assert!(rt; from.pop(rt).is_ok());
+    }
+}
+
+fn try_last_tick<M: Seats>(rt: &(impl Wait + Abort), alloc: Global) {
+    let (mut mutator, from) = mutator_at::<M>(rt, alloc, TICK_MAX);
+    is_refused(rt, alloc, &mut mutator, Refusal::TicksEnded);
+    drop(mutator);
+    drop(from);
+}
+
+fn try_full_segment<M: Seats>(rt: &(impl Wait + Abort), alloc: Global) {
+    let (mut mutator, mut from) = mutator_at::<M>(rt, alloc, 0);
+    fill_segment(rt, alloc, &mut mutator, &mut from);
+    is_refused(rt, alloc, &mut mutator, Refusal::SegmentFull);
+    drop(mutator);
+    drop(from);
+}
+
+#[test]
+fn no_batch_is_run_once_all_ticks_have_ended(rt: HostRuntime) {
+    try_last_tick::<Zig>(&rt, rt.alloc());
+    try_last_tick::<Pong>(&rt, rt.alloc());
+}
+
+#[test]
+fn no_batch_is_run_while_the_segment_is_full(rt: HostRuntime) {
+    try_full_segment::<Zig>(&rt, rt.alloc());
+    try_full_segment::<Pong>(&rt, rt.alloc());
+}

@@ -1,0 +1,12 @@
+-- What the mutator heard of the log is true.
+use Rattle.std.proofs.Common.{arith, ◌≡◌, inl, inr, ℕ, Bool, true, false, List, Some, None, slice_get, refl, sym, ap, ◌∙◌}
+use Rattle.shared_capture.specs.CoverWord.{AreStored}
+use Rattle.workers.specs.Logging.{TellsDown}
+use Rattle.workers.specs.Meeting.{HeardOnlyOfDown}
+
+pub heard_of_down : (told heard : List ℕ) (down : Bool) → TellsDown down told → AreStored told heard → HeardOnlyOfDown heard down
+heard_of_down told heard true tells stored i flag is some = refl
+heard_of_down told heard false tells stored i flag is some = elim (stored i flag is) [
+  | inl none ↦ absurd (omega (arith, some, none))
+  | inr one ↦ absurd (let e : None ≡ Some flag = ap (λ (l : List ℕ). slice_get l one.0) (sym (tells.0 refl)) ∙ one.1 in cc)
+]

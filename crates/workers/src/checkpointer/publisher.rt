@@ -1,0 +1,48 @@
+//! Who tells the log writer of the images that are open.
+ghost use Rattle.std.specs.Prelude.{◌≡◌, true};
+ghost use Rattle.shared_capture.specs.CoverWord.{AreStored};
+ghost use Rattle.workers.specs.Publishing.{IsNext, told};
+
+use shared_capture::{Back, CoverIn, CoverOut, Method, meet_cover};
+use std::marker::Model;
+
+/// Publishes the tick of a round's image while the back still has the round. Contracts see the ticks.
+#[derive(Drop)]
+pub struct Publisher {
+    covers: CoverOut,
+}
+
+impl Model for Publisher {
+    ghost use Rattle.shared_capture.specs.CoverWord.{CoverState};
+
+    ghost Value = { CoverState };
+
+    ghost view = { λ publisher. publisher.covers };
+}
+
+impl Publisher {
+    /// Publishes by this word.
+    pub(crate) fn new(covers: CoverOut) -> Self
+        ensures { result ≡ covers }
+    {
+        Publisher { covers }
+    }
+
+    /// Publishes the tick of an image that is open. Who sees later that the back's round has ended finds it published.
+    pub(crate) fn publish<M: Method>(&mut self, _back: &Back<M>, tick: u64)
+        requires in_work { _back.now.working ≡ true }
+        requires next { IsNext self.old tick }
+        ensures { self.new ≡ told self.old tick }
+    {
+        self.covers.publish(tick);
+    }
+
+    /// Meets the seat that loads the ticks.
+    pub(crate) fn meet(&mut self, from: &mut CoverIn)
+        requires { self.old.pair ≡ from.old.pair }
+        ensures same { (self.new ≡ self.old) × (from.new ≡ from.old) }
+        ensures stored { AreStored self.new.ticks from.new.ticks }
+    {
+        meet_cover(&mut self.covers, from);
+    }
+}
