@@ -2,6 +2,7 @@
 //! they leave.
 #![tactic(auto)]
 
+mod cuts;
 mod meeting;
 mod opened;
 mod promises;
@@ -11,6 +12,7 @@ mod threads;
 mod watch;
 mod work;
 
+pub use cuts::stop_after;
 pub use meeting::ends_meet;
 pub use opened::{Gates, Opened};
 pub use threads::{Ends, NotStarted, Workers, start, stop};
