@@ -68,6 +68,14 @@ module _ {D : Type 0} (file : D → List ℕ) (leaves : D → List ℕ → Type 
             (writes_more file leaves w.log w.ring.items (record_of item) w.covers.ticks w.acked w.down (told_in logs) (records_of w.from.items) up (is.writes h logs stands))));
       }
 
+  -- what the files tell after a step that was answered so
+  pub told_on : (covers : CoverState) (tick : ℕ) (log : Log D) (ring : Buffer Record) (given : LogAnswer) (acked : ℕ) → (acked ≡ w.acked) ⊎ (given ≡ answer.Acked acked)
+      → covers ≡ loaded w.covers tick → (IsTrue honest → LogAdvances file leaves tick w.log log w.ring.items ring.items given)
+      → IsTrue honest → (logs : Logs) → LogStands file leaves w.opening logs → Writes file leaves log ring.items covers.ticks acked w.down (told_in logs) (records_of w.from.items)
+  told_on covers tick log ring given acked which told advances = λ h logs stands.
+      subst (λ (c : CoverState). Writes file leaves log ring.items c.ticks acked w.down (told_in logs) (records_of w.from.items)) (sym told)
+      (writes_on file leaves w.log log w.ring.items ring.items tick w.covers.ticks given w.acked acked w.down (told_in logs) (records_of w.from.items) is.follows which (advances h) (is.writes h logs stands))
+
   pub advanced : (covers : CoverState) (tick : ℕ) (log : Log D) (ring : Buffer Record) (answers : Answering) (given : LogAnswer) (acked : ℕ) → log.keeper.starting ≡ false → (IsTrue honest → FitsFiles log.keeper (file log.a) (file log.b))
       → QueueFollows log.keeper ring.items → end_of log.keeper ring.items ≡ end_of w.log.keeper w.ring.items → ring.capacity ≡ w.ring.capacity
       → answers.room ≡ w.answers.room → answers.answered + length answers.waiting ≡ w.answers.answered + length w.answers.waiting → (w.answers.posted ≡ w.answers.answered → answers.posted ≡ answers.answered) → answers.posted ≤ acked
@@ -86,8 +94,7 @@ module _ {D : Type 0} (file : D → List ℕ) (leaves : D → List ℕ → Type 
     posted = λ up. posted (is.posted up);
     durable = durable;
     tells = is.tells;
-    writes = λ h logs stands. subst (λ (c : CoverState). Writes file leaves log ring.items c.ticks acked w.down (told_in logs) (records_of w.from.items)) (sym told)
-        (writes_on file leaves w.log log w.ring.items ring.items tick w.covers.ticks given w.acked acked w.down (told_in logs) (records_of w.from.items) is.follows which (advances h) (is.writes h logs stands));
+    writes = told_on covers tick log ring given acked which told advances;
   }
 
   -- an item is popped and lost

@@ -266,6 +266,23 @@ module _ {D : Type 0} (file : D → List ℕ) (leaves : D → List ℕ → Type 
       let on = advances w.logs w.stands in
       advanced log after ring left tick (covers ++ tick ∷ []) given acked acked' down first all follows (Contains-push covers tick) which told on.0 on.1 on.2
 
+  -- what is acknowledged up to a tick is so up to one before it
+  pub writes_below : (log : Log D) (ring : List Record) (covers : List ℕ) (acked fewer : ℕ) (down : Bool) (first : Told) (all : List Record) → fewer ≤ acked → Writes file leaves log ring covers acked down first all → Writes file leaves log ring covers fewer down first all
+  writes_below log ring covers acked fewer down first all few w = record {
+    logs = w.logs;
+    stands = w.stands;
+    given = w.given;
+    lost = w.lost;
+    told = w.told;
+    order = w.order;
+    one_job = w.one_job;
+    none_lost = w.none_lost;
+    acknowledged = elim w.acknowledged [
+      | inl logged ↦ inl (record { kept = omega (arith, few, logged.kept); switched = λ number is. let later = logged.switched number is in omega (arith, few, later) })
+      | inr covered ↦ inr (covered.0, covered.1, omega (arith, few, covered.2))
+    ];
+  }
+
   -- one more record is queued
   pub writes_more : (log : Log D) (ring more : List Record) (covers : List ℕ) (acked : ℕ) (down : Bool) (first : Told) (all : List Record) → down ≡ false → Writes file leaves log ring covers acked down first all → Writes file leaves log (ring ++ more) covers acked down first (all ++ more)
   writes_more log ring more covers acked down first all up w = record {

@@ -165,6 +165,22 @@ module _ {D : Type 0} (file : D → List ℕ) (leaves : D → List ℕ → Type 
     pub tells : TellsDown w.down w.told_down.ticks
     pub writes : IsTrue honest → (logs : Logs) → LogStands w.opening logs → Writes w.log w.ring.items w.covers.ticks w.acked w.down (told_in logs) (records_of w.from.items)
 
+-- what the log writer holds while it posts answers: the log as it began, the items that it popped, the word that it loads, and the
+-- log and the queue as they are
+pub record Holding (D : Type 0) : Type 0 where
+  pub opening : Log D
+  pub from : Popping
+  pub covers : CoverState
+  pub log : Log D
+  pub ring : Buffer Record
+
+-- The tick of this number is durable, and so are those before it, if the log stood for some ticks when the log writer began:
+-- whatever a crash leaves, the files have the popped records up to it, or an image that was loaded as open has them.
+abbrev pub IsDurable : {D : Type 0} → (file : D → List ℕ) → (leaves : D → List ℕ → Type 0) → Holding D → (number : ℕ) → Type 0
+IsDurable file leaves held number =
+    (first : Logs) → LogStands file leaves held.opening first
+    → Writes file leaves held.log held.ring.items held.covers.ticks number false (told_in first) (records_of held.from.items)
+
 -- these items were popped, their records are queued, and their answers wait
 pub record Took {D : Type 0} (old new : Logging D) (more : List Item) : Type 0 where
   pub popped : new.from.items ≡ old.from.items ++ more

@@ -1,6 +1,7 @@
 //! The worker that writes the log.
 mod advance;
 mod answers;
+mod holding;
 mod keep;
 
 ghost use Rattle.std.specs.Prelude.{◌≡◌, ◌≢◌, ◌⊎◌, ◌+◌, ◌<◌, ◌≤◌, ◌++◌, ◌∷◌, [], ℕ, true, false, List, length, IfOk, IsTrue};
@@ -31,6 +32,8 @@ use std::alloc::{AllocError, Global};
 use std::marker::Model;
 use std::snapshot::Snapshot;
 use std::sync::Wait;
+
+pub(crate) use holding::Holding;
 
 /// How many records may wait for the log, and how many answers for their ticks.
 pub const RING_ITEMS: usize = 64;
@@ -239,7 +242,14 @@ impl<D: Disk + Drop, G: Gate + Drop> LogWriter<D, G> {
         match advance(&mut self.log, &mut self.ring, tick) {
             LogAnswer::Down => self.fall(rt),
             LogAnswer::Acked(receipt) => {
-                self.answers.post_all(rt, receipt);
+                let holding = Holding {
+                    opening: &self.opening,
+                    from: &self.from,
+                    covers: &self.covers,
+                    log: &self.log,
+                    ring: &self.ring,
+                };
+                self.answers.post_all(rt, receipt, &holding);
                 self.acked = greater(self.acked, receipt.tick());
             }
             LogAnswer::Idle | LogAnswer::Working => {}

@@ -1,9 +1,12 @@
 //! A batch on its way: asked for, waiting for its tick to be durable, and posted.
-ghost use Rattle.std.specs.Prelude.{◌≡◌, ◌+◌, ◌≤◌, true, IfOk, IfErr, OnOk, OnErr};
+ghost use Rattle.std.specs.Prelude.{◌≡◌, ◌+◌, ◌≤◌, true, IsTrue, IfOk, IfErr, OnOk, OnErr};
 ghost use Rattle.workers.specs.Posts.{IsAnswer};
+ghost use Rattle.workers.specs.Logging.{IsDurable};
 
+use crate::log_writer::Holding;
 use action_log::Receipt;
 use crossbeam_channel::Sender;
+use disk_model::Disk;
 use sessions::{Batch, Request};
 use std::marker::Model;
 use std::sync::Wait;
@@ -221,9 +224,15 @@ impl Waiting {
         self.number
     }
 
-    /// Posts it to its session: its tick is durable.
-    pub(crate) fn post<R: Wait>(self, rt: &R, receipt: Receipt)
+    /// Posts it to its session. Its tick is durable in what the log writer holds at that moment.
+    pub(crate) fn post<R: Wait, D: Disk + Drop>(
+        self,
+        rt: &R,
+        receipt: Receipt,
+        _holding: &Holding<'_, D>,
+    )
         requires durable { self.number ≤ receipt }
+        requires held { IsTrue D.honest → IsDurable D.content D.may_leave _holding.now self.number }
     {
         let (post, to) = self.into_post(receipt);
         let _ = to.send(rt, Reply::Post(post));

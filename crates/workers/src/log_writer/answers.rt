@@ -2,10 +2,13 @@
 ghost use Rattle.std.specs.Prelude.{◌≡◌, ◌+◌, ◌<◌, ◌≤◌, ◌++◌, ◌∷◌, [], length, IfOk, IsTrue, ◌↔◌, List, false};
 ghost use Rattle.workers.specs.Posts.{Unposted};
 ghost use Rattle.workers.specs.Answering.{AreLater, Posts};
+ghost use Rattle.workers.specs.Logging.{IsDurable};
 
+use super::holding::Holding;
 use crate::post::Waiting;
 use action_log::Receipt;
 use circular_buffer::HeapCircularBuffer;
+use disk_model::Disk;
 use std::alloc::{AllocError, Global};
 use std::marker::Model;
 use std::sync::Wait;
@@ -19,13 +22,20 @@ pub struct Given {
 
 impl Given {
     // Answers the next tick by a post.
-    fn post<R: Wait>(&mut self, rt: &R, next: Waiting, receipt: Receipt)
+    fn post<R: Wait, D: Disk + Drop>(
+        &mut self,
+        rt: &R,
+        next: Waiting,
+        receipt: Receipt,
+        holding: &Holding<'_, D>,
+    )
         requires next { next.number ≡ self.old.answered + 1 }
         requires durable { next.number ≤ receipt }
+        requires held { IsTrue D.honest → IsDurable D.content D.may_leave holding.now next.number }
         ensures { self.new ≡ record { answered = next.number; posted = next.number } }
     {
         let number = next.number();
-        next.post(rt, receipt);
+        next.post(rt, receipt, holding);
         self.answered = number;
         self.posted = number;
     }
@@ -87,13 +97,19 @@ impl Answers {
     }
 
     /// Posts each answer that the receipt makes durable, oldest first.
-    pub(crate) fn post_all<R: Wait>(&mut self, rt: &R, receipt: Receipt)
+    pub(crate) fn post_all<R: Wait, D: Disk + Drop>(
+        &mut self,
+        rt: &R,
+        receipt: Receipt,
+        holding: &Holding<'_, D>,
+    )
+        requires held { IsTrue D.honest → IsDurable D.content D.may_leave holding.now receipt }
         ensures posts { Posts receipt self.old self.new }
         ensures others { AreLater receipt self.new.waiting }
     {
         while self.first_is_durable(receipt) {
             if let Some(next) = self.waiting.pop_front() {
-                self.given.post(rt, next, receipt);
+                self.given.post(rt, next, receipt, holding);
             }
         }
     }
