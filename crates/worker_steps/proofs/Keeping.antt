@@ -1,5 +1,5 @@
 -- A step of a worker keeps what it keeps.
-use Rattle.std.proofs.Common.{◌≡◌, ℕ, ap, ◌∙◌, sym, ◌⊎◌, inl, inr, Ok, Err, Result, List, [], ◌∷◌, ◌++◌, append_assoc, refl}
+use Rattle.std.proofs.Common.{◌≡◌, ℕ, ap, ◌∙◌, sym, ◌⊎◌, inl, inr, Ok, Err, Result, List, [], ◌++◌, append_assoc, refl}
 use Rattle.std.proofs.lemmas.List.{append-nil}
 use Rattle.world_actions.specs.declared.refusal.Refusal.{Refusal}
 use Rattle.workers.specs.declared.item.Item.{Item}
