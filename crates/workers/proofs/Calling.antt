@@ -1,5 +1,5 @@
 -- A step of a keeper calls one of its two files at most once.
-use Rattle.std.proofs.Common.{◌≡◌, ◌⊎◌, inl, inr, Bool, List, [], ◌∷◌}
+use Rattle.std.proofs.Common.{◌≡◌, inl, inr, Bool, List, [], ◌∷◌}
 use Rattle.disk_model.specs.Disk.{Call, CalledOnce, OneCalledAtMostOnce}
 use Rattle.file_format.specs.declared.slot.Slot.{Slot}
 use Rattle.file_format.specs.declared.slot.Slot.TheVariants.{A, B}
