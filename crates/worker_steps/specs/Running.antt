@@ -1,5 +1,5 @@
 -- What a step of one of the three workers does.
-use Rattle.std.specs.Prelude.{◌≡◌, ◌≢◌, ◌⊎◌, ℕ, ◌<◌, ◌≤◌, Bool, true, false, List, [], Result}
+use Rattle.std.specs.Prelude.{◌≡◌, ◌≢◌, ◌⊎◌, ℕ, ◌<◌, ◌≤◌, Bool, true, false, [], Result}
 use Rattle.world_actions.specs.declared.refusal.Refusal.{Refusal}
 use Rattle.disk_model.specs.Disk.{Call, OneCalledAtMostOnce}
 use Rattle.image_files.specs.Progress.{left_of}

@@ -1,4 +1,4 @@
-use Rattle.std.proofs.Common.{arith, ◌≤◌, max}
+use Rattle.std.proofs.Common.{arith}
 use Rattle.worker_steps.proofs.together.Together.meet.Goals as goal
 
 pub returns-clause-sound : goal.returns-clause-sound
