@@ -4,16 +4,13 @@
 
 mod cuts;
 mod meeting;
-mod opened;
 mod promises;
 mod running;
-mod signals;
 mod threads;
 mod watch;
 mod work;
 
 pub use cuts::stop_after;
 pub use meeting::ends_meet;
-pub use opened::{Gates, Opened};
 pub use threads::{Ends, NotStarted, Workers, start, stop};
 pub use watch::Watch;
