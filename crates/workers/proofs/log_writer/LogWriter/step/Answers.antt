@@ -7,10 +7,12 @@ use Rattle.workers.proofs.Loggings.{told_on, advanced}
 use Rattle.workers.proofs.log_writer.LogWriter.step.Goals as goal
 
 pub post_all-requires : goal.post_all-requires
-post_all-requires g c = λ honest first stands.
-    let up : c.self.inside.down ≡ false = ap (λ (w : Logging g.row.D.Denot). w.down) (sym c.self.view_is) ∙ c.requires.up in
-    subst (λ (b : Bool). Writes g.D.Disk.content g.D.Disk.may_leave c.advance.new.log c.advance.new.queue.items c.latest-tick.new.self.ticks c.in-Acked.receipt b (told_in first) (records_of c.self.inside.from.items)) up
-    (told_on g.D.Disk.content g.D.Disk.may_leave g.D.Disk.honest _ c.self.invariant c.latest-tick.new.self c.latest-tick.result c.advance.new.log c.advance.new.queue c.advance.result c.in-Acked.receipt (inr c.in-Acked.is) c.latest-tick.ensures c.advance.ensures.advances honest first stands)
+post_all-requires g c = record {
+  held = λ honest first stands.
+      let up : c.self.inside.down ≡ false = ap (λ (w : Logging g.row.D.Denot). w.down) c.self.view_is ∙ c.requires.up in
+      subst (λ (b : Bool). Writes g.D.Disk.content g.D.Disk.may_leave c.advance.new.log c.advance.new.queue.items c.latest-tick.new.self.ticks c.in-Acked.receipt b (told_in first) (records_of c.self.inside.from.items)) up
+      (told_on g.D.Disk.content g.D.Disk.may_leave g.D.Disk.honest _ c.self.invariant c.latest-tick.new.self c.latest-tick.result c.advance.new.log c.advance.new.queue c.advance.result c.in-Acked.receipt (inr c.in-Acked.is) c.latest-tick.ensures c.advance.ensures.advances honest first stands);
+}
 
 pub invariant_of-self-in-Down : goal.invariant_of-self-in-Down
 invariant_of-self-in-Down g c =
