@@ -1,0 +1,27 @@
+//! What the log writer holds while it posts answers.
+use super::Log;
+use crate::ends::ItemReceiver;
+use action_log::Record;
+use circular_buffer::HeapCircularBuffer;
+use disk_model::Disk;
+use shared_capture::CoverIn;
+use std::marker::Model;
+use std::snapshot::Snapshot;
+
+/// Lent to each post, so that nothing of it changes while one is made.
+#[derive(Drop)]
+pub struct Holding<'a, D: Disk + Drop> {
+    pub(crate) opening: &'a Snapshot<Log<D>>,
+    pub(crate) from: &'a ItemReceiver,
+    pub(crate) covers: &'a CoverIn,
+    pub(crate) log: &'a Log<D>,
+    pub(crate) ring: &'a HeapCircularBuffer<Record>,
+}
+
+impl<'a, D: Disk + Drop> Model for Holding<'a, D> {
+    ghost use Rattle.workers.specs.Logging.{Holding as Held};
+
+    ghost Value = { Held D };
+
+    ghost view = { λ h. record { opening = h.opening.now.value; from = h.from.now; covers = h.covers.now; log = h.log.now; ring = h.ring.now } };
+}
