@@ -14,7 +14,7 @@ use std::thread::{self, JoinHandle, Threads};
 use tcp_service::{Remote, Seats};
 use worker_steps::Gates;
 use worker_threads::Ends;
-use workers::{Ask, Gate, Pass, Place};
+use workers::{Ask, Cut};
 use world_actions::{Action, Refusal};
 
 /// After how many ticks a round is due.
@@ -30,12 +30,6 @@ const TICKS: u64 = 9;
 
 /// More steps than the first round of two cells has, and than there are ticks.
 const STEPS: u64 = 16;
-
-/// Lets a worker make so many steps, and then holds it for good, or never.
-#[derive(Clone, Copy)]
-struct Steps {
-    left: Option<u64>,
-}
 
 /// How many steps each worker makes before it is held for good.
 #[derive(Clone, Copy)]
@@ -75,20 +69,20 @@ fn limits_of(stopped: Stopped, steps: u64) -> Limits {
     }
 }
 
-impl Gate for Steps {
-    ghost use Rattle.std.specs.Prelude.{⊤};
-
-    ghost told = { λ old place pass new. ⊤ };
-
-    fn at(&mut self, _place: Place) -> Pass {
-        let Some(left) = self.left else {
-            return Pass::Go;
-        };
-        if left == 0 {
-            return Pass::Stuck;
+impl Limits {
+    // A worker without a limit is never held.
+    fn cuts(self) -> Gates<Cut, Cut, Cut> {
+        Gates {
+            mutator: cut_after(self.mutator),
+            checkpointer: cut_after(self.checkpointer),
+            log_writer: cut_after(self.log_writer),
         }
-        self.left = Some(left - 1);
-        Pass::Go
+    }
+}
+
+fn cut_after(steps: Option<u64>) -> Cut {
+    Cut {
+        left: steps.unwrap_or(u64::MAX),
     }
 }
 
@@ -170,21 +164,10 @@ fn run<M: Seats + Send + 'static, R: Threads + Wait + Abort + Copy + Send + 'sta
     rt: &R,
     alloc: Global,
     limits: Limits,
-) -> (Ends<M, ModelFile, Steps, Steps, Steps>, u64) {
-    let gates = Gates {
-        mutator: Steps {
-            left: limits.mutator,
-        },
-        checkpointer: Steps {
-            left: limits.checkpointer,
-        },
-        log_writer: Steps {
-            left: limits.log_writer,
-        },
-    };
+) -> (Ends<M, ModelFile, Cut, Cut, Cut>, u64) {
     let (to, _heard) = unbounded(alloc).expect(rt, "a channel");
     let files = new_files(rt, alloc, 2);
-    let (workers, requests) = begin(rt, alloc, files, gates, to, EVERY);
+    let (workers, requests) = begin(rt, alloc, files, limits.cuts(), to, EVERY);
     let answered = play_sessions(rt, alloc, requests);
     (end(rt, workers), answered)
 }
@@ -193,7 +176,7 @@ fn run<M: Seats + Send + 'static, R: Threads + Wait + Abort + Copy + Send + 'sta
 fn check_ends<M: Method>(
     rt: &impl Abort,
     alloc: Global,
-    ends: &Ends<M, ModelFile, Steps, Steps, Steps>,
+    ends: &Ends<M, ModelFile, Cut, Cut, Cut>,
     answered: u64,
 ) {
     let ticks = (answered, ends.mutator.ended(), ends.acked());
@@ -209,7 +192,7 @@ fn check_ends<M: Method>(
 fn found_after<M: Method>(
     rt: &impl Abort,
     alloc: Global,
-    ends: &Ends<M, ModelFile, Steps, Steps, Steps>,
+    ends: &Ends<M, ModelFile, Cut, Cut, Cut>,
     leaving: Leaving,
 ) -> (u64, u64) {
     let (images, log) = (ends.checkpointer.images(), ends.log_writer.log());
@@ -227,7 +210,7 @@ fn left_of(rt: &impl Abort, alloc: Global, file: &ModelFile, leaving: Leaving) -
 }
 
 // Whether the newest image is that of the new world.
-fn has_first_image<M: Method>(ends: &Ends<M, ModelFile, Steps, Steps, Steps>) -> bool {
+fn has_first_image<M: Method>(ends: &Ends<M, ModelFile, Cut, Cut, Cut>) -> bool {
     match ends.checkpointer.images().keeper.newest() {
         Some((_, tick)) => tick == 0,
         None => false,
@@ -299,7 +282,7 @@ fn are_between(rt: &impl Abort, answered: u64, acked: u64, stands: u64, ended: u
 fn check_held<M: Method>(
     rt: &impl Abort,
     alloc: Global,
-    ends: &Ends<M, ModelFile, Steps, Steps, Steps>,
+    ends: &Ends<M, ModelFile, Cut, Cut, Cut>,
     answered: u64,
 ) {
     for leaving in [Leaving::Lose, Leaving::Keep, Leaving::Fill(1)] {
