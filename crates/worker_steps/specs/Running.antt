@@ -2,6 +2,7 @@
 use Rattle.std.specs.Prelude.{◌≡◌, ◌≢◌, ◌⊎◌, ℕ, ◌<◌, ◌≤◌, Bool, true, false, [], Result}
 use Rattle.world_actions.specs.declared.refusal.Refusal.{Refusal}
 use Rattle.disk_model.specs.Disk.{Call, OneCalledAtMostOnce}
+use Rattle.image_files.specs.declared.phase.Phase.TheVariants.{Taking}
 use Rattle.image_files.specs.Progress.{left_of}
 use Rattle.action_log.specs.declared.answer.LogAnswer.TheVariants.{Idle}
 use Rattle.action_log.specs.Cover.{uncovered, cover_answer}
@@ -15,7 +16,7 @@ use Rattle.workers.specs.Answering.{AreLater}
 use Rattle.workers.specs.Covering.{loaded, LoadsOn}
 use Rattle.workers.specs.Gates.{MayGo, MayStick}
 use Rattle.workers.specs.Mutating.{AnswersBatch, MarksIfDue, EndsPlay}
-use Rattle.workers.specs.Imaging.{Imaging, HasRound, FindsNone, FindsRound, GoesOn}
+use Rattle.workers.specs.Imaging.{Imaging, place_of, HasRound, FindsNone, FindsRound, GoesOn}
 use Rattle.workers.specs.Logging.{Logging, Pops, Settles, LogTellsFaults}
 use Rattle.worker_steps.specs.Begun.{Started}
 use Rattle.worker_steps.specs.declared.next.Next.{Next}
@@ -53,10 +54,11 @@ LogGoes gate called faults old new =
 
 -- ---- the checkpointer
 
--- a step of the round in work makes one call of a device at most, where the gate lets it
+-- a step of the round in work is a take, or makes one call of a device at most, where the gate lets it
 pub record ImageSteps {D : Type 0} (go stuck : Type 0) (called : D → Call → Bool → D → Type 0) (faults : D → ℕ) (old new : Imaging D) : Type 0 where
   pub goes : GoesOn go stuck faults old new
   pub calls : OneCalledAtMostOnce called old.images.image_a new.images.image_a old.images.image_b new.images.image_b
+  pub takes : old.images.keeper.phase ≡ Taking → (new.images.image_a ≡ old.images.image_a) × (new.images.image_b ≡ old.images.image_b)
   pub less : new.over ≡ false → left_of new.images.keeper < left_of old.images.keeper
 
 -- it does nothing once it is over or its round can't go on; else it looks for a round, or makes a step of the one in work
@@ -64,7 +66,7 @@ abbrev pub ImageGoes : {D G : Type 0} → (gate : G → Place → Pass → G →
 ImageGoes gate called faults old new =
     ((new ≡ old) × ((old.over ≡ true) ⊎ (HasRound old.images.keeper × (left_of old.images.keeper ≡ 0))))
     ⊎ (FindsNone old new ⊎ (((tick : ℕ) × FindsRound old tick new)
-    ⊎ ImageSteps (MayGo gate Device) (MayStick gate Device) called faults old new))
+    ⊎ ImageSteps (MayGo gate (place_of old.images.keeper.phase)) (MayStick gate (place_of old.images.keeper.phase)) called faults old new))
 
 -- ---- any of them
 

@@ -1,5 +1,5 @@
 -- A step of a keeper calls one of its two files at most once.
-use Rattle.std.proofs.Common.{◌≡◌, inl, inr, Bool, List, [], ◌∷◌}
+use Rattle.std.proofs.Common.{◌≡◌, inl, inr, Bool, List, [], ◌∷◌, subst}
 use Rattle.disk_model.specs.Disk.{Call, CalledOnce, OneCalledAtMostOnce}
 use Rattle.file_format.specs.declared.slot.Slot.{Slot}
 use Rattle.file_format.specs.declared.slot.Slot.TheVariants.{A, B}
@@ -76,3 +76,9 @@ module _ {D : Type 0} (called : D → Call → Bool → D → Type 0) where
       → image_steps.CallsIn phase called (of_slot slot a b) (of_slot slot new_a new_b) (of_slot slot b a) (of_slot slot new_b new_a) → OneCalledAtMostOnce called a new_a b new_b
   image_calls_one slot phase a new_a b new_b calls =
       by_slot slot a new_a b new_b (image_calls (of_slot slot a b) (of_slot slot new_a new_b) (of_slot slot b a) (of_slot slot new_b new_a) phase calls)
+
+  -- a take calls none
+  pub image_calls_none : (slot : Slot) (phase : images.Phase) (a new_a b new_b : D) → phase ≡ image.Taking
+      → image_steps.CallsIn phase called (of_slot slot a b) (of_slot slot new_a new_b) (of_slot slot b a) (of_slot slot new_b new_a) → (new_a ≡ a) × (new_b ≡ b)
+  image_calls_none A phase a new_a b new_b is calls = subst (λ p. image_steps.CallsIn p called a new_a b new_b) is calls
+  image_calls_none B phase a new_a b new_b is calls = (let none = subst (λ p. image_steps.CallsIn p called b new_b a new_a) is calls in (none.1, none.0))

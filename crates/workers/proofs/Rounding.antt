@@ -1,11 +1,17 @@
 -- A round goes on from step to step.
-use Rattle.std.proofs.Common.{◌≡◌, inl, inr, ℕ, ◌<◌, true, false, List, [], ◌∷◌, ◌++◌, refl, sym, ap, ◌∙◌, subst}
+use Rattle.std.proofs.Common.{◌≡◌, ◌⊎◌, inl, inr, ℕ, ◌<◌, true, false, List, [], ◌∷◌, ◌++◌, refl, sym, ap, ◌∙◌, subst}
 use Rattle.disk_model.specs.Disk.{FaultsBy}
+use Rattle.image_files.specs.declared.phase.Phase.{Phase}
+use Rattle.image_files.specs.declared.phase.Phase.TheVariants.{Idle, Closing, ClosingSync, Header, Taking, Reading, Writing, BodySync, Opening, OpeningSync, Down}
 use Rattle.image_files.specs.Progress.{Progress, left_of}
 use Rattle.shared_capture.specs.declared.view.Snapshot.{Snapshot}
 use Rattle.shared_capture.specs.States.{BackState}
+use Rattle.workers.specs.declared.gate.Place.{Place}
+use Rattle.workers.specs.declared.gate.Place.TheVariants.{Device}
+use Rattle.workers.specs.declared.gate.Pass.{Pass}
+use Rattle.workers.specs.Gates.{MayGo}
 use Rattle.workers.specs.declared.checkpointer.round.ImageWriter.{ImageWriter}
-use Rattle.workers.specs.Imaging.{HasRound, IsUp, RoundRuns, TellsFaults, Imaging, GoesOn, KeepsBack}
+use Rattle.workers.specs.Imaging.{place_of, HasRound, IsUp, RoundRuns, TellsFaults, Imaging, GoesOn, KeepsBack}
 use Rattle.workers.proofs.Imagings.{is_busy}
 
 runs_then : (keeper next : Progress) (old mid new : BackState) → HasRound keeper → RoundRuns old keeper mid → RoundRuns mid next new → RoundRuns old next new
@@ -53,6 +59,43 @@ module _ {D : Type 0} (faults : D → ℕ) where
       over = then.over;
       up = then.up;
     }
+
+-- what the gate may answer to one step is what it may answer to some
+pub goes_at : {D : Type 0} (faults : D → ℕ) (go stuck go' stuck' : Type 0) (old new : Imaging D) → (go → go') → (stuck → stuck') → GoesOn go stuck faults old new → GoesOn go' stuck' faults old new
+goes_at faults go stuck go' stuck' old new going sticking goes = record {
+  runs = goes.runs;
+  failures = goes.failures;
+  asks = elim goes.asks [ | inl same ↦ inl same | inr let_go ↦ inr (going let_go) ];
+  over = λ over. (let is = goes.over over in (is.0, elim is.1 [ | inl down ↦ inl down | inr stays ↦ inr (sticking stays) ]));
+  up = goes.up;
+}
+
+module _ {D G : Type 0} (told : G → Place → Pass → G → Type 0) where
+  -- the files stay as they are, or the gate may let a call of a device be made
+  abbrev pub FilesAsk : (old new : ImageWriter D) → Type 0
+  FilesAsk old new = ((new.image_a ≡ old.image_a) × (new.image_b ≡ old.image_b)) ⊎ MayGo told Device
+
+  all_same : (old new : ImageWriter D) → (new ≡ old) ⊎ MayGo told Device → FilesAsk old new
+  all_same old new (inl same) = inl (ap (λ (w : ImageWriter D). w.image_a) same, ap (λ (w : ImageWriter D). w.image_b) same)
+  all_same old new (inr let_go) = inr let_go
+
+  pub files_ask : (phase : Phase) (old new : ImageWriter D) → (new ≡ old) ⊎ MayGo told (place_of phase) → (phase ≡ Taking → (new.image_a ≡ old.image_a) × (new.image_b ≡ old.image_b)) → FilesAsk old new
+  files_ask Idle old new asks takes = all_same old new asks
+  files_ask Closing old new asks takes = all_same old new asks
+  files_ask ClosingSync old new asks takes = all_same old new asks
+  files_ask Header old new asks takes = all_same old new asks
+  files_ask Taking old new asks takes = inl (takes refl)
+  files_ask Reading old new asks takes = all_same old new asks
+  files_ask Writing old new asks takes = all_same old new asks
+  files_ask BodySync old new asks takes = all_same old new asks
+  files_ask Opening old new asks takes = all_same old new asks
+  files_ask OpeningSync old new asks takes = all_same old new asks
+  files_ask Down old new asks takes = all_same old new asks
+
+  pub files_then : (old mid new : ImageWriter D) → FilesAsk old mid → FilesAsk mid new → FilesAsk old new
+  files_then old mid new (inr let_go) then = inr let_go
+  files_then old mid new (inl first) (inr let_go) = inr let_go
+  files_then old mid new (inl first) (inl then) = inl (then.0 ∙ first.0, then.1 ∙ first.1)
 
 pub keeps_then : {D : Type 0} (old mid new : Imaging D) → KeepsBack old mid → KeepsBack mid new → KeepsBack old new
 keeps_then old mid new first then = record {

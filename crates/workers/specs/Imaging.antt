@@ -2,7 +2,8 @@
 use Rattle.std.specs.Prelude.{◌≡◌, ◌≢◌, ◌⊎◌, ℕ, ◌<◌, Bool, true, false, IsTrue, All, List, [], ◌∷◌, ◌++◌, length, Option, Some}
 use Rattle.disk_model.specs.Disk.{FaultsBy}
 use Rattle.file_format.specs.declared.slot.Slot.{Slot}
-use Rattle.image_files.specs.declared.phase.Phase.TheVariants.{Idle, Down}
+use Rattle.image_files.specs.declared.phase.Phase.{Phase}
+use Rattle.image_files.specs.declared.phase.Phase.TheVariants.{Idle, Taking, Down}
 use Rattle.image_files.specs.Images.{Round, ImageFiles, NoneYet, Newest, with_opened}
 use Rattle.image_files.specs.Files.{FitsFiles, Stands}
 use Rattle.image_files.specs.Progress.{Progress, target_of, cells_taken, begun_keeper}
@@ -11,6 +12,8 @@ use Rattle.restart.specs.Rounds.{words_of}
 use Rattle.shared_capture.specs.declared.view.Snapshot.{Snapshot}
 use Rattle.shared_capture.specs.States.{BackState, SameDone, FoundNone, FoundRound}
 use Rattle.shared_capture.specs.CoverWord.{CoverState}
+use Rattle.workers.specs.declared.gate.Place.{Place}
+use Rattle.workers.specs.declared.gate.Place.TheVariants.{Take, Device}
 use Rattle.workers.specs.declared.checkpointer.round.ImageWriter.{ImageWriter}
 use Rattle.workers.specs.Publishing.{IsNoneDue, newest_tick, told, ArePublished}
 
@@ -156,6 +159,11 @@ pub record KeepsBack {D : Type 0} (old new : Imaging D) : Type 0 where
   pub opening : new.opening ≡ old.opening
 
 -- ---- a step
+
+-- the place at which the gate is asked before a step of a round: a take's, or that of a call of a device
+abbrev pub place_of : Phase → Place
+place_of Taking = Take
+place_of phase = Device
 
 -- no call of a device failed
 abbrev pub IsUp : Progress → Type 0

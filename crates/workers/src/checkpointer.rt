@@ -2,11 +2,12 @@
 ghost use Rattle.std.specs.Prelude.{◌≡◌, ◌⊎◌, ◌↔◌, ◌<◌, ◌≤◌, true, false, [], IsTrue, MatchOption};
 ghost use Rattle.world_ticks.specs.declared.tick.TheConstants.{TICK_MAX};
 ghost use Rattle.disk_model.specs.Disk.{OneCalledAtMostOnce};
-ghost use Rattle.image_files.specs.declared.phase.Phase.TheVariants.{Down, Idle};
+ghost use Rattle.image_files.specs.declared.phase.Phase.TheVariants.{Down, Idle, Taking};
 ghost use Rattle.image_files.specs.Progress.{left_of};
+ghost use Rattle.workers.specs.declared.gate.Place.{Place as Asked};
 ghost use Rattle.workers.specs.declared.gate.Place.TheVariants.{Device};
 ghost use Rattle.workers.specs.Gates.{MayGo, MayStick};
-ghost use Rattle.workers.specs.Imaging.{HasRound, IsUp, FindsNone, FindsRound, GoesOn, IsAtRest, IsDone, KeepsBack, TellsFaults, Turned, WriterFits};
+ghost use Rattle.workers.specs.Imaging.{place_of, HasRound, IsUp, FindsNone, FindsRound, GoesOn, IsAtRest, IsDone, KeepsBack, TellsFaults, Turned, WriterFits};
 ghost use Rattle.workers.specs.Publishing.{newest_tick, IsNoneDue};
 
 use crate::checkpointer::publisher::Publisher;
@@ -106,7 +107,7 @@ impl<M: Method, D: Disk + Drop, G: Gate + Drop> Checkpointer<M, D, G> {
         requires rest { IsAtRest self.old.images.keeper self.old.back }
         ensures rest { self.new.over ≡ false → IsAtRest self.new.images.keeper self.new.back }
         ensures same { (self.new.back.pair ≡ self.old.back.pair) × (self.new.back.cells ≡ self.old.back.cells) × (self.new.covers.pair ≡ self.old.covers.pair) × (self.new.opening ≡ self.old.opening) }
-        ensures turned { Turned (MayStick G.told Device) self.old self.new }
+        ensures turned { Turned ((place : Asked) × MayStick G.told place) self.old self.new }
         ensures asks { ((self.new.images.image_a ≡ self.old.images.image_a) × (self.new.images.image_b ≡ self.old.images.image_b))
             ⊎ MayGo G.told Device }
         ensures opened { MatchOption result (self.new.back.done ≡ self.old.back.done) (λ tick. IsDone self.old.back tick self.new.back) }
@@ -148,12 +149,15 @@ impl<M: Method, D: Disk + Drop, G: Gate + Drop> Checkpointer<M, D, G> {
         requires goes_on { self.old.over ≡ false }
         requires left { 0 < left_of self.old.images.keeper }
         ensures keeps { KeepsBack self.old self.new }
-        ensures goes { GoesOn (MayGo G.told Device) (MayStick G.told Device) D.faults self.old self.new }
+        ensures goes { GoesOn (MayGo G.told (place_of self.old.images.keeper.phase))
+            (MayStick G.told (place_of self.old.images.keeper.phase)) D.faults self.old self.new }
         ensures calls { OneCalledAtMostOnce D.called self.old.images.image_a self.new.images.image_a
             self.old.images.image_b self.new.images.image_b }
+        ensures takes { self.old.images.keeper.phase ≡ Taking
+            → (self.new.images.image_a ≡ self.old.images.image_a) × (self.new.images.image_b ≡ self.old.images.image_b) }
         ensures less { self.new.over ≡ false → left_of self.new.images.keeper < left_of self.old.images.keeper }
     {
-        if !passes(rt, &mut self.gate, Place::Device) {
+        if !passes(rt, &mut self.gate, next_place(&self.images.keeper)) {
             self.over = true;
             return;
         }
@@ -170,12 +174,26 @@ impl<M: Method, D: Disk + Drop, G: Gate + Drop> Checkpointer<M, D, G> {
         requires goes_on { self.old.over ≡ false }
         requires round { HasRound self.old.images.keeper × IsUp self.old.images.keeper × (self.old.back.working ≡ true) }
         ensures keeps { KeepsBack self.old self.new }
-        ensures goes { GoesOn (MayGo G.told Device) (MayStick G.told Device) D.faults self.old self.new }
+        ensures goes { GoesOn ((place : Asked) × MayGo G.told place) ((place : Asked) × MayStick G.told place)
+            D.faults self.old self.new }
+        ensures files { ((self.new.images.image_a ≡ self.old.images.image_a) × (self.new.images.image_b ≡ self.old.images.image_b))
+            ⊎ MayGo G.told Device }
         ensures ends { self.new.over ≡ false → self.new.images.keeper.phase ≡ Idle }
     {
         while !self.over && self.images.keeper.left() > 0 {
             self.step(rt);
         }
+    }
+}
+
+// The place of the next step of a round.
+fn next_place(images: &ImageKeeper) -> Place
+    ensures { result ≡ place_of images.now.phase }
+{
+    if images.takes_next() {
+        Place::Take
+    } else {
+        Place::Device
     }
 }
 

@@ -1,6 +1,7 @@
 //! A round from its first step to its last.
 ghost use Rattle.std.specs.Prelude.{◌≡◌, ◌<◌, IsTrue};
 ghost use Rattle.disk_model.specs.Disk.{OneCalledAtMostOnce};
+ghost use Rattle.image_files.specs.declared.phase.Phase.TheVariants.{Taking};
 ghost use Rattle.image_files.specs.Progress.{left_of};
 ghost use Rattle.workers.specs.declared.checkpointer.round.ImageWriter.{ImageWriter as Writer};
 ghost use Rattle.workers.specs.Imaging.{AreInStep, FollowsRounds, Publishes, RoundRuns, TellsFaults, WriterFits};
@@ -35,6 +36,8 @@ pub(crate) fn step<M: Method, D: Disk>(
     ensures faults { TellsFaults D.faults images.old images.new }
     ensures less { left_of images.new.keeper < left_of images.old.keeper }
     ensures calls { OneCalledAtMostOnce D.called images.old.image_a images.new.image_a images.old.image_b images.new.image_b }
+    ensures takes { images.old.keeper.phase ≡ Taking
+        → (images.new.image_a ≡ images.old.image_a) × (images.new.image_b ≡ images.old.image_b) }
     ensures runs { RoundRuns back.old images.new.keeper back.new }
     ensures publishes { Publishes tick images.new.keeper covers.old covers.new }
     ensures follows { (opening : Writer D) → FollowsRounds D.content D.may_leave D.honest opening images.old back.old

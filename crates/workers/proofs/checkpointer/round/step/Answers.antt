@@ -1,5 +1,5 @@
 use Rattle.image_files.specs.Progress.{target_of}
-use Rattle.workers.proofs.Calling.{image_calls_one}
+use Rattle.workers.proofs.Calling.{image_calls_one, image_calls_none}
 use Rattle.workers.proofs.Publishings.{publishes_none}
 use Rattle.workers.proofs.Imagings.{faults_step, is_busy, stays_busy, step_on, runs_on, less_left, follows_on, follows_opened}
 use Rattle.workers.proofs.checkpointer.round.step.Goals as goal
@@ -20,6 +20,7 @@ returns-in_default g c =
       faults = faults_step g.D.Disk.faults given old (record { keeper = new; image_a = c.step_files.new.image_a; image_b = c.step_files.new.image_b }) c.requires.left e.down e.cause;
       less = less_left given old.keeper new back next not e.idle e.down e.working c.requires.left c.requires.step;
       calls = image_calls_one g.D.Disk.called (target_of old.keeper.newest) old.keeper.phase old.image_a c.step_files.new.image_a old.image_b c.step_files.new.image_b e.calls;
+      takes = λ is. image_calls_none g.D.Disk.called (target_of old.keeper.newest) old.keeper.phase old.image_a c.step_files.new.image_a old.image_b c.step_files.new.image_b is e.calls;
       runs = runs_on given old.keeper new back next not e.taken e.idle e.down e.goes_on busy c.requires.step;
       publishes = publishes_none c.args.tick new c.args.covers.now (stays_busy given old.keeper new not e.idle e.down e.goes_on busy);
       follows = λ opening f. follows_on g.D.Disk.content g.D.Disk.may_leave g.D.Disk.honest given opening old
@@ -37,3 +38,8 @@ pub returns-clause-calls : goal.returns-clause-calls
 returns-clause-calls g c =
     let old = c.args.images.now in
     image_calls_one g.D.Disk.called (target_of old.keeper.newest) old.keeper.phase old.image_a c.step_files.new.image_a old.image_b c.step_files.new.image_b c.step_files.ensures.calls
+
+pub returns-clause-takes : goal.returns-clause-takes
+returns-clause-takes g c is =
+    let old = c.args.images.now in
+    image_calls_none g.D.Disk.called (target_of old.keeper.newest) old.keeper.phase old.image_a c.step_files.new.image_a old.image_b c.step_files.new.image_b is c.step_files.ensures.calls
