@@ -20,7 +20,9 @@ use std::snapshot::Snapshot;
 use std::sync::Wait;
 use std::thread::{PromisedHandle, Threads};
 use worker_steps::{Gates, Opened, Together};
-use workers::{Ask, Checkpointer, Gate, ItemReceiver, ItemSender, LogWriter, Mutator, Waiting};
+use workers::{
+    Ask, Checkpointer, Gate, Item, ItemReceiver, ItemSender, LogWriter, Mutator, Waiting,
+};
 
 /// Why workers can't be started.
 #[derive(Clone, Copy, Debug, PartialEq, Eq)]
@@ -219,6 +221,7 @@ fn start_mutator<
     crosses::<Front<M>>();
     crosses::<ItemSender>();
     crosses::<CoverIn>();
+    crosses::<Option<Item>>();
     let same = SameMutator(Snapshot::of(&mutator));
     spawn(rt, same, asked, mutator)
 }
