@@ -57,10 +57,7 @@ pub fn pop<R: Wait, D: Disk + Drop, G: Gate + Drop>(rt: &R, log_writer: &mut Log
 }
 
 /// Makes a step of the log, or refuses what can't be posted.
-pub fn write_log<R: Wait, D: Disk + Drop, G: Gate + Drop>(
-    rt: &R,
-    log_writer: &mut LogWriter<D, G>,
-)
+pub fn write_log<R: Wait, D: Disk + Drop, G: Gate + Drop>(rt: &R, log_writer: &mut LogWriter<D, G>)
     ensures keeps { KeepsLog log_writer.old log_writer.new }
     ensures made { LogGoes G.told D.called D.faults log_writer.old log_writer.new }
 {

@@ -38,7 +38,7 @@ impl<M: Method, D: Disk + Drop, A: Gate + Drop, B: Gate + Drop, C: Gate + Drop> 
     B,
     C,
 > {
-    /// The workers of a world as they begin, where a round is due after every `every` ticks.
+    /// The workers of a world as they begin. A round is due after every `every` ticks.
     pub fn begin<R: Wait>(
         rt: &R,
         alloc: Global,

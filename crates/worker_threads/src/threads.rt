@@ -20,9 +20,8 @@ use std::snapshot::Snapshot;
 use std::sync::Wait;
 use std::thread::{PromisedHandle, Threads};
 use worker_steps::{Gates, Opened, Together};
-use workers::{
-    Ask, Checkpointer, Gate, Item, ItemReceiver, ItemSender, LogWriter, Mutator, Waiting,
-};
+use workers::{Ask, Checkpointer, Gate, ItemReceiver, ItemSender, LogWriter, Mutator, Waiting};
+use world_ticks::Tick;
 
 /// Why workers can't be started.
 #[derive(Clone, Copy, Debug, PartialEq, Eq)]
@@ -221,7 +220,8 @@ fn start_mutator<
     crosses::<Front<M>>();
     crosses::<ItemSender>();
     crosses::<CoverIn>();
-    crosses::<Option<Item>>();
+    crosses::<Tick>();
+    crosses::<Waiting>();
     let same = SameMutator(Snapshot::of(&mutator));
     spawn(rt, same, asked, mutator)
 }

@@ -108,7 +108,7 @@ impl<M: Method, G: Gate + Drop> Mutator<M, G> {
         played
     }
 
-    /// Opens a round where one is due, and pushes its switch directly after.
+    /// Opens a round if one is due, and pushes its switch directly after.
     pub fn mark_if_due<R: Wait>(&mut self, rt: &R)
         ensures { MarksIfDue self.old self.new }
     {
@@ -117,7 +117,7 @@ impl<M: Method, G: Gate + Drop> Mutator<M, G> {
         }
     }
 
-    /// Opens a round where one is due, and owes its switch. It answers whether it did.
+    /// Opens a round if one is due, and owes its switch. Returns whether it did.
     pub fn open_if_due(&mut self) -> bool
         ensures opened { result ≡ true → OwesSwitch self.old self.new }
         ensures none { result ≡ false → OpensNone self.old self.new }
