@@ -1,13 +1,17 @@
 -- A step of a worker keeps what it keeps.
-use Rattle.std.proofs.Common.{◌≡◌, ℕ, ap, ◌∙◌, sym, ◌⊎◌, inl, inr, Ok, Err, Result, List, [], ◌++◌, append_assoc, refl}
+use Rattle.std.proofs.Common.{◌≡◌, ℕ, ap, ◌∙◌, sym, ◌⊎◌, inl, inr, Ok, Err, Result, Bool, true, false, List, [], ◌∷◌, ◌++◌, append_assoc, Option, Some, None, MatchOption, ◌+◌, refl}
 use Rattle.std.proofs.lemmas.List.{append-nil}
 use Rattle.world_actions.specs.declared.refusal.Refusal.{Refusal}
 use Rattle.workers.specs.declared.item.Item.{Item}
+use Rattle.workers.specs.declared.item.Item.TheVariants.{Start, Tick, Switch, End}
 use Rattle.workers.specs.Posts.{AskedBatch}
-use Rattle.workers.specs.Channel.{Pushing}
+use Rattle.shared_capture.specs.CoverWord.{CoverState}
+use Rattle.shared_capture.specs.States.{FrontState}
+use Rattle.workers.specs.Channel.{Pushing, with_item, with_refusal}
 use Rattle.workers.specs.Covering.{loaded}
-use Rattle.workers.specs.Mutating.{Playing, MarksIfDue, AnswersBatch, PushesTick, LosesTick, EndsPlay}
+use Rattle.workers.specs.Mutating.{Playing, MarksIfDue, OpensNone, OwesSwitch, AnswersBatch, RefusesBatch, RunsBatch, OwesTick, PushesTick, LosesTick, PaysItem, Pays, EndsPlay}
 use Rattle.worker_steps.specs.Kept.{KeepsFront}
+use Rattle.worker_steps.specs.Running.{MayOpen}
 
 abbrev Grows : Playing → Playing → Type 0
 Grows old new = (more : List Item) × (new.to.items ≡ old.to.items ++ more)
@@ -94,11 +98,10 @@ load_keeps old new flag is = record {
   every = ap (λ (p : Playing). p.every) is;
 }
 
-pub batch_keeps : (go stuck : Type 0) (old : Playing) (asked : AskedBatch) (given : Result (Unit {0}) Refusal) (new : Playing) → AnswersBatch go stuck old asked given new → KeepsFront old new
-batch_keeps go stuck old asked (Ok _) new ran = tick_keeps old asked new ran.2
-batch_keeps go stuck old asked (Err reason) new (inl kept) = load_keeps old new 0 kept.0
-batch_keeps go stuck old asked (Err reason) new (inr (inl hears)) = load_keeps old new hears.0 hears.2
-batch_keeps go stuck old asked (Err reason) new (inr (inr held)) = record {
+refused_keeps : (stuck : Type 0) (old : Playing) (reason : Refusal) (new : Playing) → RefusesBatch stuck old reason new → KeepsFront old new
+refused_keeps stuck old reason new (inl kept) = load_keeps old new 0 kept.0
+refused_keeps stuck old reason new (inr (inl hears)) = load_keeps old new hears.0 hears.2
+refused_keeps stuck old reason new (inr (inr held)) = record {
   pair = ap (λ (p : Playing). p.front.pair) held.0;
   end = ap (λ (p : Playing). p.to.end) held.0;
   flag = ap (λ (p : Playing). p.heard.pair) held.0;
@@ -106,6 +109,87 @@ batch_keeps go stuck old asked (Err reason) new (inr (inr held)) = record {
   opening = ap (λ (p : Playing). p.opening) held.0;
   every = ap (λ (p : Playing). p.every) held.0;
 }
+
+pub batch_keeps : (go stuck : Type 0) (old : Playing) (asked : AskedBatch) (given : Result (Unit {0}) Refusal) (new : Playing) → AnswersBatch go stuck old asked given new → KeepsFront old new
+batch_keeps go stuck old asked (Ok _) new ran = tick_keeps old asked new ran.2
+batch_keeps go stuck old asked (Err reason) new refused = refused_keeps stuck old reason new refused
+
+-- ---- what is owed
+
+owes_tick_keeps : (old : Playing) (asked : AskedBatch) (new : Playing) → OwesTick old asked new → KeepsFront old new
+owes_tick_keeps old asked new (nothing, (ended, runs, is)) = record {
+  pair = runs.pair;
+  end = ap (λ (p : Playing). p.to.end) is;
+  flag = ap (λ (p : Playing). p.heard.pair) is;
+  items = none old new (ap (λ (p : Playing). p.to.items) is);
+  opening = ap (λ (p : Playing). p.opening) is;
+  every = ap (λ (p : Playing). p.every) is;
+}
+
+pub run_keeps : (go stuck : Type 0) (old : Playing) (asked : AskedBatch) (given : Result (Unit {0}) Refusal) (new : Playing) → RunsBatch go stuck old asked given new → KeepsFront old new
+run_keeps go stuck old asked (Ok _) new ran = owes_tick_keeps old asked new ran.2
+run_keeps go stuck old asked (Err reason) new refused = refused_keeps stuck old reason new refused
+
+-- the answer tells which of the two it is
+pub may_open : (old new : Playing) (given : Bool) → (given ≡ true → OwesSwitch old new) → (given ≡ false → OpensNone old new) → MayOpen old new
+may_open old new true opened none = inr (opened refl)
+may_open old new false opened none = inl (none refl)
+
+pub opens_keeps : (old new : Playing) → MayOpen old new → KeepsFront old new
+opens_keeps old new (inl (inl kept)) = same old new kept.0
+opens_keeps old new (inl (inr found)) = mark_keeps old new (inr (inl found))
+opens_keeps old new (inr (up, nothing, is, opens)) = record {
+  pair = opens.0.0;
+  end = ap (λ (p : Playing). p.to.end) is;
+  flag = ap (λ (p : Playing). p.heard.pair) is;
+  items = none old new (ap (λ (p : Playing). p.to.items) is);
+  opening = ap (λ (p : Playing). p.opening) is;
+  every = ap (λ (p : Playing). p.every) is;
+}
+
+-- only the item is pushed, or none, and what is counted changes
+pushed_keeps : (old new : Playing) (more : List Item) → new.front ≡ old.front → new.heard ≡ old.heard → new.opening ≡ old.opening → new.every ≡ old.every → new.to.end ≡ old.to.end → new.to.items ≡ old.to.items ++ more → KeepsFront old new
+pushed_keeps old new more front heard opening every end items = record {
+  pair = ap (λ (f : FrontState). f.pair) front;
+  end = end;
+  flag = ap (λ (c : CoverState). c.pair) heard;
+  items = (more, items);
+  opening = opening;
+  every = every;
+}
+
+module _ (old mid new : Playing) (is : new ≡ mid) where
+  more_keeps : (more : List Item) → mid.front ≡ old.front → mid.heard ≡ old.heard → mid.opening ≡ old.opening → mid.every ≡ old.every → mid.to.end ≡ old.to.end → mid.to.items ≡ old.to.items ++ more → KeepsFront old new
+  more_keeps more front heard opening every end items =
+      pushed_keeps old new more (ap (λ (p : Playing). p.front) is ∙ front) (ap (λ (p : Playing). p.heard) is ∙ heard) (ap (λ (p : Playing). p.opening) is ∙ opening) (ap (λ (p : Playing). p.every) is ∙ every)
+      (ap (λ (p : Playing). p.to.end) is ∙ end) (ap (λ (p : Playing). p.to.items) is ∙ items)
+
+item_keeps : (old : Playing) (item : Item) (new : Playing) → PaysItem old item new → KeepsFront old new
+item_keeps old (Tick ended) new (inl paid) =
+    let mid : Playing = record old { to = with_item old.to (Tick ended); ended = old.ended + 1; since = old.since + 1; down = false; owed = None } in
+    more_keeps old mid new paid (Tick ended ∷ []) refl refl refl refl refl refl
+item_keeps old (Tick ended) new (inr lost) =
+    let mid : Playing = record old { to = with_refusal old.to; owed = None } in
+    more_keeps old mid new lost [] refl refl refl refl refl (sym (append-nil old.to.items))
+item_keeps old (Switch number) new (inl paid) =
+    let mid : Playing = record old { to = with_item old.to (Switch number); since = 0; down = false; owed = None } in
+    more_keeps old mid new paid (Switch number ∷ []) refl refl refl refl refl refl
+item_keeps old (Switch number) new (inr lost) =
+    let mid : Playing = record old { to = with_refusal old.to; owed = None } in
+    more_keeps old mid new lost [] refl refl refl refl refl (sym (append-nil old.to.items))
+item_keeps old (Start number) new is =
+    let mid : Playing = record old { owed = None } in
+    more_keeps old mid new is [] refl refl refl refl refl (sym (append-nil old.to.items))
+item_keeps old End new is =
+    let mid : Playing = record old { owed = None } in
+    more_keeps old mid new is [] refl refl refl refl refl (sym (append-nil old.to.items))
+
+pub pays_keeps : (old new : Playing) → Pays old new → KeepsFront old new
+pays_keeps old new pays = by_owed old.owed pays
+  where
+    by_owed : (owed : Option Item) → MatchOption owed (new ≡ old) (λ item. PaysItem old item new) → KeepsFront old new
+    by_owed None is = same old new is
+    by_owed (Some item) paid = item_keeps old item new paid
 
 pub end_keeps : (old new : Playing) → EndsPlay old new → KeepsFront old new
 end_keeps old new (inl pushed) = record {

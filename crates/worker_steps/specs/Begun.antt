@@ -1,5 +1,5 @@
 -- A world whose workers may start.
-use Rattle.std.specs.Prelude.{◌≡◌, ◌≤◌, [], ◌∷◌, IsTrue, Bool, false, ℕ, List}
+use Rattle.std.specs.Prelude.{◌≡◌, ◌≤◌, [], ◌∷◌, IsTrue, Bool, false, None, ℕ, List}
 use Rattle.world_ticks.specs.declared.tick.TheConstants.{TICK_MAX}
 use Rattle.action_log.specs.Files.{FitsFiles}
 use Rattle.shared_capture.specs.States.{FrontState, BackState, HasFlags}
@@ -50,6 +50,7 @@ pub record IsBegun {D : Type 0} (front : FrontState) (back : BackState) (writer 
   pub since : workers.mutator.since ≡ 0
   pub due : workers.mutator.every ≡ every
   pub up : workers.mutator.down ≡ false
+  pub owes : workers.mutator.owed ≡ None
   pub checkpointer : workers.checkpointer ≡ record { back = back; covers = workers.checkpointer.covers; images = writer; opening = writer; over = false }
   pub log_writer : workers.log_writer ≡ writer_at workers.log_writer.from workers.log_writer.covers workers.log_writer.told_down log ended
   pub none_told : (workers.checkpointer.covers.ticks ≡ []) × (workers.log_writer.covers.ticks ≡ [])

@@ -3,10 +3,12 @@ use workers::Ask;
 /// The next step of a running world.
 #[derive(Drop)]
 pub enum Next {
-    /// The mutator runs a batch.
+    /// The mutator runs a batch, and owes its tick.
     Play(Ask),
-    /// The mutator opens a round, if one is due.
+    /// The mutator opens a round, if one is due, and owes its switch.
     Mark,
+    /// The mutator pushes what it owes. A server's does so before it does anything else.
+    Push,
     /// The mutator tells that no more comes.
     End,
     /// The log writer pops an item, if there is one and room for it.

@@ -4,30 +4,38 @@ ghost use Rattle.world_actions.specs.declared.refusal.Refusal.{Refusal};
 ghost use Rattle.workers.specs.declared.gate.Place.TheVariants.{Tick};
 ghost use Rattle.workers.specs.Gates.{MayGo, MayStick};
 ghost use Rattle.workers.specs.Imaging.{KeepsBack};
-ghost use Rattle.workers.specs.Mutating.{AnswersBatch, MarksIfDue, EndsPlay};
+ghost use Rattle.workers.specs.Mutating.{RunsBatch, Pays, EndsPlay};
 ghost use Rattle.worker_steps.specs.Kept.{KeepsFront, KeepsLog};
-ghost use Rattle.worker_steps.specs.Running.{MayPop, LogGoes, ImageGoes};
+ghost use Rattle.worker_steps.specs.Running.{MayOpen, MayPop, LogGoes, ImageGoes};
 
 use disk_model::Disk;
 use shared_capture::Method;
 use std::sync::Wait;
 use workers::{Ask, Checkpointer, Gate, LogWriter, Mutator};
 
-/// Runs a batch.
+/// Runs a batch, and owes its tick.
 pub fn play<R: Wait, M: Method, G: Gate + Drop>(rt: &R, mutator: &mut Mutator<M, G>, ask: Ask)
     ensures keeps { KeepsFront mutator.old mutator.new }
     ensures made { (given : Result (Unit {0}) Refusal)
-        × AnswersBatch (MayGo G.told Tick) (MayStick G.told Tick) mutator.old ask given mutator.new }
+        × RunsBatch (MayGo G.told Tick) (MayStick G.told Tick) mutator.old ask given mutator.new }
 {
-    let _ = mutator.play_batch(rt, ask);
+    let _ = mutator.run_batch(rt, ask);
 }
 
-/// Opens a round, if one is due.
-pub fn mark<R: Wait, M: Method, G: Gate + Drop>(rt: &R, mutator: &mut Mutator<M, G>)
+/// Opens a round, if one is due, and owes its switch.
+pub fn mark<M: Method, G: Gate + Drop>(mutator: &mut Mutator<M, G>)
     ensures keeps { KeepsFront mutator.old mutator.new }
-    ensures made { MarksIfDue mutator.old mutator.new }
+    ensures made { MayOpen mutator.old mutator.new }
 {
-    mutator.mark_if_due(rt);
+    mutator.open_if_due();
+}
+
+/// Pushes what is owed.
+pub fn push<R: Wait, M: Method, G: Gate + Drop>(rt: &R, mutator: &mut Mutator<M, G>)
+    ensures keeps { KeepsFront mutator.old mutator.new }
+    ensures made { Pays mutator.old mutator.new }
+{
+    mutator.pay(rt);
 }
 
 /// Tells that no more comes.
@@ -49,10 +57,7 @@ pub fn pop<R: Wait, D: Disk + Drop, G: Gate + Drop>(rt: &R, log_writer: &mut Log
 }
 
 /// Makes a step of the log, or refuses what can't be posted.
-pub fn write_log<R: Wait, D: Disk + Drop, G: Gate + Drop>(
-    rt: &R,
-    log_writer: &mut LogWriter<D, G>,
-)
+pub fn write_log<R: Wait, D: Disk + Drop, G: Gate + Drop>(rt: &R, log_writer: &mut LogWriter<D, G>)
     ensures keeps { KeepsLog log_writer.old log_writer.new }
     ensures made { LogGoes G.told D.called D.faults log_writer.old log_writer.new }
 {

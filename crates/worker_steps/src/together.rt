@@ -11,7 +11,7 @@ ghost use Rattle.worker_steps.specs.Running.{Makes, Meets};
 use crate::next::Next;
 use crate::opened::{Gates, Opened};
 use crate::signals::Signals;
-use crate::steps::{end, mark, play, pop, write_image, write_log};
+use crate::steps::{end, mark, play, pop, push, write_image, write_log};
 use disk_model::Disk;
 use shared_capture::Method;
 use std::alloc::{AllocError, Global};
@@ -38,7 +38,7 @@ impl<M: Method, D: Disk + Drop, A: Gate + Drop, B: Gate + Drop, C: Gate + Drop> 
     B,
     C,
 > {
-    /// The workers of a world as they begin, where a round is due after every `every` ticks.
+    /// The workers of a world as they begin. A round is due after every `every` ticks.
     pub fn begin<R: Wait>(
         rt: &R,
         alloc: Global,
@@ -125,7 +125,8 @@ impl<M: Method, D: Disk + Drop, A: Gate + Drop, B: Gate + Drop, C: Gate + Drop> 
     {
         match next {
             Next::Play(ask) => play(rt, &mut self.mutator, ask),
-            Next::Mark => mark(rt, &mut self.mutator),
+            Next::Mark => mark(&mut self.mutator),
+            Next::Push => push(rt, &mut self.mutator),
             Next::End => end(rt, &mut self.mutator),
             Next::Pop => pop(rt, &mut self.log_writer),
             Next::Log => write_log(rt, &mut self.log_writer),

@@ -41,11 +41,13 @@ fn play_step<M: Method>(rt: &(impl Wait + Abort), alloc: Global, world: &mut Wor
     world.step(rt, Next::Play(ask));
 }
 
+// What is owed is pushed some steps later.
 fn next_step(at: u64) -> Next {
-    match at % 5 {
-        0 => Next::Mark,
-        1 => Next::Pop,
-        3 => Next::Log,
+    match at % 7 {
+        1 => Next::Mark,
+        3 => Next::Push,
+        4 => Next::Pop,
+        2 | 5 => Next::Log,
         _ => Next::Image,
     }
 }
@@ -70,8 +72,8 @@ fn try_order<M: Seats>(rt: &(impl Wait + Abort), alloc: Global, every: u64) -> (
 
 #[test]
 fn files_stand_after_each_step(rt: HostRuntime) {
-    let ticks = try_order::<Zig>(&rt, rt.alloc(), 7);
-    same(&rt, "what stands at the end", ticks, (29, 29));
+    let ticks = try_order::<Zig>(&rt, rt.alloc(), 9);
+    same(&rt, "what stands at the end", ticks, (23, 23));
     let ticks = try_order::<Pong>(&rt, rt.alloc(), 11);
     same(&rt, "what stands at the end", ticks, (19, 19));
 }

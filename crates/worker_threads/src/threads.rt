@@ -21,6 +21,7 @@ use std::sync::Wait;
 use std::thread::{PromisedHandle, Threads};
 use worker_steps::{Gates, Opened, Together};
 use workers::{Ask, Checkpointer, Gate, ItemReceiver, ItemSender, LogWriter, Mutator, Waiting};
+use world_ticks::Tick;
 
 /// Why workers can't be started.
 #[derive(Clone, Copy, Debug, PartialEq, Eq)]
@@ -219,6 +220,8 @@ fn start_mutator<
     crosses::<Front<M>>();
     crosses::<ItemSender>();
     crosses::<CoverIn>();
+    crosses::<Tick>();
+    crosses::<Waiting>();
     let same = SameMutator(Snapshot::of(&mutator));
     spawn(rt, same, asked, mutator)
 }

@@ -1,7 +1,9 @@
 -- What the mutator pushed goes on with what it does.
-use Rattle.std.proofs.Common.{arith, ◌≡◌, inl, inr, ℕ, ◌+◌, ◌<◌, ◌≤◌, Bool, true, false, List, [], ◌∷◌, ◌++◌, All, get_or, refl, sym, ap, ◌∙◌, subst, append-nil}
+use Rattle.std.proofs.Common.{arith, ◌≡◌, inl, inr, ℕ, ◌+◌, ◌<◌, ◌≤◌, Bool, true, false, List, [], ◌∷◌, ◌++◌, All, get_or, Option, Some, None, refl, sym, ap, ◌∙◌, subst, append-nil}
+use Rattle.std.specs.Prelude.{IfSome}
 use Rattle.std.proofs.lemmas.List.Elements.{All-nil, All-push, All-weaker}
 use Rattle.world_ticks.specs.declared.tick.TheConstants.{TICK_MAX}
+use Rattle.action_log.specs.declared.format.TheConstants.{SEGMENT_TICKS}
 use Rattle.action_log.specs.Queue.{QueueEnd}
 use Rattle.sessions.specs.declared.batch.Request.{Request}
 use Rattle.sessions.specs.Answer.{answer, accepted_of, words_after}
@@ -15,7 +17,7 @@ use Rattle.workers.specs.declared.item.Item.TheVariants.{Start, Tick, Switch, En
 use Rattle.workers.specs.Items.{Goes, items_end, end_after}
 use Rattle.workers.specs.Channel.{Pushing, with_refusal}
 use Rattle.workers.specs.Worlds.{World, after_item, Leads, begun, world_of, IsUnchanged, AreUnchanged, IsLate, History, Counts}
-use Rattle.workers.specs.Mutating.{Playing, IsMutator}
+use Rattle.workers.specs.Mutating.{Playing, Owes, IsMutator}
 use Rattle.workers.proofs.Numbers.{end_more}
 
 pub leads_snoc : (w : World) (items : List Item) (mid : World) (x : Item) (v : World) → Leads w items mid → after_item mid x v → Leads w (items ++ x ∷ []) v
@@ -74,84 +76,146 @@ UpTo base rounds = All (λ (r : Round). r.tick ≤ base) rounds
 up_to_more : (base most : ℕ) (rounds : List Round) (r : Round) → base ≤ most → UpTo base rounds → r.tick ≤ most → UpTo most (rounds ++ r ∷ [])
 up_to_more base most rounds r le known this = All-push (λ (s : Round). s.tick ≤ most) rounds r (All-weaker (λ (s : Round). s.tick ≤ base) (λ (s : Round). s.tick ≤ most) (λ s l. omega (arith, l, le)) rounds known) this
 
-module _ (m : Playing) (front : FrontState) (to : Pushing) (heard : CoverState) (is : IsMutator m) (up : m.down ≡ false) where
-  pub ran : (ended : Ended) (requests : List Request) → to.items ≡ m.to.items ++ Tick ended ∷ [] → SameRounds m.front front → ended.tick.list ≡ accepted_of requests m.front.live
-      → ended.answer.text ≡ answer requests m.front.live ended.answer.number → front.live ≡ words_after requests m.front.live → m.ended < TICK_MAX → (HasFlags m.front → KeepsUntouched m.front front)
-      → IsMutator (record m { front = front; to = to; heard = heard; ended = m.ended + 1; since = m.since + 1 })
-  ran ended requests pushed same tick text words room keeps =
-      let last : items_end to.items ≡ end_after (items_end m.to.items) (Tick ended) = ap items_end pushed ∙ end_more m.to.items (Tick ended) in
-      let counts = is.counts in record {
-        history = subst (λ (l : List Item). History m.opening l m.down front) (sym pushed)
-            (history_more m.opening m.to.items m.down (Tick ended) m.front front is.history up (requests, record { tick = tick; text = text; words = words; rounds = same.1 }));
-        counts = subst (λ (e : QueueEnd). Counts e (m.ended + 1) (m.since + 1)) (sym last) (record { count = ap (λ k. k + 1) counts.count; all = omega (arith, counts.all) });
-        rising = λ _. subst (λ (e : QueueEnd). UpTo e.base front.rounds) (sym last) (subst (UpTo (items_end m.to.items).base) (sym same.1) (is.rising up));
-        most = omega (arith, room);
-        flags = (keeps is.flags).flags;
-        unchanged = unchanged_ran m.opening m.front front same.1 (keeps is.flags) is.unchanged;
-      }
-
-  -- a batch was run, and the push of its tick refused
-  pub lost_tick : SameRounds m.front front → to ≡ with_refusal m.to → (HasFlags m.front → KeepsUntouched m.front front) → IsMutator (record m { front = front; to = to; heard = heard; down = true })
-  lost_tick same refused keeps =
-      let h = is.history in record {
+module _ (m : Playing) (front : FrontState) (heard : CoverState) (is : IsMutator m) (up : m.down ≡ false) where
+  -- a batch was run, whose tick is owed
+  pub owes_tick : (ended : Ended) (requests : List Request) → SameRounds m.front front → ended.tick.list ≡ accepted_of requests m.front.live
+      → ended.answer.text ≡ answer requests m.front.live ended.answer.number → ended.answer.number ≡ m.ended + 1 → front.live ≡ words_after requests m.front.live
+      → (m.ended < TICK_MAX) × (m.since < SEGMENT_TICKS) → (HasFlags m.front → KeepsUntouched m.front front)
+      → IsMutator (record m { front = front; heard = heard; down = true; owed = Some (Tick ended) })
+  owes_tick ended requests same tick text number words room keeps =
+      let h = is.history in
+      let counts = is.counts in
+      let now = leads_now m.opening m.to.items m.down m.front h up in record {
         history = record {
           late = h.late;
-          is_late = subst (λ (t : Pushing). IsLate t.items h.late) (sym refused) h.is_late;
+          is_late = h.is_late;
           told = h.told;
-          leads = subst (λ (t : Pushing). Leads (begun m.opening) (t.items ++ h.late) h.told) (sym refused) h.leads;
+          leads = h.leads;
           rounds = same.1 ∙ h.rounds;
           all_told = λ no. absurd (cc);
         };
-        counts = subst (λ (t : Pushing). Counts (items_end t.items) m.ended m.since) (sym refused) is.counts;
+        counts = counts;
         rising = λ no. absurd (cc);
         most = is.most;
         flags = (keeps is.flags).flags;
         unchanged = unchanged_ran m.opening m.front front same.1 (keeps is.flags) is.unchanged;
+        owes = record {
+          stopped = refl;
+          goes = (omega (arith, counts.count, room.1), omega (arith, counts.all, counts.count, room.0), omega (arith, counts.all, counts.count, number));
+          leads = leads_snoc (begun m.opening) m.to.items (world_of m.front) (Tick ended) (world_of front) now (requests, record { tick = tick; text = text; words = words; rounds = same.1 });
+          rising = subst (UpTo (items_end m.to.items).base) (sym same.1) (is.rising up);
+        };
       }
 
   -- a round is due
   switch_goes : (m.since ≡ 0 → ⊥) → Goes (items_end m.to.items) (Switch m.ended)
   switch_goes some = let counts = is.counts in (omega (arith, counts.all, counts.count), omega (arith, some, counts.count))
 
-  pub marked : to.items ≡ m.to.items ++ Switch m.ended ∷ [] → front.live ≡ m.front.live → front.rounds ≡ m.front.rounds ++ round m.ended m.front.live m.front.touched ∷ [] → HasFlags front
-      → IsMutator (record m { front = front; to = to; heard = heard; since = 0 })
-  marked pushed live rounds flags =
-      let last : items_end to.items ≡ end_after (items_end m.to.items) (Switch m.ended) = ap items_end pushed ∙ end_more m.to.items (Switch m.ended) in
+  -- a round was opened, whose switch is owed
+  pub owes_switch : (m.since ≡ 0 → ⊥) → front.live ≡ m.front.live → front.rounds ≡ m.front.rounds ++ round m.ended m.front.live m.front.touched ∷ [] → HasFlags front
+      → IsMutator (record m { front = front; heard = heard; down = true; owed = Some (Switch m.ended) })
+  owes_switch some live rounds flags =
+      let now = leads_now m.opening m.to.items m.down m.front is.history up in
+      let leads = leads_snoc (begun m.opening) m.to.items (world_of m.front) (Switch m.ended) (world_of front) now (live, (m.front.touched, rounds)) in
       let counts = is.counts in record {
-        history = subst (λ (l : List Item). History m.opening l m.down front) (sym pushed)
-            (history_more m.opening m.to.items m.down (Switch m.ended) m.front front is.history up (live, (m.front.touched, rounds)));
-        counts = subst (λ (e : QueueEnd). Counts e m.ended 0) (sym last) (record { count = refl; all = omega arith });
-        rising = λ _. subst (λ (e : QueueEnd). UpTo e.base front.rounds) (sym last) (subst (UpTo m.ended) (sym rounds)
-            (up_to_more (items_end m.to.items).base m.ended m.front.rounds (round m.ended m.front.live m.front.touched) (omega (arith, counts.all)) (is.rising up) (omega arith)));
-        most = is.most;
-        flags = flags;
-        unchanged = unchanged_marked m.opening m.front front m.ended live rounds is.unchanged;
-      }
-
-  -- a round was opened, and the push of its switch refused
-  pub lost_switch : (m.since ≡ 0 → ⊥) → to ≡ with_refusal m.to → front.live ≡ m.front.live → front.rounds ≡ m.front.rounds ++ round m.ended m.front.live m.front.touched ∷ [] → HasFlags front
-      → IsMutator (record m { front = front; to = to; heard = heard; down = true })
-  lost_switch some refused live rounds flags =
-      let now = leads_now m.opening m.to.items m.down m.front is.history up in record {
         history = record {
           late = Switch m.ended ∷ [];
-          is_late = inr (m.ended, refl, subst (λ (t : Pushing). Goes (items_end t.items) (Switch m.ended)) (sym refused) (switch_goes some));
+          is_late = inr (m.ended, refl, switch_goes some);
           told = world_of front;
-          leads = subst (λ (t : Pushing). Leads (begun m.opening) (t.items ++ Switch m.ended ∷ []) (world_of front)) (sym refused)
-              (leads_snoc (begun m.opening) m.to.items (world_of m.front) (Switch m.ended) (world_of front) now (live, (m.front.touched, rounds)));
+          leads = leads;
           rounds = refl;
           all_told = λ no. absurd (cc);
         };
-        counts = subst (λ (t : Pushing). Counts (items_end t.items) m.ended m.since) (sym refused) is.counts;
+        counts = counts;
         rising = λ no. absurd (cc);
         most = is.most;
         flags = flags;
         unchanged = unchanged_marked m.opening m.front front m.ended live rounds is.unchanged;
+        owes = record {
+          stopped = refl;
+          goes = switch_goes some;
+          leads = leads;
+          rising = subst (UpTo m.ended) (sym rounds)
+              (up_to_more (items_end m.to.items).base m.ended m.front.rounds (round m.ended m.front.live m.front.touched) (omega (arith, counts.all)) (is.rising up) (omega arith));
+        };
       }
+
+-- ---- what is owed
+
+pub owed_item : (m : Playing) (item : Item) → IsMutator m → m.owed ≡ Some item → Owes m item
+owed_item m item is some = subst (λ (o : Option Item). IfSome o (Owes m)) some is.owes
+
+-- who hasn't stopped owes nothing
+pub owes_nothing : (m : Playing) → IsMutator m → m.down ≡ false → m.owed ≡ None
+owes_nothing m is up = by_owed m.owed refl
+  where
+    by_owed : (owed : Option Item) → m.owed ≡ owed → m.owed ≡ None
+    by_owed None same = same
+    by_owed (Some item) same = absurd (let e : true ≡ false = sym (owed_item m item is same).stopped ∙ up in cc)
+
+module _ (m : Playing) (to : Pushing) (is : IsMutator m) (owed : Option Item) (none : owed ≡ None) where
+  owes_none : (new : Playing) → IfSome owed (Owes new)
+  owes_none new = subst (λ (o : Option Item). IfSome o (Owes new)) (sym none) tt
+
+  -- all is told once the item is pushed
+  told_paid : (item : Item) → Owes m item → to.items ≡ m.to.items ++ item ∷ [] → History m.opening to.items false m.front
+  told_paid item owes pushed = record {
+    late = [];
+    is_late = inl refl;
+    told = world_of m.front;
+    leads = subst (λ (l : List Item). Leads (begun m.opening) l (world_of m.front)) (sym (append-nil to.items ∙ pushed)) owes.leads;
+    rounds = refl;
+    all_told = λ _. (refl, refl);
+  }
+
+  pub paid_tick : (ended : Ended) → Owes m (Tick ended) → to.items ≡ m.to.items ++ Tick ended ∷ []
+      → IsMutator (record m { to = to; ended = m.ended + 1; since = m.since + 1; down = false; owed = owed })
+  paid_tick ended owes pushed =
+      let last : items_end to.items ≡ end_after (items_end m.to.items) (Tick ended) = ap items_end pushed ∙ end_more m.to.items (Tick ended) in
+      let counts = is.counts in record {
+        history = told_paid (Tick ended) owes pushed;
+        counts = subst (λ (e : QueueEnd). Counts e (m.ended + 1) (m.since + 1)) (sym last) (record { count = ap (λ k. k + 1) counts.count; all = omega (arith, counts.all) });
+        rising = λ _. subst (λ (e : QueueEnd). UpTo e.base m.front.rounds) (sym last) owes.rising;
+        most = omega (arith, owes.goes.1, counts.all, counts.count);
+        flags = is.flags;
+        unchanged = is.unchanged;
+        owes = owes_none _;
+      }
+
+  pub paid_switch : (number : ℕ) → Owes m (Switch number) → to.items ≡ m.to.items ++ Switch number ∷ []
+      → IsMutator (record m { to = to; since = 0; down = false; owed = owed })
+  paid_switch number owes pushed =
+      let last : items_end to.items ≡ end_after (items_end m.to.items) (Switch number) = ap items_end pushed ∙ end_more m.to.items (Switch number) in
+      let counts = is.counts in record {
+        history = told_paid (Switch number) owes pushed;
+        counts = subst (λ (e : QueueEnd). Counts e m.ended 0) (sym last) (record { count = refl; all = omega (arith, owes.goes.0, counts.all, counts.count) });
+        rising = λ _. subst (λ (e : QueueEnd). UpTo e.base m.front.rounds) (sym last) owes.rising;
+        most = is.most;
+        flags = is.flags;
+        unchanged = is.unchanged;
+        owes = owes_none _;
+      }
+
+  -- the push was refused
+  pub unpaid : to ≡ with_refusal m.to → IsMutator (record m { to = to; owed = owed })
+  unpaid refused = subst (λ (t : Pushing). IsMutator (record m { to = t; owed = owed })) (sym refused) (record {
+    history = is.history;
+    counts = is.counts;
+    rising = is.rising;
+    most = is.most;
+    flags = is.flags;
+    unchanged = is.unchanged;
+    owes = owes_none _;
+  })
+
+-- the last round is that of the switch
+pub last_owed : (w : World) (items : List Item) (number : ℕ) (v : World) → Leads w (items ++ Switch number ∷ []) v → (before : List Round) × (r : Round) × (v.rounds ≡ before ++ r ∷ []) × (r.tick ≡ number)
+last_owed w [] number v lead = (w.rounds, round number w.words lead.1.1.0, ap (λ (x : World). x.rounds) lead.2 ∙ lead.1.1.1, refl)
+last_owed w (x ∷ items) number v lead = last_owed lead.0 items number v lead.2
 
 -- a mutator of a world whose start has ended
 pub begins : (front : FrontState) (to : Pushing) (heard : CoverState) (opening : List ℕ) (tick every : ℕ) → front.rounds ≡ [] → to.items ≡ Start tick ∷ [] → opening ≡ front.live → tick ≤ TICK_MAX → HasFlags front
-    → IsMutator (record { front = front; to = to; heard = heard; opening = opening; ended = tick; since = 0; every = every; down = false })
+    → IsMutator (record { front = front; to = to; heard = heard; opening = opening; ended = tick; since = 0; every = every; down = false; owed = None })
 begins front to heard opening tick every none start words numbered flags = record {
   history = record {
     late = [];
@@ -166,6 +230,7 @@ begins front to heard opening tick every none start words numbered flags = recor
   most = numbered;
   flags = flags;
   unchanged = subst (λ (l : List Round). AreUnchanged opening (l ++ round 0 front.live front.touched ∷ [])) (sym none) ((λ i no. ap (λ (l : List ℕ). get_or l i 0) (sym words)), tt);
+  owes = tt;
 }
 
 -- the last item, whether the mutator has stopped or not
@@ -176,6 +241,17 @@ leads_end w (y ∷ items) late v lead = (lead.0, lead.1, leads_end lead.0 items 
 late_end : (items more late : List Item) → items_end more ≡ items_end items → IsLate items late → IsLate more late
 late_end items more late same (inl none) = inl none
 late_end items more late same (inr one) = inr (one.0, one.1, subst (λ (e : QueueEnd). Goes e (Switch one.0)) (sym same) one.2)
+
+owes_end : (m : Playing) (to : Pushing) → to.items ≡ m.to.items ++ End ∷ [] → (owed : Option Item) → IfSome owed (Owes m) → IfSome owed (Owes (record m { to = to }))
+owes_end m to pushed None none = tt
+owes_end m to pushed (Some item) owes =
+    let last : items_end to.items ≡ items_end m.to.items = ap items_end pushed ∙ end_more m.to.items End in
+    record {
+      stopped = owes.stopped;
+      goes = subst (λ (e : QueueEnd). Goes e item) (sym last) owes.goes;
+      leads = subst (λ (l : List Item). Leads (begun m.opening) (l ++ item ∷ []) (world_of m.front)) (sym pushed) (leads_end (begun m.opening) m.to.items (item ∷ []) (world_of m.front) owes.leads);
+      rising = subst (λ (e : QueueEnd). UpTo (end_after e item).base m.front.rounds) (sym last) owes.rising;
+    }
 
 pub told_end : (m : Playing) (to : Pushing) → IsMutator m → to.items ≡ m.to.items ++ End ∷ [] → IsMutator (record m { to = to })
 told_end m to is pushed =
@@ -194,4 +270,5 @@ told_end m to is pushed =
       most = is.most;
       flags = is.flags;
       unchanged = is.unchanged;
+      owes = owes_end m to pushed m.owed is.owes;
     }

@@ -53,7 +53,7 @@ module _ {D : Type 0} (faults : D → ℕ) where
       runs = runs_then mid.images.keeper new.images.keeper old.back mid.back new.back (is_busy mid.images.keeper left) first.runs then.runs;
       failures = told_then old.images mid.images new.images (first.up goes) first.failures then.failures;
       asks = elim first.asks [
-        | inl same ↦ elim then.asks [ | inl still ↦ inl (still ∙ same) | inr let_go ↦ inr let_go ]
+        | inl same ↦ elim then.asks [ inl still ↦ inl (still ∙ same) | inr let_go ↦ inr let_go ]
         | inr let_go ↦ inr let_go
       ];
       over = then.over;

@@ -1,5 +1,5 @@
 -- The mutator as contracts see it, and what a turn of it does.
-use Rattle.std.specs.Prelude.{◌≡◌, ◌⊎◌, ℕ, ◌+◌, ◌<◌, ◌≤◌, Bool, true, false, List, [], ◌∷◌, ◌++◌, All, Result, MatchResult}
+use Rattle.std.specs.Prelude.{◌≡◌, ◌⊎◌, ℕ, ◌+◌, ◌<◌, ◌≤◌, Bool, true, false, List, [], ◌∷◌, ◌++◌, All, Option, Some, None, IfSome, MatchOption, Result, MatchResult}
 use Rattle.world_actions.specs.declared.refusal.Refusal.{Refusal}
 use Rattle.world_actions.specs.declared.refusal.Refusal.TheVariants.{LogDown, Busy}
 use Rattle.world_ticks.specs.declared.tick.TheConstants.{TICK_MAX}
@@ -7,15 +7,17 @@ use Rattle.shared_capture.specs.declared.view.Round.{Round}
 use Rattle.shared_capture.specs.CoverWord.{CoverState}
 use Rattle.shared_capture.specs.States.{FrontState, HasFlags, KeepsUntouched, SameWords, marked_rounds, IsRefused}
 use Rattle.workers.specs.declared.item.Ended.{Ended}
+use Rattle.workers.specs.declared.item.Item.{Item}
 use Rattle.workers.specs.declared.item.Item.TheVariants.{Tick, Switch, End}
-use Rattle.workers.specs.Items.{items_end}
+use Rattle.workers.specs.Items.{Goes, end_after, items_end}
 use Rattle.workers.specs.Posts.{AskedBatch}
 use Rattle.workers.specs.Channel.{Pushing, with_item, with_refusal}
 use Rattle.workers.specs.Covering.{loaded}
-use Rattle.workers.specs.Worlds.{AreUnchanged, History, Counts, RanBatch, IsRefusedTick, world_of}
+use Rattle.workers.specs.Worlds.{Leads, begun, AreUnchanged, History, Counts, RanBatch, IsRefusedTick, world_of}
 
 -- its front, its end of the channel, the word by which it hears that the log is down, the words that it began with, how many
--- ticks ended, how many of them since the last switch or start, after how many a round is due, and whether it has stopped
+-- ticks ended, how many of them since the last switch or start, after how many a round is due, whether it has stopped, and the
+-- item that it owes, if it owes one
 pub record Playing : Type 0 where
   pub front : FrontState
   pub to : Pushing
@@ -25,6 +27,14 @@ pub record Playing : Type 0 where
   pub since : ℕ
   pub every : ℕ
   pub down : Bool
+  pub owed : Option Item
+
+-- It owes this item, which may be pushed next, and tells what the front did since the last push. Up to then it has stopped.
+pub record Owes (m : Playing) (item : Item) : Type 0 where
+  pub stopped : m.down ≡ true
+  pub goes : Goes (items_end m.to.items) item
+  pub leads : Leads (begun m.opening) (m.to.items ++ item ∷ []) (world_of m.front)
+  pub rising : All (λ (r : Round). r.tick ≤ (end_after (items_end m.to.items) item).base) m.front.rounds
 
 -- What it pushed tells what its front did, its counts are those of what it pushed, and each round is of a tick up to the
 -- last switch. The cells that aren't touched have the words of the round before, in a round that is marked now, too.
@@ -35,6 +45,7 @@ pub record IsMutator (m : Playing) : Type 0 where
   pub most : m.ended ≤ TICK_MAX
   pub flags : HasFlags m.front
   pub unchanged : AreUnchanged m.opening (marked_rounds m.front 0)
+  pub owes : IfSome m.owed (Owes m)
 
 -- ---- a round
 
@@ -63,6 +74,15 @@ Marks old new = (new ≡ record old { front = new.front; to = new.to; since = 0 
 abbrev pub LosesSwitch : Playing → Playing → Type 0
 LosesSwitch old new = (new ≡ record old { front = new.front; to = with_refusal old.to; down = true }) × OpensRound old new.front
 
+-- no round was due, or one was open
+abbrev pub OpensNone : Playing → Playing → Type 0
+OpensNone old new = ((new ≡ old) × ((old.down ≡ true) ⊎ IsEarly old)) ⊎ FindsRound old new
+
+-- a round was opened, and its switch is owed
+abbrev pub OwesSwitch : Playing → Playing → Type 0
+OwesSwitch old new =
+    (old.down ≡ false) × (old.owed ≡ None) × (new ≡ record old { front = new.front; down = true; owed = Some (Switch old.ended) }) × OpensRound old new.front
+
 -- where a round is due it is opened, if none is open
 abbrev pub MarksIfDue : Playing → Playing → Type 0
 MarksIfDue old new = ((new ≡ old) × ((old.down ≡ true) ⊎ IsEarly old)) ⊎ (FindsRound old new ⊎ (Marks old new ⊎ LosesSwitch old new))
@@ -86,6 +106,11 @@ PushesTick old asked new = (new ≡ record old { front = new.front; to = new.to;
 abbrev pub LosesTick : Playing → AskedBatch → Playing → Type 0
 LosesTick old asked new = (new ≡ record old { front = new.front; to = with_refusal old.to; heard = loaded old.heard 0; down = true }) × ((ended : Ended) × Runs old asked ended new.front)
 
+-- the batch was run, before which the log wasn't told to be down, and its tick is owed
+abbrev pub OwesTick : Playing → AskedBatch → Playing → Type 0
+OwesTick old asked new = (old.owed ≡ None)
+    × ((ended : Ended) × Runs old asked ended new.front × (new ≡ record old { front = new.front; heard = loaded old.heard 0; down = true; owed = Some (Tick ended) }))
+
 -- the log was told to be down
 abbrev pub HearsDown : Playing → Refusal → Playing → Type 0
 HearsDown old reason new = (flag : ℕ) × (1 ≤ flag) × (new ≡ record old { heard = loaded old.heard flag }) × (reason ≡ LogDown)
@@ -100,6 +125,28 @@ RefusesBatch stuck old reason new =
 -- a batch is run, by a mutator that hasn't stopped and where the gate lets it, or refused
 abbrev pub AnswersBatch : (go stuck : Type 0) → Playing → AskedBatch → Result (Unit {0}) Refusal → Playing → Type 0
 AnswersBatch go stuck old asked given new = MatchResult given (λ _. go × (old.down ≡ false) × (PushesTick old asked new ⊎ LosesTick old asked new)) (λ reason. RefusesBatch stuck old reason new)
+
+-- the same, but that the tick is owed
+abbrev pub RunsBatch : (go stuck : Type 0) → Playing → AskedBatch → Result (Unit {0}) Refusal → Playing → Type 0
+RunsBatch go stuck old asked given new = MatchResult given (λ _. go × (old.down ≡ false) × OwesTick old asked new) (λ reason. RefusesBatch stuck old reason new)
+
+-- ---- what is owed
+
+-- this item was pushed and counts, or its push was refused; it is owed no more
+abbrev pub PaysItem : Playing → Item → Playing → Type 0
+PaysItem old (Tick ended) new =
+    (new ≡ record old { to = with_item old.to (Tick ended); ended = old.ended + 1; since = old.since + 1; down = false; owed = None })
+    ⊎ (new ≡ record old { to = with_refusal old.to; owed = None })
+PaysItem old (Switch number) new =
+    (new ≡ record old { to = with_item old.to (Switch number); since = 0; down = false; owed = None })
+    ⊎ (new ≡ record old { to = with_refusal old.to; owed = None })
+PaysItem old item new = new ≡ record old { owed = None }
+
+-- what is owed is pushed, or its push refused
+abbrev pub Pays : Playing → Playing → Type 0
+Pays old new = MatchOption old.owed (new ≡ old) (λ item. PaysItem old item new)
+
+-- ---- a turn
 
 -- a batch, and a mark before it and after it where one is due
 pub record Turns (go stuck : Type 0) (old : Playing) (asked : AskedBatch) (given : Result (Unit {0}) Refusal) (new : Playing) : Type 0 where

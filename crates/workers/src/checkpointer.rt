@@ -124,7 +124,7 @@ impl<M: Method, D: Disk + Drop, G: Gate + Drop> Checkpointer<M, D, G> {
         if self.over { None } else { Some(tick) }
     }
 
-    /// Looks for an open round, answers its tick, and begins its image. It is over if no image is made of that tick.
+    /// Looks for an open round, begins its image, and returns its tick. It is over if no image is made of that tick.
     pub fn begin(&mut self) -> Option<u64>
         requires goes_on { self.old.over ≡ false }
         requires idle { self.old.images.keeper.phase ≡ Idle }

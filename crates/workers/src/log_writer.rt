@@ -212,8 +212,8 @@ impl<D: Disk + Drop, G: Gate + Drop> LogWriter<D, G> {
         self.gather(rt);
     }
 
-    /// The log goes on by a step, if the gate lets it be made, or leaves out what the newest open image has; what that made
-    /// durable is answered.
+    /// Makes a step of the log, if the gate lets it, or leaves out what the newest open image has. It posts what that made
+    /// durable.
     pub fn step<R: Wait>(&mut self, rt: &R)
         requires up { self.old.down ≡ false }
         ensures same { self.new
@@ -279,7 +279,7 @@ impl<D: Disk + Drop, G: Gate + Drop> LogWriter<D, G> {
         }
     }
 
-    /// Whether a step is left to do, were the log up.
+    /// Whether a step is left to make, unless the log is down.
     pub fn has_work(&self) -> bool
         ensures { IsTrue result ↔ (0 < work_of self.now.log.keeper self.now.ring.items) }
     {
@@ -298,7 +298,7 @@ impl<D: Disk + Drop, G: Gate + Drop> LogWriter<D, G> {
     }
 
     /// Pops an item and keeps it, if there is one and room for it, without waiting. Once the log is down it pops an item and
-    /// refuses its answer. It answers whether it popped one.
+    /// refuses its answer. Returns whether it popped one.
     pub fn pop<R: Wait>(&mut self, rt: &R) -> bool
         requires goes_on { self.old.over ≡ false }
         ensures popped { result ≡ true → (item : Popped) × Pops self.old item self.new }

@@ -1,12 +1,12 @@
 //! The worker that runs the batches.
-ghost use Rattle.std.specs.Prelude.{◌≡◌, ◌++◌, ◌∷◌, [], ℕ, ◌≤◌, true, false, Err};
+ghost use Rattle.std.specs.Prelude.{◌≡◌, ◌++◌, ◌∷◌, [], ℕ, ◌≤◌, true, false, None, Err};
 ghost use Rattle.world_ticks.specs.declared.tick.TheConstants.{TICK_MAX};
 ghost use Rattle.shared_capture.specs.States.{HasFlags};
 ghost use Rattle.workers.specs.declared.gate.Place.TheVariants.{Tick};
 ghost use Rattle.workers.specs.declared.item.Item.TheVariants.{Start};
 ghost use Rattle.workers.specs.Covering.{loaded};
 ghost use Rattle.workers.specs.Gates.{MayGo, MayStick};
-ghost use Rattle.workers.specs.Mutating.{IsLastRound, MarksIfDue, AnswersBatch, Turns, EndsPlay};
+ghost use Rattle.workers.specs.Mutating.{IsLastRound, OpensNone, OwesSwitch, MarksIfDue, RunsBatch, AnswersBatch, Pays, Turns, EndsPlay};
 
 use crate::batch_run::play;
 use crate::ends::ItemSender;
@@ -39,6 +39,8 @@ pub struct Mutator<M: Method, G: Gate + Drop> {
     since: u64,
     every: u64,
     down: bool,
+    /// What the front did last and isn't pushed yet. The mutator has stopped up to its push.
+    owed: Option<Item>,
 }
 
 impl<M: Method, G: Gate + Drop> Model for Mutator<M, G> {
@@ -46,9 +48,9 @@ impl<M: Method, G: Gate + Drop> Model for Mutator<M, G> {
 
     ghost Value = { Playing };
 
-    ghost view = { λ m. record { front = m.front; to = m.to; heard = m.heard; opening = m.opening.value.live; ended = m.ended; since = m.since; every = m.every; down = m.down } };
+    ghost view = { λ m. record { front = m.front; to = m.to; heard = m.heard; opening = m.opening.value.live; ended = m.ended; since = m.since; every = m.every; down = m.down; owed = m.owed } };
 
-    ghost invariant = { λ m. IsMutator (record { front = m.front; to = m.to; heard = m.heard; opening = m.opening.value.live; ended = m.ended; since = m.since; every = m.every; down = m.down }) };
+    ghost invariant = { λ m. IsMutator (record { front = m.front; to = m.to; heard = m.heard; opening = m.opening.value.live; ended = m.ended; since = m.since; every = m.every; down = m.down; owed = m.owed }) };
 }
 
 impl<M: Method, G: Gate + Drop> Mutator<M, G> {
@@ -69,7 +71,7 @@ impl<M: Method, G: Gate + Drop> Mutator<M, G> {
         requires start { to.items ≡ Start tick ∷ [] }
         requires pushes { to.refused ≡ false }
         requires numbered { tick ≤ TICK_MAX }
-        ensures { result ≡ record { front = front; to = to; heard = heard; opening = front.live; ended = tick; since = 0; every = every; down = false } }
+        ensures { result ≡ record { front = front; to = to; heard = heard; opening = front.live; ended = tick; since = 0; every = every; down = false; owed = None } }
     {
         let opening = Snapshot::of(&front);
         Mutator {
@@ -84,6 +86,7 @@ impl<M: Method, G: Gate + Drop> Mutator<M, G> {
             since: 0,
             every: u64::from(every),
             down: false,
+            owed: None,
         }
     }
 
@@ -105,27 +108,47 @@ impl<M: Method, G: Gate + Drop> Mutator<M, G> {
         played
     }
 
-    /// Opens a round where one is due, and pushes its switch directly after.
+    /// Opens a round if one is due, and pushes its switch directly after.
     pub fn mark_if_due<R: Wait>(&mut self, rt: &R)
         ensures { MarksIfDue self.old self.new }
     {
+        if self.open_if_due() {
+            self.pay(rt);
+        }
+    }
+
+    /// Opens a round if one is due, and owes its switch. Returns whether it did.
+    pub fn open_if_due(&mut self) -> bool
+        ensures opened { result ≡ true → OwesSwitch self.old self.new }
+        ensures none { result ≡ false → OpensNone self.old self.new }
+    {
         if self.down || self.since == 0 || self.since < self.every {
-            return;
+            return false;
         }
         if self.front.mark(self.ended).is_err() {
-            return;
+            return false;
         }
-        if !self.to.push(rt, Item::Switch(self.ended)) {
-            self.down = true;
-            return;
-        }
-        self.since = 0;
-        ring(rt, &self.bell, &self.front, self.ended);
+        self.down = true;
+        self.owed = Some(Item::Switch(self.ended));
+        true
     }
 
     /// Runs a batch, and pushes its tick with the answer, or answers the refusal.
     pub fn play_batch<R: Wait>(&mut self, rt: &R, ask: Ask) -> Result<(), Refusal>
         ensures { AnswersBatch (MayGo G.told Tick) (MayStick G.told Tick) self.old ask result self.new }
+    {
+        match self.run_batch(rt, ask) {
+            Ok(()) => {
+                self.pay(rt);
+                Ok(())
+            }
+            Err(reason) => Err(reason),
+        }
+    }
+
+    /// Runs a batch, and owes its tick with the answer, or answers the refusal.
+    pub fn run_batch<R: Wait>(&mut self, rt: &R, ask: Ask) -> Result<(), Refusal>
+        ensures { RunsBatch (MayGo G.told Tick) (MayStick G.told Tick) self.old ask result self.new }
     {
         if self.down {
             return refuse(rt, ask, Refusal::LogDown);
@@ -152,13 +175,35 @@ impl<M: Method, G: Gate + Drop> Mutator<M, G> {
         };
         let number = number + 1;
         let answer = ask.wait(number, text);
-        if !self.to.push(rt, Item::Tick(Ended { tick, answer })) {
-            self.down = true;
-            return Ok(());
-        }
-        self.ended = number;
-        self.since += 1;
+        self.down = true;
+        self.owed = Some(Item::Tick(Ended { tick, answer }));
         Ok(())
+    }
+
+    /// Pushes what it owes, if it owes anything. If the push is refused it has stopped for good.
+    pub fn pay<R: Wait>(&mut self, rt: &R)
+        ensures { Pays self.old self.new }
+    {
+        let Some(item) = self.owed.take() else {
+            return;
+        };
+        match item {
+            Item::Tick(ended) => {
+                if self.to.push(rt, Item::Tick(ended)) {
+                    self.ended += 1;
+                    self.since += 1;
+                    self.down = false;
+                }
+            }
+            Item::Switch(number) => {
+                if self.to.push(rt, Item::Switch(number)) {
+                    self.since = 0;
+                    self.down = false;
+                    ring(rt, &self.bell, &self.front, number);
+                }
+            }
+            Item::Start(_) | Item::End => {}
+        }
     }
 
     /// Tells the log writer and the checkpointer that no more comes.
