@@ -65,8 +65,8 @@ pub goes_at : {D : Type 0} (faults : D → ℕ) (go stuck go' stuck' : Type 0) (
 goes_at faults go stuck go' stuck' old new going sticking goes = record {
   runs = goes.runs;
   failures = goes.failures;
-  asks = elim goes.asks [ | inl same ↦ inl same | inr let_go ↦ inr (going let_go) ];
-  over = λ over. (let is = goes.over over in (is.0, elim is.1 [ | inl down ↦ inl down | inr stays ↦ inr (sticking stays) ]));
+  asks = elim goes.asks [ inl same ↦ inl same | inr let_go ↦ inr (going let_go) ];
+  over = λ over. (let is = goes.over over in (is.0, elim is.1 [ inl down ↦ inl down | inr stays ↦ inr (sticking stays) ]));
   up = goes.up;
 }
 

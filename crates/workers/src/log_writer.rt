@@ -26,14 +26,13 @@ use advance::advance;
 use answers::Answers;
 use circular_buffer::HeapCircularBuffer;
 use disk_model::Disk;
+pub(crate) use holding::Holding;
 use keep::{keep, lose};
 use shared_capture::{CoverIn, CoverOut};
 use std::alloc::{AllocError, Global};
 use std::marker::Model;
 use std::snapshot::Snapshot;
 use std::sync::Wait;
-
-pub(crate) use holding::Holding;
 
 /// How many records may wait for the log, and how many answers for their ticks.
 pub const RING_ITEMS: usize = 64;

@@ -34,7 +34,7 @@ returns-clause-goes g c =
     let known = c.look.ensures.known (c.self.invariant.step.round busy).working in
     let down = c.is_down-self-inside.ensures in
     subst (λ (p : Imaging g.row.D.Denot). GoesOn (MayGo told (place_of p.images.keeper.phase)) (MayStick told (place_of p.images.keeper.phase)) g.D.Disk.faults p
-        (record { back = c.step.new.back; covers = c.step.new.covers; images = c.step.new.images; opening = inside.opening.value; over = c.is_down-self-inside.result })) c.self.view_is
+    (record { back = c.step.new.back; covers = c.step.new.covers; images = c.step.new.images; opening = inside.opening.value; over = c.is_down-self-inside.result })) c.self.view_is
     (record {
       runs = subst (λ (b : BackState). RoundRuns b c.step.new.images.keeper c.step.new.back) known.1 c.step.ensures.runs;
       failures = c.step.ensures.faults;
