@@ -35,10 +35,18 @@ fn begin_steps<M: Seats>(rt: &(impl Wait + Abort), alloc: Global) -> World<M> {
     Together::begin(rt, alloc, gates, opened, 1).expect(rt, "memory for workers")
 }
 
+// Makes the step, and looks at the files after it.
+fn step<M: Method>(rt: &(impl Wait + Abort), alloc: Global, world: &mut World<M>, next: Next) {
+    world.step(rt, next);
+    let _ = found(rt, alloc, world);
+}
+
+// Pushes what is owed, without which no batch is run, and runs a batch.
 fn play_step<M: Method>(rt: &(impl Wait + Abort), alloc: Global, world: &mut World<M>) {
     let (to, _from) = bounded(alloc, 1).expect(rt, "a channel");
     let ask = ask_for(rt, alloc, to);
-    world.step(rt, Next::Play(ask));
+    step(rt, alloc, world, Next::Push);
+    step(rt, alloc, world, Next::Play(ask));
 }
 
 // What is owed is pushed some steps later.
@@ -60,10 +68,8 @@ fn try_order<M: Seats>(rt: &(impl Wait + Abort), alloc: Global, every: u64) -> (
     for at in 0..400u64 {
         if at < 200 && at % every == 0 {
             play_step(rt, alloc, &mut world);
-            let _ = found(rt, alloc, &world);
         }
-        world.step(rt, next_step(at));
-        let _ = found(rt, alloc, &world);
+        step(rt, alloc, &mut world, next_step(at));
     }
     let stands = found(rt, alloc, &world);
     drop(world);
