@@ -30,9 +30,9 @@ impl Draft {
     /// a tick may have.
     pub fn fill(&mut self, cells: u32, random: &mut Random) {
         self.batch.clear();
-        let count = match random.below(100) {
-            0..6 => 0,
-            6 => 200u64.saturating_add(random.below(300)),
+        let count = match random.below(200) {
+            0..12 => 0,
+            12 => 400u64.saturating_add(random.below(200)),
             _ => 1u64.saturating_add(random.below(5)),
         };
         for _ in 0..count {

@@ -14,8 +14,10 @@ use world_ticks::TICK_MAX;
 /// The sizes of the worlds.
 const SIZES: [u32; 3] = [1, 65, 130];
 
-/// How many steps are made for each method and size.
-const STEPS: u64 = 16_500;
+/// How many worlds there are of each size, and how many steps are made in each. Files never get shorter.
+const WORLDS: u32 = 11;
+
+const STEPS: u64 = 1_500;
 
 /// How many steps are made in a world that is near the last tick, and how many ticks before it.
 const LAST_STEPS: u64 = 500;
@@ -38,8 +40,10 @@ const ODDS: Odds = Odds {
 
 /// Random steps in worlds of all sizes, and near the last tick; then a full segment.
 pub fn try_steps<R: Wait, M: Seats>(rt: &R, trial: &mut Trial) -> Result<(), Refusal> {
-    for cells in SIZES {
-        try_world::<R, M>(rt, trial, cells, 0, STEPS)?;
+    for _ in 0..WORLDS {
+        for cells in SIZES {
+            try_world::<R, M>(rt, trial, cells, 0, STEPS)?;
+        }
     }
     let tick = TICK_MAX.saturating_sub(LAST_TICKS);
     try_world::<R, M>(rt, trial, 1, tick, LAST_STEPS)?;
