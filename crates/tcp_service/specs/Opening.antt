@@ -33,9 +33,3 @@ GoesOnFrom file leaves files m c w =
     (ended from : ℕ) × IsRecovered file files m.opening ended from
     × ((cells : ℕ) (ticks : List (List Action)) (acknowledged : ℕ) → AreSynced file leaves files → AreSound file leaves files cells ticks acknowledged
     → LeaveSound file leaves cells (take ended ticks) m c w)
-
--- Where a world stood in what a server opened, the workers that it leaves make their files sound for the ticks that were there
--- and all that were played.
-abbrev pub StaysSound : {D : Type 0} → (file : D → List ℕ) → (leaves : D → List ℕ → Type 0) → (words : List ℕ) → ImageWriter D → Log D → (ended : ℕ) → Playing → Imaging D → Logging D → Type 0
-StaysSound file leaves words writer log ended m c w =
-    (cells : ℕ) (ticks : List (List Action)) → WorldStands file leaves cells ticks words writer log → ended ≡ length ticks → LeaveSound file leaves cells ticks m c w

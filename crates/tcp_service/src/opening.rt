@@ -5,7 +5,7 @@ ghost use Rattle.image_files.specs.declared.phase.Phase.TheVariants.{Idle};
 ghost use Rattle.served.specs.Parts.{AreAtRest, AreSettled};
 ghost use Rattle.served.specs.Opening.{IsRefused};
 ghost use Rattle.shared_capture.specs.States.{IsStart};
-ghost use Rattle.worker_threads.specs.Begun.{IsWhole};
+ghost use Rattle.worker_steps.specs.Begun.{IsWhole};
 ghost use Rattle.worker_ends.specs.Ends.{WorldStands};
 ghost use Rattle.tcp_service.specs.Opening.{IsRecovered, StandsOpened};
 
@@ -14,7 +14,7 @@ use disk_model::{Disk, FourFiles};
 use served::{Parts, Served};
 use shared_capture::{Back, Front, Method, Pong, Zig, ping_pong_pair, zigzag_pair};
 use std::alloc::Global;
-use worker_threads::Opened;
+use worker_steps::Opened;
 use workers::{ImageWriter, Log};
 use world_actions::Refusal;
 

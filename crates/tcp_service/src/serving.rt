@@ -1,7 +1,8 @@
 ghost use Rattle.std.specs.Prelude.{◌≡◌, ◌≢◌, ◌+◌, ◌≤◌, IsTrue, IfOk};
 ghost use Rattle.workers.specs.Meeting.{HeardOnlyOfDown};
-ghost use Rattle.worker_threads.specs.Begun.{IsWhole};
-ghost use Rattle.tcp_service.specs.Opening.{GoesOnFrom, StaysSound};
+ghost use Rattle.worker_ends.specs.Ends.{StaysSound};
+ghost use Rattle.worker_steps.specs.Begun.{IsWhole};
+ghost use Rattle.tcp_service.specs.Opening.{GoesOnFrom};
 
 use crate::accept::{Accepted, Admission, Closed, accept_sessions};
 use crate::door::Door;
@@ -13,7 +14,8 @@ use std::net::TcpListener;
 use std::sync::Wait;
 use std::thread::Threads;
 use std::time::Clock;
-use worker_threads::{Ends, Gates, NotStarted, Opened, Watch, ends_meet, start, stop};
+use worker_steps::{Gates, Opened};
+use worker_threads::{Ends, NotStarted, Watch, ends_meet, start, stop};
 use workers::Gate;
 use world_actions::Refusal;
 

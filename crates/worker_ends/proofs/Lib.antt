@@ -6,3 +6,4 @@ mod Written
 mod Meeting
 mod Joined
 mod Ended
+pub mod Staying

@@ -52,8 +52,14 @@ module _ {D : Type 0} (file : D → List ℕ) (leaves : D → List ℕ → Type 
       (cells : ℕ) (ticks : List (List Action)) → WorldStands file leaves cells ticks m.opening c.opening w.opening → BeginAt (length ticks) m.to.items
       → LeaveSound cells ticks m c w
 
+  -- Where a world stood after these ticks in what the workers began with, their files are sound for them and all that were
+  -- played.
+  abbrev pub StaysSound : (words : List ℕ) → ImageWriter D → Log D → (ended : ℕ) → Playing → Imaging D → Logging D → Type 0
+  StaysSound words writer log ended m c w =
+      (cells : ℕ) (ticks : List (List Action)) → WorldStands file leaves cells ticks words writer log → ended ≡ length ticks → LeaveSound cells ticks m c w
+
   -- once they have met, on disks that keep to the disk model
-  abbrev pub EndsAreSound : (honest : Bool) → Type 0
-  EndsAreSound honest =
+  abbrev pub StopsAreSound : (honest : Bool) → Type 0
+  StopsAreSound honest =
       (m : Playing) (c : Imaging D) (w : Logging D)
       → IsTrue honest → IsMutator m → IsCheckpointer honest file leaves c → IsLogging file leaves honest w → HaveMet m c w → AreSound m c w

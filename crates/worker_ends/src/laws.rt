@@ -1,4 +1,4 @@
-ghost use Rattle.worker_ends.specs.Ends.{EndsAreSound};
+ghost use Rattle.worker_ends.specs.Ends.{StopsAreSound};
 
 use action_log::log_outcomes;
 use capture_core::PlainCopy;
@@ -9,8 +9,8 @@ use sessions::answers_are_ticks;
 use world_ticks::actions_go_on;
 
 /// Law: the three workers of a world, their ends met, make its four files sound.
-pub fn ends_are_sound<D: Disk>()
-    ensures { EndsAreSound D.content D.may_leave D.honest }
+pub fn stops_are_sound<D: Disk>()
+    ensures { StopsAreSound D.content D.may_leave D.honest }
 {
     actions_go_on();
     answers_are_ticks();

@@ -3,4 +3,4 @@
 
 mod laws;
 
-pub use laws::ends_are_sound;
+pub use laws::stops_are_sound;

@@ -12,7 +12,8 @@ use std::process::Abort;
 use std::sync::Wait;
 use std::thread::{self, JoinHandle, Threads};
 use tcp_service::{Remote, Seats};
-use worker_threads::{Ends, Gates};
+use worker_steps::Gates;
+use worker_threads::Ends;
 use workers::{Ask, Gate, Pass, Place};
 use world_actions::{Action, Refusal};
 

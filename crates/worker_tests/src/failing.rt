@@ -12,7 +12,8 @@ use std::process::Abort;
 use std::sync::Wait;
 use std::thread::Threads;
 use tcp_service::{Seats, open_world};
-use worker_threads::{Ends, Gates};
+use worker_steps::Gates;
+use worker_threads::Ends;
 use workers::Open;
 
 const BATCHES: &[u8] =

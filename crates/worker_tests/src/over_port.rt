@@ -12,7 +12,7 @@ use std::sync::Wait;
 use std::thread::{self, JoinHandle, Threads};
 use std::time::Clock;
 use tcp_service::{Admission, Seats, serve_files};
-use worker_threads::Gates;
+use worker_steps::Gates;
 use workers::Open;
 
 const BATCHES: &[u8] = b"add 0 1\nget 0\nend\nadd 0 1\nget 0\nend\n";

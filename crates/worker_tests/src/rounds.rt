@@ -12,7 +12,8 @@ use std::sync::atomic::{AtomicU64, Ordering};
 use std::sync::{Arc, Wait};
 use std::thread::Threads;
 use tcp_service::{Remote, Seats, serve_batches};
-use worker_threads::{Ends, Gates, stop};
+use worker_steps::Gates;
+use worker_threads::{Ends, stop};
 use workers::Ask;
 use world_actions::Refusal;
 

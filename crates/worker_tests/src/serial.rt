@@ -3,7 +3,7 @@ ghost use Rattle.std.specs.Prelude.{◌≡◌, ◌≤◌, ◌∷◌, [], false};
 ghost use Rattle.world_ticks.specs.declared.tick.TheConstants.{TICK_MAX};
 ghost use Rattle.workers.specs.declared.item.Item.TheVariants.{Start};
 ghost use Rattle.workers.specs.Logging.{IsAtRest};
-ghost use Rattle.worker_threads.specs.Begun.{IsWhole};
+ghost use Rattle.worker_steps.specs.Begun.{IsWhole};
 
 use crate::held::Held;
 use crate::same::same;
@@ -17,7 +17,7 @@ use std::process::Abort;
 use std::sync::atomic::{AtomicU64, Ordering};
 use std::sync::{Arc, Wait};
 use tcp_service::Seats;
-use worker_threads::Opened;
+use worker_steps::Opened;
 use workers::{
     Ask, Asker, Checkpointer, ItemReceiver, ItemSender, LogWriter, Mutator, Open, Reply, open,
 };

@@ -1,6 +1,6 @@
 ghost use Rattle.std.specs.Prelude.{◌≤◌};
 ghost use Rattle.world_actions.specs.declared.world.TheConstants.{CELLS};
-ghost use Rattle.worker_threads.specs.Begun.{IsWhole};
+ghost use Rattle.worker_steps.specs.Begun.{IsWhole};
 
 use crossbeam_channel::Sender;
 use disk_model::{Disk, FourFiles, Fused, ModelFile};
@@ -11,7 +11,8 @@ use std::io;
 use std::process::Abort;
 use std::sync::Wait;
 use tcp_service::{Door, Seats, Unserved, open_world};
-use worker_threads::{Opened, Watch};
+use worker_steps::Opened;
+use worker_threads::Watch;
 use workers::{ImageWriter, Log};
 
 /// What a running world tells.

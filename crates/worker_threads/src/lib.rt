@@ -3,15 +3,12 @@
 #![tactic(auto)]
 
 mod meeting;
-mod opened;
 mod promises;
 mod running;
-mod signals;
 mod threads;
 mod watch;
 mod work;
 
 pub use meeting::ends_meet;
-pub use opened::{Gates, Opened};
 pub use threads::{Ends, NotStarted, Workers, start, stop};
 pub use watch::Watch;

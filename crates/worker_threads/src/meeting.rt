@@ -6,7 +6,7 @@ ghost use Rattle.worker_ends.specs.Ends.{AreSound};
 use crate::threads::Ends;
 use disk_model::Disk;
 use shared_capture::Method;
-use worker_ends::ends_are_sound;
+use worker_ends::stops_are_sound;
 use workers::{Gate, meet_workers};
 
 /// Brings the ends of a world's workers together. Then, on disks that keep to the disk model, the four files are sound for
@@ -21,7 +21,7 @@ pub fn ends_meet<M: Method, D: Disk + Drop, A: Gate + Drop, B: Gate + Drop, C: G
     ensures log_writer { ends.new.log_writer ≡ ends.old.log_writer }
     ensures heard { HeardOnlyOfDown ends.new.mutator.heard.ticks ends.new.log_writer.down }
 {
-    ends_are_sound::<D>();
+    stops_are_sound::<D>();
     meet_workers(
         &mut ends.mutator,
         &mut ends.checkpointer,

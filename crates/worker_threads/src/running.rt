@@ -1,6 +1,6 @@
 //! What each worker does in its thread until it ends.
 ghost use Rattle.std.specs.Prelude.{◌≡◌, false};
-ghost use Rattle.worker_threads.specs.Kept.{EndsFront, EndsBack, MayWrite, EndsLog};
+ghost use Rattle.worker_threads.specs.Kept.{EndsFront, MayTake, EndsBack, MayWrite, EndsLog};
 
 use crate::watch::Watch;
 use crate::work::Work;
@@ -32,6 +32,7 @@ fn write_images<R: Wait, M: Method, D: Disk + Drop, G: Gate + Drop, W: Watch<D>>
     watch: &mut W,
     mut checkpointer: Checkpointer<M, D, G>,
 ) -> Checkpointer<M, D, G>
+    requires { MayTake checkpointer }
     ensures { EndsBack checkpointer result }
 {
     for _ in rt.forever() {
@@ -85,10 +86,9 @@ impl<M: Method, G: Gate + Drop> Work<Receiver<Ask>> for Mutator<M, G> {
 
 impl<M: Method, D: Disk + Drop, G: Gate + Drop, W: Watch<D> + Drop> Work<W>
     for Checkpointer<M, D, G> {
-    ghost use Rattle.std.specs.Prelude.{⊤};
-    ghost use Rattle.worker_threads.specs.Kept.{EndsBack};
+    ghost use Rattle.worker_threads.specs.Kept.{MayTake, EndsBack};
 
-    ghost ready = { λ checkpointer. ⊤ };
+    ghost ready = { MayTake };
 
     ghost ended = { EndsBack };
 

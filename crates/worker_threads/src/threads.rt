@@ -1,14 +1,12 @@
 //! The workers of a world started and stopped, and what they leave.
-ghost use Rattle.std.specs.Prelude.{◌≡◌, IfOk};
+ghost use Rattle.std.specs.Prelude.{◌≡◌, true, IfOk};
 ghost use Rattle.std.specs.Thread.{IsSend};
 ghost use Rattle.workers.specs.Channel.{AreOneChannel};
 ghost use Rattle.worker_ends.specs.Ends.{acknowledged_by};
-ghost use Rattle.worker_threads.specs.Begun.{IsWhole, IsBegun};
-ghost use Rattle.worker_threads.specs.Kept.{MayWrite, EndsFront, EndsBack, EndsLog};
+ghost use Rattle.worker_steps.specs.Begun.{IsWhole, IsBegun};
+ghost use Rattle.worker_threads.specs.Kept.{MayTake, MayWrite, EndsFront, EndsBack, EndsLog};
 
-use crate::opened::{Gates, Opened};
 use crate::promises::{SameCheckpointer, SameLogWriter, SameMutator};
-use crate::signals::Signals;
 use crate::watch::Watch;
 use crate::work::spawn;
 use action_log::Record;
@@ -21,9 +19,8 @@ use std::marker::Model;
 use std::snapshot::Snapshot;
 use std::sync::Wait;
 use std::thread::{PromisedHandle, Threads};
-use workers::{
-    Ask, Checkpointer, Gate, ItemReceiver, ItemSender, LogWriter, Mutator, Waiting, open,
-};
+use worker_steps::{Gates, Opened, Together};
+use workers::{Ask, Checkpointer, Gate, ItemReceiver, ItemSender, LogWriter, Mutator, Waiting};
 
 /// Why workers can't be started.
 #[derive(Clone, Copy, Debug, PartialEq, Eq)]
@@ -57,7 +54,7 @@ pub struct Workers<M: Method, D: Disk + Drop, A: Gate + Drop, B: Gate + Drop, C:
 
 impl<M: Method, D: Disk + Drop, A: Gate + Drop, B: Gate + Drop, C: Gate + Drop> Model
     for Workers<M, D, A, B, C> {
-    ghost use Rattle.worker_threads.specs.Begun.{Started, AreTogether};
+    ghost use Rattle.worker_steps.specs.Begun.{Started, AreTogether};
 
     ghost Value = { Started D };
 
@@ -76,6 +73,7 @@ pub struct Ends<M: Method, D: Disk + Drop, A: Gate + Drop, B: Gate + Drop, C: Ga
     ghost channel: { AreOneChannel log_writer.from.end mutator.to.end },
     ghost word: { log_writer.covers.pair ≡ checkpointer.covers.pair },
     ghost flag: { mutator.heard.pair ≡ log_writer.told_down.pair },
+    ghost over: { checkpointer.over ≡ true },
 }
 
 impl<M: Method, D: Disk + Drop, A: Gate + Drop, B: Gate + Drop, C: Gate + Drop> Ends<
@@ -124,69 +122,13 @@ pub fn start<
     ensures { IfOk result (λ made. IsBegun opened.front opened.back opened.images opened.log opened.ended every made.0) }
 {
     let (asks, asked) = bounded(alloc, ASKS)?;
-    let Made {
+    let Together {
         mutator,
         checkpointer,
         log_writer,
-    } = make(rt, alloc, gates, opened, every)?;
+    } = Together::begin(rt, alloc, gates, opened, every)?;
     let workers = start_threads(rt, watch, asked, mutator, checkpointer, log_writer)?;
     Ok((workers, asks))
-}
-
-// The workers before they have threads.
-#[derive(Drop)]
-struct Made<M: Method, D: Disk + Drop, A: Gate + Drop, B: Gate + Drop, C: Gate + Drop> {
-    mutator: Mutator<M, A>,
-    checkpointer: Checkpointer<M, D, B>,
-    log_writer: LogWriter<D, C>,
-}
-
-fn make<R: Wait, M: Method, D: Disk + Drop, A: Gate + Drop, B: Gate + Drop, C: Gate + Drop>(
-    rt: &R,
-    alloc: Global,
-    gates: Gates<A, B, C>,
-    opened: Opened<M, D>,
-    every: u32,
-) -> Result<Made<M, D, A, B, C>, AllocError>
-    requires { IsWhole D.honest D.content opened.front opened.back opened.images opened.log opened.ended }
-    ensures begun { IfOk result (λ made. IsBegun opened.front opened.back opened.images opened.log opened.ended every
-        (record { mutator = made.mutator; checkpointer = made.checkpointer; log_writer = made.log_writer })) }
-    ensures pair { IfOk result (λ made. made.mutator.front.pair ≡ made.checkpointer.back.pair) }
-    ensures channel { IfOk result (λ made. AreOneChannel made.log_writer.from.end made.mutator.to.end) }
-    ensures word { IfOk result (λ made. made.log_writer.covers.pair ≡ made.checkpointer.covers.pair) }
-    ensures flag { IfOk result (λ made. made.mutator.heard.pair ≡ made.log_writer.told_down.pair) }
-    ensures rest { IfOk result (λ made. MayWrite made.log_writer) }
-{
-    let signals = Signals::new(alloc)?;
-    let (to, from) = open(rt, alloc, opened.ended)?;
-    let Opened {
-        front,
-        back,
-        images,
-        log,
-        ended,
-    } = opened;
-    let Gates {
-        mutator,
-        checkpointer,
-        log_writer,
-    } = gates;
-    let Signals {
-        bell,
-        rung,
-        out,
-        told,
-        told_down,
-        heard,
-    } = signals;
-    let mutator = Mutator::new(mutator, alloc, front, to, ended, every, bell, heard);
-    let checkpointer = Checkpointer::new(checkpointer, back, out, images, rung);
-    let log_writer = LogWriter::new(alloc, log_writer, from, told, log, told_down, ended)?;
-    Ok(Made {
-        mutator,
-        checkpointer,
-        log_writer,
-    })
 }
 
 // Starts the threads. Where one can't be made the others end, since the channels between them close.
@@ -210,7 +152,8 @@ fn start_threads<
     requires channel { AreOneChannel log_writer.from.end mutator.to.end }
     requires word { log_writer.covers.pair ≡ checkpointer.covers.pair }
     requires flag { mutator.heard.pair ≡ log_writer.told_down.pair }
-    requires rest { MayWrite log_writer }
+    requires takes { MayTake checkpointer }
+    requires writes { MayWrite log_writer }
     ensures { IfOk result (λ workers. workers ≡ record { mutator = mutator; checkpointer = checkpointer; log_writer = log_writer }) }
 {
     let watch_too = watch.clone()?;
@@ -243,6 +186,7 @@ fn start_players<
     mutator: Mutator<M, A>,
     checkpointer: Checkpointer<M, D, B>,
 ) -> Result<Players<M, D, A, B>, NotStarted>
+    requires { MayTake checkpointer }
     ensures mutator { IfOk result (λ players. players.0.promise.0.value ≡ mutator) }
     ensures checkpointer { IfOk result (λ players. players.1.promise.0.value ≡ checkpointer) }
 {
@@ -290,6 +234,7 @@ fn start_checkpointer<
     watch: W,
     checkpointer: Checkpointer<M, D, G>,
 ) -> Result<PromisedHandle<Checkpointer<M, D, G>, SameCheckpointer<M, D, G>>, NotStarted>
+    requires { MayTake checkpointer }
     ensures { IfOk result (λ handle. handle.promise.0.value ≡ checkpointer) }
 {
     crosses::<Back<M>>();

@@ -1,4 +1,4 @@
-ghost use Rattle.worker_threads.specs.Begun.{IsWhole};
+ghost use Rattle.worker_steps.specs.Begun.{IsWhole};
 
 use crossbeam_channel::Sender;
 use disk_model::Disk;
@@ -6,7 +6,8 @@ use shared_capture::Method;
 use std::alloc::Global;
 use std::sync::Wait;
 use std::thread::Threads;
-use worker_threads::{Gates, Opened, Watch, Workers, start};
+use worker_steps::{Gates, Opened};
+use worker_threads::{Watch, Workers, start};
 use workers::{Ask, ImageWriter, Log, Open};
 use world_actions::Refusal;
 

@@ -10,13 +10,16 @@ use Rattle.image_files.specs.declared.answer.ImageAnswer.{ImageAnswer}
 use Rattle.image_files.specs.declared.answer.ImageAnswer.TheVariants as answer
 use Rattle.image_files.specs.Images.{Round, ImageFiles, NoneYet, Newest, StepsImages, round_in, with_cell, with_round, with_taken, with_opened}
 use Rattle.image_files.specs.Progress.{Progress, target_of, cells_taken, left_of, moves_left, begun_keeper, opened_keeper}
+use Rattle.file_format.specs.Slot.{of_slot}
+use Rattle.image_files.specs.Files.{FitsFiles}
+use Rattle.image_files.specs.Keeper.{Fits}
 use Rattle.image_files.specs.Steps.{IfOpened, OnWorking, HasCause}
 use Rattle.image_files.specs.Taken.{filled_words, word_of}
 use Rattle.shared_capture.specs.declared.view.Snapshot.{Snapshot}
 use Rattle.shared_capture.specs.States.{BackState, TookBack, SameDone, FoundRound}
 use Rattle.workers.specs.declared.checkpointer.round.ImageWriter.{ImageWriter}
 use Rattle.workers.specs.Imaging.{round_of, with_work, images_after, newest_after, HasRound, AreInStep, SamePair, IsInWork, RoundRuns, IsDone, ImagesStand, FollowsRounds, WriterFits, TellsFaults, Imaging, IsCheckpointer, Turned}
-use Rattle.workers.specs.Publishing.{IsNoneDue, ArePublished}
+use Rattle.workers.specs.Publishing.{IsNoneDue, newest_tick, ArePublished}
 
 -- ---- the words of a round
 
@@ -265,6 +268,15 @@ begun_busy tick keeper is = by_shut keeper.target_shut is
     by_shut true e = cc e
     by_shut false e = cc e
 
+-- the round of this tick is in work, and no cell of it is taken
+pub record IsFresh (number : ℕ) (back : BackState) : Type 0 where
+  pub working : back.working ≡ true
+  pub tick : back.now.tick ≡ number
+  pub none : back.now.taken ≡ []
+
+pub fresh_found : (tick : ℕ) (back found : BackState) → FoundRound back tick found → IsFresh tick found
+fresh_found tick back found is = record { working = is.1; tick = is.2; none = is.3 }
+
 begun_images : (now : Snapshot) (tick : ℕ) (images : ImageFiles) → now.tick ≡ tick → now.taken ≡ [] → with_round tick images ≡ with_work now images
 begun_images now tick (NoneYet images) is none = rw (is, none) refl
 begun_images now tick (Newest images) is none = rw (is, none) refl
@@ -274,7 +286,7 @@ module _ {D : Type 0} (file : D → List ℕ) (leaves : D → List ℕ → Type 
   abbrev pub Begins : (tick : ℕ) → ImageWriter D → (next : ImageWriter D) → Type 0
   Begins tick old next = (images : ImageFiles) → ImagesStand file leaves old images → ImagesStand file leaves next (with_round tick images)
 
-  pub begun_follows : (tick : ℕ) (opening old next : ImageWriter D) (back found : BackState) → next.keeper ≡ begun_keeper tick old.keeper → old.keeper.phase ≡ Idle → SameDone back found → FoundRound back tick found
+  pub begun_follows : (tick : ℕ) (opening old next : ImageWriter D) (back found : BackState) → next.keeper ≡ begun_keeper tick old.keeper → old.keeper.phase ≡ Idle → SameDone back found → IsFresh tick found
       → Begins tick old next → FollowsRounds file leaves honest opening old back → FollowsRounds file leaves honest opening next found
   begun_follows tick opening old next back found begun idle same is begins f = record {
     newest = ap (λ (k : Progress). k.newest) begun ∙ (f.newest ∙ ap (λ (d : List Snapshot). newest_after opening.keeper.newest d) (sym same.2));
@@ -283,7 +295,7 @@ module _ {D : Type 0} (file : D → List ℕ) (leaves : D → List ℕ → Type 
     stands = λ sure first stood.
         let before = images_after first back.done in
         let now : ImagesStand file leaves next (with_work found.now before) =
-        subst (λ (i : ImageFiles). ImagesStand file leaves next i) (begun_images found.now tick before is.2 is.3) (begins before ((f.stands sure first stood).rest idle)) in
+        subst (λ (i : ImageFiles). ImagesStand file leaves next i) (begun_images found.now tick before is.tick is.none) (begins before ((f.stands sure first stood).rest idle)) in
         record {
           rest = λ over. absurd (begun_busy tick old.keeper (sym (ap (λ (k : Progress). k.phase) begun) ∙ over));
           round = λ _. subst (λ (d : List Snapshot). ImagesStand file leaves next (with_work found.now (images_after first d))) (sym same.2) now;
@@ -291,14 +303,20 @@ module _ {D : Type 0} (file : D → List ℕ) (leaves : D → List ℕ → Type 
   }
 
   pub checkpointer_goes_on : (next : Imaging D) (found : BackState) → AreInStep next.images.keeper next.back → next.opening.keeper.cells ≡ found.cells → (IsTrue honest → WriterFits file next.images) → FollowsRounds file leaves honest next.opening next.images next.back
-      → RoundRuns found next.images.keeper next.back → (next.over ≡ false → next.images.keeper.phase ≡ Idle) → ArePublished next.images.keeper.newest next.back.done next.covers → IsCheckpointer honest file leaves next
-  checkpointer_goes_on next found step cells fits follows runs rests published = record {
+      → RoundRuns found next.images.keeper next.back → ArePublished next.images.keeper.newest next.back.done next.covers
+      → (newest : Option (Slot × ℕ)) → newest ≡ newest_after next.opening.keeper.newest found.done → newest_tick newest < found.now.tick
+      → IsCheckpointer honest file leaves next
+  checkpointer_goes_on next found step cells fits follows runs published newest was newer = record {
     step = step;
     cells = cells ∙ sym runs.same.1;
     fits = fits;
     follows = follows;
     published = published;
-    rest = λ on. (rests on, (runs.done (rests on)).4);
+    fresh = λ idle works. absurd (let e : false ≡ true = sym (runs.done idle).4 ∙ works in cc e);
+    newer = λ busy.
+        let w = runs.in_work busy in
+        let kept : next.images.keeper.newest ≡ newest = follows.newest ∙ (ap (newest_after next.opening.keeper.newest) w.2 ∙ sym was) in
+        omega (arith, newer, ap newest_tick kept, w.1);
   }
 
 pub turned_round : {D : Type 0} (stuck : Type 0) (old next : Imaging D) (tick : ℕ) (found : BackState) → SameDone old.back found → FoundRound old.back tick found → RoundRuns found next.images.keeper next.back
@@ -319,3 +337,59 @@ answers_round given over tick keeper old found new same is runs rests busy (inr 
     let d = runs.done (rests ended.0) in
     subst (λ (o : Option ℕ). MatchOption o (new.done ≡ old.done) (λ t. IsDone old t new)) (sym ended.1)
     (d.0, d.1 ∙ is.2, d.2 ∙ same.1, d.3 ∙ ap (λ (l : List Snapshot). l ++ d.0 ∷ []) same.2, d.4)
+
+-- ---- a step
+
+-- what a look found, of a round that the keeper hasn't begun
+pub fresh_looked : (number : ℕ) (given : Option ℕ) (back found : BackState) → given ≡ Some number → (back.working ≡ true → (given ≡ Some back.now.tick) × (found ≡ back)) → (back.working ≡ false → FoundRound back number found)
+    → (back.working ≡ true → back.now.taken ≡ []) → IsFresh number found
+fresh_looked number given back found is known looked none = by_working back.working refl
+  where
+    by_working : (working : Bool) → back.working ≡ working → IsFresh number found
+    by_working false off = fresh_found number back found (looked off)
+    by_working true on =
+        let k = known on in
+        let same : Some back.now.tick ≡ Some number = sym k.0 ∙ is in
+        let tick : back.now.tick ≡ number = cc in
+        record {
+          working = ap (λ (b : BackState). b.working) k.1 ∙ on;
+          tick = ap (λ (b : BackState). b.now.tick) k.1 ∙ tick;
+          none = ap (λ (b : BackState). b.now.taken) k.1 ∙ none on;
+        }
+
+pub is_idle : (phase : Phase) → (phase ≡ Idle) ⊎ (phase ≡ Idle → ⊥)
+is_idle Idle = inl refl
+is_idle phase = inr (λ e. cc e)
+
+-- the keeper's round is begun
+pub begun_in_step : (tick : ℕ) (keeper next : Progress) (back found : BackState) → next ≡ begun_keeper tick keeper → found.cells ≡ back.cells → IsFresh tick found → AreInStep keeper back → AreInStep next found
+begun_in_step tick keeper next back found begun cells is step = record {
+  cells = ap (λ (k : Progress). k.cells) begun ∙ (step.cells ∙ sym cells);
+  round = λ _. record {
+    working = is.working;
+    tick = ap (λ (k : Progress). k.tick) begun ∙ sym is.tick;
+    taken = ap cells_taken begun ∙ sym (ap (λ (l : List Taken). length l) is.none);
+  };
+}
+
+fits_begun : (keeper next : Progress) (image_a image_b : List ℕ) → next.newest ≡ keeper.newest → ((target newest : List ℕ) → Fits keeper target newest → Fits next target newest) → FitsFiles keeper image_a image_b → FitsFiles next image_a image_b
+fits_begun keeper next image_a image_b same keeps fits =
+    subst (λ (n : Option (Slot × ℕ)). Fits next (of_slot (target_of n) image_a image_b) (of_slot (target_of n) image_b image_a)) (sym same) (keeps _ _ fits)
+
+module _ {D : Type 0} (file : D → List ℕ) (leaves : D → List ℕ → Type 0) (honest : Bool) where
+  pub checkpointer_begins : (old : Imaging D) (number : ℕ) (next : ImageWriter D) (found : BackState) → IsCheckpointer honest file leaves old
+      → next.keeper ≡ begun_keeper number old.images.keeper → next.image_a ≡ old.images.image_a → next.image_b ≡ old.images.image_b → old.images.keeper.phase ≡ Idle → SameDone old.back found → IsFresh number found → newest_tick old.images.keeper.newest < number
+      → ((target newest : List ℕ) → Fits old.images.keeper target newest → Fits next.keeper target newest) → Begins file leaves honest number old.images next
+      → IsCheckpointer honest file leaves (record { back = found; covers = old.covers; images = next; opening = old.opening; over = old.over })
+  checkpointer_begins old number next found is begun same_a same_b idle same fresh newer fits begins =
+      let newest : next.keeper.newest ≡ old.images.keeper.newest = ap (λ (k : Progress). k.newest) begun in
+      record {
+        step = begun_in_step number old.images.keeper next.keeper old.back found begun same.1 fresh is.step;
+        cells = is.cells ∙ sym same.1;
+        fits = λ sure. subst (λ a. FitsFiles next.keeper (file a) (file next.image_b)) (sym same_a)
+            (subst (λ b. FitsFiles next.keeper (file old.images.image_a) (file b)) (sym same_b) (fits_begun old.images.keeper next.keeper _ _ newest fits (is.fits sure)));
+        follows = begun_follows file leaves honest number old.opening old.images next old.back found begun idle same fresh begins is.follows;
+        published = subst (λ (d : List Snapshot). ArePublished next.keeper.newest d old.covers) (sym same.2) (subst (λ (n : Option (Slot × ℕ)). ArePublished n old.back.done old.covers) (sym newest) is.published);
+        fresh = λ _ _. fresh.none;
+        newer = λ _. omega (arith, newer, ap newest_tick newest, fresh.tick);
+      }

@@ -7,7 +7,9 @@ mod Turning
 pub mod Waits
 mod Coverings
 mod Failing
+mod Calling
 pub mod Tellings
 pub mod Loggings
 mod Imagings
 mod Publishings
+mod Rounding

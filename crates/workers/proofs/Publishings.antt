@@ -1,5 +1,5 @@
 -- The ticks that are published go on with the rounds that are done.
-use Rattle.std.proofs.Common.{arith, ◌≡◌, ℕ, ◌+◌, ◌<◌, ◌≤◌, Bool, true, false, List, [], ◌∷◌, ◌++◌, Option, refl, sym, ap, subst, ◌∙◌}
+use Rattle.std.proofs.Common.{arith, ◌≡◌, inl, inr, ℕ, ◌<◌, ◌≤◌, Bool, true, false, IsTrue, List, [], ◌∷◌, ◌++◌, Option, refl, sym, ap, subst, ◌∙◌}
 use Rattle.std.specs.Prelude.{All, map}
 use Rattle.std.proofs.lemmas.List.{map-append}
 use Rattle.std.proofs.lemmas.List.Elements.{All-push, All-weaker}
@@ -9,9 +9,10 @@ use Rattle.image_files.specs.Progress.{Progress}
 use Rattle.shared_capture.specs.declared.view.Snapshot.{Snapshot}
 use Rattle.shared_capture.specs.CoverWord.{CoverState}
 use Rattle.shared_capture.specs.States.{BackState}
-use Rattle.workers.specs.Imaging.{newest_after, HasRound, RoundRuns, Publishes}
+use Rattle.workers.specs.declared.checkpointer.round.ImageWriter.{ImageWriter}
+use Rattle.workers.specs.Imaging.{newest_after, HasRound, RoundRuns, Publishes, AreInStep, FollowsRounds, WriterFits, Imaging, IsCheckpointer}
 use Rattle.workers.specs.Publishing.{newest_tick, told, ArePublished}
-use Rattle.workers.proofs.Imagings.{newest_more}
+use Rattle.workers.proofs.Imagings.{newest_more, is_idle, checkpointer_goes_on}
 
 -- the same rounds are done
 published_same : (newest : Option (Slot × ℕ)) (done done' : List Snapshot) (covers : CoverState) → done' ≡ done → ArePublished newest done covers → ArePublished newest done' covers
@@ -48,3 +49,23 @@ published_on true tick newest opened keeper old found new covers covers' p newer
     let kept : keeper.newest ≡ newest = is ∙ (ap (newest_after opened) done ∙ sym was) in
     subst (λ (n : Option (Slot × ℕ)). ArePublished n new.done covers') (sym kept)
     (subst (λ (c : CoverState). ArePublished newest new.done c) (sym (publishes.in_work on)) (published_same newest old.done new.done covers done p))
+
+-- ---- a step of the round in work
+
+module _ {D : Type 0} (file : D → List ℕ) (leaves : D → List ℕ → Type 0) (honest : Bool) where
+  pub checkpointer_steps : (old : Imaging D) (number : ℕ) (found : BackState) (next : Imaging D) → IsCheckpointer honest file leaves old → HasRound old.images.keeper
+      → found ≡ old.back → old.back.now.tick ≡ number → next.opening ≡ old.opening
+      → AreInStep next.images.keeper next.back → (IsTrue honest → WriterFits file next.images) → FollowsRounds file leaves honest old.opening next.images next.back
+      → RoundRuns found next.images.keeper next.back → Publishes number next.images.keeper old.covers next.covers → IsCheckpointer honest file leaves next
+  checkpointer_steps old number found next is busy same tick opening step fits follows runs publishes =
+      let keeper = next.images.keeper in
+      let done : found.done ≡ old.back.done = ap (λ (b : BackState). b.done) same in
+      let at : found.now.tick ≡ number = ap (λ (b : BackState). b.now.tick) same ∙ tick in
+      let newer : newest_tick old.images.keeper.newest < number = (let e = is.newer busy in omega (arith, e, tick)) in
+      let on : FollowsRounds file leaves honest next.opening next.images next.back = subst (λ (o : ImageWriter D). FollowsRounds file leaves honest o next.images next.back) (sym opening) follows in
+      let published : ArePublished keeper.newest next.back.done next.covers = elim (is_idle keeper.phase) [
+        | inl idle ↦ published_on false number old.images.keeper.newest old.opening.keeper.newest keeper old.back found next.back old.covers next.covers is.published newer is.follows.newest follows.newest done at runs publishes (λ _. idle) (λ e. absurd (cc e))
+        | inr work ↦ published_on true number old.images.keeper.newest old.opening.keeper.newest keeper old.back found next.back old.covers next.covers is.published newer is.follows.newest follows.newest done at runs publishes (λ e. absurd (cc e)) (λ _. work)
+      ] in
+      checkpointer_goes_on file leaves honest next found step (ap (λ (o : ImageWriter D). o.keeper.cells) opening ∙ (is.cells ∙ sym (ap (λ (b : BackState). b.cells) same))) fits on runs published
+      old.images.keeper.newest (is.follows.newest ∙ (ap (λ (o : ImageWriter D). newest_after o.keeper.newest old.back.done) (sym opening) ∙ ap (newest_after next.opening.keeper.newest) (sym done))) (omega (arith, newer, at))

@@ -1,18 +1,18 @@
 -- The checkpointer as contracts see it: its images are those of the rounds that its back has done.
-use Rattle.std.specs.Prelude.{◌≡◌, ◌≢◌, ◌⊎◌, ℕ, Bool, true, false, IsTrue, All, List, [], ◌∷◌, ◌++◌, length, Option, Some}
+use Rattle.std.specs.Prelude.{◌≡◌, ◌≢◌, ◌⊎◌, ℕ, ◌<◌, Bool, true, false, IsTrue, All, List, [], ◌∷◌, ◌++◌, length, Option, Some}
 use Rattle.disk_model.specs.Disk.{FaultsBy}
 use Rattle.file_format.specs.declared.slot.Slot.{Slot}
 use Rattle.image_files.specs.declared.phase.Phase.TheVariants.{Idle, Down}
 use Rattle.image_files.specs.Images.{Round, ImageFiles, NoneYet, Newest, with_opened}
 use Rattle.image_files.specs.Files.{FitsFiles, Stands}
-use Rattle.image_files.specs.Progress.{Progress, target_of, cells_taken}
+use Rattle.image_files.specs.Progress.{Progress, target_of, cells_taken, begun_keeper}
 use Rattle.image_files.specs.Taken.{filled_words}
 use Rattle.restart.specs.Rounds.{words_of}
 use Rattle.shared_capture.specs.declared.view.Snapshot.{Snapshot}
-use Rattle.shared_capture.specs.States.{BackState, SameDone}
+use Rattle.shared_capture.specs.States.{BackState, SameDone, FoundNone, FoundRound}
 use Rattle.shared_capture.specs.CoverWord.{CoverState}
 use Rattle.workers.specs.declared.checkpointer.round.ImageWriter.{ImageWriter}
-use Rattle.workers.specs.Publishing.{IsNoneDue, told, ArePublished}
+use Rattle.workers.specs.Publishing.{IsNoneDue, newest_tick, told, ArePublished}
 
 -- ---- the images of rounds
 
@@ -119,15 +119,16 @@ pub record Imaging (D : Type 0) : Type 0 where
 abbrev pub IsAtRest : Progress → BackState → Type 0
 IsAtRest keeper back = (keeper.phase ≡ Idle) × (back.working ≡ false)
 
--- keeper, files and back are in step, and of as many cells as at the opening, the images of the rounds that are done are
--- published, and between two turns no round is in work
+-- keeper, files and back are in step, and of as many cells as at the opening, and the images of the rounds that are done are
+-- published. Of a round that the keeper hasn't begun no cell is taken, and one that it has begun is newer than its images.
 pub record IsCheckpointer {D : Type 0} (honest : Bool) (file : D → List ℕ) (leaves : D → List ℕ → Type 0) (c : Imaging D) : Type 0 where
   pub step : AreInStep c.images.keeper c.back
   pub cells : c.opening.keeper.cells ≡ c.back.cells
   pub fits : IsTrue honest → WriterFits file c.images
   pub follows : FollowsRounds file leaves honest c.opening c.images c.back
   pub published : ArePublished c.images.keeper.newest c.back.done c.covers
-  pub rest : c.over ≡ false → IsAtRest c.images.keeper c.back
+  pub fresh : c.images.keeper.phase ≡ Idle → c.back.working ≡ true → c.back.now.taken ≡ []
+  pub newer : HasRound c.images.keeper → newest_tick c.images.keeper.newest < c.back.now.tick
 
 -- the phase was loaded and no round was open: nothing else changed
 abbrev pub Waited : {D : Type 0} → Imaging D → Imaging D → Type 0
@@ -146,3 +147,39 @@ Found stuck old tick new =
 -- what a turn did
 abbrev pub Turned : {D : Type 0} → (stuck : Type 0) → Imaging D → Imaging D → Type 0
 Turned stuck old new = Waited old new ⊎ ((tick : ℕ) × Found stuck old tick new)
+
+-- the checkpointer stays at its back and at its word, and knows the keeper and the files that it began with
+pub record KeepsBack {D : Type 0} (old new : Imaging D) : Type 0 where
+  pub pair : new.back.pair ≡ old.back.pair
+  pub cells : new.back.cells ≡ old.back.cells
+  pub word : new.covers.pair ≡ old.covers.pair
+  pub opening : new.opening ≡ old.opening
+
+-- ---- a step
+
+-- no call of a device failed
+abbrev pub IsUp : Progress → Type 0
+IsUp keeper = keeper.phase ≡ Down → ⊥
+
+-- a look found no round
+abbrev pub FindsNone : {D : Type 0} → Imaging D → Imaging D → Type 0
+FindsNone old new = (new ≡ record old { back = new.back }) × SameDone old.back new.back × (old.back.working ≡ false → FoundNone old.back new.back)
+
+-- a look found the round of this tick: its image is begun, or none is made of it
+pub record FindsRound {D : Type 0} (old : Imaging D) (number : ℕ) (new : Imaging D) : Type 0 where
+  pub same : SameDone old.back new.back
+  pub found : old.back.working ≡ false → FoundRound old.back number new.back
+  pub working : new.back.working ≡ true
+  pub tick : new.back.now.tick ≡ number
+  pub covers : new.covers ≡ old.covers
+  pub begins : ((new.over ≡ true) × (new.images ≡ old.images) × IsNoneDue old.images.keeper.newest number)
+      ⊎ ((new.over ≡ false) × (new.images ≡ record old.images { keeper = begun_keeper number old.images.keeper }))
+
+-- The round in work goes on, where the gate lets it, or is done. It stays in work where nothing more is done: a call of a
+-- device failed, or the gate lets no other be made.
+pub record GoesOn {D : Type 0} (go stuck : Type 0) (faults : D → ℕ) (old new : Imaging D) : Type 0 where
+  pub runs : RoundRuns old.back new.images.keeper new.back
+  pub failures : TellsFaults faults old.images new.images
+  pub asks : (new.images ≡ old.images) ⊎ go
+  pub over : new.over ≡ true → HasRound new.images.keeper × ((new.images.keeper.phase ≡ Down) ⊎ stuck)
+  pub up : new.over ≡ false → IsUp new.images.keeper

@@ -20,8 +20,9 @@ use Rattle.workers.specs.declared.log_writer.Log.{Log}
 use Rattle.workers.specs.declared.log_writer.TheConstants.{RING_ITEMS}
 use Rattle.workers.specs.Items.{items_end, records_of}
 use Rattle.workers.specs.Channel.{Popping}
-use Rattle.workers.specs.Answering.{Answering, all_answers_of}
+use Rattle.workers.specs.Answering.{Answering, answers_of, all_answers_of}
 use Rattle.workers.specs.Covering.{LeavesOut, IsCovered}
+use Rattle.workers.specs.Publishing.{told as with_told}
 
 -- whether an item is the last one
 abbrev pub is_end : Item → Bool
@@ -176,3 +177,25 @@ pub record Took {D : Type 0} (old new : Logging D) (more : List Item) : Type 0 w
 -- each answer that waited is refused
 abbrev pub refused : Answering → Answering
 refused answers = record answers { waiting = []; answered = answers.answered + length answers.waiting }
+
+-- ---- a step
+
+-- it falls: it tells that the log is down, and refuses each answer that waits
+abbrev pub Falls : {D : Type 0} → Logging D → Logging D → Type 0
+Falls old new = new ≡ record old { down = true; told_down = with_told old.told_down 1; answers = refused old.answers }
+
+-- With nothing left to do, an answer that still waits has no receipt. So it falls; if none waits, nothing changes.
+abbrev pub Settles : {D : Type 0} → Logging D → Logging D → Type 0
+Settles old new = ((old.answers.waiting ≡ []) × (new ≡ old)) ⊎ ((new.answers.posted < new.answers.answered) × Falls old new)
+
+-- this item was popped, and its answer refused
+pub record Loses {D : Type 0} (old : Logging D) (item : Item) (new : Logging D) : Type 0 where
+  pub popped : new.from.items ≡ old.from.items ++ item ∷ []
+  pub end : new.from.end ≡ old.from.end
+  pub answers : new.answers ≡ record old.answers { answered = old.answers.answered + length (answers_of item) }
+  pub same : new ≡ record old { from = new.from; answers = new.answers; over = new.over }
+
+-- this item was popped and is kept, or lost if the log is down
+abbrev pub Pops : {D : Type 0} → Logging D → Item → Logging D → Type 0
+Pops old item new =
+    (new.over ≡ is_end item) × (((old.down ≡ false) × Took old new (item ∷ [])) ⊎ ((old.down ≡ true) × Loses old item new))

@@ -1,15 +1,17 @@
 //! The worker that writes the images.
 ghost use Rattle.std.specs.Prelude.{◌≡◌, ◌⊎◌, ◌↔◌, ◌<◌, ◌≤◌, true, false, [], IsTrue, MatchOption};
 ghost use Rattle.world_ticks.specs.declared.tick.TheConstants.{TICK_MAX};
-ghost use Rattle.image_files.specs.declared.phase.Phase.TheVariants.{Down};
+ghost use Rattle.disk_model.specs.Disk.{OneCalledAtMostOnce};
+ghost use Rattle.image_files.specs.declared.phase.Phase.TheVariants.{Down, Idle};
+ghost use Rattle.image_files.specs.Progress.{left_of};
 ghost use Rattle.workers.specs.declared.gate.Place.TheVariants.{Device};
 ghost use Rattle.workers.specs.Gates.{MayGo, MayStick};
-ghost use Rattle.workers.specs.Imaging.{IsAtRest, IsDone, TellsFaults, Turned, WriterFits};
+ghost use Rattle.workers.specs.Imaging.{HasRound, IsUp, FindsNone, FindsRound, GoesOn, IsAtRest, IsDone, KeepsBack, TellsFaults, Turned, WriterFits};
 ghost use Rattle.workers.specs.Publishing.{newest_tick, IsNoneDue};
 
 use crate::checkpointer::publisher::Publisher;
-use crate::checkpointer::round::run_round;
-use crate::gate::Gate;
+use crate::checkpointer::round::step;
+use crate::gate::{Gate, Place, passes};
 use crossbeam_channel::Receiver;
 use disk_model::Disk;
 use image_files::{ImageKeeper, images_stay};
@@ -100,7 +102,9 @@ impl<M: Method, D: Disk + Drop, G: Gate + Drop> Checkpointer<M, D, G> {
     /// Writes the image of the open round, publishes its tick and answers it, or waits for the bell where none is open. A
     /// round whose image can't be written stays open, so that no other is begun.
     pub fn turn<R: Wait>(&mut self, rt: &R) -> Option<u64>
-        requires { self.old.over ≡ false }
+        requires goes_on { self.old.over ≡ false }
+        requires rest { IsAtRest self.old.images.keeper self.old.back }
+        ensures rest { self.new.over ≡ false → IsAtRest self.new.images.keeper self.new.back }
         ensures same { (self.new.back.pair ≡ self.old.back.pair) × (self.new.back.cells ≡ self.old.back.cells) × (self.new.covers.pair ≡ self.old.covers.pair) × (self.new.opening ≡ self.old.opening) }
         ensures turned { Turned (MayStick G.told Device) self.old self.new }
         ensures asks { ((self.new.images.image_a ≡ self.old.images.image_a) × (self.new.images.image_b ≡ self.old.images.image_b))
@@ -108,25 +112,70 @@ impl<M: Method, D: Disk + Drop, G: Gate + Drop> Checkpointer<M, D, G> {
         ensures opened { MatchOption result (self.new.back.done ≡ self.old.back.done) (λ tick. IsDone self.old.back tick self.new.back) }
         ensures faults { TellsFaults D.faults self.old.images self.new.images }
     {
-        images_stay::<D>();
-        let Some(tick) = self.back.look() else {
+        let Some(tick) = self.begin() else {
             self.over = self.bell.recv(rt).is_err();
             return None;
         };
-        if !is_due(&self.images.keeper, tick) {
-            self.over = true;
+        if self.over {
             return None;
         }
-        self.images.keeper.begin(tick);
-        self.over = run_round(
-            rt,
-            &mut self.gate,
-            &mut self.back,
-            &mut self.covers,
-            &mut self.images,
-            tick,
-        );
+        self.run_round(rt);
         if self.over { None } else { Some(tick) }
+    }
+
+    /// Looks for an open round, answers its tick, and begins its image. It is over if no image is made of that tick.
+    pub fn begin(&mut self) -> Option<u64>
+        requires goes_on { self.old.over ≡ false }
+        requires idle { self.old.images.keeper.phase ≡ Idle }
+        ensures keeps { KeepsBack self.old self.new }
+        ensures found { MatchOption result (FindsNone self.old self.new) (λ tick. FindsRound self.old tick self.new) }
+    {
+        images_stay::<D>();
+        let Some(tick) = self.back.look() else {
+            return None;
+        };
+        if is_due(&self.images.keeper, tick) {
+            self.images.keeper.begin(tick);
+        } else {
+            self.over = true;
+        }
+        Some(tick)
+    }
+
+    /// Makes a step of the round in work, if the gate lets it be made. It is over if a call of a device failed, or the gate
+    /// is stuck.
+    pub fn step<R: Wait>(&mut self, rt: &R)
+        requires goes_on { self.old.over ≡ false }
+        requires left { 0 < left_of self.old.images.keeper }
+        ensures keeps { KeepsBack self.old self.new }
+        ensures goes { GoesOn (MayGo G.told Device) (MayStick G.told Device) D.faults self.old self.new }
+        ensures calls { OneCalledAtMostOnce D.called self.old.images.image_a self.new.images.image_a
+            self.old.images.image_b self.new.images.image_b }
+        ensures less { self.new.over ≡ false → left_of self.new.images.keeper < left_of self.old.images.keeper }
+    {
+        if !passes(rt, &mut self.gate, Place::Device) {
+            self.over = true;
+            return;
+        }
+        let Some(number) = self.back.look() else {
+            self.over = true;
+            return;
+        };
+        step(&mut self.back, &mut self.covers, &mut self.images, number);
+        self.over = self.images.keeper.is_down();
+    }
+
+    // Steps the round in work to its end, or until it is over.
+    fn run_round<R: Wait>(&mut self, rt: &R)
+        requires goes_on { self.old.over ≡ false }
+        requires round { HasRound self.old.images.keeper × IsUp self.old.images.keeper × (self.old.back.working ≡ true) }
+        ensures keeps { KeepsBack self.old self.new }
+        ensures goes { GoesOn (MayGo G.told Device) (MayStick G.told Device) D.faults self.old self.new }
+        ensures ends { self.new.over ≡ false → self.new.images.keeper.phase ≡ Idle }
+    {
+        while !self.over && self.images.keeper.left() > 0 {
+            self.step(rt);
+        }
     }
 }
 

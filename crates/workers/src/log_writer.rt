@@ -3,8 +3,9 @@ mod advance;
 mod answers;
 mod keep;
 
-ghost use Rattle.std.specs.Prelude.{◌≡◌, ◌≢◌, ◌⊎◌, ◌+◌, ◌<◌, ◌≤◌, ◌++◌, ◌∷◌, [], ℕ, true, false, List, length, IfOk, IsTrue};
+ghost use Rattle.std.specs.Prelude.{◌≡◌, ◌≢◌, ◌↔◌, ◌⊎◌, ◌+◌, ◌<◌, ◌≤◌, ◌++◌, ◌∷◌, [], ℕ, true, false, List, length, IfOk, IsTrue};
 ghost use Rattle.world_ticks.specs.declared.tick.TheConstants.{TICK_MAX};
+ghost use Rattle.disk_model.specs.Disk.{OneCalledAtMostOnce};
 ghost use Rattle.action_log.specs.declared.answer.LogAnswer.TheVariants.{Idle};
 ghost use Rattle.action_log.specs.Cover.{uncovered, cover_answer};
 ghost use Rattle.action_log.specs.Files.{FitsFiles};
@@ -15,8 +16,7 @@ ghost use Rattle.workers.specs.declared.item.Item.TheVariants.{Start};
 ghost use Rattle.workers.specs.Answering.{AreLater};
 ghost use Rattle.workers.specs.Covering.{loaded, LoadsOn};
 ghost use Rattle.workers.specs.Gates.{MayGo, MayStick};
-ghost use Rattle.workers.specs.Publishing.{told};
-ghost use Rattle.workers.specs.Logging.{is_end, has_end, is_over, refused, writer_at, Took, IsReady, IsAtRest, LogTellsFaults, FallsBy, IsPosted, IsLogging};
+ghost use Rattle.workers.specs.Logging.{is_end, has_end, is_over, writer_at, Took, Loses, Pops, Falls, Settles, IsReady, IsAtRest, LogTellsFaults, FallsBy, IsPosted, IsLogging};
 
 use crate::ends::ItemReceiver;
 use crate::gate::{Gate, Place, passes};
@@ -143,8 +143,7 @@ impl<D: Disk + Drop, G: Gate + Drop> LogWriter<D, G> {
     // The log is down: tells it, and refuses each answer that waits.
     fn fall<R: Wait>(&mut self, rt: &R)
         requires up { self.old.down ≡ false }
-        ensures { self.new
-            ≡ record self.old { down = true; told_down = told self.old.told_down 1; answers = refused self.old.answers } }
+        ensures { Falls self.old self.new }
     {
         self.down = true;
         self.told_down.publish(1);
@@ -210,9 +209,9 @@ impl<D: Disk + Drop, G: Gate + Drop> LogWriter<D, G> {
         self.gather(rt);
     }
 
-    // The log goes on by a step, if the gate lets it be made, or leaves out what the newest open image has; what that made
-    // durable is answered.
-    fn step<R: Wait>(&mut self, rt: &R)
+    /// The log goes on by a step, if the gate lets it be made, or leaves out what the newest open image has; what that made
+    /// durable is answered.
+    pub fn step<R: Wait>(&mut self, rt: &R)
         requires up { self.old.down ≡ false }
         ensures same { self.new
             ≡ record self.old { covers = self.new.covers; told_down = self.new.told_down; log = self.new.log; ring = self.new.ring; answers = self.new.answers; acked = self.new.acked; down = self.new.down } }
@@ -227,6 +226,7 @@ impl<D: Disk + Drop, G: Gate + Drop> LogWriter<D, G> {
             → work_of self.new.log.keeper self.new.ring.items < work_of self.old.log.keeper self.old.ring.items }
         ensures faults { LogTellsFaults D.faults self.old.log self.new.log }
         ensures asks { (self.new.log ≡ self.old.log) ⊎ MayGo G.told Device }
+        ensures calls { OneCalledAtMostOnce D.called self.old.log.a self.new.log.a self.old.log.b self.new.log.b }
         ensures cause { self.new.down ≡ true → (self.new.log.keeper.down ≡ true)
             ⊎ ((self.new.log ≡ self.old.log) × MayStick G.told Device) }
         ensures refused { self.new.down ≡ true → self.new.answers.waiting ≡ [] }
@@ -261,13 +261,63 @@ impl<D: Disk + Drop, G: Gate + Drop> LogWriter<D, G> {
         ensures rest { IsAtRest self.new }
         ensures posted { self.new.down ≡ false → IsPosted self.new }
     {
-        while !self.down && self.log.keeper.work(&self.ring) > 0 {
+        while !self.down && self.has_work() {
             self.step(rt);
         }
-        if self.down || self.answers.is_empty() {
-            return;
+        if !self.down {
+            self.settle(rt);
         }
-        self.fall(rt);
+    }
+
+    /// Whether a step is left to do, were the log up.
+    pub fn has_work(&self) -> bool
+        ensures { IsTrue result ↔ (0 < work_of self.now.log.keeper self.now.ring.items) }
+    {
+        self.log.keeper.work(&self.ring) > 0
+    }
+
+    /// Ends what is written: an answer that still waits has no receipt, so it is refused, and the log counts as down. The
+    /// caller has no step left to make.
+    pub fn settle<R: Wait>(&mut self, rt: &R)
+        requires up { self.old.down ≡ false }
+        ensures { Settles self.old self.new }
+    {
+        if !self.answers.is_empty() {
+            self.fall(rt);
+        }
+    }
+
+    /// Pops an item and keeps it, if there is one and room for it, without waiting. Once the log is down it pops an item and
+    /// refuses its answer. It answers whether it popped one.
+    pub fn pop<R: Wait>(&mut self, rt: &R) -> bool
+        requires goes_on { self.old.over ≡ false }
+        ensures popped { result ≡ true → (item : Popped) × Pops self.old item self.new }
+        ensures none { result ≡ false → self.new ≡ self.old }
+    {
+        if self.down {
+            return self.answers.is_empty() && self.try_refuse(rt);
+        }
+        if self.ring.len() >= RING_ITEMS || self.answers.len() >= RING_ITEMS {
+            return false;
+        }
+        self.try_take(rt)
+    }
+
+    // Pops an item and refuses its answer, if there is one: the log is down.
+    fn try_refuse<R: Wait>(&mut self, rt: &R) -> bool
+        requires down { self.old.down ≡ true }
+        requires goes_on { self.old.over ≡ false }
+        requires none { self.old.answers.waiting ≡ [] }
+        ensures lost { result ≡ true → (item : Popped) × Loses self.old item self.new × (self.new.over ≡ is_end item) }
+        ensures none { result ≡ false → self.new ≡ self.old }
+    {
+        match self.from.try_pop(rt) {
+            Ok(item) => {
+                self.over = lose(rt, &mut self.answers, item);
+                true
+            }
+            Err(_) => false,
+        }
     }
 
     // Pops an item, waiting for one, and refuses its answer: the log is down.

@@ -1,5 +1,5 @@
 //! The workers once no thread has them any more.
-ghost use Rattle.std.specs.Prelude.{◌≡◌, true};
+ghost use Rattle.std.specs.Prelude.{◌≡◌};
 ghost use Rattle.shared_capture.specs.States.{MetBack};
 ghost use Rattle.workers.specs.Channel.{AreOneChannel};
 ghost use Rattle.workers.specs.Mutating.{IsMutator};
@@ -15,8 +15,8 @@ use crate::mutator::Mutator;
 use disk_model::Disk;
 use shared_capture::{Method, meet, meet_cover};
 
-/// The ends of a world's workers meet: their seats, their channel and their two words. The checkpointer does no more. What is
-/// true of each worker between two turns is told with it, for whom it is only a value.
+/// The ends of a world's workers meet: their seats, their channel and their two words. What is true of each worker between
+/// two steps is told with it, for whom it is only a value.
 pub fn meet_workers<M: Method, D: Disk + Drop, A: Gate + Drop, B: Gate + Drop, C: Gate + Drop>(
     mutator: &mut Mutator<M, A>,
     checkpointer: &mut Checkpointer<M, D, B>,
@@ -28,7 +28,7 @@ pub fn meet_workers<M: Method, D: Disk + Drop, A: Gate + Drop, B: Gate + Drop, C
     requires flag { mutator.old.heard.pair ≡ log_writer.old.told_down.pair }
     ensures met { HaveMet mutator.new checkpointer.new log_writer.new }
     ensures mutator { mutator.new ≡ record mutator.old { front = record mutator.old.front { closed = mutator.new.front.closed } } }
-    ensures checkpointer { checkpointer.new ≡ record checkpointer.old { back = checkpointer.new.back; over = true } }
+    ensures checkpointer { checkpointer.new ≡ record checkpointer.old { back = checkpointer.new.back } }
     ensures back { MetBack checkpointer.old.back checkpointer.new.back }
     ensures log_writer { log_writer.new ≡ log_writer.old }
     ensures is_mutator { IsMutator mutator.new }
@@ -36,7 +36,6 @@ pub fn meet_workers<M: Method, D: Disk + Drop, A: Gate + Drop, B: Gate + Drop, C
     ensures is_log_writer { IsLogging D.content D.may_leave D.honest log_writer.new }
 {
     meet(&mut mutator.front, &mut checkpointer.back);
-    checkpointer.over = true;
     compare(&mut mutator.to, &mut log_writer.from);
     checkpointer.covers.meet(&mut log_writer.covers);
     meet_cover(&mut log_writer.told_down, &mut mutator.heard);

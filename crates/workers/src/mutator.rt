@@ -100,13 +100,13 @@ impl<M: Method, G: Gate + Drop> Mutator<M, G> {
         ensures { Turns (MayGo G.told Tick) (MayStick G.told Tick) self.old ask result self.new }
     {
         self.mark_if_due(rt);
-        let played = self.run(rt, ask);
+        let played = self.play_batch(rt, ask);
         self.mark_if_due(rt);
         played
     }
 
-    // Opens a round where one is due, and pushes its switch directly after.
-    fn mark_if_due<R: Wait>(&mut self, rt: &R)
+    /// Opens a round where one is due, and pushes its switch directly after.
+    pub fn mark_if_due<R: Wait>(&mut self, rt: &R)
         ensures { MarksIfDue self.old self.new }
     {
         if self.down || self.since == 0 || self.since < self.every {
@@ -123,8 +123,8 @@ impl<M: Method, G: Gate + Drop> Mutator<M, G> {
         ring(rt, &self.bell, &self.front, self.ended);
     }
 
-    // Runs a batch, and pushes its tick with the answer, or answers the refusal.
-    fn run<R: Wait>(&mut self, rt: &R, ask: Ask) -> Result<(), Refusal>
+    /// Runs a batch, and pushes its tick with the answer, or answers the refusal.
+    pub fn play_batch<R: Wait>(&mut self, rt: &R, ask: Ask) -> Result<(), Refusal>
         ensures { AnswersBatch (MayGo G.told Tick) (MayStick G.told Tick) self.old ask result self.new }
     {
         if self.down {

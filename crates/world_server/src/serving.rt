@@ -2,8 +2,8 @@ ghost use Rattle.std.specs.Prelude.{◌≡◌, ◌≢◌, true, false, IsTrue, I
 ghost use Rattle.std.specs.declared.io.Error.{Error};
 ghost use Rattle.image_files.specs.declared.phase.Phase.TheVariants.{Down};
 ghost use Rattle.world_folder.specs.Ending.{IsFault};
-ghost use Rattle.worker_threads.specs.Begun.{IsWhole};
-ghost use Rattle.tcp_service.specs.Opening.{StaysSound};
+ghost use Rattle.worker_ends.specs.Ends.{StaysSound};
+ghost use Rattle.worker_steps.specs.Begun.{IsWhole};
 
 use crate::front::Front;
 use crate::lines::Announce;
@@ -17,7 +17,8 @@ use std::sync::Wait;
 use std::thread::Threads;
 use std::time::Clock;
 use tcp_service::{Admission, Closed, Door, NotServed, Seats, Stopped, open_world, serve_tcp};
-use worker_threads::{Gates, Opened, Watch};
+use worker_steps::{Gates, Opened};
+use worker_threads::Watch;
 use workers::{Gate, Open};
 use world_actions::Refusal;
 use world_folder::{Ending, ServerEnding, failure_of, open_existing, stands_in};

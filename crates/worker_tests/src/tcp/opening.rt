@@ -9,7 +9,7 @@ use shared_capture::{Front, Method, Pong, Zig};
 use std::alloc::Global;
 use std::process::Abort;
 use tcp_service::{Seats, open_world};
-use worker_threads::Opened;
+use worker_steps::Opened;
 use world_actions::Refusal;
 use world_ticks::Cells;
 

@@ -1,19 +1,15 @@
 //! A round from its first step to its last.
-ghost use Rattle.std.specs.Prelude.{◌≡◌, ◌⊎◌, ◌<◌, IsTrue, false, true};
-ghost use Rattle.image_files.specs.declared.phase.Phase.TheVariants.{Idle, Down};
+ghost use Rattle.std.specs.Prelude.{◌≡◌, ◌<◌, IsTrue};
+ghost use Rattle.disk_model.specs.Disk.{OneCalledAtMostOnce};
 ghost use Rattle.image_files.specs.Progress.{left_of};
-ghost use Rattle.workers.specs.declared.gate.Place.TheVariants.{Device};
 ghost use Rattle.workers.specs.declared.checkpointer.round.ImageWriter.{ImageWriter as Writer};
-ghost use Rattle.workers.specs.Gates.{MayGo, MayStick};
-ghost use Rattle.workers.specs.Imaging.{HasRound, AreInStep, FollowsRounds, Publishes, RoundRuns, TellsFaults, WriterFits};
+ghost use Rattle.workers.specs.Imaging.{AreInStep, FollowsRounds, Publishes, RoundRuns, TellsFaults, WriterFits};
 ghost use Rattle.workers.specs.Publishing.{IsNext};
 
 use crate::checkpointer::publisher::Publisher;
-use crate::gate::{Gate, Place, passes};
 use disk_model::Disk;
 use image_files::{ImageAnswer, ImageKeeper};
 use shared_capture::{Back, Method};
-use std::sync::Wait;
 
 /// The keeper of the images, and its two files.
 #[derive(Drop)]
@@ -24,7 +20,7 @@ pub struct ImageWriter<D: Disk> {
 }
 
 // A step of the round in work. Where it opens the image its tick is published, and the back ends the round.
-fn step<M: Method, D: Disk>(
+pub(crate) fn step<M: Method, D: Disk>(
     back: &mut Back<M>,
     covers: &mut Publisher,
     images: &mut ImageWriter<D>,
@@ -38,6 +34,7 @@ fn step<M: Method, D: Disk>(
     ensures fits { IsTrue D.honest → WriterFits D.content images.new }
     ensures faults { TellsFaults D.faults images.old images.new }
     ensures less { left_of images.new.keeper < left_of images.old.keeper }
+    ensures calls { OneCalledAtMostOnce D.called images.old.image_a images.new.image_a images.old.image_b images.new.image_b }
     ensures runs { RoundRuns back.old images.new.keeper back.new }
     ensures publishes { Publishes tick images.new.keeper covers.old covers.new }
     ensures follows { (opening : Writer D) → FollowsRounds D.content D.may_leave D.honest opening images.old back.old
@@ -51,37 +48,4 @@ fn step<M: Method, D: Disk>(
     };
     covers.publish(back, tick);
     back.finish();
-}
-
-// Steps the round in work to its end, and answers whether it stays open: a call of a device failed, or the gate is stuck.
-pub(crate) fn run_round<M: Method, D: Disk, G: Gate, R: Wait>(
-    rt: &R,
-    gate: &mut G,
-    back: &mut Back<M>,
-    covers: &mut Publisher,
-    images: &mut ImageWriter<D>,
-    tick: u64,
-) -> bool
-    requires step { AreInStep images.old.keeper back.old }
-    requires next { IsNext covers.old tick }
-    requires fits { IsTrue D.honest → WriterFits D.content images.old }
-    requires left { 0 < left_of images.old.keeper }
-    ensures step { AreInStep images.new.keeper back.new }
-    ensures fits { IsTrue D.honest → WriterFits D.content images.new }
-    ensures runs { RoundRuns back.old images.new.keeper back.new }
-    ensures publishes { Publishes tick images.new.keeper covers.old covers.new }
-    ensures faults { TellsFaults D.faults images.old images.new }
-    ensures asks { (images.new ≡ images.old) ⊎ MayGo G.told Device }
-    ensures stuck { result ≡ true → (images.new.keeper.phase ≡ Down) ⊎ MayStick G.told Device }
-    ensures ends { (result ≡ false → images.new.keeper.phase ≡ Idle) × (result ≡ true → HasRound images.new.keeper) }
-    ensures follows { (opening : Writer D) → FollowsRounds D.content D.may_leave D.honest opening images.old back.old
-        → FollowsRounds D.content D.may_leave D.honest opening images.new back.new }
-{
-    while images.keeper.left() > 0 {
-        if !passes(rt, gate, Place::Device) {
-            return true;
-        }
-        step(back, covers, images, tick);
-    }
-    images.keeper.is_down()
 }

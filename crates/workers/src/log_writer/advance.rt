@@ -1,5 +1,6 @@
 //! The log goes on.
 ghost use Rattle.std.specs.Prelude.{◌≡◌, ◌≢◌, ◌↔◌, ◌<◌, true, false, IsTrue};
+ghost use Rattle.disk_model.specs.Disk.{OneCalledAtMostOnce};
 ghost use Rattle.action_log.specs.declared.answer.LogAnswer.TheVariants.{Idle, Down};
 ghost use Rattle.action_log.specs.Cover.{uncovered, cover_answer};
 ghost use Rattle.action_log.specs.Files.{FitsFiles};
@@ -34,6 +35,7 @@ pub(crate) fn advance<D: Disk + Drop>(
     ensures ring { queue.new.capacity ≡ queue.old.capacity }
     ensures down { (result ≡ Down) ↔ (log.new.keeper.down ≡ true) }
     ensures faults { LogTellsFaults D.faults log.old log.new }
+    ensures calls { OneCalledAtMostOnce D.called log.old.a log.new.a log.old.b log.new.b }
     ensures lowers { log.new.keeper.down ≡ false → 0 < work_of log.old.keeper queue.old.items
         → work_of log.new.keeper queue.new.items < work_of log.old.keeper queue.old.items }
 {

@@ -77,6 +77,12 @@ impl Answers {
         self.waiting.is_empty()
     }
 
+    pub(crate) fn len(&self) -> usize
+        ensures { result ≡ length self.now.waiting }
+    {
+        self.waiting.len()
+    }
+
     /// Lets the answer of the next tick wait.
     pub(crate) fn push(&mut self, next: Waiting)
         requires next { next.number ≡ self.old.answered + length self.old.waiting + 1 }

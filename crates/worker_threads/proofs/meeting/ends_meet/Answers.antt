@@ -3,7 +3,7 @@ use Rattle.worker_threads.proofs.meeting.ends_meet.Goals as goal
 
 pub returns-clause-sound : goal.returns-clause-sound
 returns-clause-sound g c = λ honest.
-    c.ends_are_sound.ensures c.meet_workers.new.mutator c.meet_workers.new.checkpointer c.meet_workers.new.log_writer honest
+    c.stops_are_sound.ensures c.meet_workers.new.mutator c.meet_workers.new.checkpointer c.meet_workers.new.log_writer honest
     c.meet_workers.ensures.is_mutator c.meet_workers.ensures.is_checkpointer c.meet_workers.ensures.is_log_writer c.meet_workers.ensures.met
 
 pub returns-clause-heard : goal.returns-clause-heard

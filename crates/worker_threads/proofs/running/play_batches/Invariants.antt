@@ -1,4 +1,4 @@
-use Rattle.worker_threads.specs.Kept.{KeepsFront}
+use Rattle.worker_steps.specs.Kept.{KeepsFront}
 use Rattle.worker_threads.proofs.running.play_batches.Given as goal
 
 abbrev pub invariant-loop-ask : goal.invariant-loop-ask

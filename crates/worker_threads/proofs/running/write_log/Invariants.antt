@@ -1,6 +1,6 @@
 use Rattle.std.specs.Prelude.{◌≡◌, ◌⊎◌, false}
 use Rattle.workers.specs.Logging.{IsAtRest, IsPosted}
-use Rattle.worker_threads.specs.Kept.{KeepsLog}
+use Rattle.worker_steps.specs.Kept.{KeepsLog}
 use Rattle.worker_threads.proofs.running.write_log.Given as goal
 
 abbrev pub invariant-loop : goal.invariant-loop

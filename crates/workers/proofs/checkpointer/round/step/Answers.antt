@@ -1,3 +1,5 @@
+use Rattle.image_files.specs.Progress.{target_of}
+use Rattle.workers.proofs.Calling.{image_calls_one}
 use Rattle.workers.proofs.Publishings.{publishes_none}
 use Rattle.workers.proofs.Imagings.{faults_step, is_busy, stays_busy, step_on, runs_on, less_left, follows_on, follows_opened}
 use Rattle.workers.proofs.checkpointer.round.step.Goals as goal
@@ -17,6 +19,7 @@ returns-in_default g c =
       fits = e.fits;
       faults = faults_step g.D.Disk.faults given old (record { keeper = new; image_a = c.step_files.new.image_a; image_b = c.step_files.new.image_b }) c.requires.left e.down e.cause;
       less = less_left given old.keeper new back next not e.idle e.down e.working c.requires.left c.requires.step;
+      calls = image_calls_one g.D.Disk.called (target_of old.keeper.newest) old.keeper.phase old.image_a c.step_files.new.image_a old.image_b c.step_files.new.image_b e.calls;
       runs = runs_on given old.keeper new back next not e.taken e.idle e.down e.goes_on busy c.requires.step;
       publishes = publishes_none c.args.tick new c.args.covers.now (stays_busy given old.keeper new not e.idle e.down e.goes_on busy);
       follows = λ opening f. follows_on g.D.Disk.content g.D.Disk.may_leave g.D.Disk.honest given opening old
@@ -29,3 +32,8 @@ returns-clause-follows g c opening f =
     follows_opened g.D.Disk.content g.D.Disk.may_leave g.D.Disk.honest c.in-Opened.field-0 opening c.args.images.now
     (record { keeper = c.step_files.new.self; image_a = c.step_files.new.image_a; image_b = c.step_files.new.image_b }) c.args.back.now c.step_files.new.from c.finish.new.self
     e.taken e.ended e.all_taken (is_busy c.args.images.now.keeper c.requires.left) c.requires.step c.finish.ensures.done c.finish.ensures.same.1 e.stands f
+
+pub returns-clause-calls : goal.returns-clause-calls
+returns-clause-calls g c =
+    let old = c.args.images.now in
+    image_calls_one g.D.Disk.called (target_of old.keeper.newest) old.keeper.phase old.image_a c.step_files.new.image_a old.image_b c.step_files.new.image_b c.step_files.ensures.calls

@@ -1,9 +1,10 @@
-use Rattle.std.proofs.Common.{inl, refl, ap, sym, ◌∙◌, subst}
+use Rattle.std.proofs.Common.{rules, ◌≡◌, false, inl, refl, subst}
 use Rattle.circular_buffer.specs.Buffer.{Buffer}
 use Rattle.action_log.specs.declared.record.Record.{Record}
 use Rattle.action_log.specs.Logs.{LogPlace, Writing}
 use Rattle.action_log.specs.LogSteps.{LogsStep}
 use Rattle.action_log.specs.Stands.{Stands}
+use Rattle.workers.proofs.Calling.{log_calls_one}
 use Rattle.workers.proofs.log_writer.advance.advance.Goals as goal
 
 pub returns-in-Idle-clause-advances : goal.returns-in-Idle-clause-advances
@@ -15,3 +16,9 @@ returns-in-Idle-clause-advances g c = λ honest logs stands.
       subst (λ (p : LogPlace). Stands c.step.new.self (D.content c.step.new.a) (D.content c.step.new.b) (D.may_leave c.step.new.a) (D.may_leave c.step.new.b) p) went.2.1 went.1,
       inl (subst (λ (b : Buffer Record). LogsStep logs b.items c.step.result next c.step.new.queue.items) (c.in-Idle.ensures.rests (inl refl)) went.2.2),
     )
+
+pub returns-in-Idle-clause-calls : goal.returns-in-Idle-clause-calls
+returns-in-Idle-clause-calls g c =
+    let keeper = c.args.log.now.keeper in
+    let up : keeper.down ≡ false = search rules in
+    log_calls_one g.D.Disk.called keeper.current keeper.phase c.cover.new.queue.items c.args.log.now.a c.step.new.a c.args.log.now.b c.step.new.b (c.step.ensures.calls up)

@@ -1,7 +1,7 @@
 use Rattle.action_log.specs.Logs.{Writing}
 use Rattle.worker_ends.proofs.Below.{Laws}
 use Rattle.worker_ends.proofs.Ended.{FilesAre, ended}
-use Rattle.worker_ends.proofs.laws.ends_are_sound.Goals as goal
+use Rattle.worker_ends.proofs.laws.stops_are_sound.Goals as goal
 
 pub returns : goal.returns
 returns g c = λ m p w.

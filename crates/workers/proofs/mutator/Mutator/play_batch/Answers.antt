@@ -1,7 +1,7 @@
 use Rattle.std.proofs.Common.{rules, refl, inl, inr, ◌+◌}
 use Rattle.workers.proofs.Histories.{ran, lost_tick}
 use Rattle.workers.proofs.Turning.{runs_of, pushes_tick, loses_tick}
-use Rattle.workers.proofs.mutator.Mutator.run.Goals as goal
+use Rattle.workers.proofs.mutator.Mutator.play_batch.Goals as goal
 
 pub invariant_of-self-2 : goal.invariant_of-self-2
 invariant_of-self-2 g c = ran _ c.play-played.new.front c.push.new.self c.hears_down.new.heard c.self.invariant (search rules)

@@ -1,0 +1,22 @@
+-- What a worker keeps over its steps. (The checkpointer's is `KeepsBack` of workers.)
+use Rattle.std.specs.Prelude.{◌≡◌, ◌++◌, List}
+use Rattle.workers.specs.declared.item.Item.{Item}
+use Rattle.workers.specs.Mutating.{Playing}
+use Rattle.workers.specs.Logging.{Logging}
+
+-- the mutator stays at its front, its end of the channel and its word, pushes behind what it had pushed, knows the words that it
+-- began with, and after how many ticks a round is due
+pub record KeepsFront (old new : Playing) : Type 0 where
+  pub pair : new.front.pair ≡ old.front.pair
+  pub end : new.to.end ≡ old.to.end
+  pub flag : new.heard.pair ≡ old.heard.pair
+  pub items : (more : List Item) × (new.to.items ≡ old.to.items ++ more)
+  pub opening : new.opening ≡ old.opening
+  pub every : new.every ≡ old.every
+
+-- the log writer stays at its end of the channel and at its two words, and knows the keeper and the files that it began with
+pub record KeepsLog {D : Type 0} (old new : Logging D) : Type 0 where
+  pub end : new.from.end ≡ old.from.end
+  pub word : new.covers.pair ≡ old.covers.pair
+  pub flag : new.told_down.pair ≡ old.told_down.pair
+  pub opening : new.opening ≡ old.opening

@@ -1,0 +1,90 @@
+-- What a step of one of the three workers does.
+use Rattle.std.specs.Prelude.{◌≡◌, ◌≢◌, ◌⊎◌, ℕ, ◌<◌, ◌≤◌, Bool, true, false, [], Result}
+use Rattle.world_actions.specs.declared.refusal.Refusal.{Refusal}
+use Rattle.disk_model.specs.Disk.{Call, OneCalledAtMostOnce}
+use Rattle.image_files.specs.Progress.{left_of}
+use Rattle.action_log.specs.declared.answer.LogAnswer.TheVariants.{Idle}
+use Rattle.action_log.specs.Cover.{uncovered, cover_answer}
+use Rattle.action_log.specs.Progress.{work_of}
+use Rattle.shared_capture.specs.States.{MetBack}
+use Rattle.workers.specs.declared.gate.Place.{Place}
+use Rattle.workers.specs.declared.gate.Place.TheVariants.{Tick, Device}
+use Rattle.workers.specs.declared.gate.Pass.{Pass}
+use Rattle.workers.specs.declared.item.Item.{Item}
+use Rattle.workers.specs.Answering.{AreLater}
+use Rattle.workers.specs.Covering.{loaded, LoadsOn}
+use Rattle.workers.specs.Gates.{MayGo, MayStick}
+use Rattle.workers.specs.Mutating.{AnswersBatch, MarksIfDue, EndsPlay}
+use Rattle.workers.specs.Imaging.{Imaging, HasRound, FindsNone, FindsRound, GoesOn}
+use Rattle.workers.specs.Logging.{Logging, Pops, Settles, LogTellsFaults}
+use Rattle.worker_steps.specs.Begun.{Started}
+use Rattle.worker_steps.specs.declared.next.Next.{Next}
+use Rattle.worker_steps.specs.declared.next.Next.TheVariants.{Play, Mark, End, Pop, Log as Write, Image}
+
+-- ---- the log writer
+
+-- an item was popped, or none
+abbrev pub MayPop : {D : Type 0} → (old new : Logging D) → Type 0
+MayPop old new = (new ≡ old) ⊎ ((item : Item) × Pops old item new)
+
+-- A step of the log. It makes one call of a device at most, where the gate lets it, or takes what the newest open image has;
+-- and it posts what that made durable. It falls only by a failed call, or by its gate.
+pub record LogSteps {D : Type 0} (go stuck : Type 0) (called : D → Call → Bool → D → Type 0) (faults : D → ℕ) (old new : Logging D) : Type 0 where
+  pub same : new ≡ record old { covers = new.covers; told_down = new.told_down; log = new.log; ring = new.ring; answers = new.answers; acked = new.acked; down = new.down }
+  pub loads : LoadsOn old.covers new.covers
+  pub word : new.told_down.pair ≡ old.told_down.pair
+  pub covered : new.down ≡ false → (tick : ℕ) × (new.covers ≡ loaded old.covers tick)
+      × (cover_answer old.log.keeper tick old.ring.items ≢ Idle → (new.log ≡ old.log) × (new.ring.items ≡ uncovered old.log.keeper tick old.ring.items))
+  pub acked : old.acked ≤ new.acked
+  pub posts : (new.acked ≡ old.acked) ⊎ AreLater new.acked new.answers.waiting
+  pub lowers : new.down ≡ false → work_of new.log.keeper new.ring.items < work_of old.log.keeper old.ring.items
+  pub failures : LogTellsFaults faults old.log new.log
+  pub asks : (new.log ≡ old.log) ⊎ go
+  pub calls : OneCalledAtMostOnce called old.log.a new.log.a old.log.b new.log.b
+  pub cause : new.down ≡ true → (new.log.keeper.down ≡ true) ⊎ ((new.log ≡ old.log) × stuck)
+  pub refused : new.down ≡ true → new.answers.waiting ≡ []
+
+-- it stays down; or a step is made, where one is left; or nothing is left, and no answer waits any more
+abbrev pub LogGoes : {D G : Type 0} → (gate : G → Place → Pass → G → Type 0) → (called : D → Call → Bool → D → Type 0) → (faults : D → ℕ) → (old new : Logging D) → Type 0
+LogGoes gate called faults old new =
+    ((old.down ≡ true) × (new ≡ old))
+    ⊎ (((old.down ≡ false) × (0 < work_of old.log.keeper old.ring.items) × LogSteps (MayGo gate Device) (MayStick gate Device) called faults old new)
+    ⊎ ((old.down ≡ false) × (work_of old.log.keeper old.ring.items ≡ 0) × Settles old new))
+
+-- ---- the checkpointer
+
+-- a step of the round in work makes one call of a device at most, where the gate lets it
+pub record ImageSteps {D : Type 0} (go stuck : Type 0) (called : D → Call → Bool → D → Type 0) (faults : D → ℕ) (old new : Imaging D) : Type 0 where
+  pub goes : GoesOn go stuck faults old new
+  pub calls : OneCalledAtMostOnce called old.images.image_a new.images.image_a old.images.image_b new.images.image_b
+  pub less : new.over ≡ false → left_of new.images.keeper < left_of old.images.keeper
+
+-- it does nothing once it is over or its round can't go on; else it looks for a round, or makes a step of the one in work
+abbrev pub ImageGoes : {D G : Type 0} → (gate : G → Place → Pass → G → Type 0) → (called : D → Call → Bool → D → Type 0) → (faults : D → ℕ) → (old new : Imaging D) → Type 0
+ImageGoes gate called faults old new =
+    ((new ≡ old) × ((old.over ≡ true) ⊎ (HasRound old.images.keeper × (left_of old.images.keeper ≡ 0))))
+    ⊎ (FindsNone old new ⊎ (((tick : ℕ) × FindsRound old tick new)
+    ⊎ ImageSteps (MayGo gate Device) (MayStick gate Device) called faults old new))
+
+-- ---- any of them
+
+-- one worker makes the step, and the others stay as they are
+abbrev pub Makes : {D A B C : Type 0} → (of_play : A → Place → Pass → A → Type 0) → (of_images : B → Place → Pass → B → Type 0) → (of_log : C → Place → Pass → C → Type 0)
+    → (called : D → Call → Bool → D → Type 0) → (faults : D → ℕ) → Next → (old new : Started D) → Type 0
+Makes of_play of_images of_log called faults (Play ask) old new =
+    (new ≡ record old { mutator = new.mutator })
+    × ((given : Result (Unit {0}) Refusal) × AnswersBatch (MayGo of_play Tick) (MayStick of_play Tick) old.mutator ask given new.mutator)
+Makes of_play of_images of_log called faults Mark old new = (new ≡ record old { mutator = new.mutator }) × MarksIfDue old.mutator new.mutator
+Makes of_play of_images of_log called faults End old new = (new ≡ record old { mutator = new.mutator }) × EndsPlay old.mutator new.mutator
+Makes of_play of_images of_log called faults Pop old new = (new ≡ record old { log_writer = new.log_writer }) × MayPop old.log_writer new.log_writer
+Makes of_play of_images of_log called faults Write old new =
+    (new ≡ record old { log_writer = new.log_writer }) × LogGoes of_log called faults old.log_writer new.log_writer
+Makes of_play of_images of_log called faults Image old new =
+    (new ≡ record old { checkpointer = new.checkpointer }) × ImageGoes of_images called faults old.checkpointer new.checkpointer
+
+-- a meeting changes nothing but what the two seats know of the phase
+pub record Meets {D : Type 0} (old new : Started D) : Type 0 where
+  pub mutator : new.mutator ≡ record old.mutator { front = record old.mutator.front { closed = new.mutator.front.closed } }
+  pub checkpointer : new.checkpointer ≡ record old.checkpointer { back = new.checkpointer.back }
+  pub back : MetBack old.checkpointer.back new.checkpointer.back
+  pub log_writer : new.log_writer ≡ old.log_writer

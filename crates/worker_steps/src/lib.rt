@@ -1,0 +1,13 @@
+//! The three workers of a world as they begin, and their steps in one thread, one worker's at a time and in any order.
+//! After each step the four files are sound.
+#![tactic(auto)]
+
+mod next;
+mod opened;
+mod signals;
+mod steps;
+mod together;
+
+pub use next::Next;
+pub use opened::{Gates, Opened};
+pub use together::{Together, run_world};

@@ -1,0 +1,85 @@
+//! A step of one worker, whatever state it is in.
+ghost use Rattle.std.specs.Prelude.{Result};
+ghost use Rattle.world_actions.specs.declared.refusal.Refusal.{Refusal};
+ghost use Rattle.workers.specs.declared.gate.Place.TheVariants.{Tick};
+ghost use Rattle.workers.specs.Gates.{MayGo, MayStick};
+ghost use Rattle.workers.specs.Imaging.{KeepsBack};
+ghost use Rattle.workers.specs.Mutating.{AnswersBatch, MarksIfDue, EndsPlay};
+ghost use Rattle.worker_steps.specs.Kept.{KeepsFront, KeepsLog};
+ghost use Rattle.worker_steps.specs.Running.{MayPop, LogGoes, ImageGoes};
+
+use disk_model::Disk;
+use shared_capture::Method;
+use std::sync::Wait;
+use workers::{Ask, Checkpointer, Gate, LogWriter, Mutator};
+
+/// Runs a batch.
+pub fn play<R: Wait, M: Method, G: Gate + Drop>(rt: &R, mutator: &mut Mutator<M, G>, ask: Ask)
+    ensures keeps { KeepsFront mutator.old mutator.new }
+    ensures made { (given : Result (Unit {0}) Refusal)
+        × AnswersBatch (MayGo G.told Tick) (MayStick G.told Tick) mutator.old ask given mutator.new }
+{
+    let _ = mutator.play_batch(rt, ask);
+}
+
+/// Opens a round, if one is due.
+pub fn mark<R: Wait, M: Method, G: Gate + Drop>(rt: &R, mutator: &mut Mutator<M, G>)
+    ensures keeps { KeepsFront mutator.old mutator.new }
+    ensures made { MarksIfDue mutator.old mutator.new }
+{
+    mutator.mark_if_due(rt);
+}
+
+/// Tells that no more comes.
+pub fn end<R: Wait, M: Method, G: Gate + Drop>(rt: &R, mutator: &mut Mutator<M, G>)
+    ensures keeps { KeepsFront mutator.old mutator.new }
+    ensures made { EndsPlay mutator.old mutator.new }
+{
+    mutator.end(rt);
+}
+
+/// Pops an item, unless the last one was popped.
+pub fn pop<R: Wait, D: Disk + Drop, G: Gate + Drop>(rt: &R, log_writer: &mut LogWriter<D, G>)
+    ensures keeps { KeepsLog log_writer.old log_writer.new }
+    ensures made { MayPop log_writer.old log_writer.new }
+{
+    if !log_writer.is_over() {
+        log_writer.pop(rt);
+    }
+}
+
+/// Makes a step of the log, or refuses what can't be posted.
+pub fn write_log<R: Wait, D: Disk + Drop, G: Gate + Drop>(
+    rt: &R,
+    log_writer: &mut LogWriter<D, G>,
+)
+    ensures keeps { KeepsLog log_writer.old log_writer.new }
+    ensures made { LogGoes G.told D.called D.faults log_writer.old log_writer.new }
+{
+    if log_writer.is_down() {
+        return;
+    }
+    if log_writer.has_work() {
+        log_writer.step(rt);
+    } else {
+        log_writer.settle(rt);
+    }
+}
+
+/// Looks for a round and begins its image, or makes a step of the round in work.
+pub fn write_image<R: Wait, M: Method, D: Disk + Drop, G: Gate + Drop>(
+    rt: &R,
+    checkpointer: &mut Checkpointer<M, D, G>,
+)
+    ensures keeps { KeepsBack checkpointer.old checkpointer.new }
+    ensures made { ImageGoes G.told D.called D.faults checkpointer.old checkpointer.new }
+{
+    if checkpointer.is_over() {
+        return;
+    }
+    if !checkpointer.images().keeper.has_open_round() {
+        checkpointer.begin();
+    } else if checkpointer.images().keeper.left() > 0 {
+        checkpointer.step(rt);
+    }
+}

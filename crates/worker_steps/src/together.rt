@@ -1,0 +1,182 @@
+//! The workers of a world in one thread, a step of one of them at a time.
+ghost use Rattle.std.specs.Prelude.{◌≡◌, ◌≤◌, IsTrue, IfOk};
+ghost use Rattle.workers.specs.Channel.{AreOneChannel};
+ghost use Rattle.workers.specs.Imaging.{KeepsBack, IsAtRest as IsResting};
+ghost use Rattle.workers.specs.Logging.{IsAtRest};
+ghost use Rattle.worker_ends.specs.Ends.{AreSound, StaysSound, acknowledged_by};
+ghost use Rattle.worker_steps.specs.Begun.{Started, IsWhole, IsBegun};
+ghost use Rattle.worker_steps.specs.Kept.{KeepsFront, KeepsLog};
+ghost use Rattle.worker_steps.specs.Running.{Makes, Meets};
+
+use crate::next::Next;
+use crate::opened::{Gates, Opened};
+use crate::signals::Signals;
+use crate::steps::{end, mark, play, pop, write_image, write_log};
+use disk_model::Disk;
+use shared_capture::Method;
+use std::alloc::{AllocError, Global};
+use std::sync::Wait;
+use worker_ends::stops_are_sound;
+use workers::{Checkpointer, Gate, LogWriter, Mutator, meet_workers, open};
+
+/// The workers of a world. A server gives each a thread; here they make their steps in one.
+#[derive(Drop)]
+pub struct Together<M: Method, D: Disk + Drop, A: Gate + Drop, B: Gate + Drop, C: Gate + Drop> {
+    pub mutator: Mutator<M, A>,
+    pub checkpointer: Checkpointer<M, D, B>,
+    pub log_writer: LogWriter<D, C>,
+    ghost pair: { mutator.front.pair ≡ checkpointer.back.pair },
+    ghost channel: { AreOneChannel log_writer.from.end mutator.to.end },
+    ghost word: { log_writer.covers.pair ≡ checkpointer.covers.pair },
+    ghost flag: { mutator.heard.pair ≡ log_writer.told_down.pair },
+}
+
+impl<M: Method, D: Disk + Drop, A: Gate + Drop, B: Gate + Drop, C: Gate + Drop> Together<
+    M,
+    D,
+    A,
+    B,
+    C,
+> {
+    /// The workers of a world as they begin, where a round is due after every `every` ticks.
+    pub fn begin<R: Wait>(
+        rt: &R,
+        alloc: Global,
+        gates: Gates<A, B, C>,
+        opened: Opened<M, D>,
+        every: u32,
+    ) -> Result<Self, AllocError>
+        requires { IsWhole D.honest D.content opened.front opened.back opened.images opened.log opened.ended }
+        ensures begun { IfOk result (λ made. IsBegun opened.front opened.back opened.images opened.log opened.ended every
+            (record { mutator = made.mutator; checkpointer = made.checkpointer; log_writer = made.log_writer })) }
+        ensures images_rest { IfOk result (λ made. IsResting made.checkpointer.images.keeper made.checkpointer.back) }
+        ensures log_rests { IfOk result (λ made. IsAtRest made.log_writer) }
+    {
+        let signals = Signals::new(alloc)?;
+        let (to, from) = open(rt, alloc, opened.ended)?;
+        let Opened {
+            front,
+            back,
+            images,
+            log,
+            ended,
+        } = opened;
+        let Gates {
+            mutator,
+            checkpointer,
+            log_writer,
+        } = gates;
+        let Signals {
+            bell,
+            rung,
+            out,
+            told,
+            told_down,
+            heard,
+        } = signals;
+        let mutator = Mutator::new(mutator, alloc, front, to, ended, every, bell, heard);
+        let checkpointer = Checkpointer::new(checkpointer, back, out, images, rung);
+        let log_writer = LogWriter::new(alloc, log_writer, from, told, log, told_down, ended)?;
+        Ok(Together {
+            mutator,
+            checkpointer,
+            log_writer,
+        })
+    }
+
+    /// Makes the step. Whatever the steps before it were, the four files are sound after it, on disks that keep to the
+    /// disk model. For that the workers meet behind it, which a server's don't do before they stop.
+    pub fn step<R: Wait>(&mut self, rt: &R, next: Next)
+        ensures made { (mid : Started D) × Makes A.told B.told C.told D.called D.faults next
+            (record { mutator = self.old.mutator; checkpointer = self.old.checkpointer; log_writer = self.old.log_writer }) mid
+            × Meets mid (record { mutator = self.new.mutator; checkpointer = self.new.checkpointer; log_writer = self.new.log_writer }) }
+        ensures sound { IsTrue D.honest → AreSound D.content D.may_leave self.new.mutator self.new.checkpointer self.new.log_writer }
+        ensures posted { self.new.log_writer.answers.posted ≤ acknowledged_by self.new.checkpointer self.new.log_writer }
+        ensures mutator { KeepsFront self.old.mutator self.new.mutator }
+        ensures checkpointer { KeepsBack self.old.checkpointer self.new.checkpointer }
+        ensures log_writer { KeepsLog self.old.log_writer self.new.log_writer }
+    {
+        self.make_step(rt, next);
+        self.meet();
+    }
+
+    /// Makes these steps, one after the other. The files are sound after them, and so after each beginning of them.
+    pub fn run<R: Wait>(&mut self, rt: &R, steps: Vec<Next>)
+        ensures sound { IsTrue D.honest → AreSound D.content D.may_leave self.new.mutator self.new.checkpointer self.new.log_writer }
+        ensures posted { self.new.log_writer.answers.posted ≤ acknowledged_by self.new.checkpointer self.new.log_writer }
+        ensures mutator { KeepsFront self.old.mutator self.new.mutator }
+        ensures checkpointer { KeepsBack self.old.checkpointer self.new.checkpointer }
+        ensures log_writer { KeepsLog self.old.log_writer self.new.log_writer }
+    {
+        self.meet();
+        for next in steps {
+            self.step(rt, next);
+        }
+    }
+
+    // One worker makes the step, and the others stay as they are.
+    fn make_step<R: Wait>(&mut self, rt: &R, next: Next)
+        ensures made { Makes A.told B.told C.told D.called D.faults next
+            (record { mutator = self.old.mutator; checkpointer = self.old.checkpointer; log_writer = self.old.log_writer })
+            (record { mutator = self.new.mutator; checkpointer = self.new.checkpointer; log_writer = self.new.log_writer }) }
+        ensures mutator { KeepsFront self.old.mutator self.new.mutator }
+        ensures checkpointer { KeepsBack self.old.checkpointer self.new.checkpointer }
+        ensures log_writer { KeepsLog self.old.log_writer self.new.log_writer }
+    {
+        match next {
+            Next::Play(ask) => play(rt, &mut self.mutator, ask),
+            Next::Mark => mark(rt, &mut self.mutator),
+            Next::End => end(rt, &mut self.mutator),
+            Next::Pop => pop(rt, &mut self.log_writer),
+            Next::Log => write_log(rt, &mut self.log_writer),
+            Next::Image => write_image(rt, &mut self.checkpointer),
+        }
+    }
+
+    // Each worker learns what the others did. Nothing else of them changes, and nothing of the files.
+    fn meet(&mut self)
+        ensures sound { IsTrue D.honest → AreSound D.content D.may_leave self.new.mutator self.new.checkpointer self.new.log_writer }
+        ensures posted { self.new.log_writer.answers.posted ≤ acknowledged_by self.new.checkpointer self.new.log_writer }
+        ensures meets { Meets (record { mutator = self.old.mutator; checkpointer = self.old.checkpointer; log_writer = self.old.log_writer })
+            (record { mutator = self.new.mutator; checkpointer = self.new.checkpointer; log_writer = self.new.log_writer }) }
+        ensures mutator { KeepsFront self.old.mutator self.new.mutator }
+        ensures checkpointer { KeepsBack self.old.checkpointer self.new.checkpointer }
+        ensures log_writer { KeepsLog self.old.log_writer self.new.log_writer }
+    {
+        stops_are_sound::<D>();
+        meet_workers(
+            &mut self.mutator,
+            &mut self.checkpointer,
+            &mut self.log_writer,
+        );
+    }
+}
+
+/// Runs a world by these steps of its workers, whatever they are. After them a crash of the four files leaves a world after
+/// the ticks with which they began and the first of those that were played, and no tick that is acknowledged is lost.
+pub fn run_world<
+    R: Wait,
+    M: Method,
+    D: Disk + Drop,
+    A: Gate + Drop,
+    B: Gate + Drop,
+    C: Gate + Drop,
+>(
+    rt: &R,
+    alloc: Global,
+    gates: Gates<A, B, C>,
+    opened: Opened<M, D>,
+    every: u32,
+    steps: Vec<Next>,
+) -> Result<Together<M, D, A, B, C>, AllocError>
+    requires { IsWhole D.honest D.content opened.front opened.back opened.images opened.log opened.ended }
+    ensures sound { IsTrue D.honest → IfOk result (λ world.
+        StaysSound D.content D.may_leave opened.front.live opened.images opened.log opened.ended
+        world.mutator world.checkpointer world.log_writer) }
+    ensures posted { IfOk result (λ world.
+        world.log_writer.answers.posted ≤ acknowledged_by world.checkpointer world.log_writer) }
+{
+    let mut world = Together::begin(rt, alloc, gates, opened, every)?;
+    world.run(rt, steps);
+    Ok(world)
+}
