@@ -2,6 +2,7 @@
 //! they leave.
 #![tactic(auto)]
 
+mod cuts;
 mod meeting;
 mod promises;
 mod running;
@@ -9,6 +10,7 @@ mod threads;
 mod watch;
 mod work;
 
+pub use cuts::stop_after;
 pub use meeting::ends_meet;
 pub use threads::{Ends, NotStarted, Workers, start, stop};
 pub use watch::Watch;

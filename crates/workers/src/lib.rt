@@ -8,6 +8,7 @@
 
 mod batch_run;
 mod checkpointer;
+mod cut;
 mod ends;
 mod gate;
 mod item;
@@ -19,6 +20,7 @@ mod post;
 
 pub use batch_run::play;
 pub use checkpointer::{Checkpointer, ImageWriter};
+pub use cut::Cut;
 pub use ends::{ItemReceiver, ItemSender, ReceiveEnd, SendEnd, compare, open};
 pub use gate::{Gate, Open, Pass, Place};
 pub use item::{Ended, Item, View};

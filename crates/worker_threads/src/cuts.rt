@@ -1,0 +1,48 @@
+//! Workers that are held for good, each after so many of its steps.
+ghost use Rattle.std.specs.Prelude.{IsTrue, IfOk};
+ghost use Rattle.worker_ends.specs.Ends.{StaysSound};
+ghost use Rattle.worker_threads.specs.Begun.{IsWhole};
+
+use crate::meeting::ends_meet;
+use crate::opened::{Gates, Opened};
+use crate::threads::{Ends, NotStarted, start, stop};
+use crate::watch::Watch;
+use crossbeam_channel::Sender;
+use disk_model::Disk;
+use shared_capture::Method;
+use std::alloc::Global;
+use std::sync::Wait;
+use std::thread::Threads;
+use workers::{Ask, Cut};
+
+/// Starts the workers of a world, gives `play` the channel of their batches, and waits until they have ended, which they
+/// do once no sender of it is left. Each worker makes as many steps as its cut says, and none after them. Wherever that
+/// holds the three of them, on disks that keep to the disk model the files are sound for the ticks that were there and
+/// those that were pushed.
+pub fn stop_after<
+    R: Threads + Wait + Copy + Send + 'static,
+    M: Method + Send + 'static,
+    D: Disk + Drop + Send + 'static,
+    W: Watch<D> + Clone + Send + 'static,
+    F: FnOnce(Sender<Ask>),
+>(
+    rt: &R,
+    alloc: Global,
+    cuts: Gates<Cut, Cut, Cut>,
+    watch: W,
+    opened: Opened<M, D>,
+    every: u32,
+    play: F,
+) -> Result<Ends<M, D, Cut, Cut, Cut>, NotStarted>
+    requires whole { IsWhole D.honest D.content opened.front opened.back opened.images opened.log opened.ended }
+    requires plays { F.IsAlwaysCallable play }
+    ensures sound { IsTrue D.honest → IfOk result (λ ends.
+        StaysSound D.content D.may_leave opened.front.live opened.images opened.log opened.ended
+        ends.mutator ends.checkpointer ends.log_writer) }
+{
+    let (workers, asks) = start(rt, alloc, cuts, watch, opened, every)?;
+    play(asks);
+    let mut ends = stop(rt, workers);
+    ends_meet(&mut ends);
+    Ok(ends)
+}
