@@ -1,10 +1,9 @@
 //! Workers that are held for good, each after so many of its steps.
 ghost use Rattle.std.specs.Prelude.{IsTrue, IfOk};
 ghost use Rattle.worker_ends.specs.Ends.{StaysSound};
-ghost use Rattle.worker_threads.specs.Begun.{IsWhole};
+ghost use Rattle.worker_steps.specs.Begun.{IsWhole};
 
 use crate::meeting::ends_meet;
-use crate::opened::{Gates, Opened};
 use crate::threads::{Ends, NotStarted, start, stop};
 use crate::watch::Watch;
 use crossbeam_channel::Sender;
@@ -13,6 +12,7 @@ use shared_capture::Method;
 use std::alloc::Global;
 use std::sync::Wait;
 use std::thread::Threads;
+use worker_steps::{Gates, Opened};
 use workers::{Ask, Cut};
 
 /// Starts the workers of a world, gives `play` the channel of their batches, and waits until they have ended, which they
