@@ -1,6 +1,7 @@
 //! A log that has fallen behind leaves out what an image has.
 ghost use Rattle.std.specs.Prelude.{◌≡◌, ◌≤◌, false};
 ghost use Rattle.workers.specs.Logging.{IsAtRest};
+ghost use Rattle.worker_threads.specs.Kept.{MayTake};
 
 use crate::held::Held;
 use crate::same::same;
@@ -27,7 +28,10 @@ fn write_image<M: Method>(
     rt: &(impl Wait + Abort),
     checkpointer: &mut Checkpointer<M, File, Held>,
     tick: u64,
-) {
+)
+    requires { MayTake checkpointer.old }
+    ensures { MayTake checkpointer.new }
+{
     assert!(rt; !checkpointer.is_over());
     same(
         rt,
@@ -35,6 +39,7 @@ fn write_image<M: Method>(
         checkpointer.turn(rt),
         Some(tick),
     );
+    assert!(rt; !checkpointer.is_over());
 }
 
 // Three ticks are played, and images opened of the first two, while nothing is logged.
@@ -43,6 +48,7 @@ fn fall_behind<M: Method>(
     alloc: Global,
     world: &mut Serial<M, File>,
 ) -> [Receiver<Reply>; 3]
+    requires { MayTake world.old.checkpointer }
     ensures { world.new.log_writer ≡ world.old.log_writer }
 {
     let first = send(rt, alloc, &mut world.mutator);
@@ -103,7 +109,8 @@ fn check_files<M: Method>(rt: &impl Abort, alloc: Global, world: &Serial<M, File
 // Workers in a new world, of which the second segment's file fails at this call.
 fn begin_broken<M: Seats>(rt: &(impl Wait + Abort), alloc: Global, call: u64) -> Serial<M, File>
     requires { 1 ≤ call }
-    ensures { IsAtRest result.log_writer }
+    ensures rest { IsAtRest result.log_writer }
+    ensures takes { MayTake result.checkpointer }
 {
     let mut opened = open_files::<M, File>(rt, alloc, fused_files(rt, alloc));
     opened.log.b.arm(call);
@@ -116,7 +123,8 @@ fn play_behind<M: Method>(
     world: &mut Serial<M, File>,
     whole: bool,
 )
-    requires { IsAtRest world.old.log_writer }
+    requires rest { IsAtRest world.old.log_writer }
+    requires takes { MayTake world.old.checkpointer }
 {
     let answers = fall_behind(rt, alloc, world);
     log_on(rt, &mut world.log_writer);

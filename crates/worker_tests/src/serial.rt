@@ -4,6 +4,7 @@ ghost use Rattle.world_ticks.specs.declared.tick.TheConstants.{TICK_MAX};
 ghost use Rattle.workers.specs.declared.item.Item.TheVariants.{Start};
 ghost use Rattle.workers.specs.Logging.{IsAtRest};
 ghost use Rattle.worker_steps.specs.Begun.{IsWhole};
+ghost use Rattle.worker_threads.specs.Kept.{MayTake};
 
 use crate::held::Held;
 use crate::same::same;
@@ -87,7 +88,8 @@ pub fn begin<M: Method, D: Disk + Drop>(
     held: Held,
 ) -> Serial<M, D>
     requires { IsWhole D.honest D.content opened.front opened.back opened.images opened.log opened.ended }
-    ensures { IsAtRest result.log_writer }
+    ensures rest { IsAtRest result.log_writer }
+    ensures takes { MayTake result.checkpointer }
 {
     let signals = new_signals(rt, alloc);
     let channel = new_channel(rt, alloc, opened.ended);
@@ -108,7 +110,8 @@ fn joined<M: Method, D: Disk + Drop>(
     requires from { channel.from.items ≡ Start opened.ended ∷ [] }
     requires out { channel.out.ticks ≡ [] }
     requires untold { signals.told_down.ticks ≡ [] }
-    ensures { IsAtRest result.log_writer }
+    ensures rest { IsAtRest result.log_writer }
+    ensures takes { MayTake result.checkpointer }
 {
     let Opened {
         front,
@@ -180,6 +183,7 @@ fn answer<M: Method>(
 )
     requires rest { IsAtRest world.old.log_writer }
     ensures rest { IsAtRest world.new.log_writer }
+    ensures checkpointer { world.new.checkpointer ≡ world.old.checkpointer }
 {
     let from = send(rt, alloc, &mut world.mutator);
     log_on(rt, &mut world.log_writer);
@@ -198,7 +202,9 @@ pub fn is_posted(rt: &(impl Wait + Abort), from: &Receiver<Reply>, text: &[u8]) 
 fn is_stuck<M: Method>(
     rt: &(impl Wait + Abort),
     checkpointer: &mut Checkpointer<M, ModelFile, Held>,
-) {
+)
+    requires { MayTake checkpointer.old }
+{
     assert!(rt; !checkpointer.is_over());
     same(rt, "an image that is opened", checkpointer.turn(rt), None);
     let stops = (checkpointer.is_over(), checkpointer.is_down());
@@ -211,7 +217,8 @@ fn begin_held<M: Seats>(
     alloc: Global,
     answered: &Arc<AtomicU64, Global>,
 ) -> Serial<M, ModelFile>
-    ensures { IsAtRest result.log_writer }
+    ensures rest { IsAtRest result.log_writer }
+    ensures takes { MayTake result.checkpointer }
 {
     let held = Held::until(answered.clone().expect(rt, "a share"));
     let opened = open_files::<M, ModelFile>(rt, alloc, new_files(rt, alloc, 2));
@@ -224,7 +231,8 @@ fn play_round<M: Method>(
     world: &mut Serial<M, ModelFile>,
     answered: &AtomicU64,
 )
-    requires { IsAtRest world.old.log_writer }
+    requires rest { IsAtRest world.old.log_writer }
+    requires takes { MayTake world.old.checkpointer }
 {
     answer(rt, alloc, world, b"tick 1: + =1\n");
     answered.fetch_add(1, Ordering::SeqCst);

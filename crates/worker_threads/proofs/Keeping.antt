@@ -1,5 +1,5 @@
 -- A turn of the mutator stays at its front and its end of the channel.
-use Rattle.std.proofs.Common.{◌≡◌, ap, inl, inr, Result}
+use Rattle.std.proofs.Common.{ap, inl, inr, Result}
 use Rattle.world_actions.specs.declared.refusal.Refusal.{Refusal}
 use Rattle.workers.specs.Posts.{AskedBatch}
 use Rattle.workers.specs.Mutating.{Playing, Turns, EndsPlay}

@@ -1,4 +1,5 @@
-use Rattle.worker_threads.proofs.Keeping.{then, turn_keeps, ends}
+use Rattle.worker_steps.proofs.Keeping.{then}
+use Rattle.worker_threads.proofs.Keeping.{turn_keeps, ends}
 use Rattle.worker_threads.proofs.running.play_batches.Goals as goal
 
 pub loop-ask-preserved : goal.loop-ask-preserved

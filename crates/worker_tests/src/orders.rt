@@ -1,0 +1,77 @@
+//! The steps of the workers in one thread, and what stands in the files after each.
+ghost use Rattle.std.specs.Prelude.{◌≤◌};
+
+use crate::same::same;
+use crate::serial::ask_for;
+use crate::worlds::{new_files, open_files, stands_in};
+use crossbeam_channel::bounded;
+use disk_model::ModelFile;
+use shared_capture::{Method, Pong, Zig};
+use std::alloc::Global;
+use std::process::Abort;
+use std::sync::Wait;
+use tcp_service::Seats;
+use worker_steps::{Gates, Next, Together};
+use workers::Open;
+
+type World<M> = Together<M, ModelFile, Open, Open, Open>;
+
+// The files have the world after as many ticks as its first cell tells. No tick that is acknowledged is lost.
+fn found<M: Method>(rt: &impl Abort, alloc: Global, world: &World<M>) -> (u64, u64) {
+    let (images, log) = (world.checkpointer.images(), world.log_writer.log());
+    let (tick, from, word) = stands_in(rt, alloc, images, log);
+    same(rt, "the ticks in the words", word, tick);
+    assert!(rt; world.log_writer.acked() <= tick && from <= tick);
+    (tick, from)
+}
+
+fn begin_steps<M: Seats>(rt: &(impl Wait + Abort), alloc: Global) -> World<M> {
+    let opened = open_files::<M, ModelFile>(rt, alloc, new_files(rt, alloc, 2));
+    let gates = Gates {
+        mutator: Open,
+        checkpointer: Open,
+        log_writer: Open,
+    };
+    Together::begin(rt, alloc, gates, opened, 1).expect(rt, "memory for workers")
+}
+
+fn play_step<M: Method>(rt: &(impl Wait + Abort), alloc: Global, world: &mut World<M>) {
+    let (to, _from) = bounded(alloc, 1).expect(rt, "a channel");
+    let ask = ask_for(rt, alloc, to);
+    world.step(rt, Next::Play(ask));
+}
+
+fn next_step(at: u64) -> Next {
+    match at % 5 {
+        0 => Next::Mark,
+        1 => Next::Pop,
+        3 => Next::Log,
+        _ => Next::Image,
+    }
+}
+
+// A batch is played at every so many of the first 200 steps. It gives the tick and the image's tick that stand at the end.
+fn try_order<M: Seats>(rt: &(impl Wait + Abort), alloc: Global, every: u64) -> (u64, u64)
+    requires { 1 ≤ every }
+{
+    let mut world = begin_steps::<M>(rt, alloc);
+    for at in 0..400u64 {
+        if at < 200 && at % every == 0 {
+            play_step(rt, alloc, &mut world);
+            let _ = found(rt, alloc, &world);
+        }
+        world.step(rt, next_step(at));
+        let _ = found(rt, alloc, &world);
+    }
+    let stands = found(rt, alloc, &world);
+    drop(world);
+    stands
+}
+
+#[test]
+fn files_stand_after_each_step(rt: HostRuntime) {
+    let ticks = try_order::<Zig>(&rt, rt.alloc(), 7);
+    same(&rt, "what stands at the end", ticks, (29, 29));
+    let ticks = try_order::<Pong>(&rt, rt.alloc(), 11);
+    same(&rt, "what stands at the end", ticks, (19, 19));
+}
