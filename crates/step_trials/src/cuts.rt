@@ -49,11 +49,7 @@ pub fn try_cuts<R: Threads + Wait + Copy + Send + 'static, M: Seats + Send + 'st
     rt: &R,
     trial: &mut Trial,
 ) -> Result<(), Refusal> {
-    let odds = Odds {
-        fails: 0,
-        sticks: 0,
-    };
-    let mut left = trial.new_world(CELLS, 0, odds)?;
+    let mut left = trial.new_world(CELLS, 0, Odds::NONE)?;
     for _ in 0..CUTS {
         left = cut_once::<R, M>(rt, trial, left)?;
     }
@@ -149,13 +145,16 @@ impl Played {
     ) -> Result<Left, Refusal> {
         self.stopped?;
         for session in &mut self.sessions {
-            if let Some(answer) = session.wait(rt, &trial.model) {
+            if let Some(answer) = session.look(rt, &trial.model) {
                 self.posted = self.posted.max(heed(answer, trial));
             }
+            trial.tally.hold(session.is_idle(), Rule::AnswersAsk);
         }
         let ended = ends.mutator.ended();
         let stand = Stand::of(&ends.checkpointer, &ends.log_writer, ended);
-        trial.tally.hold(self.posted <= stand.acked, Rule::PostsAcknowledged);
+        trial
+            .tally
+            .hold(self.posted <= stand.acked, Rule::PostsAcknowledged);
         self.count_held(trial, ends);
         stand.judge(trial)?;
         stand.crash(trial)
@@ -168,7 +167,10 @@ impl Played {
         let tally = &mut trial.tally;
         tally.hold(ended <= sent, Rule::Counts);
         tally.count_if(ended < sent && !log_writer.is_down(), Kind::MutatorCut);
-        tally.count_if(checkpointer.images().keeper.has_open_round(), Kind::CheckpointerCut);
+        tally.count_if(
+            checkpointer.images().keeper.has_open_round(),
+            Kind::CheckpointerCut,
+        );
         tally.count_if(log_writer.is_down(), Kind::LogWriterCut);
     }
 }

@@ -83,7 +83,10 @@ fn answer(
             Ok(Some(word)) => put(&mut text, format!(in alloc; " ={word}")?.as_str())?,
             Err(refusal) => {
                 tally.count_refusal(refusal);
-                put(&mut text, format!(in alloc; " -{}", refusal.code())?.as_str())?;
+                put(
+                    &mut text,
+                    format!(in alloc; " -{}", refusal.code())?.as_str(),
+                )?;
             }
         }
     }
@@ -92,11 +95,7 @@ fn answer(
 }
 
 // Does what a request asks for. A read gives a word.
-fn reply(
-    words: &mut Words,
-    accepted: &mut u32,
-    request: Request,
-) -> Result<Option<u64>, Refusal> {
+fn reply(words: &mut Words, accepted: &mut u32, request: Request) -> Result<Option<u64>, Refusal> {
     match request {
         Request::Act(_) if *accepted >= ACTIONS => Err(Refusal::TickFull),
         Request::Act(action) => {

@@ -4,7 +4,7 @@ use crate::tally::{Kind, Tally};
 use shared_capture::Method;
 
 /// What is seen of the workers between two steps.
-#[derive(Clone, Copy, Debug, PartialEq, Eq)]
+#[derive(Clone, Copy)]
 pub struct Moment {
     // The tick of the newest image.
     image: Option<u64>,
@@ -35,7 +35,10 @@ impl Moment {
     /// Counts what a step led to.
     pub fn tell(&self, step: Kind, after: &Moment, tally: &mut Tally) {
         tally.count_if(self.image != after.image, Kind::ImageOpened);
-        tally.count_if(!self.images_stuck && after.images_stuck, Kind::CheckpointerStuck);
+        tally.count_if(
+            !self.images_stuck && after.images_stuck,
+            Kind::CheckpointerStuck,
+        );
         tally.count_if(!self.log_stuck && after.log_stuck, Kind::LogWriterStuck);
         // With work to do and its file not called, it left something out.
         let covers = self.has_work && self.log_calls == after.log_calls && !after.log_down;

@@ -103,12 +103,7 @@ impl<M: Method> Run<M> {
     }
 
     /// Makes a step, and looks at the answers.
-    pub fn make<R: Wait>(
-        &mut self,
-        rt: &R,
-        trial: &mut Trial,
-        step: Kind,
-    ) -> Result<(), Refusal> {
+    pub fn make<R: Wait>(&mut self, rt: &R, trial: &mut Trial, step: Kind) -> Result<(), Refusal> {
         let before = Moment::of(&self.world);
         trial.tally.count(step);
         match step {
@@ -222,7 +217,9 @@ impl<M: Method> Run<M> {
             Some(Answer::Fault(Refusal::SegmentFull)) => trial.tally.count(Kind::SegmentFull),
             Some(Answer::Fault(Refusal::TicksEnded)) => {
                 trial.tally.count(Kind::TicksEnded);
-                trial.tally.hold(trial.model.last() == TICK_MAX, Rule::Refuses);
+                trial
+                    .tally
+                    .hold(trial.model.last() == TICK_MAX, Rule::Refuses);
             }
             _ => trial.tally.hold(false, Rule::Refuses),
         }

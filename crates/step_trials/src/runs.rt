@@ -35,7 +35,7 @@ const REST: u64 = 40;
 /// What fails and sticks in random runs.
 const ODDS: Odds = Odds {
     fails: 2,
-    sticks: 1_000,
+    sticks: 400,
 };
 
 /// Random steps in worlds of all sizes, and near the last tick; then a full segment.
@@ -118,11 +118,7 @@ fn make_steps<R: Wait, M: Method>(
 
 // A segment's worth of ticks with no round. The next batch is refused.
 fn try_segment<R: Wait, M: Seats>(rt: &R, trial: &mut Trial) -> Result<(), Refusal> {
-    let odds = Odds {
-        fails: 0,
-        sticks: 0,
-    };
-    let left = trial.new_world(1, 0, odds)?;
+    let left = trial.new_world(1, 0, Odds::NONE)?;
     let files = trial.files(left)?;
     match open_world::<M, Flaky>(trial.alloc, files) {
         Ok((opened, _)) => {

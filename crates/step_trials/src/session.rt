@@ -16,7 +16,7 @@ struct Pending {
 }
 
 /// What a session was told.
-#[derive(Clone, Copy, Debug, PartialEq, Eq)]
+#[derive(Clone, Copy)]
 pub enum Answer {
     /// A post of this tick, which was the session's own.
     Post(u64),
@@ -71,10 +71,12 @@ impl Session {
     /// How many items were pushed with its tick, 0 where it waits for none.
     pub fn pushed(&self) -> u64 {
         match &self.pending {
-            Some(Pending {
-                run: Some((_, pushed)),
-                ..
-            }) => *pushed,
+            Some(
+                Pending {
+                    run: Some((_, pushed)),
+                    ..
+                },
+            ) => *pushed,
             _ => 0,
         }
     }

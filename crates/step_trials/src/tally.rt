@@ -2,7 +2,7 @@ use trial_kit::Counts;
 use world_actions::Refusal;
 
 /// What can come. A push is refused only where no end is left that pops, and memory only where nobody gives any.
-#[derive(Clone, Copy, Debug, PartialEq, Eq)]
+#[derive(Clone, Copy, PartialEq, Eq)]
 pub enum Kind {
     Play,
     Mark,
@@ -81,7 +81,7 @@ const NAMES: [&str; KINDS] = [
 ];
 
 /// What has to hold.
-#[derive(Clone, Copy, Debug, PartialEq, Eq)]
+#[derive(Clone, Copy)]
 pub enum Rule {
     /// Whatever a crash leaves is recovered.
     IsRecovered,

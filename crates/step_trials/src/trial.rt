@@ -6,16 +6,24 @@ use crate::tally::Tally;
 use disk_model::FourFiles;
 use std::alloc::Global;
 use trial_kit::Random;
-use world_actions::Refusal;
 use worker_steps::Gates;
+use world_actions::Refusal;
 
 /// How often things go wrong.
-#[derive(Clone, Copy, Debug, PartialEq, Eq)]
+#[derive(Clone, Copy)]
 pub struct Odds {
     /// How many of a hundred calls of a file fail.
     pub fails: u64,
     /// After how many steps a gate sticks, about, or 0 where none does.
     pub sticks: u64,
+}
+
+impl Odds {
+    /// Nothing goes wrong.
+    pub const NONE: Odds = Odds {
+        fails: 0,
+        sticks: 0,
+    };
 }
 
 /// What is kept from run to run: the random numbers, the model, and what came.
@@ -36,10 +44,7 @@ impl Trial {
         Ok(Trial {
             alloc,
             cells: 0,
-            odds: Odds {
-                fails: 0,
-                sticks: 0,
-            },
+            odds: Odds::NONE,
             random: Random::new(seed),
             model: PlainModel::new(alloc, 0, Vec::new(alloc))?,
             draft: Draft::new(alloc)?,
