@@ -24,9 +24,9 @@ const ROOM: u64 = 64;
 /// How often each step is chosen, of a thousand: play, mark, end, pop, log, and else image.
 const WEIGHTS: [[u64; 5]; 5] = [
     [150, 60, 1, 150, 240],
-    [300, 40, 0, 60, 40],
+    [200, 60, 0, 140, 4],
     [80, 40, 2, 250, 500],
-    [120, 60, 0, 150, 150],
+    [150, 100, 0, 150, 40],
     [60, 60, 0, 60, 80],
 ];
 
@@ -133,7 +133,7 @@ impl<M: Method> Run<M> {
     }
 
     fn choose(&mut self, random: &mut Random) -> Kind {
-        if random.percent(1) {
+        if random.percent(2) {
             self.weights = random.below(WEIGHTS.len() as u64);
         }
         self.next = random.below(SESSIONS);
