@@ -49,26 +49,38 @@ fn try_method<
     M: Seats + Send + 'static,
 >(rt: &R, method: &str, seed: u64) -> Result<bool, Refusal> {
     let mut trial = Trial::new(rt.alloc(), seed)?;
-    try_steps::<R, M>(rt, &mut trial)?;
-    let were_right = trial.tally.wrong() == 0;
-    tell(rt, method, ALL_STEPS, "steps", were_right)?;
-    try_cuts::<R, M>(rt, &mut trial)?;
-    let is_right = trial.tally.wrong() == 0;
-    tell(rt, method, CUTS, "cuts in threads", is_right)?;
-    Ok(trial.tally.tell(rt, method) && is_right)
+    let ends = try_steps::<R, M>(rt, &mut trial);
+    let were_right = tell(rt, method, ALL_STEPS, "steps", ends, trial.tally.wrong())?;
+    let ends = try_cuts::<R, M>(rt, &mut trial);
+    let are_right = tell(
+        rt,
+        method,
+        CUTS,
+        "cuts in threads",
+        ends,
+        trial.tally.wrong(),
+    )?;
+    Ok(trial.tally.tell(rt, method) && were_right && are_right)
 }
 
-fn tell<R: Print>(
+// Tells whether all was right so far.
+fn tell<R: Print + Eprint>(
     rt: &R,
     method: &str,
     count: u64,
     what: &str,
-    is_right: bool,
-) -> Result<(), Refusal> {
+    ends: Result<(), Refusal>,
+    wrong: u64,
+) -> Result<bool, Refusal> {
+    if let Err(refusal) = ends {
+        let _ = eprintln!(rt; "{method}: {refusal}");
+    }
+    let is_right = ends.is_ok() && wrong == 0;
     let passes = if is_right {
         "no acknowledged tick lost"
     } else {
         "wrong"
     };
-    println!(rt; "{method}: {count} {what}, {passes}").map_err(|_: _| Refusal::Device)
+    println!(rt; "{method}: {count} {what}, {passes}").map_err(|_: _| Refusal::Device)?;
+    Ok(is_right)
 }
