@@ -6,8 +6,8 @@ use Rattle.workers.specs.Logging.{Logging}
 use Rattle.worker_ends.proofs.Staying.{stays_sound}
 use Rattle.worker_threads.proofs.cuts.stop_after.Goals as goal
 
-pub returns-clause-sound : goal.returns-clause-sound
-returns-clause-sound g c = λ honest.
+pub returns : goal.returns
+returns g c = record { sound = λ honest.
     let D = g.D.Disk in
     let opened = c.args.opened in
     let begun = c.in_ok-workers.ensures in
@@ -20,4 +20,4 @@ returns-clause-sound g c = λ honest.
     (ap (λ (p : Imaging g.row.D.Denot). p.opening) met.checkpointer ∙ ended.checkpointer.keeps.opening ∙ ap (λ (p : Imaging g.row.D.Denot). p.opening) begun.checkpointer)
     (ap (λ (w : Logging g.row.D.Denot). w.opening) met.log_writer ∙ ended.log_writer.keeps.opening ∙ ap (λ (w : Logging g.row.D.Denot). w.opening) begun.log_writer)
     (more, ap (λ (m : Playing). m.to.items) met.mutator ∙ ended.mutator.keeps.items.1 ∙ ap (λ (l : List Item). l ++ more) begun.pushed)
-    (met.sound honest)
+    (met.sound honest) }
