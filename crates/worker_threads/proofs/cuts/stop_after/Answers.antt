@@ -7,17 +7,19 @@ use Rattle.worker_ends.proofs.Staying.{stays_sound}
 use Rattle.worker_threads.proofs.cuts.stop_after.Goals as goal
 
 pub returns : goal.returns
-returns g c = record { sound = λ honest.
-    let D = g.D.Disk in
-    let opened = c.args.opened in
-    let begun = c.in_ok-workers.ensures in
-    let ended = c.stop-ends.ensures in
-    let met = c.ends_meet.ensures in
-    let ends = c.ends_meet.new.ends in
-    let more : List Item = ended.mutator.keeps.items.0 in
-    stays_sound D.content D.may_leave opened.front.live opened.images opened.log opened.ended ends.mutator ends.checkpointer ends.log_writer
-    (ap (λ (m : Playing). m.opening) met.mutator ∙ ended.mutator.keeps.opening ∙ begun.words)
-    (ap (λ (p : Imaging g.row.D.Denot). p.opening) met.checkpointer ∙ ended.checkpointer.keeps.opening ∙ ap (λ (p : Imaging g.row.D.Denot). p.opening) begun.checkpointer)
-    (ap (λ (w : Logging g.row.D.Denot). w.opening) met.log_writer ∙ ended.log_writer.keeps.opening ∙ ap (λ (w : Logging g.row.D.Denot). w.opening) begun.log_writer)
-    (more, ap (λ (m : Playing). m.to.items) met.mutator ∙ ended.mutator.keeps.items.1 ∙ ap (λ (l : List Item). l ++ more) begun.pushed)
-    (met.sound honest) }
+returns g c = record {
+  sound = λ honest.
+      let D = g.D.Disk in
+      let opened = c.args.opened in
+      let begun = c.in_ok-workers.ensures in
+      let ended = c.stop-ends.ensures in
+      let met = c.ends_meet.ensures in
+      let ends = c.ends_meet.new.ends in
+      let more : List Item = ended.mutator.keeps.items.0 in
+      stays_sound D.content D.may_leave opened.front.live opened.images opened.log opened.ended ends.mutator ends.checkpointer ends.log_writer
+      (ap (λ (m : Playing). m.opening) met.mutator ∙ ended.mutator.keeps.opening ∙ begun.words)
+      (ap (λ (p : Imaging g.row.D.Denot). p.opening) met.checkpointer ∙ ended.checkpointer.keeps.opening ∙ ap (λ (p : Imaging g.row.D.Denot). p.opening) begun.checkpointer)
+      (ap (λ (w : Logging g.row.D.Denot). w.opening) met.log_writer ∙ ended.log_writer.keeps.opening ∙ ap (λ (w : Logging g.row.D.Denot). w.opening) begun.log_writer)
+      (more, ap (λ (m : Playing). m.to.items) met.mutator ∙ ended.mutator.keeps.items.1 ∙ ap (λ (l : List Item). l ++ more) begun.pushed)
+      (met.sound honest);
+}
