@@ -48,6 +48,9 @@ pub struct Run<M: Method> {
     // How many items were pushed at most, and how many of them were popped at least.
     pushed: u64,
     popped: u64,
+    // Whether the mutator may owe an item, and the session whose tick it owes.
+    owes: bool,
+    owed: Option<u64>,
     // Whether the mutator's gate is stuck.
     is_held: bool,
 }
@@ -73,6 +76,8 @@ impl<M: Method> Run<M> {
             is_open: false,
             pushed: 0,
             popped: 0,
+            owes: false,
+            owed: None,
             is_held: false,
         })
     }
@@ -109,6 +114,7 @@ impl<M: Method> Run<M> {
         match step {
             Kind::Play => self.play(rt, trial)?,
             Kind::Mark => self.mark(rt),
+            Kind::Push => self.push(rt, trial)?,
             Kind::End => self.end(rt),
             Kind::Pop => self.world.step(rt, Next::Pop),
             Kind::Log => self.world.step(rt, Next::Log),
@@ -139,6 +145,9 @@ impl<M: Method> Run<M> {
         self.next = random.below(SESSIONS);
         let step = drawn(self.weights, random);
         let pushes = step == Kind::Play || step == Kind::Mark || step == Kind::End;
+        if pushes && self.owes {
+            return Kind::Push;
+        }
         let is_full = self.pushed.saturating_sub(self.popped) >= ROOM;
         if pushes && is_full || step == Kind::Play && !self.is_next_idle() {
             return Kind::Log;
@@ -153,22 +162,41 @@ impl<M: Method> Run<M> {
         }
     }
 
-    // The next session asks for the drafted batch. It is run as the next tick, or refused at once.
+    // The next session asks for the drafted batch. It is run, and its tick owed, or it is refused at once.
     fn play<R: Wait>(&mut self, rt: &R, trial: &mut Trial) -> Result<(), Refusal> {
         let Some(session) = self.sessions.get_mut(self.next as usize) else {
             return Ok(());
         };
-        let ended = self.world.mutator.ended();
         let may_run = !self.is_held && !self.world.log_writer.is_down();
         let ask = session.ask(trial.alloc, trial.draft.batch())?;
         self.world.step(rt, Next::Play(ask));
-        if self.world.mutator.ended() > ended {
-            trial.tally.hold(may_run, Rule::Refuses);
-            self.pushed = self.pushed.saturating_add(1);
-            session.runs(trial.play()?, self.pushed);
-        } else {
-            let answer = session.look(rt, &trial.model);
-            self.heed_fault(answer, trial);
+        match session.look(rt, &trial.model) {
+            Some(answer) => self.heed_fault(answer, trial),
+            None => {
+                trial.tally.hold(may_run, Rule::Refuses);
+                self.owes = true;
+                self.owed = Some(self.next);
+            }
+        }
+        Ok(())
+    }
+
+    // What is owed is pushed: the tick of a session's batch, or a switch.
+    fn push<R: Wait>(&mut self, rt: &R, trial: &mut Trial) -> Result<(), Refusal> {
+        let ended = self.world.mutator.ended();
+        self.world.step(rt, Next::Push);
+        self.owes = false;
+        let has_ended = self.world.mutator.ended() > ended;
+        trial
+            .tally
+            .hold(has_ended == self.owed.is_some(), Rule::Counts);
+        let Some(number) = self.owed.take() else {
+            return Ok(());
+        };
+        let tick = trial.play()?;
+        self.pushed = self.pushed.saturating_add(1);
+        if let Some(session) = self.sessions.get_mut(number as usize) {
+            session.runs(tick, self.pushed);
         }
         Ok(())
     }
@@ -177,6 +205,7 @@ impl<M: Method> Run<M> {
     fn mark<R: Wait>(&mut self, rt: &R) {
         let ended = self.world.mutator.ended();
         self.world.step(rt, Next::Mark);
+        self.owes = true;
         if let Some((_, tick)) = self.world.checkpointer.images().keeper.newest() {
             self.is_open = self.is_open && tick < self.marked;
         }
@@ -206,16 +235,16 @@ impl<M: Method> Run<M> {
     }
 
     // Why a batch isn't run.
-    fn heed_fault(&mut self, answer: Option<Answer>, trial: &mut Trial) {
+    fn heed_fault(&mut self, answer: Answer, trial: &mut Trial) {
         let log_down = self.world.log_writer.is_down();
         match answer {
-            Some(Answer::Fault(Refusal::LogDown)) if log_down => trial.tally.count(Kind::LogIsDown),
-            Some(Answer::Fault(Refusal::LogDown)) => {
+            Answer::Fault(Refusal::LogDown) if log_down => trial.tally.count(Kind::LogIsDown),
+            Answer::Fault(Refusal::LogDown) => {
                 trial.tally.count_if(!self.is_held, Kind::MutatorStuck);
                 self.is_held = true;
             }
-            Some(Answer::Fault(Refusal::SegmentFull)) => trial.tally.count(Kind::SegmentFull),
-            Some(Answer::Fault(Refusal::TicksEnded)) => {
+            Answer::Fault(Refusal::SegmentFull) => trial.tally.count(Kind::SegmentFull),
+            Answer::Fault(Refusal::TicksEnded) => {
                 trial.tally.count(Kind::TicksEnded);
                 trial
                     .tally

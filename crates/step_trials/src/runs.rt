@@ -22,7 +22,7 @@ const STEPS: u64 = 1_500;
 /// How many steps are made in a world that is near the last tick, and how many ticks before it.
 const LAST_STEPS: u64 = 500;
 
-const LAST_TICKS: u64 = 20;
+const LAST_TICKS: u64 = 8;
 
 /// How many steps are made for each method.
 pub const ALL_STEPS: u64 = 50_000;
@@ -139,6 +139,7 @@ fn fill_segment<R: Wait, M: Method>(
     trial.draft.fill_small();
     for _ in 0..SEGMENT_TICKS {
         run.make(rt, trial, Kind::Play)?;
+        run.make(rt, trial, Kind::Push)?;
         run.make(rt, trial, Kind::Pop)?;
         run.log_all(rt, trial)?;
     }

@@ -6,6 +6,7 @@ use world_actions::Refusal;
 pub enum Kind {
     Play,
     Mark,
+    Push,
     End,
     Pop,
     Log,
@@ -40,12 +41,13 @@ pub enum Kind {
     LogWriterCut,
 }
 
-const KINDS: usize = 34;
+const KINDS: usize = 35;
 
 /// The kinds in the order in which they are declared.
 const NAMES: [&str; KINDS] = [
     "steps: a batch is played",
     "steps: a round is marked, if one is due",
+    "steps: what is owed is pushed",
     "steps: the play ends",
     "steps: an item is popped",
     "steps: the log goes on",
