@@ -2,3 +2,4 @@ pub mod Fault
 pub mod OwnFile
 pub mod Told
 pub mod Ending
+pub mod Making

@@ -11,6 +11,7 @@ mod ending;
 mod fault;
 mod folder;
 mod inspecting;
+mod making;
 mod own_file;
 mod recovering;
 mod system_error;
@@ -23,5 +24,6 @@ pub use folder::{
     IMAGE_A, IMAGE_B, LOG_A, LOG_B, Unreadable, failure_of, open_existing, opened, path_of,
 };
 pub use inspecting::inspect;
+pub use making::{Made, make_in};
 pub use recovering::recover;
 pub use system_error::Reason;
