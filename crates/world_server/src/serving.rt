@@ -7,7 +7,7 @@ ghost use Rattle.tcp_service.specs.Opening.{StaysSound};
 
 use crate::front::Front;
 use crate::lines::Announce;
-use crate::service::Service;
+use crate::service::{Every, Service};
 use disk_model::{Disk, FileDisk, FourFiles};
 use shared_capture::{Kind, Method, Pong, Zig};
 use std::alloc::Global;
@@ -47,7 +47,7 @@ pub fn serve<
     }
 }
 
-// Serves by this method.
+// Serves by this method, which has to be the one that is asked for.
 fn serve_by<
     R: Threads
         + Wait
@@ -62,6 +62,7 @@ fn serve_by<
         + 'static,
     M: Seats + Send + 'static,
 >(rt: &R, service: &Service<'_>) -> Result<Ending, Ending>
+    requires { service.now.method ≡ M.KIND }
     ensures { IfErr result IsFault }
 {
     let alloc = rt.alloc();
@@ -75,9 +76,9 @@ fn serve_by<
         listener,
         lines,
     } = Front::open(rt, service, opened.ended, from)?;
-    let (every, admission) = (service.every, service.admission);
-    let ending = ending_served(rt, alloc, lines, opened, every, listener, admission);
-    Ok(streams.finish(rt, ending))
+    let (every, admission) = (service.every, service.admission());
+    let served = serve_opened(rt, alloc, lines, opened, every, listener, admission);
+    Ok(streams.finish(rt, ending_alone(served)))
 }
 
 /// Serves a world that was opened, and tells how the program ends, and what the server leaves once it has stopped. On
@@ -92,7 +93,7 @@ pub fn serve_opened<
     alloc: Global,
     watch: W,
     opened: Opened<M, D>,
-    every: u32,
+    every: Every,
     listener: TcpListener,
     admission: Admission,
 ) -> Result<(Ending, Stopped<M, D, Open, Open, Open>), Ending>
@@ -106,7 +107,7 @@ pub fn serve_opened<
         → served.0 ≡ Ending.Ran) }
     ensures all { IfOk result (λ served. served.1.accepted.closed ≡ Closed.AllCame
         → served.1.accepted.connections ≡ admission.clients) }
-    ensures every { IfOk result (λ served. served.1.ends.mutator.every ≡ every) }
+    ensures every { IfOk result (λ served. served.1.ends.mutator.every ≡ every.0) }
     ensures sound { IsTrue D.honest → IfOk result (λ served.
         StaysSound D.content D.may_leave opened.front.live opened.images opened.log opened.ended
         served.1.ends.mutator served.1.ends.checkpointer served.1.ends.log_writer) }
@@ -119,7 +120,7 @@ pub fn serve_opened<
     let Ok(announce) = watch.clone() else {
         return Err(Ending::Fault(Refusal::NoMemory));
     };
-    match serve_tcp(rt, alloc, gates, watch, opened, every, listener, admission) {
+    match serve_tcp(rt, alloc, gates, watch, opened, every.0, listener, admission) {
         Ok(stopped) => {
             announce.stopped(stopped.ends.mutator.ended(), stopped.ends.acked());
             let ending = ending_of(&stopped);
@@ -129,24 +130,12 @@ pub fn serve_opened<
     }
 }
 
-// Serves a world that was opened, and tells how the program ends.
-fn ending_served<
-    R: Threads + Wait + Clock + Copy + Send + 'static,
-    M: Method + Send + 'static,
-    D: Disk + Drop + Send + 'static,
-    W: Watch<D> + Door + Announce + Clone + Drop + Send + 'static,
->(
-    rt: &R,
-    alloc: Global,
-    watch: W,
-    opened: Opened<M, D>,
-    every: u32,
-    listener: TcpListener,
-    admission: Admission,
-) -> Ending
-    requires { IsWhole D.honest D.content opened.front opened.back opened.images opened.log opened.ended }
+// How the program ends, whatever else a server leaves.
+fn ending_alone<S: Drop>(served: Result<(Ending, S), Ending>) -> Ending
+    ensures ok { IfOk served (λ stopped. result ≡ stopped.0) }
+    ensures err { IfErr served (λ ending. result ≡ ending) }
 {
-    match serve_opened(rt, alloc, watch, opened, every, listener, admission) {
+    match served {
         Ok((ending, _)) => ending,
         Err(ending) => ending,
     }
