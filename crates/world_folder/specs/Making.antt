@@ -24,8 +24,8 @@ IsFirstOpen image_a image_b log_a log_b name =
 module _ {D : Type 0} (file : D → List ℕ) where
   -- it tells why no world was made of the four files of a folder: it names the first one that isn't closed, or no file
   abbrev pub TellsUnmade : (folder : List ℕ) → FourFiles D → Ending → Type 0
-  TellsUnmade folder files (Occupied open) =
-      (name : List ℕ) × (path_buf_bytes open.path ≡ path_join folder name)
+  TellsUnmade folder files (Occupied told) =
+      (name : List ℕ) × (path_buf_bytes told.path ≡ path_join folder name)
       × IsFirstOpen (file files.image_a) (file files.image_b) (file files.log_a) (file files.log_b) name
   TellsUnmade folder files (Fault refusal) = (refusal ≡ NoMemory) ⊎ ((refusal ≡ Device) ⊎ ((refusal ≡ NotEmpty) × ¬ FilesAreClosed file files))
   TellsUnmade folder files other = ⊥
