@@ -14,7 +14,7 @@ use Rattle.capture_core.specs.declared.taker.Taken.{Taken}
 use Rattle.capture_core.specs.declared.taker.Taken.TheVariants.{Word, Same}
 use Rattle.image_files.specs.declared.phase.Phase.{Phase}
 use Rattle.image_files.specs.declared.phase.Phase.TheVariants.{Taking, Writing, BodySync, Down}
-use Rattle.image_files.specs.Image.{Image, cells_of, number_at, words_from, is_word}
+use Rattle.image_files.specs.Image.{Image, number_at, words_from, is_word}
 use Rattle.image_files.specs.Taken.{filled_words, has_same}
 use Rattle.image_files.specs.Progress.{Progress, PhaseFits, IsInOrder, newest_words, done}
 use Rattle.image_files.specs.Calls.{after_chunk, with_chunk_written}

@@ -139,6 +139,13 @@ impl ImageKeeper {
         self.phase != Phase::Idle
     }
 
+    /// Whether the next step takes a cell, and calls no device.
+    pub fn takes_next(&self) -> bool
+        ensures { IsTrue result ↔ (self.now.phase ≡ Taking) }
+    {
+        self.phase == Phase::Taking
+    }
+
     /// Begins a round: it needs a move for each cell, at most two for each chunk of 64, and six, two fewer
     /// where the target is known to be shut.
     pub fn begin(&mut self, tick: u64)

@@ -1,5 +1,5 @@
 -- A device that is told to have failed did.
-use Rattle.std.proofs.Common.{◌≡◌, ◌↔◌, ◌⊎◌, inl, inr, ℕ, ◌+◌, ◌<◌, ◌≤◌, min, Bool, true, false, List, [], ◌∷◌, ◌||◌, length, get_or, lit<, Option, Some, None, Result, Ok, Err, refl, sym, ap, subst, ◌∙◌, arith}
+use Rattle.std.proofs.Common.{◌≡◌, ◌↔◌, ◌⊎◌, inl, inr, ℕ, ◌+◌, ◌<◌, ◌≤◌, min, Bool, true, false, List, ◌||◌, get_or, lit<, Option, Some, None, Result, Ok, Err, refl, sym, ap, subst, ◌∙◌, arith}
 use Rattle.std.specs.Prelude.{if◌then◌else◌, IfErr, OnErr}
 use Rattle.std.proofs.lemmas.List.{get_or-set_same}
 use Rattle.world_actions.specs.declared.action.Action.{Action}
@@ -14,7 +14,7 @@ use Rattle.image_files.specs.declared.phase.Phase.{Phase}
 use Rattle.image_files.specs.declared.phase.Phase.TheVariants.{Closing, Header, Down}
 use Rattle.image_files.specs.declared.answer.ImageAnswer.{ImageAnswer}
 use Rattle.image_files.specs.declared.answer.ImageAnswer.TheVariants as image_answer
-use Rattle.image_files.specs.Image.{Image, image_of}
+use Rattle.image_files.specs.Image.{image_of}
 use Rattle.image_files.specs.Progress.{Progress as ImageProgress, moves_left, left_of, target_of, made_keeper}
 use Rattle.image_files.specs.Steps.{HasCause}
 use Rattle.action_log.specs.declared.record.Record.{Record}
@@ -23,7 +23,7 @@ use Rattle.action_log.specs.declared.answer.LogAnswer.{LogAnswer}
 use Rattle.action_log.specs.declared.answer.LogAnswer.TheVariants as log_answer
 use Rattle.action_log.specs.Progress.{rest_of, work_of, start_left}
 use Rattle.action_log.specs.Segment.{Segment}
-use Rattle.recovery.specs.Recovery.{is_bad_image, is_bad_segment, tail, Newest, newest, Recovery, words_after, recovery_with, recovery_from, recovery_of, Recovers}
+use Rattle.recovery.specs.Recovery.{is_bad_image, is_bad_segment, tail, Newest, newest, Recovery, words_after, recovery_with, recovery_from, Recovers}
 use Rattle.restart.specs.Start.{started_keeper}
 use Rattle.served.specs.Running.{RoundFaults, LogFaults}
 use Rattle.served.specs.Opening.{SomeGrew}

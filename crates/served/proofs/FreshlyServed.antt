@@ -1,5 +1,5 @@
 -- What is made and opened at once is a world of zeros.
-use Rattle.std.proofs.Common.{◌≡◌, ℕ, zero, suc, Bool, List, [], take, replicate, Result, Ok, Err, refl, sym, subst, ◌∙◌}
+use Rattle.std.proofs.Common.{◌≡◌, ℕ, zero, suc, Bool, List, [], take, replicate, Result, Ok, refl, sym, subst, ◌∙◌}
 use Rattle.world_actions.specs.declared.action.Action.{Action}
 use Rattle.world_actions.specs.declared.refusal.Refusal.{Refusal}
 use Rattle.world_ticks.specs.After.{after_ticks}

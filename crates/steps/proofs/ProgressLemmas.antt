@@ -1,5 +1,5 @@
 -- One byte of a script at a time: what stands after it.
-use Rattle.std.proofs.Common.{append-nil, refl, ap, sym, subst, ◌∙◌, ◌≡◌, ◌≢◌, ℕ, List, [], ◌∷◌, ◌++◌, append_assoc, take, drop, Option, None, ◌⊎◌, inl, inr}
+use Rattle.std.proofs.Common.{append-nil, refl, ap, sym, subst, ◌∙◌, ◌≡◌, ◌≢◌, ℕ, List, [], ◌∷◌, ◌++◌, append_assoc, take, drop, Option, None, inl}
 use Rattle.std.proofs.lemmas.List.{take-append-drop}
 use Rattle.world_actions.specs.declared.refusal.Refusal.{Refusal}
 use Rattle.world_actions.specs.declared.refusal.Refusal.TheVariants.{Device}

@@ -1,6 +1,6 @@
 -- Inside: for the proofs of this crate's private functions.
 -- How far a script has come, for the functions that run it byte by byte.
-use Rattle.std.specs.Prelude.{◌≡◌, ℕ, List, [], ◌∷◌, ◌++◌, Option, Some, None, option_map}
+use Rattle.std.specs.Prelude.{◌≡◌, ℕ, List, [], ◌++◌, Option, Some, None, option_map}
 use Rattle.world_actions.specs.declared.refusal.Refusal.{Refusal}
 use Rattle.line_grammar.specs.Kept.{kept_of, HasNoNewline}
 use Rattle.steps.specs.declared.line.Line.{Line}

@@ -1,5 +1,5 @@
 -- A turn of the mutator stays at its front and its end of the channel.
-use Rattle.std.proofs.Common.{◌≡◌, ℕ, ap, ◌∙◌, sym, ◌⊎◌, inl, inr, Ok, Err, Result, List, [], ◌∷◌, ◌++◌, append_assoc, refl}
+use Rattle.std.proofs.Common.{◌≡◌, ℕ, ap, ◌∙◌, sym, ◌⊎◌, inl, inr, Ok, Err, Result, List, [], ◌++◌, append_assoc, refl}
 use Rattle.std.proofs.lemmas.List.{append-nil}
 use Rattle.world_actions.specs.declared.refusal.Refusal.{Refusal}
 use Rattle.workers.specs.declared.item.Item.{Item}

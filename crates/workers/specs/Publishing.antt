@@ -2,7 +2,6 @@
 use Rattle.std.specs.Prelude.{◌≡◌, ◌⊎◌, ℕ, ◌<◌, ◌≤◌, All, List, [], ◌∷◌, ◌++◌, map, Option, Some, None, slice_get}
 use Rattle.world_ticks.specs.declared.tick.TheConstants.{TICK_MAX}
 use Rattle.file_format.specs.declared.slot.Slot.{Slot}
-use Rattle.image_files.specs.Progress.{Progress}
 use Rattle.shared_capture.specs.CoverWord.{CoverState}
 use Rattle.shared_capture.specs.declared.view.Snapshot.{Snapshot}
 

@@ -1,5 +1,5 @@
 -- What is true of a core makes its files safe.
-use Rattle.std.proofs.Common.{◌≡◌, ℕ, Bool, true, false, ◌⊎◌, inl, inr, List, [], take, replicate, Result, Ok, sym, subst, ◌∙◌}
+use Rattle.std.proofs.Common.{◌≡◌, ℕ, Bool, true, false, inl, inr, List, [], take, replicate, Result, Ok, sym, subst, ◌∙◌}
 use Rattle.world_actions.specs.declared.action.Action.{Action}
 use Rattle.world_actions.specs.declared.refusal.Refusal.{Refusal}
 use Rattle.world_ticks.specs.After.{after_ticks}

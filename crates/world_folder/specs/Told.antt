@@ -3,7 +3,7 @@ use Rattle.std.specs.Prelude.{◌≡◌, List, ℕ, length, Some}
 use Rattle.file_format.specs.declared.format.Format.{Format}
 use Rattle.file_format.specs.declared.format.Format.TheVariants.{First, Second}
 use Rattle.file_format.specs.Format.{format_in}
-use Rattle.image_files.specs.Image.{Image, image_of, Closed, Bad, Open}
+use Rattle.image_files.specs.Image.{image_of, Closed, Bad, Open}
 use Rattle.action_log.specs.Segment.{Tick, ClosedSegment, MalformedSegment, IsSegment, IsOpenSegment}
 use Rattle.world_folder.specs.declared.told.ImageTold.{ImageTold}
 use Rattle.world_folder.specs.declared.told.ImageTold.TheVariants as image
