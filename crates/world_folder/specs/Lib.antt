@@ -1,3 +1,4 @@
+pub mod WorldFile
 pub mod Fault
 pub mod OwnFile
 pub mod Told

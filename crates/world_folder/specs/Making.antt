@@ -11,7 +11,7 @@ use Rattle.served.specs.Opening.{AreSynced, AreSound}
 use Rattle.served.specs.Fresh.{FilesAreClosed}
 use Rattle.world_folder.specs.declared.ending.Ending.{Ending}
 use Rattle.world_folder.specs.declared.ending.Ending.TheVariants.{Fault, Occupied}
-use Rattle.world_folder.specs.declared.folder.TheConstants.{IMAGE_A, IMAGE_B, LOG_A, LOG_B}
+use Rattle.world_folder.specs.declared.world_file.TheConstants.{IMAGE_A, IMAGE_B, LOG_A, LOG_B}
 
 -- of four files with these bytes, the one of this name is the first that isn't closed
 abbrev pub IsFirstOpen : (image_a image_b log_a log_b name : List ℕ) → Type 0

@@ -11,7 +11,8 @@ ghost use Rattle.world_folder.specs.Ending.{IsFault};
 ghost use Rattle.world_folder.specs.Making.{IsFirstOpen, TellsUnmade, IsUnmade};
 
 use crate::ending::{Ending, Occupied};
-use crate::folder::{IMAGE_A, IMAGE_B, LOG_A, LOG_B, path_of};
+use crate::folder::path_of;
+use crate::world_file::{IMAGE_A, IMAGE_B, LOG_A, LOG_B};
 use action_log::{LogState, read_log, segments_read_once};
 use disk_model::{Disk, FourFiles};
 use image_files::{ImageState, read_image};
