@@ -36,10 +36,10 @@ impl Room for Scarce {
 }
 
 /// More bytes than a file has here.
-const FILE_BYTES: u64 = 10_000;
+const FILE_BYTES: u64 = 2_000;
 
 /// More actions than a log file has room for once a start has written it.
-const ACTIONS: u32 = 200;
+const ACTIONS: u32 = 40;
 
 /// Files, or the refusal with which they are given back.
 type Made = Result<FourFiles<ModelFile>, (FourFiles<ModelFile>, Refusal)>;

@@ -120,7 +120,9 @@ pub fn serve_opened<
     let Ok(announce) = watch.clone() else {
         return Err(Ending::Fault(Refusal::NoMemory));
     };
-    match serve_tcp(rt, alloc, gates, watch, opened, every.0, listener, admission) {
+    match serve_tcp(
+        rt, alloc, gates, watch, opened, every.0, listener, admission,
+    ) {
         Ok(stopped) => {
             announce.stopped(stopped.ends.mutator.ended(), stopped.ends.acked());
             let ending = ending_of(&stopped);
