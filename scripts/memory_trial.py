@@ -13,6 +13,7 @@ import dataclasses
 import itertools
 import os
 import pathlib
+import re
 import shutil
 import socket
 import subprocess
@@ -89,7 +90,16 @@ CLIENTS = 3
 EVERY = 2
 TOP = pathlib.Path(__file__).resolve().parent.parent
 CALLS = TOP / "crates" / "memory_trials" / "out" / "memory_trials"
-CALL_REFUSED, CALL_ANSWERED, CALLS_MADE = "refused, and answered then", "answered", "made"
+CALL_REFUSED = re.compile(r"refused with (\d+), and answered then")
+CALL_ANSWERED, CALLS_MADE = "answered", "made"
+NO_MEMORY = "17"
+# What the calls answer that make files in memory grow, where a growth is refused: want of memory, or a device that failed.
+GROWING = {
+    "ModelFile::write_at": ("18",),
+    "fresh_files of files that grow": (NO_MEMORY, "18"),
+    "Served::open of files that grow": (NO_MEMORY, "18"),
+    "Served::batch of files that grow": (NO_MEMORY, "12"),
+}
 
 
 @dataclasses.dataclass(frozen=True)
@@ -164,18 +174,26 @@ def require(seen: collections.Counter[str], *kinds: str) -> None:
 # The calls.
 
 
+def code_of(told: str) -> str | None:
+    """The code with which a call was refused, whose answer then is right."""
+    refused = CALL_REFUSED.fullmatch(told)
+    return refused[1] if refused else None
+
+
 def try_calls(refuser: Refuser) -> collections.Counter[str]:
-    """Makes each call that takes memory, and gives how often each was refused."""
+    """Makes each call that takes memory, and gives how often each was refused, and with which code."""
     refused: collections.Counter[str] = collections.Counter()
     for number in itertools.count(1):
         run = refuser.run([CALLS], number, which="REFUSED_IN_STRETCH")
         told = dict(line.split(": ") for line in run.printed.splitlines())
-        if run.status or set(told.values()) - {CALL_REFUSED, CALL_ANSWERED, CALLS_MADE}:
+        codes = {call: code for call, kind in told.items() if (code := code_of(kind))}
+        if run.status or {kind for call, kind in told.items() if call not in codes} - {CALL_ANSWERED, CALLS_MADE}:
             raise Wrong(f"with allocation {number} of each call refused: `{run.printed}`")
-        if CALL_REFUSED not in told.values():
-            require(refused, *(call for call, kind in told.items() if kind == CALL_ANSWERED))
+        if not codes:
+            calls = [call for call, kind in told.items() if kind == CALL_ANSWERED]
+            require(refused, *(f"{call} with {code}" for call in calls for code in GROWING.get(call, (NO_MEMORY,))))
             return refused
-        refused.update(call for call, kind in told.items() if kind == CALL_REFUSED)
+        refused.update(f"{call} with {code}" for call, code in codes.items())
     raise AssertionError
 
 
@@ -371,7 +389,7 @@ def main() -> int:
     try:
         refuser = Refuser(room)
         calls = try_calls(refuser)
-        print(f"{len(calls)} calls refused {calls.total()} times, and answered then: {line_of(calls)}")
+        print(f"calls refused {calls.total()} times, and answered then: {line_of(calls)}")
         for store in STORES:
             print(f"steps over {store}: {line_of(try_scripts(given.worldd, refuser, store))}")
         print(f"create: refused {try_create(given.worldd, refuser, room)} times, and made once there was memory")

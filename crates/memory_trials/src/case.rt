@@ -1,4 +1,5 @@
 use std::alloc::Global;
+use std::fmt;
 use trial_kit::{end_stretch, refuse_one};
 use world_actions::Refusal;
 
@@ -30,10 +31,22 @@ pub trait Case: Sized + Drop {
 pub enum Outcome {
     /// None was refused.
     Answered,
-    /// It answered so, its values were as before, and once more made it answered as if nothing had been.
-    Refused,
+    /// It was refused so, its values were as they may be then, and once more made it answered as if nothing had been.
+    Refused(Refusal),
     /// Something else.
     Wrong,
+}
+
+impl fmt::Display for Outcome {
+    fn fmt<W: fmt::Write>(&self, f: &mut fmt::Formatter<W>) -> fmt::Result {
+        match self {
+            Outcome::Answered => f.write_str("answered"),
+            Outcome::Refused(refusal) => {
+                write!(f, "refused with {}, and answered then", refusal.code())
+            }
+            Outcome::Wrong => f.write_str("wrong"),
+        }
+    }
 }
 
 /// Makes a call while one of its allocations may be refused, and once more where it was.
@@ -48,7 +61,7 @@ pub fn try_case<X: Case>(alloc: Global) -> Result<Outcome, Refusal> {
     let (outcome, answer) = match first {
         Ok(answer) => (Outcome::Answered, answer),
         Err(refusal) if X::is_refused(refusal, case.seen() == before) => {
-            (Outcome::Refused, case.call()?)
+            (Outcome::Refused(refusal), case.call()?)
         }
         Err(_) => return Ok(Outcome::Wrong),
     };

@@ -8,7 +8,6 @@ mod case;
 mod cores;
 mod files;
 mod free;
-mod growth;
 mod keepers;
 mod plays;
 mod stores;
@@ -19,7 +18,6 @@ use case::{Case, Outcome, try_case};
 use cores::{Crash, Fresh, Run};
 use files::{GrowFile, NewFile, ReadImage, ReadLog, Recover, ReserveFile};
 use free::try_free_calls;
-use growth::{GrowNew, GrowOpen, GrowServe};
 use keepers::{CoverPair, Images, Log, PingPongPair, ZigzagPair};
 use ping_pong::PingPong;
 use plays::{Act, CopyBatch, NewReader, Play, ReserveTick};
@@ -28,7 +26,7 @@ use std::io;
 use std::process::ExitCode;
 use stores::Build;
 use trial_kit::ended;
-use worlds::{NewWorld, Open, Serve};
+use worlds::{Ample, NewWorld, Open, Scarce, Serve};
 use zigzag::Zigzag;
 
 fn main(rt: HostRuntime) -> ExitCode {
@@ -99,34 +97,30 @@ fn try_worlds<R: Print + AllocGlobal>(rt: &R) -> io::Result<bool> {
             & tell::<R, Fresh>(rt)?
             & tell::<R, Crash>(rt)?
             & tell::<R, Run>(rt)?
-            & tell::<R, NewWorld>(rt)?
-            & tell::<R, Open>(rt)?
-            & tell::<R, Serve>(rt)?,
+            & tell::<R, NewWorld<Ample>>(rt)?
+            & tell::<R, Open<Ample>>(rt)?
+            & tell::<R, Serve<Ample>>(rt)?,
     )
 }
 
 fn try_growth<R: Print + AllocGlobal>(rt: &R) -> io::Result<bool> {
-    Ok(tell::<R, GrowNew>(rt)? & tell::<R, GrowOpen>(rt)? & tell::<R, GrowServe>(rt)?)
+    Ok(
+        tell::<R, NewWorld<Scarce>>(rt)?
+            & tell::<R, Open<Scarce>>(rt)?
+            & tell::<R, Serve<Scarce>>(rt)?,
+    )
 }
 
 // Tells how a call went, and whether that is right.
 fn tell<R: Print + AllocGlobal, X: Case>(rt: &R) -> io::Result<bool> {
     match try_case::<X>(rt.alloc()) {
         Ok(outcome) => {
-            println!(rt; "{}: {}", X::name(), outcome_text(outcome))?;
+            println!(rt; "{}: {outcome}", X::name())?;
             Ok(outcome != Outcome::Wrong)
         }
         Err(refusal) => {
             println!(rt; "{}: refused with {}", X::name(), refusal.code())?;
             Ok(false)
         }
-    }
-}
-
-fn outcome_text(outcome: Outcome) -> &'static str {
-    match outcome {
-        Outcome::Answered => "answered",
-        Outcome::Refused => "refused, and answered then",
-        Outcome::Wrong => "wrong",
     }
 }

@@ -1,1 +1,2 @@
 pub mod FormatLemmas
+pub mod MakingLemmas

@@ -10,7 +10,8 @@ use Rattle.world_folder.specs.declared.ending.ServerEnding.{ServerEnding}
 use Rattle.world_folder.specs.declared.ending.ServerEnding.TheVariants.{NoPort, NoThread, ListenerFailed, ImagesDown, LogDown}
 use Rattle.world_folder.specs.declared.ending.Ending.TheVariants.{Ran, Told, Mistaken, Fault, Unreadable, NoWorld, Occupied, Stream, Server}
 use Rattle.world_folder.specs.Fault.{Files, AreRead, Explains}
-use Rattle.world_folder.specs.declared.folder.TheConstants.{IMAGE_A, IMAGE_B, LOG_A, LOG_B}
+use Rattle.world_folder.specs.declared.world_file.Named.{Named}
+use Rattle.world_folder.specs.WorldFile.{name_of}
 
 -- the exit status for the end of a server
 abbrev pub status_of : ServerEnding → ℕ
@@ -39,15 +40,15 @@ TellsOf folder name error (Unreadable file) = (path_buf_bytes file.path ≡ path
 TellsOf folder name error other = ⊥
 
 -- it tells of the first of four files in a folder that couldn't be read
-abbrev pub TellsOfFirst : (folder : List ℕ) → FourFiles (Result (Vec ℕ Global) Error) → Ending → Type 0
+abbrev pub TellsOfFirst : (folder : List ℕ) → FourFiles (Named (Result (Vec ℕ Global) Error)) → Ending → Type 0
 TellsOfFirst folder files ending =
-    MatchResult files.image_a (λ _. MatchResult files.image_b (λ _. MatchResult files.log_a (λ _. MatchResult files.log_b (λ _. ⊥)
-    (λ error. TellsOf folder LOG_B.now error ending))
-    (λ error. TellsOf folder LOG_A.now error ending))
-    (λ error. TellsOf folder IMAGE_B.now error ending))
-    (λ error. TellsOf folder IMAGE_A.now error ending)
+    MatchResult files.image_a.value (λ _. MatchResult files.image_b.value (λ _. MatchResult files.log_a.value (λ _. MatchResult files.log_b.value (λ _. ⊥)
+    (λ error. TellsOf folder (name_of files.log_b.file) error ending))
+    (λ error. TellsOf folder (name_of files.log_a.file) error ending))
+    (λ error. TellsOf folder (name_of files.image_b.file) error ending))
+    (λ error. TellsOf folder (name_of files.image_a.file) error ending)
 
 -- it tells why no world was found in the four files of a folder, which were read so
-abbrev pub TellsWhy : (folder : List ℕ) → FourFiles (Result (Vec ℕ Global) Error) → Ending → Type 0
+abbrev pub TellsWhy : (folder : List ℕ) → FourFiles (Named (Result (Vec ℕ Global) Error)) → Ending → Type 0
 TellsWhy folder files (NoWorld fault) = (bytes : Files) × AreRead files bytes × Explains bytes fault
 TellsWhy folder files ending = TellsOfFirst folder files ending

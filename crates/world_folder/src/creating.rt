@@ -1,13 +1,11 @@
-ghost use Rattle.std.specs.Prelude.{◌≤◌, IfErr};
+ghost use Rattle.std.specs.Prelude.{◌≡◌, ◌≤◌, IfOk, IfErr};
 ghost use Rattle.world_actions.specs.declared.world.TheConstants.{CELLS};
 ghost use Rattle.world_folder.specs.Ending.{IsFault};
 
-use crate::ending::{Ending, Occupied};
-use crate::folder::{IMAGE_A, IMAGE_B, LOG_A, LOG_B, failure_of, open_to_write, path_of};
-use action_log::{LogState, read_log};
+use crate::ending::Ending;
+use crate::folder::{failure_of, open_to_write};
+use crate::making::{Made, make_in};
 use disk_model::{FileDisk, FourFiles};
-use image_files::{ImageState, read_image};
-use served::fresh_files;
 use std::alloc::Global;
 use std::fs::{File, Files};
 use world_actions::Refusal;
@@ -18,51 +16,27 @@ pub fn create<R: Files<File = File> + Print + AllocGlobal>(
     rt: &R,
     folder: &str,
     cells: u32,
-) -> Result<(), Ending>
+) -> Result<Made, Ending>
     requires { (1 ≤ cells) × (cells ≤ CELLS) }
-    ensures { IfErr result IsFault }
+    ensures made { IfOk result (λ made. made.cells ≡ cells) }
+    ensures fault { IfErr result IsFault }
 {
     let files = open_to_write(rt, folder)?;
-    if let Err((files, refusal)) = fresh_files(rt.alloc(), cells, files) {
-        return Err(not_made(rt.alloc(), folder, files, refusal));
-    }
-    println!(rt; "created {cells}")?;
-    Ok(())
+    let made = match make_in(rt.alloc(), folder, cells, files) {
+        Ok((_, made)) => made,
+        Err((files, ending)) => return Err(not_made(rt.alloc(), folder, files, ending)),
+    };
+    println!(rt; "created {}", made.cells())?;
+    Ok(made)
 }
 
-// How the program ends where no world was made: the file that isn't closed, or that failed, is named.
-fn not_made(alloc: Global, folder: &str, files: FourFiles<FileDisk>, refusal: Refusal) -> Ending
+// How the program ends if no world was made: of a device that failed the file is named.
+fn not_made(alloc: Global, folder: &str, files: FourFiles<FileDisk>, ending: Ending) -> Ending
+    requires { IsFault ending }
     ensures { IsFault result }
 {
-    let mut files = files;
-    match refusal {
-        Refusal::NotEmpty => match files.read_all(alloc) {
-            Ok(bytes) => occupied(alloc, folder, first_open(alloc, &bytes)),
-            Err(_) => Ending::Fault(refusal),
-        },
-        Refusal::Device => failure_of(alloc, folder, files),
-        _ => Ending::Fault(refusal),
-    }
-}
-
-fn occupied(alloc: Global, folder: &str, name: &str) -> Ending
-    ensures { IsFault result }
-{
-    match path_of(alloc, folder, name) {
-        Ok(path) => Ending::Occupied(Occupied { path }),
-        Err(_) => Ending::Fault(Refusal::NoMemory),
-    }
-}
-
-// The name of the first file that isn't closed, of four of which one isn't.
-fn first_open(alloc: Global, bytes: &FourFiles<Vec<u8>>) -> &'static str {
-    if !matches!(read_image(alloc, &bytes.image_a), Ok(ImageState::Closed)) {
-        IMAGE_A
-    } else if !matches!(read_image(alloc, &bytes.image_b), Ok(ImageState::Closed)) {
-        IMAGE_B
-    } else if !matches!(read_log(alloc, &bytes.log_a), Ok(LogState::Closed)) {
-        LOG_A
-    } else {
-        LOG_B
+    match ending {
+        Ending::Fault(Refusal::Device) => failure_of(alloc, folder, files),
+        ending => ending,
     }
 }

@@ -99,7 +99,7 @@ impl fmt::Display for StreamFailure {
 }
 
 impl Ending {
-    ghost use Rattle.std.specs.Prelude.{◌≡◌, Ok, Err, IfErr};
+    ghost use Rattle.std.specs.Prelude.{◌≡◌, Ok, Err, IsOk, IfErr};
 
     /// The end of a run.
     pub fn of_run(run: Result<(), Refusal>) -> Self
@@ -113,12 +113,12 @@ impl Ending {
     }
 
     /// The end of a command that tells how it ends where it doesn't end well.
-    pub fn of_command(run: Result<(), Self>) -> Self
-        ensures well { run ≡ Ok tt → result ≡ Ending.Ran }
+    pub fn of_command<T: Drop>(run: Result<T, Self>) -> Self
+        ensures well { IsOk run → result ≡ Ending.Ran }
         ensures fails { IfErr run (λ ending. result ≡ ending) }
     {
         match run {
-            Ok(()) => Ending::Ran,
+            Ok(_) => Ending::Ran,
             Err(ending) => ending,
         }
     }

@@ -4,7 +4,7 @@ ghost use Rattle.action_log.specs.Segment.{MalformedSegment, IsSegment};
 ghost use Rattle.recovery.specs.Recovery.{Recovers, is_bad_image};
 ghost use Rattle.world_folder.specs.Fault.{Stands, Explains};
 
-use crate::folder::{IMAGE_A, IMAGE_B, LOG_A, LOG_B};
+use crate::world_file::{IMAGE_A, IMAGE_B, LOG_A, LOG_B};
 use action_log::read_log;
 use disk_model::FourFiles;
 use image_files::read_image;

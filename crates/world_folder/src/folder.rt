@@ -1,26 +1,20 @@
 ghost use Rattle.std.specs.Prelude.{◌≡◌, Ok, IfOk, IfErr, IsErrAnd};
 ghost use Rattle.std.specs.Path.{path_buf_bytes, path_join};
+ghost use Rattle.disk_model.specs.FourFiles.{EachFile};
 ghost use Rattle.world_folder.specs.Fault.{AreRead};
 ghost use Rattle.world_folder.specs.Ending.{IsFault, TellsOf, TellsOfFirst};
+ghost use Rattle.world_folder.specs.WorldFile.{AreNamed};
 
 use crate::ending::Ending;
-use crate::own_file::{Absent, NOT_REGULAR, OwnFile, above_streams, are_four, open_file};
+use crate::own_file::{Absent, Identity, NOT_REGULAR, OwnFile, above_streams, are_four, open_file};
 use crate::system_error::{Reason, error_of};
+use crate::world_file::{IMAGE_A, IMAGE_B, LOG_A, LOG_B, Named, WorldFile};
 use disk_model::{FileDisk, FourFiles, read_all};
 use std::alloc::{AllocError, Global};
 use std::fs::{self, File, Files, TryLockError};
 use std::path::{Path, PathBuf};
 use std::{fmt, io};
 use world_actions::Refusal;
-
-/// The names of the files.
-pub const IMAGE_A: &str = "image.a";
-
-pub const IMAGE_B: &str = "image.b";
-
-pub const LOG_A: &str = "log.a";
-
-pub const LOG_B: &str = "log.b";
 
 /// A file that can't be read, and why.
 #[derive(Debug, Drop)]
@@ -40,12 +34,27 @@ impl fmt::Display for Unreadable {
 pub fn read_folder<R: Files<File = File> + AllocGlobal>(
     rt: &R,
     folder: &str,
-) -> FourFiles<io::Result<Vec<u8>>> {
+) -> FourFiles<Named<io::Result<Vec<u8>>>>
+    ensures { AreNamed result }
+{
     FourFiles {
-        image_a: read_file(rt, folder, IMAGE_A),
-        image_b: read_file(rt, folder, IMAGE_B),
-        log_a: read_file(rt, folder, LOG_A),
-        log_b: read_file(rt, folder, LOG_B),
+        image_a: read_named(rt, folder, WorldFile::ImageA),
+        image_b: read_named(rt, folder, WorldFile::ImageB),
+        log_a: read_named(rt, folder, WorldFile::LogA),
+        log_b: read_named(rt, folder, WorldFile::LogB),
+    }
+}
+
+fn read_named<R: Files<File = File> + AllocGlobal>(
+    rt: &R,
+    folder: &str,
+    file: WorldFile,
+) -> Named<io::Result<Vec<u8>>>
+    ensures { result.file ≡ file }
+{
+    Named {
+        file,
+        value: read_file(rt, folder, file.name()),
     }
 }
 
@@ -103,28 +112,60 @@ fn open_files<R: Files<File = File> + AllocGlobal>(
 ) -> Result<FourFiles<FileDisk>, Ending>
     ensures { IfErr result IsFault }
 {
-    let alloc = rt.alloc();
-    let file = open_locked(rt, folder, IMAGE_A, absent);
-    let image_a = opened(alloc, folder, IMAGE_A, file)?;
-    let file = open_own(rt, folder, IMAGE_B, absent);
-    let image_b = opened(alloc, folder, IMAGE_B, file)?;
-    let file = open_own(rt, folder, LOG_A, absent);
-    let log_a = opened(alloc, folder, LOG_A, file)?;
-    let file = open_own(rt, folder, LOG_B, absent);
-    let log_b = opened(alloc, folder, LOG_B, file)?;
-    let identities = [
-        image_a.identity,
-        image_b.identity,
-        log_a.identity,
-        log_b.identity,
-    ];
-    opened(alloc, folder, "", are_four(&identities))?;
+    let files = open_each(rt, folder, absent)?;
+    opened(rt.alloc(), folder, "", are_four(&identities_of(&files)))?;
+    Ok(disks_of(files))
+}
+
+// Opens each file by its own name, image.a first: no two programs then hold a part of the files each.
+fn open_each<R: Files<File = File> + AllocGlobal>(
+    rt: &R,
+    folder: &str,
+    absent: Absent,
+) -> Result<FourFiles<Named<OwnFile>>, Ending>
+    ensures named { IfOk result AreNamed }
+    ensures fault { IfErr result IsFault }
+{
     Ok(FourFiles {
-        image_a: image_a.disk,
-        image_b: image_b.disk,
-        log_a: log_a.disk,
-        log_b: log_b.disk,
+        image_a: open_named(rt, folder, WorldFile::ImageA, absent)?,
+        image_b: open_named(rt, folder, WorldFile::ImageB, absent)?,
+        log_a: open_named(rt, folder, WorldFile::LogA, absent)?,
+        log_b: open_named(rt, folder, WorldFile::LogB, absent)?,
     })
+}
+
+fn open_named<R: Files<File = File> + AllocGlobal>(
+    rt: &R,
+    folder: &str,
+    file: WorldFile,
+    absent: Absent,
+) -> Result<Named<OwnFile>, Ending>
+    ensures named { IfOk result (λ named. named.file ≡ file) }
+    ensures fault { IfErr result IsFault }
+{
+    let own = open_own(rt, folder, file, absent);
+    let value = opened(rt.alloc(), folder, file.name(), own)?;
+    Ok(Named { file, value })
+}
+
+fn identities_of(files: &FourFiles<Named<OwnFile>>) -> [Identity; 4] {
+    [
+        files.image_a.value.identity,
+        files.image_b.value.identity,
+        files.log_a.value.identity,
+        files.log_b.value.identity,
+    ]
+}
+
+fn disks_of(files: FourFiles<Named<OwnFile>>) -> FourFiles<FileDisk>
+    ensures { EachFile files result (λ named disk. disk ≡ named.value.disk) }
+{
+    FourFiles {
+        image_a: files.image_a.value.disk,
+        image_b: files.image_b.value.disk,
+        log_a: files.log_a.value.disk,
+        log_b: files.log_b.value.disk,
+    }
 }
 
 /// The value that the system gave for a file, or how the program ends if it gave an error.
@@ -183,27 +224,26 @@ fn first_failure(files: &mut FourFiles<FileDisk>) -> Option<(&'static str, io::E
     Some((LOG_B, error))
 }
 
-fn open_locked<R: Files<File = File> + AllocGlobal>(
-    rt: &R,
-    folder: &str,
-    name: &str,
-    absent: Absent,
-) -> io::Result<OwnFile> {
-    let file = open_file(rt, folder, name, absent)?;
-    match file.try_lock() {
-        Ok(()) => OwnFile::of(file),
-        Err(TryLockError::WouldBlock) => Err(io::Error::other("another program writes this world")),
-        Err(TryLockError::Error(error)) => Err(error),
-    }
-}
-
+// Opens a file, and locks it if it is image.a.
 fn open_own<R: Files<File = File> + AllocGlobal>(
     rt: &R,
     folder: &str,
-    name: &str,
+    file: WorldFile,
     absent: Absent,
 ) -> io::Result<OwnFile> {
-    OwnFile::of(open_file(rt, folder, name, absent)?)
+    let opened = open_file(rt, folder, file.name(), absent)?;
+    if file == WorldFile::ImageA {
+        lock(&opened)?;
+    }
+    OwnFile::of(opened)
+}
+
+fn lock(file: &File) -> io::Result<()> {
+    match file.try_lock() {
+        Ok(()) => Ok(()),
+        Err(TryLockError::WouldBlock) => Err(io::Error::other("another program writes this world")),
+        Err(TryLockError::Error(error)) => Err(error),
+    }
 }
 
 // Makes the names of new files durable.
@@ -215,7 +255,7 @@ fn sync_folder<R: Files<File = File>>(rt: &R, folder: &str) -> io::Result<()> {
 pub fn all_read(
     alloc: Global,
     folder: &str,
-    files: FourFiles<io::Result<Vec<u8>>>,
+    files: FourFiles<Named<io::Result<Vec<u8>>>>,
 ) -> Result<FourFiles<Vec<u8>>, Ending>
     ensures read { IfOk result (AreRead files) }
     ensures unread { IfErr result (TellsOfFirst folder.now files) }
@@ -228,9 +268,9 @@ pub fn all_read(
         log_b,
     } = files;
     Ok(FourFiles {
-        image_a: opened(alloc, folder, IMAGE_A, image_a)?,
-        image_b: opened(alloc, folder, IMAGE_B, image_b)?,
-        log_a: opened(alloc, folder, LOG_A, log_a)?,
-        log_b: opened(alloc, folder, LOG_B, log_b)?,
+        image_a: opened(alloc, folder, image_a.file.name(), image_a.value)?,
+        image_b: opened(alloc, folder, image_b.file.name(), image_b.value)?,
+        log_a: opened(alloc, folder, log_a.file.name(), log_a.value)?,
+        log_b: opened(alloc, folder, log_b.file.name(), log_b.value)?,
     })
 }

@@ -3,9 +3,10 @@ ghost use Rattle.world_folder.specs.Ending.{IsFault};
 
 use crate::counted::Counted;
 use crate::ending::Ending;
-use crate::folder::{IMAGE_A, IMAGE_B, LOG_A, LOG_B, read_folder};
+use crate::folder::read_folder;
 use crate::recovering::{found_in, print_recovered};
 use crate::told::{tell_image, tell_log};
+use crate::world_file::{IMAGE_A, IMAGE_B, Named};
 use recovery::Slot;
 use std::alloc::{AllocError, Global};
 use std::fmt::Display;
@@ -22,10 +23,10 @@ pub fn inspect<R: Files<File = File> + Print + AllocGlobal>(
     ensures { IfErr result IsFault }
 {
     let files = read_folder(rt, folder);
-    print_image(rt, IMAGE_A, &files.image_a)?;
-    print_image(rt, IMAGE_B, &files.image_b)?;
-    print_log(rt, LOG_A, &files.log_a)?;
-    print_log(rt, LOG_B, &files.log_b)?;
+    print_image(rt, &files.image_a)?;
+    print_image(rt, &files.image_b)?;
+    print_log(rt, &files.log_a)?;
+    print_log(rt, &files.log_b)?;
     let found = found_in(rt.alloc(), folder, files)?;
     print_recovered(rt, &found)?;
     println!(rt; " in {}", name_of(found.slot))?;
@@ -37,12 +38,12 @@ pub fn inspect<R: Files<File = File> + Print + AllocGlobal>(
 
 fn print_image<R: Print + AllocGlobal>(
     rt: &R,
-    name: &str,
-    file: &io::Result<Vec<u8>>,
+    named: &Named<io::Result<Vec<u8>>>,
 ) -> Result<(), Ending>
     ensures { IfErr result IsFault }
 {
-    match file {
+    let name = named.file.name();
+    match &named.value {
         Ok(bytes) => match tell_image(rt.alloc(), bytes) {
             Ok(told) => print_told(rt, name, told, bytes.len())?,
             Err(refusal) => return Err(Ending::Fault(refusal)),
@@ -54,12 +55,12 @@ fn print_image<R: Print + AllocGlobal>(
 
 fn print_log<R: Print + AllocGlobal>(
     rt: &R,
-    name: &str,
-    file: &io::Result<Vec<u8>>,
+    named: &Named<io::Result<Vec<u8>>>,
 ) -> Result<(), Ending>
     ensures { IfErr result IsFault }
 {
-    match file {
+    let name = named.file.name();
+    match &named.value {
         Ok(bytes) => match tell_log(rt.alloc(), bytes) {
             Ok(told) => print_told(rt, name, told, bytes.len())?,
             Err(refusal) => return Err(Ending::Fault(refusal)),

@@ -5,6 +5,7 @@ ghost use Rattle.world_folder.specs.Fault.{Files, AreRead, Stands};
 use crate::ending::Ending;
 use crate::fault::stands_in;
 use crate::folder::{all_read, read_folder};
+use crate::world_file::Named;
 use disk_model::FourFiles;
 use recovery::Recovered;
 use std::alloc::Global;
@@ -28,7 +29,7 @@ pub fn recover<R: fs::Files<File = File> + Print + AllocGlobal>(
 pub fn found_in(
     alloc: Global,
     folder: &str,
-    files: FourFiles<io::Result<Vec<u8>>>,
+    files: FourFiles<Named<io::Result<Vec<u8>>>>,
 ) -> Result<Recovered, Ending>
     ensures found { IfOk result (λ found. (bytes : Files) × AreRead files bytes × Stands bytes found) }
     ensures why { IfErr result (TellsWhy folder.now files) }

@@ -13,5 +13,5 @@ mod serving;
 mod streams;
 
 pub use lines::Announce;
-pub use service::Service;
+pub use service::{Clients, Every, Service};
 pub use serving::{serve, serve_opened};

@@ -4,16 +4,7 @@ use disk_model::FourFiles;
 use std::path::PathBuf;
 use std::{fmt, io};
 use tcp_service::Unserved;
-use world_folder::Reason;
-
-/// A file of the world.
-#[derive(Clone, Copy, Debug, PartialEq, Eq)]
-pub enum WorldFile {
-    ImageA,
-    ImageB,
-    LogA,
-    LogB,
-}
+use world_folder::{Reason, WorldFile};
 
 /// A file whose call failed, and why.
 #[derive(Clone, Copy, Debug)]

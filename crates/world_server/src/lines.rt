@@ -1,6 +1,6 @@
 //! The lines of a running server.
 
-use crate::line::{Failure, Line, WorldFile};
+use crate::line::{Failure, Line};
 use crate::printer::Printer;
 use disk_model::FileDisk;
 use std::alloc::{AllocError, Global};
@@ -12,6 +12,7 @@ use std::time::Duration;
 use tcp_service::{Door, Unserved};
 use worker_threads::Watch;
 use workers::{ImageWriter, Log};
+use world_folder::WorldFile;
 
 /// How long the connection that wakes the server may take.
 const PATIENCE_MILLISECONDS: u64 = 100;

@@ -7,7 +7,7 @@ ghost use Rattle.worker_steps.specs.Begun.{IsWhole};
 
 use crate::front::Front;
 use crate::lines::Announce;
-use crate::service::Service;
+use crate::service::{Every, Service};
 use disk_model::{Disk, FileDisk, FourFiles};
 use shared_capture::{Kind, Method, Pong, Zig};
 use std::alloc::Global;
@@ -48,7 +48,7 @@ pub fn serve<
     }
 }
 
-// Serves by this method.
+// Serves by this method, which has to be the one that is asked for.
 fn serve_by<
     R: Threads
         + Wait
@@ -63,6 +63,7 @@ fn serve_by<
         + 'static,
     M: Seats + Send + 'static,
 >(rt: &R, service: &Service<'_>) -> Result<Ending, Ending>
+    requires { service.now.method ≡ M.KIND }
     ensures { IfErr result IsFault }
 {
     let alloc = rt.alloc();
@@ -76,9 +77,9 @@ fn serve_by<
         listener,
         lines,
     } = Front::open(rt, service, opened.ended, from)?;
-    let (every, admission) = (service.every, service.admission);
-    let ending = ending_served(rt, alloc, lines, opened, every, listener, admission);
-    Ok(streams.finish(rt, ending))
+    let (every, admission) = (service.every, service.admission());
+    let served = serve_opened(rt, alloc, lines, opened, every, listener, admission);
+    Ok(streams.finish(rt, ending_alone(served)))
 }
 
 /// Serves a world that was opened, and tells how the program ends, and what the server leaves once it has stopped. On
@@ -93,7 +94,7 @@ pub fn serve_opened<
     alloc: Global,
     watch: W,
     opened: Opened<M, D>,
-    every: u32,
+    every: Every,
     listener: TcpListener,
     admission: Admission,
 ) -> Result<(Ending, Stopped<M, D, Open, Open, Open>), Ending>
@@ -107,7 +108,7 @@ pub fn serve_opened<
         → served.0 ≡ Ending.Ran) }
     ensures all { IfOk result (λ served. served.1.accepted.closed ≡ Closed.AllCame
         → served.1.accepted.connections ≡ admission.clients) }
-    ensures every { IfOk result (λ served. served.1.ends.mutator.every ≡ every) }
+    ensures every { IfOk result (λ served. served.1.ends.mutator.every ≡ every.0) }
     ensures sound { IsTrue D.honest → IfOk result (λ served.
         StaysSound D.content D.may_leave opened.front.live opened.images opened.log opened.ended
         served.1.ends.mutator served.1.ends.checkpointer served.1.ends.log_writer) }
@@ -120,7 +121,9 @@ pub fn serve_opened<
     let Ok(announce) = watch.clone() else {
         return Err(Ending::Fault(Refusal::NoMemory));
     };
-    match serve_tcp(rt, alloc, gates, watch, opened, every, listener, admission) {
+    match serve_tcp(
+        rt, alloc, gates, watch, opened, every.0, listener, admission,
+    ) {
         Ok(stopped) => {
             announce.stopped(stopped.ends.mutator.ended(), stopped.ends.acked());
             let ending = ending_of(&stopped);
@@ -130,24 +133,12 @@ pub fn serve_opened<
     }
 }
 
-// Serves a world that was opened, and tells how the program ends.
-fn ending_served<
-    R: Threads + Wait + Clock + Copy + Send + 'static,
-    M: Method + Send + 'static,
-    D: Disk + Drop + Send + 'static,
-    W: Watch<D> + Door + Announce + Clone + Drop + Send + 'static,
->(
-    rt: &R,
-    alloc: Global,
-    watch: W,
-    opened: Opened<M, D>,
-    every: u32,
-    listener: TcpListener,
-    admission: Admission,
-) -> Ending
-    requires { IsWhole D.honest D.content opened.front opened.back opened.images opened.log opened.ended }
+// How the program ends, whatever else a server leaves.
+fn ending_alone<S: Drop>(served: Result<(Ending, S), Ending>) -> Ending
+    ensures ok { IfOk served (λ stopped. result ≡ stopped.0) }
+    ensures err { IfErr served (λ ending. result ≡ ending) }
 {
-    match serve_opened(rt, alloc, watch, opened, every, listener, admission) {
+    match served {
         Ok((ending, _)) => ending,
         Err(ending) => ending,
     }

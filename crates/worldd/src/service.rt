@@ -6,8 +6,7 @@ use clap::error::Error;
 use clap::{Arg, ArgAction, ArgMatches, Command, value_parser};
 use shared_capture::Kind;
 use std::alloc::{AllocError, Global};
-use tcp_service::Admission;
-use world_server::Service;
+use world_server::{Clients, Every, Service};
 
 /// The name of the command.
 pub const SERVE: &str = "serve";
@@ -57,6 +56,10 @@ fn every_argument<'a>(alloc: Global) -> Arg<'a> {
         .help("After how many ticks an image is due")
 }
 
+fn every_of(given: &ArgMatches<'_>) -> Option<Every> {
+    Some(Every(given.get_one(EVERY)?))
+}
+
 fn port_argument<'a>(alloc: Global) -> Arg<'a> {
     Arg::new(alloc, PORT)
         .long(PORT)
@@ -73,6 +76,10 @@ fn clients_argument<'a>(alloc: Global) -> Arg<'a> {
         .required(true)
         .value_parser(value_parser!(u32).range(1..=100_000))
         .help("After how many connections it accepts no more")
+}
+
+fn clients_of(given: &ArgMatches<'_>) -> Option<Clients> {
+    Some(Clients(given.get_one(CLIENTS)?))
 }
 
 fn idle_argument<'a>(alloc: Global) -> Arg<'a> {
@@ -99,12 +106,10 @@ pub fn service_of<'a>(matches: &ArgMatches<'a>) -> Option<Service<'a>> {
     Some(Service {
         folder: given.get_str(FOLDER)?,
         method: method_of(given.get_str(METHOD)?)?,
-        every: given.get_one(EVERY)?,
+        every: every_of(given)?,
         port: given.get_one(PORT)?,
-        admission: Admission {
-            clients: given.get_one(CLIENTS)?,
-            idle: given.get_one(IDLE),
-        },
+        clients: clients_of(given)?,
+        idle: given.get_one(IDLE),
         exits_when_log_down: given.get_flag(EXIT_WHEN_LOG_DOWN),
     })
 }

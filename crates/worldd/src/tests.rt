@@ -10,9 +10,9 @@ use std::fmt::Display;
 use std::io::{self, ErrorKind};
 use std::process::{ExitCode, Termination};
 use std::test::Fail;
-use tcp_service::Admission;
 use world_actions::Refusal;
 use world_folder::{Ending, ServerEnding};
+use world_server::{Clients, Every};
 
 // Keeps all that is printed.
 #[derive(Drop)]
@@ -167,7 +167,7 @@ fn words(alloc: Global, line: &[&str]) -> Result<Vec<String>, Fail> {
 }
 
 // The service that a command line asks for: the folder, whether the method is Ping-Pong, the number of ticks and the port,
-// which clients are taken, and whether it ends when the log is down.
+// how many clients are taken and how long they may be silent, and whether it ends when the log is down.
 fn asked(alloc: Global, line: &[&str]) -> Result<Option<Asked>, Fail> {
     let words = words(alloc, line)?;
     let matches = matches_of(alloc, &words)?;
@@ -181,12 +181,13 @@ fn asked(alloc: Global, line: &[&str]) -> Result<Option<Asked>, Fail> {
         is_ping_pong,
         service.every,
         service.port,
-        service.admission,
+        service.clients,
+        service.idle,
         service.exits_when_log_down,
     )))
 }
 
-type Asked = (String, bool, u32, u16, Admission, bool);
+type Asked = (String, bool, Every, u16, Clients, Option<u32>, bool);
 
 const LEAST: [&str; 10] = [
     "worldd",
@@ -221,23 +222,23 @@ const ALL: [&str; 15] = [
 
 #[test]
 fn flags_of_serve_are_read(rt: HostRuntime) -> Result<(), Fail> {
-    let Some((folder, is_ping_pong, every, port, admission, exits)) = asked(rt.alloc(), &LEAST)?
+    let Some((folder, is_ping_pong, every, port, clients, idle, exits)) = asked(rt.alloc(), &LEAST)?
     else {
         return Err(Fail::new("not understood"));
     };
     assert!(rt; folder.as_str() == "world" && is_ping_pong && !exits);
     assert_eq!(rt;
-        (every, port, admission.clients, admission.idle),
-        (64, 0, 100_000, None)
+        (every, port, clients, idle),
+        (Every(64), 0, Clients(100_000), None)
     );
-    let Some((folder, is_ping_pong, every, port, admission, exits)) = asked(rt.alloc(), &ALL)?
+    let Some((folder, is_ping_pong, every, port, clients, idle, exits)) = asked(rt.alloc(), &ALL)?
     else {
         return Err(Fail::new("not understood"));
     };
     assert!(rt; folder.as_str() == "other" && !is_ping_pong && exits);
     assert_eq!(rt;
-        (every, port, admission.clients, admission.idle),
-        (65_536, 65_535, 1, Some(86_400))
+        (every, port, clients, idle),
+        (Every(65_536), 65_535, Clients(1), Some(86_400))
     );
     Ok(())
 }

@@ -1,4 +1,4 @@
-use Rattle.std.proofs.Common.{◌≡◌, subst, rules}
+use Rattle.std.proofs.Common.{◌≡◌, rules}
 use Rattle.image_files.specs.Image.{Image, image_of}
 use Rattle.world_folder.proofs.FormatLemmas.{image_format}
 use Rattle.world_folder.proofs.told.tell_image.Goals as goal

@@ -1,0 +1,40 @@
+-- What making a world in a folder gives.
+use Rattle.std.specs.Prelude.{◌≡◌, ◌≢◌, ◌⊎◌, ℕ, List, []}
+use Rattle.std.specs.Path.{path_buf_bytes, path_join}
+use Rattle.world_actions.specs.declared.refusal.Refusal.TheVariants.{NoMemory, Device, NotEmpty}
+use Rattle.disk_model.specs.FourFiles.{EachFile, KeepsFile}
+use Rattle.disk_model.specs.declared.four_files.FourFiles.{FourFiles}
+use Rattle.image_files.specs.Image.{Closed, image_of}
+use Rattle.action_log.specs.Segment.{ClosedSegment, IsSegment}
+use Rattle.recovery.specs.Sound.{IsFresh}
+use Rattle.served.specs.Opening.{AreSynced, AreSound}
+use Rattle.served.specs.Fresh.{FilesAreClosed}
+use Rattle.world_folder.specs.declared.ending.Ending.{Ending}
+use Rattle.world_folder.specs.declared.ending.Ending.TheVariants.{Fault, Occupied}
+use Rattle.world_folder.specs.declared.world_file.TheConstants.{IMAGE_A, IMAGE_B, LOG_A, LOG_B}
+
+-- of four files with these bytes, the one of this name is the first that isn't closed
+abbrev pub IsFirstOpen : (image_a image_b log_a log_b name : List ℕ) → Type 0
+IsFirstOpen image_a image_b log_a log_b name =
+    ((name ≡ IMAGE_A.now) × (image_of image_a ≢ Closed))
+    ⊎ (((name ≡ IMAGE_B.now) × (image_of image_a ≡ Closed) × (image_of image_b ≢ Closed))
+    ⊎ (((name ≡ LOG_A.now) × (image_of image_a ≡ Closed) × (image_of image_b ≡ Closed) × ¬ IsSegment log_a ClosedSegment)
+    ⊎ ((name ≡ LOG_B.now) × (image_of image_a ≡ Closed) × (image_of image_b ≡ Closed) × IsSegment log_a ClosedSegment × ¬ IsSegment log_b ClosedSegment)))
+
+module _ {D : Type 0} (file : D → List ℕ) where
+  -- it tells why no world was made of the four files of a folder: it names the first one that isn't closed, or no file
+  abbrev pub TellsUnmade : (folder : List ℕ) → FourFiles D → Ending → Type 0
+  TellsUnmade folder files (Occupied told) =
+      (name : List ℕ) × (path_buf_bytes told.path ≡ path_join folder name)
+      × IsFirstOpen (file files.image_a) (file files.image_b) (file files.log_a) (file files.log_b) name
+  TellsUnmade folder files (Fault refusal) = (refusal ≡ NoMemory) ⊎ ((refusal ≡ Device) ⊎ ((refusal ≡ NotEmpty) × ¬ FilesAreClosed file files))
+  TellsUnmade folder files other = ⊥
+
+module _ {D : Type 0} (file : D → List ℕ) (leaves : D → List ℕ → Type 0) where
+  -- No world was made, and the program ends so. But for a device that failed the files were only read. Where they held no
+  -- world, whatever a crash leaves of them is of no world yet, or of one of zeros at tick 0.
+  pub record IsUnmade (folder : List ℕ) (files : FourFiles D) (cells : ℕ) (ending : Ending) (left : FourFiles D) : Type 0 where
+    pub told : TellsUnmade file folder files ending
+    pub kept : ending ≢ Fault Device → EachFile files left (KeepsFile file leaves)
+    pub safe : AreSynced file leaves files → FilesAreClosed file files
+        → IsFresh (leaves left.image_a) (leaves left.image_b) (leaves left.log_a) (leaves left.log_b) cells ⊎ AreSound file leaves left cells [] 0

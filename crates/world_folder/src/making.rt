@@ -1,0 +1,122 @@
+ghost use Rattle.std.specs.Prelude.{◌≡◌, ◌≢◌, ◌⊎◌, ◌↔◌, ◌≤◌, IsTrue, IfOk, IfErr};
+ghost use Rattle.std.specs.Path.{path_buf_bytes, path_join};
+ghost use Rattle.world_actions.specs.declared.world.TheConstants.{CELLS};
+ghost use Rattle.disk_model.specs.FourFiles.{EachFile, KeepsFile, fault_counts};
+ghost use Rattle.image_files.specs.Image.{Closed, image_of};
+ghost use Rattle.action_log.specs.Segment.{ClosedSegment, IsSegment};
+ghost use Rattle.served.specs.Opening.{SomeGrew};
+ghost use Rattle.served.specs.Fresh.{AreClosed, AreMade, FilesAreClosed};
+ghost use Rattle.world_folder.specs.declared.ending.Occupied.{Occupied as Open};
+ghost use Rattle.world_folder.specs.Ending.{IsFault};
+ghost use Rattle.world_folder.specs.Making.{IsFirstOpen, TellsUnmade, IsUnmade};
+
+use crate::ending::{Ending, Occupied};
+use crate::folder::path_of;
+use crate::world_file::{IMAGE_A, IMAGE_B, LOG_A, LOG_B};
+use action_log::{LogState, read_log, segments_read_once};
+use disk_model::{Disk, FourFiles};
+use image_files::{ImageState, read_image};
+use served::fresh_files;
+use std::alloc::Global;
+use world_actions::Refusal;
+
+/// Shows that the files of a world were made, of so many cells: only `make_in` gives one.
+#[derive(Clone, Copy, Debug, PartialEq, Eq)]
+pub struct Made {
+    cells: u32,
+}
+
+impl Made {
+    /// How many cells the world has.
+    pub fn cells(&self) -> u32
+        ensures { result ≡ self.now.cells }
+    {
+        self.cells
+    }
+}
+
+/// Makes the files of a world of zeros at tick 0, of the four files of a folder. Where one of them isn't closed it only
+/// reads them, and names the first such file. Refused, it gives the files back, and a device's fault names no file.
+pub fn make_in<D: Disk>(
+    alloc: Global,
+    folder: &str,
+    cells: u32,
+    files: FourFiles<D>,
+) -> Result<(FourFiles<D>, Made), (FourFiles<D>, Ending)>
+    requires { (1 ≤ cells) × (cells ≤ CELLS) }
+    ensures made { IsTrue D.honest → IfOk result (λ made.
+        AreMade D.content D.may_leave files cells made.0) }
+    ensures cells { IfOk result (λ made. made.1.cells ≡ cells) }
+    ensures unmade { IsTrue D.honest → IfErr result (λ unmade.
+        IsUnmade D.content D.may_leave folder.now files cells unmade.1 unmade.0) }
+    ensures device { IfErr result (λ unmade. unmade.1 ≡ Ending.Fault Refusal.Device
+        → SomeGrew (fault_counts D.faults files) (fault_counts D.faults unmade.0)) }
+    ensures fault { IfErr result (λ unmade. IsFault unmade.1) }
+{
+    match fresh_files(alloc, cells, files) {
+        Ok(files) => Ok((files, Made { cells })),
+        Err((files, Refusal::NotEmpty)) => {
+            let mut files = files;
+            let ending = occupied(alloc, folder, &mut files);
+            Err((files, ending))
+        }
+        Err((files, refusal)) => Err((files, Ending::Fault(refusal))),
+    }
+}
+
+// How the program ends where one of the files isn't closed. They are read once more, to find the first such file.
+fn occupied<D: Disk>(alloc: Global, folder: &str, files: &mut FourFiles<D>) -> Ending
+    ensures told { IsTrue D.honest → ¬ FilesAreClosed D.content files.old
+        → TellsUnmade D.content folder.now files.old result }
+    ensures kept { IsTrue D.honest → EachFile files.old files.new (KeepsFile D.content D.may_leave) }
+    ensures other { result ≢ Ending.Fault Refusal.Device }
+    ensures fault { IsFault result }
+{
+    match files.read_all(alloc) {
+        Ok(bytes) => occupied_by(alloc, folder, first_open(alloc, &bytes)),
+        Err(_) => Ending::Fault(Refusal::NotEmpty),
+    }
+}
+
+// The end that names this file of the folder.
+fn occupied_by(alloc: Global, folder: &str, name: &str) -> Ending
+    ensures { (result ≡ Ending.Fault Refusal.NoMemory)
+        ⊎ ((file : Open) × (result ≡ Ending.Occupied file) × (path_buf_bytes file.path ≡ path_join folder.now name.now)) }
+{
+    match path_of(alloc, folder, name) {
+        Ok(path) => Ending::Occupied(Occupied { path }),
+        Err(_) => Ending::Fault(Refusal::NoMemory),
+    }
+}
+
+// The name of the first file that isn't closed, of four of which one isn't.
+fn first_open(alloc: Global, bytes: &FourFiles<Vec<u8>>) -> &'static str
+    ensures { ¬ AreClosed bytes.now.image_a.items bytes.now.image_b.items bytes.now.log_a.items bytes.now.log_b.items
+        → IsFirstOpen bytes.now.image_a.items bytes.now.image_b.items bytes.now.log_a.items bytes.now.log_b.items
+        result.now }
+{
+    if !is_closed_image(alloc, &bytes.image_a) {
+        return IMAGE_A;
+    }
+    if !is_closed_image(alloc, &bytes.image_b) {
+        return IMAGE_B;
+    }
+    if !is_closed_segment(alloc, &bytes.log_a) {
+        return LOG_A;
+    }
+    LOG_B
+}
+
+// An open image that wants memory isn't closed.
+fn is_closed_image(alloc: Global, bytes: &[u8]) -> bool
+    ensures { IsTrue result ↔ (image_of bytes.now ≡ Closed) }
+{
+    matches!(read_image(alloc, bytes), Ok(ImageState::Closed))
+}
+
+fn is_closed_segment(alloc: Global, bytes: &[u8]) -> bool
+    ensures { IsTrue result ↔ IsSegment bytes.now ClosedSegment }
+{
+    segments_read_once();
+    matches!(read_log(alloc, bytes), Ok(LogState::Closed))
+}
