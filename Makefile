@@ -8,7 +8,7 @@ try: ; cd crates/worldd && rt try -- steps <../../examples/session.txt
 build: ; for program in worldd world_load; do (cd crates/$$program && rt run -- --version) || exit 1; done
 gate: ; .ci/run
 docs: ; scripts/map.py && scripts/check_docs.py
-crate: ; rt ci $(name)
+crate: ; (cd crates/$(name) && rt check && rt test) && rt must-fail $(name)
 wrong-bodies: ; scripts/wrong_bodies.py $(name)
 serve: ; mkdir -p $(WORLD) && if [ ! -e $(WORLD)/image.a ]; then $(WORLDD) create --dir $(WORLD) --cells 1000; fi && \
 	$(WORLDD) serve --dir $(WORLD) --method zigzag --every 4096 --port $(PORT) --clients 100

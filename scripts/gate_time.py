@@ -124,6 +124,9 @@ def kept_of(log: str) -> str:
         done = int(tried[1])
     elif "every proof and must-fail edit was done in this run" in log:
         done = bodies
+    elif not crates:
+        # A kit that keeps nothing says nothing of it.
+        done = len(re.findall(r"^rt: must-fail \S+: refused", log, re.M))
     else:
         done = 0
     return (

@@ -83,9 +83,16 @@ def changed_since(commit: str) -> list[str]:
     return sorted({path[1] for path in paths if len(path) > 3 and path[2] in parts})
 
 
+def left_out(folder: str, names: list[str]) -> set[str]:
+    """What a copy of the repository doesn't have. It has the libraries that checks have built."""
+    if pathlib.Path(folder).name == "out":
+        return set(names) - {"rlib"}
+    return set(names) & {".git", "must-fail"}
+
+
 def lay(crates: list[str], copy: pathlib.Path) -> int:
     """Lays a copy of the repository in which these crates' must-fail/ has their other wrong bodies alone, and counts those."""
-    shutil.copytree(TOP, copy, ignore=shutil.ignore_patterns("out", ".git", "must-fail"))
+    shutil.copytree(TOP, copy, ignore=left_out)
     count = 0
     for crate in crates:
         bodies = copy / "crates" / crate / "wrong-bodies"

@@ -1,9 +1,10 @@
-ghost use Rattle.std.specs.Prelude.{◌≡◌, ◌≢◌, true, false, IsTrue, IfOk, IfErr};
+ghost use Rattle.std.specs.Prelude.{◌≡◌, ◌≢◌, true, false, IsTrue, IfOk, IfErr, MatchResult};
 ghost use Rattle.std.specs.declared.io.Error.{Error};
 ghost use Rattle.image_files.specs.declared.phase.Phase.TheVariants.{Down};
 ghost use Rattle.world_folder.specs.Ending.{IsFault};
 ghost use Rattle.worker_ends.specs.Ends.{StaysSound};
 ghost use Rattle.worker_steps.specs.Begun.{IsWhole};
+ghost use Rattle.world_server.specs.Serving.{EndsServing};
 
 use crate::front::Front;
 use crate::lines::Announce;
@@ -37,7 +38,9 @@ pub fn serve<
         + Copy
         + Send
         + 'static,
->(rt: &R, service: &Service<'_>) -> Ending {
+>(rt: &R, service: &Service<'_>) -> Ending
+    ensures ends { EndsServing result }
+{
     let served = match service.method {
         Kind::Zigzag => serve_by::<R, Zig>(rt, service),
         Kind::PingPong => serve_by::<R, Pong>(rt, service),
@@ -64,7 +67,8 @@ fn serve_by<
     M: Seats + Send + 'static,
 >(rt: &R, service: &Service<'_>) -> Result<Ending, Ending>
     requires { service.now.method ≡ M.KIND }
-    ensures { IfErr result IsFault }
+    ensures ok { IfOk result EndsServing }
+    ensures err { IfErr result IsFault }
 {
     let alloc = rt.alloc();
     let files = open_existing(rt, service.folder)?;
@@ -99,6 +103,7 @@ pub fn serve_opened<
     admission: Admission,
 ) -> Result<(Ending, Stopped<M, D, Open, Open, Open>), Ending>
     requires { IsWhole D.honest D.content opened.front opened.back opened.images opened.log opened.ended }
+    ensures ends { MatchResult result (λ served. EndsServing served.0) EndsServing }
     ensures log { IfOk result (λ served. served.1.ends.log_writer.down ≡ true
         → served.0 ≡ Ending.Server ServerEnding.LogDown) }
     ensures images { IfOk result (λ served. served.1.ends.log_writer.down ≡ false
@@ -135,8 +140,7 @@ pub fn serve_opened<
 
 // How the program ends, whatever else a server leaves.
 fn ending_alone<S: Drop>(served: Result<(Ending, S), Ending>) -> Ending
-    ensures ok { IfOk served (λ stopped. result ≡ stopped.0) }
-    ensures err { IfErr served (λ ending. result ≡ ending) }
+    ensures { MatchResult served (λ stopped. result ≡ stopped.0) (λ ending. result ≡ ending) }
 {
     match served {
         Ok((ending, _)) => ending,
@@ -146,6 +150,7 @@ fn ending_alone<S: Drop>(served: Result<(Ending, S), Ending>) -> Ending
 
 // How the program ends if a server doesn't run to its end.
 fn not_served(reason: NotServed) -> Ending
+    ensures ends { EndsServing result }
     ensures memory { reason ≡ NotServed.NoMemory → result ≡ Ending.Fault Refusal.NoMemory }
     ensures thread { reason ≡ NotServed.NoThread → result ≡ Ending.Server ServerEnding.NoThread }
     ensures left { reason ≡ NotServed.Left → result ≡ Ending.Server ServerEnding.LogDown }
@@ -179,6 +184,7 @@ fn not_opened(alloc: Global, folder: &str, files: FourFiles<FileDisk>, refusal: 
 fn ending_of<M: Method, D: Disk + Drop, A: Gate + Drop, B: Gate + Drop, C: Gate + Drop>(
     stopped: &Stopped<M, D, A, B, C>,
 ) -> Ending
+    ensures ends { EndsServing result }
     ensures log { stopped.now.ends.log_writer.down ≡ true → result ≡ Ending.Server ServerEnding.LogDown }
     ensures images { stopped.now.ends.log_writer.down ≡ false → stopped.now.ends.checkpointer.images.keeper.phase ≡ Down
         → result ≡ Ending.Server ServerEnding.ImagesDown }

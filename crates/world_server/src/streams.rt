@@ -1,6 +1,7 @@
 //! The two standard streams of a server.
 ghost use Rattle.std.specs.Prelude.{◌≡◌, ◌≢◌, Ok, Err, IfErr};
 ghost use Rattle.world_folder.specs.Ending.{IsFault};
+ghost use Rattle.world_server.specs.Serving.{EndsServing};
 
 use crate::line::Line;
 use crate::printer::{Printer, StandardError, StandardOutput, start_printer};
@@ -53,6 +54,7 @@ impl Streams {
     /// Waits until the lines have left, or for some seconds if a stream isn't read, and ends the program so. A server
     /// that ended well ends with a fault if its output couldn't be printed.
     pub fn finish<R: Wait + Clock>(self, rt: &R, ending: Ending) -> Ending
+        ensures ends { EndsServing ending → EndsServing result }
         ensures other { ending ≢ Ending.Ran → result ≡ ending }
         ensures fault { IsFault ending → IsFault result }
     {
@@ -70,6 +72,7 @@ impl Streams {
 
 // How a server ends whose output was printed so.
 fn heard(ending: Ending, printed: io::Result<()>) -> Ending
+    ensures ends { EndsServing ending → EndsServing result }
     ensures other { ending ≢ Ending.Ran → result ≡ ending }
     ensures fault { IsFault ending → IsFault result }
     ensures well { printed ≡ Ok tt → result ≡ ending }

@@ -1,0 +1,184 @@
+use crate::flaky::Flaky;
+use crate::quiet::Quiet;
+use crate::session::{Answer, Session, sessions};
+use crate::stand::Stand;
+use crate::tally::{Kind, Rule};
+use crate::trial::{Odds, Trial};
+use crossbeam_channel::Sender;
+use shared_capture::Method;
+use std::sync::Wait;
+use std::thread::Threads;
+use tcp_service::{Seats, open_world};
+use worker_steps::Gates;
+use worker_threads::{Ends, stop_after};
+use workers::{Ask, Cut};
+use world_actions::Refusal;
+
+/// How often the workers are cut for each method.
+pub const CUTS: u64 = 500;
+
+/// How many cells the world has.
+const CELLS: u32 = 65;
+
+/// How many sessions there are, and how many batches they send in a run.
+const SESSIONS: u64 = 4;
+
+const BATCHES: u64 = 40;
+
+/// More steps than the batches have, than some rounds, and than the log of the batches.
+const PLAYS: u64 = 60;
+
+const TAKES: u64 = 400;
+
+const LOGS: u64 = 200;
+
+type Workers<M> = Ends<M, Flaky, Cut, Cut, Cut>;
+
+/// The sessions of a run.
+#[derive(Drop)]
+struct Played {
+    sessions: Vec<Session>,
+    // The greatest tick of a post, or 0.
+    posted: u64,
+    // Why no more was sent, if so.
+    stopped: Result<(), Refusal>,
+}
+
+/// Holds the three workers of a world at random places in their threads, again and again, each time in what a crash left.
+pub fn try_cuts<R: Threads + Wait + Copy + Send + 'static, M: Seats + Send + 'static>(
+    rt: &R,
+    trial: &mut Trial,
+) -> Result<(), Refusal> {
+    trial.begin_world(CELLS, 0, Odds::NONE)?;
+    for _ in 0..CUTS {
+        let mut played = Played::new(sessions(trial.alloc, SESSIONS)?);
+        cut_once::<R, M>(rt, trial, &mut played)?;
+    }
+    Ok(())
+}
+
+fn cut_once<R: Threads + Wait + Copy + Send + 'static, M: Seats + Send + 'static>(
+    rt: &R,
+    trial: &mut Trial,
+    played: &mut Played,
+) -> Result<(), Refusal> {
+    let files = trial.files()?;
+    let (alloc, every, cuts) = (trial.alloc, trial.every(), cuts(trial));
+    match open_world::<M, Flaky>(alloc, files) {
+        Ok((opened, _)) => {
+            let play = |asks: Sender<Ask>| played.play(rt, trial, &asks);
+            match stop_after(rt, alloc, cuts, Quiet, opened, every, play) {
+                Ok(ends) => played.judge(rt, trial, &ends),
+                Err(_) => Err(Refusal::NoMemory),
+            }
+        }
+        Err((_, refusal)) => Err(refusal),
+    }
+}
+
+// After how many steps each worker is held.
+fn cuts(trial: &mut Trial) -> Gates<Cut, Cut, Cut> {
+    Gates {
+        mutator: Cut {
+            left: trial.random.below(PLAYS),
+        },
+        checkpointer: Cut {
+            left: trial.random.below(TAKES),
+        },
+        log_writer: Cut {
+            left: trial.random.below(LOGS),
+        },
+    }
+}
+
+impl Played {
+    // Nothing was sent yet.
+    fn new(sessions: Vec<Session>) -> Self {
+        Played {
+            sessions,
+            posted: 0,
+            stopped: Ok(()),
+        }
+    }
+
+    // Sends the batches, each of a random session, which first waits for its last answer.
+    fn play<R: Wait>(&mut self, rt: &R, trial: &mut Trial, asks: &Sender<Ask>) {
+        for _ in 0..BATCHES {
+            self.stopped = self.send(rt, trial, asks);
+            if self.stopped.is_err() {
+                break;
+            }
+        }
+    }
+
+    // The model runs the batches in this order, those too that the mutator won't run: they are the last ones.
+    fn send<R: Wait>(
+        &mut self,
+        rt: &R,
+        trial: &mut Trial,
+        asks: &Sender<Ask>,
+    ) -> Result<(), Refusal> {
+        let number = trial.random.below(SESSIONS) as usize;
+        let Some(session) = self.sessions.get_mut(number) else {
+            return Ok(());
+        };
+        if let Some(answer) = session.wait(rt, &trial.model) {
+            self.posted = self.posted.max(heed(answer, trial));
+        }
+        trial.draw_batch();
+        let ask = session.ask(trial.alloc, trial.draft.batch())?;
+        session.runs(trial.play()?, 0);
+        asks.send(rt, ask).map_err(|_: _| Refusal::LogDown)
+    }
+
+    // Judges what the workers left, and crashes.
+    fn judge<R: Wait, M: Method>(
+        &mut self,
+        rt: &R,
+        trial: &mut Trial,
+        ends: &Workers<M>,
+    ) -> Result<(), Refusal> {
+        self.stopped?;
+        for session in &mut self.sessions {
+            if let Some(answer) = session.look(rt, &trial.model) {
+                self.posted = self.posted.max(heed(answer, trial));
+            }
+            trial.tally.hold(session.is_idle(), Rule::AnswersAsk);
+        }
+        let ended = ends.mutator.ended();
+        let stand = Stand::of(&ends.checkpointer, &ends.log_writer, ended);
+        trial
+            .tally
+            .hold(self.posted <= stand.acked, Rule::PostsAcknowledged);
+        self.count_held(trial, ends);
+        stand.judge(trial)?;
+        stand.crash(trial)
+    }
+
+    // Which workers were held before their end.
+    fn count_held<M: Method>(&self, trial: &mut Trial, ends: &Workers<M>) {
+        let (checkpointer, log_writer) = (&ends.checkpointer, &ends.log_writer);
+        let (ended, sent) = (ends.mutator.ended(), trial.model.last());
+        let tally = &mut trial.tally;
+        tally.hold(ended <= sent, Rule::Counts);
+        tally.count_if(ended < sent && !log_writer.is_down(), Kind::MutatorCut);
+        tally.count_if(
+            checkpointer.images().keeper.has_open_round(),
+            Kind::CheckpointerCut,
+        );
+        tally.count_if(log_writer.is_down(), Kind::LogWriterCut);
+    }
+}
+
+// The tick of a post, or 0. A refusal is that of a log that is down, or of a mutator that is held.
+fn heed(answer: Answer, trial: &mut Trial) -> u64 {
+    match answer {
+        Answer::Post(tick) => {
+            trial.tally.count(Kind::Posted);
+            return tick;
+        }
+        Answer::Lost(Refusal::LogDown) => {}
+        _ => trial.tally.hold(false, Rule::AnswersAsk),
+    }
+    0
+}

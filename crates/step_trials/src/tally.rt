@@ -1,0 +1,195 @@
+use trial_kit::Counts;
+use world_actions::Refusal;
+
+/// What can come. A push is refused only where no end is left that pops, and memory only where nobody gives any.
+#[derive(Clone, Copy, PartialEq, Eq)]
+pub enum Kind {
+    Play,
+    Mark,
+    Push,
+    End,
+    Pop,
+    Log,
+    Image,
+    Posted,
+    BadCell,
+    BadValue,
+    OutOfRange,
+    SameCell,
+    TickFull,
+    BadLine,
+    LogIsDown,
+    LogWentDown,
+    SegmentFull,
+    TicksEnded,
+    ImageOpened,
+    Covered,
+    ImageAFailed,
+    ImageBFailed,
+    LogAFailed,
+    LogBFailed,
+    OpeningFailed,
+    MutatorStuck,
+    CheckpointerStuck,
+    LogWriterStuck,
+    FromImageA,
+    FromImageB,
+    Replayed,
+    KeptMore,
+    MutatorCut,
+    CheckpointerCut,
+    LogWriterCut,
+}
+
+const KINDS: usize = 35;
+
+/// The kinds in the order in which they are declared.
+const NAMES: [&str; KINDS] = [
+    "steps: a batch is played",
+    "steps: a round is marked, if one is due",
+    "steps: what is owed is pushed",
+    "steps: the play ends",
+    "steps: an item is popped",
+    "steps: the log goes on",
+    "steps: the image goes on",
+    "answers: posted",
+    "answers: no such cell (1)",
+    "answers: a bad value (2)",
+    "answers: out of range (3)",
+    "answers: one cell twice (4)",
+    "answers: a full tick (5)",
+    "answers: a bad line (16)",
+    "refused: the log is down (12)",
+    "refused: the log went down under a tick (12)",
+    "refused: a full segment (6)",
+    "refused: the last tick has ended (21)",
+    "images opened",
+    "covers: what an open image has isn't logged",
+    "failed: image.a",
+    "failed: image.b",
+    "failed: log.a",
+    "failed: log.b",
+    "failed: the opening",
+    "stuck: the mutator",
+    "stuck: the checkpointer",
+    "stuck: the log writer",
+    "recovered from image.a",
+    "recovered from image.b",
+    "recovered with ticks of the log",
+    "recovered more than was acknowledged",
+    "cut: the mutator",
+    "cut: the checkpointer",
+    "cut: the log writer",
+];
+
+/// What has to hold.
+#[derive(Clone, Copy)]
+pub enum Rule {
+    /// Whatever a crash leaves is recovered.
+    IsRecovered,
+    /// The recovered tick is acknowledged or later, and was pushed.
+    KeepsAcknowledged,
+    /// The recovered words are those of the model.
+    HasWords,
+    /// A world is opened at the tick that was recovered.
+    OpensThere,
+    /// A post is of the session's own ask, of its tick, and with its text.
+    AnswersAsk,
+    /// A post is of an acknowledged tick.
+    PostsAcknowledged,
+    /// A batch that isn't run has an answer, which says why.
+    Refuses,
+    /// As many ticks have ended as the model has.
+    Counts,
+}
+
+const RULES: usize = 8;
+
+const RULE_NAMES: [&str; RULES] = [
+    "nothing is recovered",
+    "an acknowledged tick is lost, or one stands that wasn't pushed",
+    "other words stand",
+    "a world is opened at another tick",
+    "a post answers something else",
+    "a post is of a tick that isn't acknowledged",
+    "a refusal isn't told, or has no cause",
+    "another number of ticks has ended",
+];
+
+/// How often each kind came, and how often each rule was broken.
+#[derive(Drop)]
+pub struct Tally {
+    came: Counts<KINDS>,
+    broken: Counts<RULES>,
+}
+
+impl Tally {
+    /// Nothing came yet.
+    pub fn new() -> Self {
+        Tally {
+            came: Counts::new(),
+            broken: Counts::new(),
+        }
+    }
+
+    /// A kind came.
+    pub fn count(&mut self, kind: Kind) {
+        self.came.count(kind as usize);
+    }
+
+    /// A kind came, if it did.
+    pub fn count_if(&mut self, came: bool, kind: Kind) {
+        if came {
+            self.count(kind);
+        }
+    }
+
+    /// An action, a read or a line was refused in an answer.
+    pub fn count_refusal(&mut self, refusal: Refusal) {
+        match refusal {
+            Refusal::BadCell => self.count(Kind::BadCell),
+            Refusal::BadValue => self.count(Kind::BadValue),
+            Refusal::OutOfRange => self.count(Kind::OutOfRange),
+            Refusal::SameCell => self.count(Kind::SameCell),
+            Refusal::TickFull => self.count(Kind::TickFull),
+            Refusal::BadLine => self.count(Kind::BadLine),
+            _ => {}
+        }
+    }
+
+    /// Counts a rule as broken where it doesn't hold.
+    pub fn hold(&mut self, holds: bool, rule: Rule) {
+        if !holds {
+            self.broken.count(rule as usize);
+        }
+    }
+
+    /// What was wrong, if a rule was broken.
+    pub fn broken(&self) -> Option<&'static str> {
+        for (rule, name) in RULE_NAMES.iter().enumerate() {
+            if self.broken.of(rule) > 0 {
+                return Some(name);
+            }
+        }
+        None
+    }
+
+    /// Prints to standard error how often each kind came and each rule was broken. It answers whether each kind came.
+    pub fn tell<R: Eprint>(&self, rt: &R, method: &str) -> bool {
+        tell_counts(rt, method, &NAMES, &self.came);
+        tell_counts(rt, method, &RULE_NAMES, &self.broken);
+        self.came.each_came()
+    }
+}
+
+// A line for each name.
+fn tell_counts<R: Eprint, const N: usize>(
+    rt: &R,
+    method: &str,
+    names: &[&str],
+    counts: &Counts<N>,
+) {
+    for (thing, name) in names.iter().enumerate() {
+        let _ = eprintln!(rt; "{method}: {name}: {}", counts.of(thing));
+    }
+}

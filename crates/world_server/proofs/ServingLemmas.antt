@@ -1,0 +1,16 @@
+-- A fault ends a server.
+use Rattle.world_folder.specs.declared.ending.Ending.{Ending}
+use Rattle.world_folder.specs.declared.ending.Ending.TheVariants.{Ran, Told, Mistaken, Fault, Unreadable, NoWorld, Occupied, Stream, Server}
+use Rattle.world_folder.specs.Ending.{IsFault}
+use Rattle.world_server.specs.Serving.{EndsServing}
+
+pub fault_ends : (ending : Ending) → IsFault ending → EndsServing ending
+fault_ends Ran given = tt
+fault_ends Told given = given
+fault_ends Mistaken given = given
+fault_ends (Fault refusal) given = tt
+fault_ends (Unreadable file) given = tt
+fault_ends (NoWorld fault) given = tt
+fault_ends (Occupied file) given = tt
+fault_ends (Stream failure) given = tt
+fault_ends (Server ending) given = tt
