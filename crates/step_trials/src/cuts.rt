@@ -40,11 +40,11 @@ struct Played {
     sessions: Vec<Session>,
     // The greatest tick of a post, or 0.
     posted: u64,
-    // Why no more was sent, if so.
+    // Why no more was sent.
     stopped: Result<(), Refusal>,
 }
 
-/// Holds the three workers of a world at random places in their threads, again and again, each time in what a crash left.
+/// Holds the three workers of a world at random places in their threads. Each run begins from what a crash left.
 pub fn try_cuts<R: Threads + Wait + Copy + Send + 'static, M: Seats + Send + 'static>(
     rt: &R,
     trial: &mut Trial,

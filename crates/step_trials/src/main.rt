@@ -1,10 +1,10 @@
 //! The program `step_trials`: tries that a running server is sound after every step.
 //!
-//! It makes random steps of a world's three workers in one thread, over files in memory whose calls fail, with gates that
-//! hold the workers for a while or for good. After each step it tries five crashes, and recovers what each leaves: that has
-//! to be the world after a tick that was pushed, with all that were acknowledged. What a crash left becomes the files of the
-//! next run. Then it runs the workers in threads, holds each at a random place, and asks the same of what they leave. It
-//! prints to standard error how often each thing came, and fails where something was wrong or where something never came.
+//! The three workers of a world make random steps in one thread, over files in memory whose calls fail. Gates hold the
+//! workers for a while, or for good. After each step the trial tries five crashes. From what each leaves, recovery has to
+//! give the world after a pushed tick, with all acknowledged ones. The next run begins from what a crash left. Then the
+//! workers run in threads. Each is held at a random place, and their files are judged in the same way. Standard error gets
+//! how often each thing came. The trial fails if something was wrong, or if something never came.
 #![tactic(auto)]
 
 mod cuts;
@@ -38,7 +38,7 @@ fn main(rt: HostRuntime) -> ExitCode {
     ended(&rt, try_all(&rt))
 }
 
-// Whether all was right, by both methods.
+// Tries both methods, and returns whether all was right.
 fn try_all<R: Threads + Wait + Print + Eprint + AllocGlobal + Copy + Send + 'static>(
     rt: &R,
 ) -> Result<bool, Refusal> {
@@ -65,7 +65,7 @@ fn try_with<
     Ok(trial.tally.tell(rt, method) && were_right && are_right)
 }
 
-// Prints whether all was right so far, or what was wrong first.
+// Prints that all was right so far, or what was wrong first.
 fn tell<R: Print>(
     rt: &R,
     method: &str,

@@ -2,7 +2,7 @@ use disk_model::Disk;
 use worker_threads::Watch;
 use workers::{ImageWriter, Log};
 
-/// Tells nothing: what became of the workers is seen at their end.
+/// Reports nothing. The workers are looked at once they have ended.
 #[derive(Clone, Copy)]
 pub struct Quiet;
 

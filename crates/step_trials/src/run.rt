@@ -76,7 +76,7 @@ impl<M: Method> Run<M> {
         self.world.stand()
     }
 
-    /// Whether it was opened at the model's tick.
+    /// Judges whether the world was opened at the model's tick.
     pub fn opens_there(&self, trial: &mut Trial) {
         let is_right = self.world.ended() == trial.model.last();
         trial.tally.hold(is_right, Rule::OpensThere);
@@ -200,7 +200,7 @@ impl<M: Method> Run<M> {
         Ok(())
     }
 
-    // A round is opened where one is due and the image of the last one is open.
+    // Marks: a round is opened if one is due and the image of the last one is open.
     fn mark<R: Wait>(&mut self, rt: &R) {
         let ended = self.world.ended();
         self.world.step(rt, Next::Mark);

@@ -105,7 +105,7 @@ fn run_steps<R: Wait, M: Method>(
     run.stand().crash(trial)
 }
 
-// Where a call of these files failed before the world was opened.
+// Judges files of which a call failed before their world was opened.
 fn judge_opening(trial: &mut Trial, files: &FourFiles<Flaky>) -> Result<(), Refusal> {
     trial.tally.count(Kind::OpeningFailed);
     let stand = Stand::in_opening(files, trial.model.last());

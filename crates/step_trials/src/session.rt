@@ -15,7 +15,7 @@ struct Pending {
     run: Option<(u64, u64)>,
 }
 
-/// What a session was told.
+/// The answer that came for a session.
 #[derive(Clone, Copy)]
 pub enum Answer {
     /// A post of this tick, which was the session's own.
@@ -95,7 +95,7 @@ impl Session {
         }
     }
 
-    /// What came for it, if something did.
+    /// The answer that came for it, if one did.
     pub fn look<R: Wait>(&mut self, rt: &R, model: &PlainModel) -> Option<Answer> {
         let pending = self.pending.as_ref()?;
         match pending.from.try_recv(rt) {
@@ -105,7 +105,7 @@ impl Session {
         }
     }
 
-    /// What comes for it, if it waits for an answer.
+    /// Waits for its answer, if one is due.
     pub fn wait<R: Wait>(&mut self, rt: &R, model: &PlainModel) -> Option<Answer> {
         let pending = self.pending.as_ref()?;
         let reply = pending.from.recv(rt).ok();

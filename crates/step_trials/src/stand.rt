@@ -46,7 +46,7 @@ impl<'a> Stand<'a> {
         }
     }
 
-    /// Where the opening of a world failed that stood at this tick.
+    /// The files of a world at this tick, whose opening failed.
     pub fn in_opening(files: &'a FourFiles<Flaky>, tick: u64) -> Self {
         Stand {
             files: FourFiles {
@@ -71,7 +71,7 @@ impl<'a> Stand<'a> {
         Ok(())
     }
 
-    /// Crashes. The model goes on from what is left. It counts the files that failed.
+    /// Crashes, and counts the files that failed. The model begins again from what is left.
     pub fn crash(&self, trial: &mut Trial) -> Result<(), Refusal> {
         self.count_failures(&mut trial.tally);
         let leaving = match trial.random.below(4) {
@@ -80,7 +80,7 @@ impl<'a> Stand<'a> {
             _ => None,
         };
         match self.try_crash(leaving, trial)? {
-            Some(found) => trial.go_on_from(found.tick, found.words),
+            Some(found) => trial.begin_model(found.tick, found.words),
             None => Err(Refusal::BadImage),
         }
     }
@@ -98,7 +98,7 @@ impl<'a> Stand<'a> {
         tally.count_if(self.files.log_b.has_failed(), Kind::LogBFailed);
     }
 
-    // What such a crash leaves, or any that may be, and what is recovered from it.
+    // Crashes in this way, or at random, and recovers what is left.
     fn try_crash(
         &self,
         leaving: Option<Leaving>,
@@ -117,7 +117,7 @@ impl<'a> Stand<'a> {
         Ok(())
     }
 
-    // What is recovered, if something is. It judges whether that may be.
+    // Recovers what was left, and judges the result.
     fn recover(&self, trial: &mut Trial) -> Result<Option<Recovered>, Refusal> {
         let left = &trial.left;
         let found = recover(
@@ -153,7 +153,7 @@ impl<'a> Stand<'a> {
     }
 }
 
-// What a crash leaves of a file: so, or any bytes that it may.
+// The bytes that a crash leaves of a file: in this way, or any that it may leave.
 fn left_of(
     alloc: Global,
     file: &Flaky,

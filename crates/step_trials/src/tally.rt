@@ -174,7 +174,7 @@ impl Tally {
         None
     }
 
-    /// Prints to standard error how often each kind came and each rule was broken. It answers whether each kind came.
+    /// Prints to standard error how often each kind came and each rule was broken. Returns whether each kind came.
     pub fn tell<R: Eprint>(&self, rt: &R, method: &str) -> bool {
         tell_counts(rt, method, &NAMES, &self.came);
         tell_counts(rt, method, &RULE_NAMES, &self.broken);

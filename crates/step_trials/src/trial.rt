@@ -62,11 +62,11 @@ impl Trial {
         self.odds = odds;
         self.left = no_bytes(self.alloc);
         self.left.image_a = image(self.alloc, cells, tick)?;
-        self.go_on_from(tick, vec![in self.alloc; 0; cells as usize]?)
+        self.begin_model(tick, vec![in self.alloc; 0; cells as usize]?)
     }
 
-    /// The model goes on from these words after this tick.
-    pub fn go_on_from(&mut self, tick: u64, words: Vec<u64>) -> Result<(), Refusal> {
+    /// The model begins again, from these words after this tick.
+    pub fn begin_model(&mut self, tick: u64, words: Vec<u64>) -> Result<(), Refusal> {
         self.model = PlainModel::new(self.alloc, tick, words)?;
         Ok(())
     }
