@@ -7,10 +7,10 @@ use crate::session_threads::{Sessions, Shared};
 use crossbeam_channel::Sender;
 use std::alloc::Global;
 use std::io;
-use std::net::TcpListener;
 use std::sync::Wait;
 use std::thread::Threads;
 use std::time::Clock;
+use transports::Listener;
 use workers::Ask;
 
 /// Which clients a server takes.
@@ -49,14 +49,14 @@ pub struct Accepted {
 
 /// Accepts so many connections, and serves each in a thread of its own. It waits out a shortage of descriptors or
 /// memory. A client that can be given no thread or no memory is closed unanswered. After the last one, or a failure of
-/// the listener, it closes the port and waits for the sessions. It comes back at once if the server is left.
+/// the listener, it closes the listener and waits for the sessions. It comes back at once if the server is left.
 pub fn accept_sessions<
     R: Threads + Wait + Clock + Copy + Send + 'static,
     W: Door + Clone + Drop + Send + 'static,
 >(
     rt: &R,
     alloc: Global,
-    listener: TcpListener,
+    listener: Listener,
     admission: Admission,
     requests: Sender<Ask>,
     door: W,
@@ -87,6 +87,7 @@ pub fn accept_sessions<
         &mut shared,
         &mut sessions,
     );
+    shared.door.closing();
     drop(listener);
     shared.door.closed();
     let Shared { door, .. } = shared;
@@ -129,7 +130,7 @@ fn accept_all<
     W: Door + Clone + Drop + Send + 'static,
 >(
     rt: &R,
-    listener: &TcpListener,
+    listener: &Listener,
     clients: u32,
     shared: &mut Shared<W>,
     sessions: &mut Sessions,
@@ -149,7 +150,7 @@ fn accept_all<
             return (unserved, Closed::AllCame);
         }
         match listener.accept() {
-            Ok((stream, _)) => {
+            Ok(stream) => {
                 shortage.pass(&mut shared.door);
                 if let Err(why) = sessions.start(rt, stream, shared) {
                     shared.door.session_refused(why);

@@ -10,10 +10,10 @@ use crate::opening::{Seats, open_world};
 use disk_model::{Disk, FourFiles};
 use shared_capture::Method;
 use std::alloc::{AllocError, Global};
-use std::net::TcpListener;
 use std::sync::Wait;
 use std::thread::Threads;
 use std::time::Clock;
+use transports::Listener;
 use worker_steps::{Gates, Opened};
 use worker_threads::{Ends, NotStarted, Watch, ends_meet, start, stop};
 use workers::Gate;
@@ -80,7 +80,7 @@ pub fn serve_tcp<
     watch: W,
     opened: Opened<M, D>,
     every: u32,
-    listener: TcpListener,
+    listener: Listener,
     admission: Admission,
 ) -> Result<Stopped<M, D, A, B, C>, NotServed>
     requires { IsWhole D.honest D.content opened.front opened.back opened.images opened.log opened.ended }
@@ -135,7 +135,7 @@ pub fn serve_files<
     watch: W,
     files: FourFiles<D>,
     every: u32,
-    listener: TcpListener,
+    listener: Listener,
     admission: Admission,
 ) -> Result<Stopped<M, D, A, B, C>, FilesNotServed<D>>
     ensures sound { IsTrue D.honest → IfOk result (λ stopped. GoesOnFrom D.content D.may_leave files

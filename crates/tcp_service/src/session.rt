@@ -9,9 +9,9 @@ use crossbeam_channel::Sender;
 use line_service::serve_lines;
 use std::alloc::Global;
 use std::io::{Read, Write};
-use std::net::TcpStream;
 use std::sync::Wait;
 use std::time::Duration;
+use transports::Stream;
 use workers::Ask;
 use world_actions::Refusal;
 
@@ -51,19 +51,15 @@ pub fn serve_batches<R: Wait + Copy, B: Read, W: Write>(
 pub fn serve_session<R: Wait + Copy, W: Door + Drop>(
     rt: &R,
     alloc: Global,
-    stream: TcpStream,
+    stream: Stream,
     idle: Option<u32>,
     session: u64,
     requests: Sender<Ask>,
     door: W,
 ) -> Over {
     let mut door = door;
-    let _ = stream.set_nodelay(true);
-    if let Some(seconds) = idle {
-        let silence = Some(Duration::from_secs(u64::from(seconds)));
-        let _ = stream.set_read_timeout(silence);
-        let _ = stream.set_write_timeout(silence);
-    }
+    let silence = idle.map(|seconds| Duration::from_secs(u64::from(seconds)));
+    let _ = stream.set_up(silence);
     let mut world = Remote::new(*rt, alloc, session, requests);
     let served = serve_batches(alloc, &mut &stream, &mut &stream, &mut world);
     if served == Err(Refusal::NoMemory) {

@@ -7,10 +7,10 @@ use crate::session::{Joined, Over, serve_session};
 use crossbeam_channel::{Receiver, Sender, bounded};
 use slab::Slab;
 use std::alloc::{AllocError, Global};
-use std::net::TcpStream;
 use std::sync::Wait;
 use std::thread::{self, JoinHandle, Threads};
 use std::time::{Clock, Duration};
+use transports::Stream;
 use workers::Ask;
 
 /// How long the wait for the last sessions goes without asking the door.
@@ -56,7 +56,7 @@ impl Sessions {
     pub fn start<
         R: Threads + Wait + Copy + Send + 'static,
         W: Door + Clone + Drop + Send + 'static,
-    >(&mut self, rt: &R, stream: TcpStream, shared: &Shared<W>) -> Result<(), Unserved>
+    >(&mut self, rt: &R, stream: Stream, shared: &Shared<W>) -> Result<(), Unserved>
         requires { self.old.started < 4294967295 }
         ensures ok { OnOk result (self.new.started ≡ self.old.started + 1) }
         ensures err { OnErr result (self.new.started ≡ self.old.started) }
@@ -129,7 +129,7 @@ impl Sessions {
 // Gives the session of a connection a number and a thread, which sends its key as it ends.
 fn start_thread<R: Threads + Wait + Copy + Send + 'static, W: Door + Clone + Drop + Send + 'static>(
     rt: &R,
-    stream: TcpStream,
+    stream: Stream,
     shared: &Shared<W>,
     number: u64,
     ends: Sender<usize>,

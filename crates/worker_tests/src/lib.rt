@@ -1,10 +1,12 @@
-//! Tests of sessions over a port, and of workers that run in threads, in files of a model: a round that is open while
+//! Tests of sessions over a port and of connections, and of workers that run in threads, in files of a model: a round that is open while
 //! ticks are answered, ticks that an image has before the log, each call of a file failing in turn, and what a crash leaves
 //! once their ends have met. And of the steps of workers in one thread.
 //!
 //! A large value is dropped by a call of `drop`, which is proved much faster than its drop at the end of a scope.
 #![tactic(auto)]
 
+#[cfg(test)]
+mod connections;
 #[cfg(test)]
 mod covers;
 #[cfg(test)]

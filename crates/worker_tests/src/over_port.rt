@@ -12,6 +12,7 @@ use std::sync::Wait;
 use std::thread::{self, JoinHandle, Threads};
 use std::time::Clock;
 use tcp_service::{Admission, Seats, serve_files};
+use transports::Listener;
 use worker_steps::Gates;
 use workers::Open;
 
@@ -28,7 +29,7 @@ const ONE: Admission = Admission {
 fn serve_one<M: Seats + Send + 'static, R: Threads + Wait + Clock + Abort + Copy + Send + 'static>(
     rt: &R,
     alloc: Global,
-    listener: TcpListener,
+    listener: Listener,
 ) -> (u64, u64) {
     let gates = Gates {
         mutator: Open,
@@ -50,7 +51,7 @@ fn serve_one<M: Seats + Send + 'static, R: Threads + Wait + Clock + Abort + Copy
 fn start_server<
     M: Seats + Send + 'static,
     R: Threads + Wait + Clock + Abort + Copy + Send + 'static,
->(rt: &R, alloc: Global, listener: TcpListener) -> JoinHandle<(u64, u64)> {
+>(rt: &R, alloc: Global, listener: Listener) -> JoinHandle<(u64, u64)> {
     let here = *rt;
     let serve = move || serve_one::<M, R>(&here, alloc, listener);
     match thread::spawn(rt, serve) {
@@ -72,7 +73,7 @@ fn try_served<
 >(rt: &R, alloc: Global) {
     let listener = TcpListener::bind(rt, "127.0.0.1:0").expect(rt, "a port");
     let to = listener.local_addr().expect(rt, "an address");
-    let server = start_server::<M, R>(rt, alloc, listener);
+    let server = start_server::<M, R>(rt, alloc, Listener::Tcp(listener));
     try_client(rt, alloc, to, BATCHES, ANSWERS);
     let ticks = server.join(rt);
     same(rt, "ticks ended and acknowledged", ticks, (2, 2));

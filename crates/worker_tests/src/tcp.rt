@@ -10,6 +10,7 @@ use std::sync::Wait;
 use std::thread::{self, JoinHandle, Threads};
 use std::time::Clock;
 use tcp_service::{Accepted, Admission, Closed, Door, Unserved, accept_sessions};
+use transports::Listener;
 use workers::Ask;
 use world_actions::Refusal;
 
@@ -33,6 +34,8 @@ impl Door for Nobody {
     fn shortage_ended(&mut self) {}
 
     fn listener_failed(&mut self, _error: &io::Error) {}
+
+    fn closing(&mut self) {}
 
     fn closed(&mut self) {}
 
@@ -114,7 +117,7 @@ pub fn try_client<R: Net<Stream = TcpStream> + Abort>(
 fn start_accepting<R: Threads + Wait + Clock + Abort + Copy + Send + 'static>(
     rt: &R,
     alloc: Global,
-    listener: TcpListener,
+    listener: Listener,
     requests: Sender<Ask>,
 ) -> JoinHandle<Accepted> {
     let here = *rt;
@@ -147,7 +150,7 @@ fn try_port<R: Net<Stream = TcpStream> + Threads + Wait + Clock + Abort + Copy +
     let to = listener.local_addr().expect(rt, "an address");
     let (requests, asks) = unbounded(alloc).expect(rt, "a channel");
     let worker = start_refusing(rt, asks);
-    let server = start_accepting(rt, alloc, listener, requests);
+    let server = start_accepting(rt, alloc, Listener::Tcp(listener), requests);
     try_client(rt, alloc, to, b"set 0", b"");
     for _ in 0..2 {
         try_client(rt, alloc, to, BATCHES, FAULTS);

@@ -1,6 +1,7 @@
+use crate::address::Address;
 use crate::load::Load;
 use clap::error::Error;
-use clap::{Arg, ArgMatches, Command, value_parser};
+use clap::{Arg, ArgAction, ArgGroup, ArgMatches, Command, value_parser};
 use command_line::VERSION;
 use std::alloc::{AllocError, Global};
 use world_actions::CELLS as MOST_CELLS;
@@ -8,6 +9,8 @@ use world_ticks::TICK_ACTIONS;
 
 /// The names of the arguments.
 const PORT: &str = "port";
+
+const SOCKET: &str = "socket";
 
 const CONNECTIONS: &str = "connections";
 
@@ -19,6 +22,9 @@ const BATCHES: &str = "batches";
 
 const SECONDS: &str = "seconds";
 
+/// The name of the group of the port and the socket.
+const ADDRESS: &str = "address";
+
 /// The end of `world_load --help`.
 const HELP: &str = "\
 Each connection sends a batch, waits for its answer, checks it, and sends the next one.
@@ -29,6 +35,7 @@ worldd that serves as many clients ends then too:
   worldd create --dir D --cells 1000
   worldd serve --dir D --method zigzag --port 7070 --clients 50 &
   world_load --port 7070 --connections 50 --cells 1000
+A worldd that listens on a socket is loaded by --socket PATH in the place of --port P.
 Each second it prints on standard error how many ticks were answered. Its status is 0 if
 each answer was right; 1 after a fault or a wrong answer, with a line that names it; 2
 for a wrong command line.";
@@ -44,20 +51,35 @@ fn command<'a>(alloc: Global) -> Result<Command<'a>, AllocError> {
         .about("Loads a serving worldd, checks its answers, and prints how long they took")
         .after_help(HELP)
         .arg(port_argument(alloc))?
+        .arg(socket_argument(alloc))?
         .arg(connections_argument(alloc))?
         .arg(lines_argument(alloc))?
         .arg(cells_argument(alloc))?
         .arg(batches_argument(alloc))?
-        .arg(seconds_argument(alloc))
+        .arg(seconds_argument(alloc))?
+        .group(address_group(alloc)?)
 }
 
 fn port_argument<'a>(alloc: Global) -> Arg<'a> {
     Arg::new(alloc, PORT)
         .long(PORT)
         .value_name("P")
-        .required(true)
         .value_parser(value_parser!(u16).range(1..))
         .help("The port on 127.0.0.1 that worldd listens on")
+}
+
+fn socket_argument<'a>(alloc: Global) -> Arg<'a> {
+    Arg::new(alloc, SOCKET)
+        .long(SOCKET)
+        .value_name("PATH")
+        .action(ArgAction::Set)
+        .help("The path of the socket that worldd listens on, in the place of a port")
+}
+
+// Exactly one of the port and the socket is wanted.
+fn address_group<'a>(alloc: Global) -> Result<ArgGroup<'a>, AllocError> {
+    let group = ArgGroup::new(alloc, ADDRESS).args(&[PORT, SOCKET])?;
+    Ok(group.required(true))
 }
 
 fn connections_argument<'a>(alloc: Global) -> Arg<'a> {
@@ -104,8 +126,8 @@ fn seconds_argument<'a>(alloc: Global) -> Arg<'a> {
         .help("After how many seconds no more batches are sent")
 }
 
-/// The port, and what is asked of the server there.
-pub fn load_of(matches: &ArgMatches<'_>) -> Option<(u16, Load)> {
+/// Where the server listens, and what is asked of it.
+pub fn load_of<'a>(matches: &ArgMatches<'a>) -> Option<(Address<'a>, Load)> {
     let load = Load {
         connections: matches.get_one(CONNECTIONS)?,
         lines: matches.get_one(LINES)?,
@@ -113,5 +135,12 @@ pub fn load_of(matches: &ArgMatches<'_>) -> Option<(u16, Load)> {
         batches: matches.get_one(BATCHES),
         seconds: matches.get_one(SECONDS)?,
     };
-    Some((matches.get_one(PORT)?, load))
+    Some((address_of(matches)?, load))
+}
+
+fn address_of<'a>(matches: &ArgMatches<'a>) -> Option<Address<'a>> {
+    match matches.get_str(SOCKET) {
+        Some(path) => Some(Address::Socket(path)),
+        None => Some(Address::Port(matches.get_one(PORT)?)),
+    }
 }

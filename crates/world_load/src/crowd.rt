@@ -1,15 +1,17 @@
 ghost use Rattle.std.specs.Prelude.{◌≡◌, ◌++◌, ◌⊎◌, IfOk, IsErr};
 
+use crate::address::Address;
 use crate::client::play;
-use crate::failure::Failure;
+use crate::failure::{Failure, not_connected};
 use crate::load::Load;
 use crate::progress::Progress;
 use std::alloc::Global;
-use std::io::{self, BufReader};
-use std::net::{Ipv4Addr, Net, TcpStream};
+use std::io::BufReader;
+use std::net::{Net, TcpStream};
 use std::sync::{Arc, Wait};
 use std::thread::{self, JoinHandle, Threads, sleep};
 use std::time::{Clock, Duration, Instant};
+use transports::Stream;
 use trial_kit::Latencies;
 
 /// How many milliseconds pass from a look at the clients' progress to the next one.
@@ -25,12 +27,12 @@ pub struct Seen {
 
 type Handle = JoinHandle<Result<Vec<u64>, Failure>>;
 
-/// Lets the clients of a load play against the server at a port, each in a thread of its own. Meanwhile it tells on standard
-/// error, each second, how far they are.
+/// Lets the clients of a load play against the server at an address, each in a thread of its own. Meanwhile it tells on
+/// standard error, each second, how far they are.
 pub fn run_crowd<
     R: Net<Stream = TcpStream> + Threads + Wait + Clock + Eprint + Copy + Send + 'static,
->(rt: &R, alloc: Global, port: u16, load: Load) -> Result<Seen, Failure> {
-    let streams = connect(rt, alloc, port, load.connections)?;
+>(rt: &R, alloc: Global, address: Address<'_>, load: Load) -> Result<Seen, Failure> {
+    let streams = connect(rt, alloc, address, load.connections)?;
     let progress = Arc::new(alloc, Progress::new())?;
     let begin = Instant::now(rt)?;
     let mut clients = Vec::with_capacity(alloc, streams.len())?;
@@ -52,30 +54,24 @@ pub fn run_crowd<
 fn connect<R: Net<Stream = TcpStream>>(
     rt: &R,
     alloc: Global,
-    port: u16,
+    address: Address<'_>,
     connections: u32,
-) -> Result<Vec<TcpStream>, Failure> {
+) -> Result<Vec<Stream>, Failure> {
     let mut streams = Vec::with_capacity(alloc, connections as usize)?;
     for _ in 0..connections {
-        match connect_once(rt, port) {
+        match address.connect(rt) {
             Ok(stream) => streams.push(stream)?,
-            Err(error) => return Err(Failure::NotConnected { port, error }),
+            Err(error) => return Err(not_connected(alloc, address, error)),
         }
     }
     Ok(streams)
-}
-
-fn connect_once<R: Net<Stream = TcpStream>>(rt: &R, port: u16) -> io::Result<TcpStream> {
-    let stream = TcpStream::connect(rt, (Ipv4Addr::LOCALHOST, port))?;
-    stream.set_nodelay(true)?;
-    Ok(stream)
 }
 
 // Gives each connection a client in a thread.
 fn start<R: Threads + Clock + Copy + Send + 'static>(
     rt: &R,
     alloc: Global,
-    streams: Vec<TcpStream>,
+    streams: Vec<Stream>,
     load: Load,
     progress: &Arc<Progress, Global>,
     clients: &mut Vec<Handle>,
@@ -89,7 +85,7 @@ fn start<R: Threads + Clock + Copy + Send + 'static>(
 fn start_client<R: Threads + Clock + Copy + Send + 'static>(
     rt: &R,
     alloc: Global,
-    stream: TcpStream,
+    stream: Stream,
     load: Load,
     seed: u64,
     progress: Arc<Progress, Global>,
@@ -113,7 +109,7 @@ fn start_client<R: Threads + Clock + Copy + Send + 'static>(
 fn play_over<R: Clock>(
     rt: &R,
     alloc: Global,
-    stream: &TcpStream,
+    stream: &Stream,
     load: &Load,
     seed: u64,
     progress: &Progress,

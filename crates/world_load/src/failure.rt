@@ -1,5 +1,6 @@
 ghost use Rattle.std.specs.Prelude.{◌≡◌, []};
 
+use crate::address::Address;
 use crate::answer::{names_no_cell, refusal_of};
 use crate::load::Load;
 use std::alloc::{AllocError, AllocFailed, Global};
@@ -16,6 +17,8 @@ pub enum Failure {
     NoThread,
     #[error("can't connect to port {port} of 127.0.0.1: {error}")]
     NotConnected { port: u16, error: io::Error },
+    #[error("can't connect to {path}: {error}")]
+    NoSocket { path: String, error: io::Error },
     #[error("the server closed a connection: it has ended, or had no thread or memory for this client")]
     Closed,
     /// A connection was closed in the midst of an answer.
@@ -52,6 +55,17 @@ impl From<io::Error> for Failure {
             ErrorKind::ConnectionReset | ErrorKind::BrokenPipe => Failure::Closed,
             _ => Failure::System(error),
         }
+    }
+}
+
+/// Why there is no connection to the server.
+pub fn not_connected(alloc: Global, address: Address<'_>, error: io::Error) -> Failure {
+    match address {
+        Address::Port(port) => Failure::NotConnected { port, error },
+        Address::Socket(path) => match String::from_str(alloc, path) {
+            Ok(path) => Failure::NoSocket { path, error },
+            Err(_) => Failure::NoMemory,
+        },
     }
 }
 

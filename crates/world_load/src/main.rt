@@ -4,6 +4,7 @@
 //! The status is 0 if each answer was right, 1 after a fault or a wrong answer, and 2 for a wrong command line.
 #![tactic(auto)]
 
+mod address;
 mod answer;
 mod arguments;
 mod checker;
@@ -14,6 +15,7 @@ mod load;
 mod progress;
 mod report;
 
+use address::Address;
 use arguments::{load_of, matches_of};
 use command_line::{NotRun, command_words, ended, refused, take_standard_streams, unreadable};
 use crowd::run_crowd;
@@ -38,7 +40,7 @@ fn main(rt: HostRuntime) -> ExitCode {
     };
     match matches_of(rt.alloc(), &words) {
         Ok(matches) => match load_of(&matches) {
-            Some((port, load)) => ended(&rt, run(&rt, port, load)),
+            Some((address, load)) => ended(&rt, run(&rt, address, load)),
             None => NotRun::Mistaken.report(&rt),
         },
         Err(error) => refused(&rt, &error).report(&rt),
@@ -56,7 +58,7 @@ fn run<
         + Copy
         + Send
         + 'static,
->(rt: &R, port: u16, load: Load) -> Result<(), Failure> {
-    let seen = run_crowd(rt, rt.alloc(), port, load)?;
+>(rt: &R, address: Address<'_>, load: Load) -> Result<(), Failure> {
+    let seen = run_crowd(rt, rt.alloc(), address, load)?;
     tell(rt, &load, &seen)
 }

@@ -4,23 +4,29 @@ ghost use Rattle.world_folder.specs.Ending.{IsFault};
 
 use crate::line::Line;
 use crate::lines::Lines;
-use crate::service::Service;
+use crate::place::Place;
+use crate::service::{Address, Service};
+use crate::socket::listen_at;
 use crate::streams::Streams;
+use std::alloc::Global;
+use std::fs::{File, Files};
 use std::io;
 use std::net::{Ipv4Addr, Net, SocketAddr, TcpListener, TcpStream};
 use std::sync::atomic::AtomicBool;
 use std::sync::{Arc, Wait};
 use std::thread::Threads;
 use std::time::Clock;
+use transports::Listener;
 use worker_threads::NotStarted;
 use world_actions::Refusal;
-use world_folder::{Ending, NoPort, ServerEnding};
+use world_folder::{Ending, NoPort, ServerEnding, opened};
 
-/// The streams, the listener, and the lines of the workers and sessions.
+/// The streams, the listener, where that is, and the lines of the workers and sessions.
 #[derive(Drop)]
-pub struct Front<R: Wait + Net + Copy> {
+pub struct Front<R: Wait + Net + Files + Copy> {
     pub streams: Streams,
-    pub listener: TcpListener,
+    pub listener: Listener,
+    pub place: Arc<Place, Global>,
     pub lines: Lines<R>,
 }
 
@@ -29,6 +35,7 @@ impl<
         + Wait
         + Clock
         + Net<Listener = TcpListener, Stream = TcpStream>
+        + Files<File = File>
         + Print
         + Eprint
         + AllocGlobal
@@ -40,43 +47,50 @@ impl<
     pub fn open(rt: &R, service: &Service<'_>, ended: u64, from: u64) -> Result<Self, Ending>
         ensures { IfErr result IsFault }
     {
-        let streams = match Streams::start(rt, service.folder) {
+        let streams = match Streams::start(rt, service) {
             Ok(streams) => streams,
             Err(reason) => return Err(not_started(reason)),
         };
         streams.output.print(rt, Line::Recovered { ended, from });
-        match Front::behind(rt, service, &streams) {
-            Ok((listener, lines)) => Ok(Front {
+        let (listener, place) = match listen(rt, service.address) {
+            Ok(listening) => listening,
+            Err(ending) => return Err(streams.finish(rt, ending)),
+        };
+        match lines_of(rt, service, &streams, &place) {
+            Ok(lines) => Ok(Front {
                 streams,
                 listener,
+                place,
                 lines,
             }),
-            Err(ending) => Err(streams.finish(rt, ending)),
+            Err(ending) => {
+                place.leave(rt);
+                Err(streams.finish(rt, ending))
+            }
         }
     }
+}
 
-    // The parts that print by these streams.
-    fn behind(
-        rt: &R,
-        service: &Service<'_>,
-        streams: &Streams,
-    ) -> Result<(TcpListener, Lines<R>), Ending>
-        ensures { IfErr result IsFault }
-    {
-        let (listener, address) = listen(rt, service.port)?;
-        let Ok(is_left) = Arc::new(rt.alloc(), AtomicBool::new(false)) else {
-            return Err(Ending::Fault(Refusal::NoMemory));
-        };
-        let lines = Lines {
-            rt: *rt,
-            address,
-            output: streams.output.clone()?,
-            errors: streams.errors.clone()?,
-            exits_when_log_down: service.exits_when_log_down,
-            is_left,
-        };
-        Ok((listener, lines))
-    }
+// The lines that leave by these streams.
+fn lines_of<R: Wait + Net + Files + AllocGlobal + Copy>(
+    rt: &R,
+    service: &Service<'_>,
+    streams: &Streams,
+    place: &Arc<Place, Global>,
+) -> Result<Lines<R>, Ending>
+    ensures { IfErr result IsFault }
+{
+    let Ok(is_left) = Arc::new(rt.alloc(), AtomicBool::new(false)) else {
+        return Err(Ending::Fault(Refusal::NoMemory));
+    };
+    Ok(Lines {
+        rt: *rt,
+        place: place.clone()?,
+        output: streams.output.clone()?,
+        errors: streams.errors.clone()?,
+        exits_when_log_down: service.exits_when_log_down,
+        is_left,
+    })
 }
 
 // How the program ends if the threads of its streams can't be started.
@@ -91,11 +105,34 @@ fn not_started(reason: NotStarted) -> Ending
     }
 }
 
-// A listener at a port of this machine, and its address.
-fn listen<R: Net<Listener = TcpListener, Stream = TcpStream>>(
+// A listener at this address, and where it is.
+fn listen<R: Net<Listener = TcpListener, Stream = TcpStream> + Files<File = File> + AllocGlobal>(
+    rt: &R,
+    address: Address<'_>,
+) -> Result<(Listener, Arc<Place, Global>), Ending>
+    ensures { IfErr result IsFault }
+{
+    let (listener, place) = match address {
+        Address::Port(port) => listen_at_port(rt, port)?,
+        Address::Socket { path, mode } => {
+            let (listener, file) = opened(rt.alloc(), "", path, listen_at(rt, path, mode))?;
+            (listener, Place::Socket(file))
+        }
+    };
+    match Arc::new(rt.alloc(), place) {
+        Ok(place) => Ok((listener, place)),
+        Err(failed) => {
+            failed.value.leave(rt);
+            Err(Ending::Fault(Refusal::NoMemory))
+        }
+    }
+}
+
+// A listener at a port of this machine.
+fn listen_at_port<R: Net<Listener = TcpListener, Stream = TcpStream>>(
     rt: &R,
     port: u16,
-) -> Result<(TcpListener, SocketAddr), Ending>
+) -> Result<(Listener, Place), Ending>
     ensures { IfErr result IsFault }
 {
     let address = SocketAddr::from((Ipv4Addr::LOCALHOST, port));
@@ -105,7 +142,7 @@ fn listen<R: Net<Listener = TcpListener, Stream = TcpStream>>(
         Err(error) => return Err(no_port(port, error)),
     };
     match listener.local_addr() {
-        Ok(address) => Ok((listener, address)),
+        Ok(address) => Ok((Listener::Tcp(listener), Place::Port(address))),
         Err(error) => Err(no_port(port, error)),
     }
 }

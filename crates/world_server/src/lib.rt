@@ -7,11 +7,14 @@
 mod front;
 mod line;
 mod lines;
+mod place;
 mod printer;
 mod service;
 mod serving;
+mod socket;
 mod streams;
 
 pub use lines::Announce;
-pub use service::{Clients, Every, Service};
+pub use service::{Address, Clients, Every, Service};
 pub use serving::{serve, serve_opened};
+pub use socket::SocketMode;

@@ -21,6 +21,7 @@ pub enum Line {
         from: u64,
     },
     Listening(u16),
+    ListeningAtSocket,
     Stopped {
         ended: u64,
         acked: u64,
@@ -36,6 +37,7 @@ pub enum Line {
     ShortageEnded,
     ListenerFailed(io::Error),
     PortClosed,
+    SocketClosed,
     OutputFailed(io::Error),
     /// So many lines found no room.
     Dropped(u64),
@@ -43,11 +45,19 @@ pub enum Line {
     Last,
 }
 
+/// The paths that lines may name.
+#[derive(Drop)]
+pub struct Paths {
+    pub files: FourFiles<PathBuf>,
+    /// The path of the server's socket; empty without one.
+    pub socket: PathBuf,
+}
+
 /// A line with the paths that it may name.
 #[derive(Clone, Copy)]
 pub struct Printed<'a> {
     pub line: Line,
-    pub paths: &'a FourFiles<PathBuf>,
+    pub paths: &'a Paths,
 }
 
 impl fmt::Display for Printed<'_> {
@@ -55,15 +65,16 @@ impl fmt::Display for Printed<'_> {
         match self.line {
             Line::Recovered { ended, from } => write!(f, "recovered {ended} from {from}"),
             Line::Listening(port) => write!(f, "listening {port}"),
+            Line::ListeningAtSocket => write!(f, "listening {}", self.paths.socket.as_str()),
             Line::Stopped { ended, acked } => write!(f, "stopped tick {ended} acked {acked}"),
             Line::ImageOpened(tick) => write!(f, "image of tick {tick} opened"),
             Line::ImagesDown(failure) => {
                 f.write_str("images down")?;
-                write_failure(f, self.paths, failure)
+                write_failure(f, &self.paths.files, failure)
             }
             Line::LogDown { acked, failure } => {
                 write!(f, "log down after tick {acked}")?;
-                write_failure(f, self.paths, failure)
+                write_failure(f, &self.paths.files, failure)
             }
             Line::SessionRefused(Unserved::NoMemory) => {
                 f.write_str("session refused: there is no memory")
@@ -75,6 +86,7 @@ impl fmt::Display for Printed<'_> {
             Line::ShortageEnded => f.write_str("clients no longer wait"),
             Line::ListenerFailed(error) => write!(f, "listener failed: {error}"),
             Line::PortClosed => f.write_str("the port is closed: no more clients can come"),
+            Line::SocketClosed => f.write_str("the socket is closed: no more clients can come"),
             Line::OutputFailed(error) => write!(f, "standard output: {error}"),
             Line::Dropped(count) => write!(f, "lines dropped: {count}"),
             Line::Last => Ok(()),

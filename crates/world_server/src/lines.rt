@@ -1,28 +1,26 @@
 //! The lines of a running server.
 
 use crate::line::{Failure, Line};
+use crate::place::Place;
 use crate::printer::Printer;
 use disk_model::FileDisk;
 use std::alloc::{AllocError, Global};
+use std::fs::Files;
 use std::io;
-use std::net::{Net, SocketAddr, TcpStream};
+use std::net::Net;
 use std::sync::atomic::{AtomicBool, Ordering};
 use std::sync::{Arc, Wait};
-use std::time::Duration;
 use tcp_service::{Door, Unserved};
 use worker_threads::Watch;
 use workers::{ImageWriter, Log};
 use world_folder::WorldFile;
 
-/// How long the connection that wakes the server may take.
-const PATIENCE_MILLISECONDS: u64 = 100;
-
 /// Passes on what happens in a running server as lines, and never waits.
 #[derive(Drop)]
-pub struct Lines<R: Wait + Net + Copy> {
+pub struct Lines<R: Wait + Net + Files + Copy> {
     pub rt: R,
     /// The server listens there.
-    pub address: SocketAddr,
+    pub place: Arc<Place, Global>,
     pub output: Printer,
     pub errors: Printer,
     pub exits_when_log_down: bool,
@@ -30,11 +28,11 @@ pub struct Lines<R: Wait + Net + Copy> {
     pub is_left: Arc<AtomicBool, Global>,
 }
 
-impl<R: Wait + Net + Copy> Clone for Lines<R> {
+impl<R: Wait + Net + Files + Copy> Clone for Lines<R> {
     fn clone(&self) -> Result<Self, AllocError> {
         Ok(Lines {
             rt: self.rt,
-            address: self.address,
+            place: self.place.clone()?,
             output: self.output.clone()?,
             errors: self.errors.clone()?,
             exits_when_log_down: self.exits_when_log_down,
@@ -43,12 +41,11 @@ impl<R: Wait + Net + Copy> Clone for Lines<R> {
     }
 }
 
-impl<R: Wait + Net + Copy> Lines<R> {
-    // Has the server left. A connection of its own wakes it from a wait for clients.
+impl<R: Wait + Net + Files + Copy> Lines<R> {
+    // Has the server left, which may wait for clients.
     fn leave(&self) {
         self.is_left.store(true, Ordering::SeqCst);
-        let patience = Duration::from_millis(PATIENCE_MILLISECONDS);
-        let _ = TcpStream::connect_timeout(&self.rt, &self.address, patience);
+        self.place.wake(&self.rt);
     }
 
     // Prints a line on standard error.
@@ -63,13 +60,13 @@ pub trait Announce {
     fn stopped(&self, ended: u64, acked: u64);
 }
 
-impl<R: Wait + Net + Copy> Announce for Lines<R> {
+impl<R: Wait + Net + Files + Copy> Announce for Lines<R> {
     fn stopped(&self, ended: u64, acked: u64) {
         self.output.print(&self.rt, Line::Stopped { ended, acked });
     }
 }
 
-impl<R: Wait + Net + Copy> Watch<FileDisk> for Lines<R> {
+impl<R: Wait + Net + Files + Copy> Watch<FileDisk> for Lines<R> {
     fn image_opened(&mut self, tick: u64) {
         self.note(Line::ImageOpened(tick));
     }
@@ -91,10 +88,9 @@ impl<R: Wait + Net + Copy> Watch<FileDisk> for Lines<R> {
     }
 }
 
-impl<R: Wait + Net + Copy> Door for Lines<R> {
+impl<R: Wait + Net + Files + Copy> Door for Lines<R> {
     fn opened(&mut self) {
-        self.output
-            .print(&self.rt, Line::Listening(self.address.port()));
+        self.output.print(&self.rt, self.place.listening());
     }
 
     fn session_refused(&mut self, why: Unserved) {
@@ -113,8 +109,12 @@ impl<R: Wait + Net + Copy> Door for Lines<R> {
         self.note(Line::ListenerFailed(*error));
     }
 
+    fn closing(&mut self) {
+        self.place.leave(&self.rt);
+    }
+
     fn closed(&mut self) {
-        self.note(Line::PortClosed);
+        self.note(self.place.closed());
     }
 
     fn is_left(&self) -> bool {

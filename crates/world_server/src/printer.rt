@@ -1,11 +1,9 @@
 //! A stream whose lines leave by a thread of their own, so that nobody waits for its reader.
 
-use crate::line::{Line, Printed};
+use crate::line::{Line, Paths, Printed};
 use crossbeam_channel::{Receiver, Sender, bounded};
-use disk_model::FourFiles;
 use std::alloc::{AllocError, Global};
 use std::io;
-use std::path::PathBuf;
 use std::sync::atomic::{AtomicU64, Ordering};
 use std::sync::{Arc, Wait};
 use std::thread::{self, Threads};
@@ -28,7 +26,7 @@ pub trait Stream {
 #[derive(Drop)]
 pub struct StandardError<R: Eprint> {
     pub rt: R,
-    pub paths: FourFiles<PathBuf>,
+    pub paths: Paths,
 }
 
 impl<R: Eprint> Stream for StandardError<R> {
@@ -45,7 +43,7 @@ impl<R: Eprint> Stream for StandardError<R> {
 #[derive(Drop)]
 pub struct StandardOutput<R: Print + Wait> {
     pub rt: R,
-    pub paths: FourFiles<PathBuf>,
+    pub paths: Paths,
     pub errors: Printer,
 }
 

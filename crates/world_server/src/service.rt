@@ -1,5 +1,6 @@
 ghost use Rattle.std.specs.Prelude.{◌≡◌};
 
+use crate::socket::SocketMode;
 use shared_capture::Kind;
 use tcp_service::Admission;
 
@@ -11,14 +12,22 @@ pub struct Every(pub u32);
 #[derive(Clone, Copy, Debug, PartialEq, Eq)]
 pub struct Clients(pub u32);
 
+/// Where a server listens.
+#[derive(Clone, Copy, Debug)]
+pub enum Address<'a> {
+    /// A port of 127.0.0.1; 0 lets the system choose.
+    Port(u16),
+    /// A socket of the system, with the path of its file.
+    Socket { path: &'a str, mode: SocketMode },
+}
+
 /// What a server is asked to do.
 #[derive(Clone, Copy)]
 pub struct Service<'a> {
     pub folder: &'a str,
     pub method: Kind,
     pub every: Every,
-    /// 0 lets the system choose.
-    pub port: u16,
+    pub address: Address<'a>,
     pub clients: Clients,
     /// After how many seconds of silence a session ends; without a number never.
     pub idle: Option<u32>,

@@ -18,14 +18,15 @@ use std::sync::Wait;
 use std::thread::Threads;
 use std::time::Clock;
 use tcp_service::{Admission, Closed, Door, NotServed, Seats, Stopped, open_world, serve_tcp};
+use transports::Listener;
 use worker_steps::{Gates, Opened};
 use worker_threads::Watch;
 use workers::{Gate, Open};
 use world_actions::Refusal;
 use world_folder::{Ending, ServerEnding, failure_of, open_existing, stands_in};
 
-/// Serves the world in a folder to so many clients. It prints which world was recovered, the port, and how far play
-/// came.
+/// Serves the world in a folder to so many clients. It prints which world was recovered, where it listens, and how far
+/// play came.
 pub fn serve<
     R: Threads
         + Wait
@@ -79,10 +80,12 @@ fn serve_by<
     let Front {
         streams,
         listener,
+        place,
         lines,
     } = Front::open(rt, service, opened.ended, from)?;
     let (every, admission) = (service.every, service.admission());
     let served = serve_opened(rt, alloc, lines, opened, every, listener, admission);
+    place.leave(rt);
     Ok(streams.finish(rt, ending_alone(served)))
 }
 
@@ -99,7 +102,7 @@ pub fn serve_opened<
     watch: W,
     opened: Opened<M, D>,
     every: Every,
-    listener: TcpListener,
+    listener: Listener,
     admission: Admission,
 ) -> Result<(Ending, Stopped<M, D, Open, Open, Open>), Ending>
     requires { IsWhole D.honest D.content opened.front opened.back opened.images opened.log opened.ended }

@@ -3,8 +3,9 @@ ghost use Rattle.std.specs.Prelude.{◌≡◌, ◌≢◌, Ok, Err, IfErr};
 ghost use Rattle.world_folder.specs.Ending.{IsFault};
 ghost use Rattle.world_server.specs.Serving.{EndsServing};
 
-use crate::line::Line;
+use crate::line::Paths;
 use crate::printer::{Printer, StandardError, StandardOutput, start_printer};
+use crate::service::{Address, Service};
 use crossbeam_channel::Receiver;
 use disk_model::FourFiles;
 use std::alloc::{AllocError, Global};
@@ -26,20 +27,20 @@ pub struct Streams {
 }
 
 impl Streams {
-    /// Starts the two threads, for a server of the world in this folder.
+    /// Starts the two threads of a server.
     pub fn start<R: Threads + Wait + Print + Eprint + AllocGlobal + Copy + Send + 'static>(
         rt: &R,
-        folder: &str,
+        service: &Service<'_>,
     ) -> Result<Self, NotStarted> {
         let alloc = rt.alloc();
         let stream = StandardError {
             rt: *rt,
-            paths: paths_of(alloc, folder)?,
+            paths: paths_of(alloc, service)?,
         };
         let (errors, noted) = start_printer(rt, alloc, stream)?;
         let stream = StandardOutput {
             rt: *rt,
-            paths: paths_of(alloc, folder)?,
+            paths: paths_of(alloc, service)?,
             errors: errors.clone()?,
         };
         let (output, printed) = start_printer(rt, alloc, stream)?;
@@ -84,7 +85,19 @@ fn heard(ending: Ending, printed: io::Result<()>) -> Ending
     }
 }
 
-fn paths_of(alloc: Global, folder: &str) -> Result<FourFiles<PathBuf>, AllocError> {
+// The paths that the lines of a server may name.
+fn paths_of(alloc: Global, service: &Service<'_>) -> Result<Paths, AllocError> {
+    let socket = match service.address {
+        Address::Port(_) => "",
+        Address::Socket { path, .. } => path,
+    };
+    Ok(Paths {
+        files: files_of(alloc, service.folder)?,
+        socket: PathBuf::from_str(alloc, socket)?,
+    })
+}
+
+fn files_of(alloc: Global, folder: &str) -> Result<FourFiles<PathBuf>, AllocError> {
     Ok(FourFiles {
         image_a: path_of(alloc, folder, IMAGE_A)?,
         image_b: path_of(alloc, folder, IMAGE_B)?,

@@ -69,16 +69,19 @@ from the image of tick T. If they hold no world it ends as `recover` does.";
 
 /// The end of `worldd serve --help`.
 pub const SERVE_HELP: &str = "\
-It recovers the world in the folder, and listens on 127.0.0.1 until K connections have
-come and gone, each in a thread of its own. It makes no file. METHOD is zigzag or
-pingpong, E from 1 to 65536, P from 0 to 65535, K from 1 to 100000, SECONDS from 1 to
-86400. After the last connection the port is closed.
+It recovers the world in the folder, and listens on port P of 127.0.0.1, or on a socket
+of the system at PATH, until K connections have come and gone, each in a thread of its
+own. It makes no other file. METHOD is zigzag or pingpong, E from 1 to 65536, P from 0 to
+65535, K from 1 to 100000, SECONDS from 1 to 86400, PATH of at most 101 bytes. After the
+last connection the port is closed, or the socket is closed and its file removed. Any
+user of this machine may connect to a port, and to a socket those whom MODE lets write
+its file.
 A client writes lines, and `end` closes a batch, which is answered once it is durable:
   set, add, move, swap, cap, get  as in `steps`; a batch has 1024 lines at most
   end  `tick NUMBER: + =5 -3`, a word for each line, or `fault CODE`
 It prints, each line at once:
   recovered N from T        it found the world after tick N, built from the image of T
-  listening PORT            clients may come
+  listening PORT            clients may come; with a socket it is `listening PATH`
   stopped tick N acked A    all are gone: N ticks ended, and those up to A are durable;
                             not after an end by --exit-when-log-down
 On standard error it prints, and drops lines that nobody reads:
@@ -88,7 +91,7 @@ On standard error it prints, and drops lines that nobody reads:
   worldd: session refused: REASON              a client was closed unanswered
   worldd: clients wait: REASON                 there are no descriptors or buffers
   worldd: clients no longer wait
-  worldd: the port is closed: no more clients can come
+  worldd: the port is closed: no more clients can come       or: the socket
   worldd: listener failed: REASON              no more clients can come
   worldd: standard output: REASON              a line couldn't be printed
   worldd: lines dropped: COUNT                 nobody read them
@@ -96,5 +99,5 @@ Its status is 0; 12 if the log is down, else 11 if images are, else 10 if the li
 failed; 2 for a wrong command line; else 1, and standard error has `fault CODE`:
   13 no image is open, 14 an image is damaged, 15 the log is damaged,
   17 there is no memory, or no thread for the server, 18 a file is missing, fails or is
-  no ordinary file of its own, another program writes this world, the port can't be
-  listened on, or a line couldn't be printed";
+  no ordinary file of its own, another program writes this world, the port or the socket
+  can't be listened on, or a line couldn't be printed";

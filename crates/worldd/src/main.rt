@@ -2,7 +2,7 @@
 //!
 //! `steps` runs a script over a world in memory. `create` makes the files of a new world in a folder. `recover` and
 //! `inspect` print which world the files of a folder hold, and write nothing into it. `serve` serves the world of a
-//! folder to clients of a port.
+//! folder to clients of a port or of a socket.
 //!
 //! The status is 0 if the run ended well, and 2 for a wrong command line. It is 1 after a fault: standard error then has
 //! `fault CODE`, and the reason on the next line. A server ends with 12 if its log is down, with 11 if its images are,

@@ -3,10 +3,10 @@ ghost use Rattle.std.specs.Prelude.{◌≤◌, IfSome};
 use crate::arguments::{FOLDER, folder_argument};
 use crate::help::SERVE_HELP;
 use clap::error::Error;
-use clap::{Arg, ArgAction, ArgMatches, Command, value_parser};
+use clap::{Arg, ArgAction, ArgGroup, ArgMatches, Command, value_parser};
 use shared_capture::Kind;
 use std::alloc::{AllocError, Global};
-use world_server::{Clients, Every, Service};
+use world_server::{Address, Clients, Every, Service, SocketMode};
 
 /// The name of the command.
 pub const SERVE: &str = "serve";
@@ -18,24 +18,34 @@ const EVERY: &str = "every";
 
 const PORT: &str = "port";
 
+const SOCKET: &str = "socket";
+
+const SOCKET_MODE: &str = "socket-mode";
+
 const CLIENTS: &str = "clients";
 
 const IDLE: &str = "idle";
 
 const EXIT_WHEN_LOG_DOWN: &str = "exit-when-log-down";
 
+/// The name of the group of the port and the socket.
+const ADDRESS: &str = "address";
+
 /// The command `serve`, with its arguments.
 pub fn serve_command<'a>(alloc: Global) -> Result<Command<'a>, AllocError> {
     Command::new(alloc, SERVE)
-        .about("Serves the world in the files of a folder to clients of a port")
+        .about("Serves the world in the files of a folder to clients of a port or of a socket")
         .after_help(SERVE_HELP)
         .arg(folder_argument(alloc))?
         .arg(method_argument(alloc))?
         .arg(every_argument(alloc))?
         .arg(port_argument(alloc))?
+        .arg(socket_argument(alloc))?
+        .arg(socket_mode_argument(alloc)?)?
         .arg(clients_argument(alloc))?
         .arg(idle_argument(alloc))?
-        .arg(exit_argument(alloc))
+        .arg(exit_argument(alloc))?
+        .group(address_group(alloc)?)
 }
 
 fn method_argument<'a>(alloc: Global) -> Arg<'a> {
@@ -64,9 +74,51 @@ fn port_argument<'a>(alloc: Global) -> Arg<'a> {
     Arg::new(alloc, PORT)
         .long(PORT)
         .value_name("P")
-        .required(true)
         .value_parser(value_parser!(u16))
         .help("The port on 127.0.0.1, 0 for one that the system chooses")
+}
+
+fn socket_argument<'a>(alloc: Global) -> Arg<'a> {
+    Arg::new(alloc, SOCKET)
+        .long(SOCKET)
+        .value_name("PATH")
+        .action(ArgAction::Set)
+        .help("The path of a socket, in the place of a port")
+}
+
+fn socket_mode_argument<'a>(alloc: Global) -> Result<Arg<'a>, AllocError> {
+    Arg::new(alloc, SOCKET_MODE)
+        .long(SOCKET_MODE)
+        .value_name("MODE")
+        .default_value("0600")
+        .value_parser(["0600", "0660", "0666"].as_slice())
+        .help("Who may connect to the socket: its owner, its group too, or everyone")
+        .requires_arg(SOCKET)
+}
+
+// Exactly one of the port and the socket is wanted.
+fn address_group<'a>(alloc: Global) -> Result<ArgGroup<'a>, AllocError> {
+    let group = ArgGroup::new(alloc, ADDRESS).args(&[PORT, SOCKET])?;
+    Ok(group.required(true))
+}
+
+fn address_of<'a>(given: &ArgMatches<'a>) -> Option<Address<'a>> {
+    match given.get_str(SOCKET) {
+        Some(path) => Some(Address::Socket {
+            path,
+            mode: mode_of(given.get_str(SOCKET_MODE)?)?,
+        }),
+        None => Some(Address::Port(given.get_one(PORT)?)),
+    }
+}
+
+fn mode_of(bits: &str) -> Option<SocketMode> {
+    match bits {
+        "0600" => Some(SocketMode::Owner),
+        "0660" => Some(SocketMode::Group),
+        "0666" => Some(SocketMode::Everyone),
+        _ => None,
+    }
 }
 
 fn clients_argument<'a>(alloc: Global) -> Arg<'a> {
@@ -107,7 +159,7 @@ pub fn service_of<'a>(matches: &ArgMatches<'a>) -> Option<Service<'a>> {
         folder: given.get_str(FOLDER)?,
         method: method_of(given.get_str(METHOD)?)?,
         every: every_of(given)?,
-        port: given.get_one(PORT)?,
+        address: address_of(given)?,
         clients: clients_of(given)?,
         idle: given.get_one(IDLE),
         exits_when_log_down: given.get_flag(EXIT_WHEN_LOG_DOWN),

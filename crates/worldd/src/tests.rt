@@ -166,8 +166,8 @@ fn words(alloc: Global, line: &[&str]) -> Result<Vec<String>, Fail> {
     Ok(words)
 }
 
-// The service that a command line asks for: the folder, whether the method is Ping-Pong, the number of ticks and the port,
-// how many clients are taken and how long they may be silent, and whether it ends when the log is down.
+// The service that a command line asks for: the folder, whether the method is Ping-Pong, the number of ticks, where it
+// listens, how many clients are taken and how long they may be silent, and whether it ends when the log is down.
 fn asked(alloc: Global, line: &[&str]) -> Result<Option<Asked>, Fail> {
     let words = words(alloc, line)?;
     let matches = matches_of(alloc, &words)?;
@@ -180,14 +180,14 @@ fn asked(alloc: Global, line: &[&str]) -> Result<Option<Asked>, Fail> {
         folder,
         is_ping_pong,
         service.every,
-        service.port,
+        format!(in alloc; "{:?}", service.address)?,
         service.clients,
         service.idle,
         service.exits_when_log_down,
     )))
 }
 
-type Asked = (String, bool, Every, u16, Clients, Option<u32>, bool);
+type Asked = (String, bool, Every, String, Clients, Option<u32>, bool);
 
 const LEAST: [&str; 10] = [
     "worldd",
@@ -202,15 +202,17 @@ const LEAST: [&str; 10] = [
     "100000",
 ];
 
-const ALL: [&str; 15] = [
+const ALL: [&str; 17] = [
     "worldd",
     "serve",
     "--method",
     "zigzag",
     "--every",
     "65536",
-    "--port",
-    "65535",
+    "--socket",
+    "run/world",
+    "--socket-mode",
+    "0660",
     "--clients",
     "1",
     "--idle",
@@ -222,24 +224,44 @@ const ALL: [&str; 15] = [
 
 #[test]
 fn flags_of_serve_are_read(rt: HostRuntime) -> Result<(), Fail> {
-    let Some((folder, is_ping_pong, every, port, clients, idle, exits)) = asked(rt.alloc(), &LEAST)?
+    let Some((folder, is_ping_pong, every, address, clients, idle, exits)) =
+        asked(rt.alloc(), &LEAST)?
     else {
         return Err(Fail::new("not understood"));
     };
     assert!(rt; folder.as_str() == "world" && is_ping_pong && !exits);
+    assert!(rt; address.as_str() == "Port(0)", "{address}");
     assert_eq!(rt;
-        (every, port, clients, idle),
-        (Every(64), 0, Clients(100_000), None)
+        (every, clients, idle),
+        (Every(64), Clients(100_000), None)
     );
-    let Some((folder, is_ping_pong, every, port, clients, idle, exits)) = asked(rt.alloc(), &ALL)?
+    let Some((folder, is_ping_pong, every, address, clients, idle, exits)) =
+        asked(rt.alloc(), &ALL)?
     else {
         return Err(Fail::new("not understood"));
     };
     assert!(rt; folder.as_str() == "other" && !is_ping_pong && exits);
+    assert!(rt; address.as_str() == SOCKET_OF_A_GROUP, "{address}");
     assert_eq!(rt;
-        (every, port, clients, idle),
-        (Every(65_536), 65_535, Clients(1), Some(86_400))
+        (every, clients, idle),
+        (Every(65_536), Clients(1), Some(86_400))
     );
+    Ok(())
+}
+
+const SOCKET_OF_A_GROUP: &str = "Socket { path: \"run/world\", mode: Group }";
+
+#[test]
+fn one_address_is_wanted(rt: HostRuntime) -> Result<(), Fail> {
+    let serve = ["worldd", "serve", "--dir", "d", "--method", "zigzag", "--clients", "1"];
+    let both = [
+        "worldd", "serve", "--dir", "d", "--method", "zigzag", "--clients", "1", "--port", "1",
+        "--socket", "s",
+    ];
+    for line in [serve.as_slice(), both.as_slice()] {
+        let line = words(rt.alloc(), line)?;
+        assert!(rt; matches_of(rt.alloc(), &line).is_err());
+    }
     Ok(())
 }
 

@@ -1,0 +1,57 @@
+//! Where a server listens, as its threads know it.
+
+use crate::line::Line;
+use crate::socket::SocketFile;
+use std::fs::Files;
+use std::net::{Net, SocketAddr, TcpStream};
+use std::os::unix::net::UnixStream;
+use std::time::Duration;
+
+/// How long the connection that wakes a server at a port may take.
+const PATIENCE_MILLISECONDS: u64 = 100;
+
+/// The port or the socket that a server listens on.
+#[derive(Drop)]
+pub enum Place {
+    Port(SocketAddr),
+    Socket(SocketFile),
+}
+
+impl Place {
+    /// Says that clients may come.
+    pub fn listening(&self) -> Line {
+        match self {
+            Place::Port(address) => Line::Listening(address.port()),
+            Place::Socket(_) => Line::ListeningAtSocket,
+        }
+    }
+
+    /// Says that no more can come.
+    pub fn closed(&self) -> Line {
+        match self {
+            Place::Port(_) => Line::PortClosed,
+            Place::Socket(_) => Line::SocketClosed,
+        }
+    }
+
+    /// Wakes the server from a wait for clients, by a connection of its own. At a socket it waits while the system's queue
+    /// of connections is full; a server with such a queue is awake.
+    pub fn wake<R: Net>(&self, rt: &R) {
+        match self {
+            Place::Port(address) => {
+                let patience = Duration::from_millis(PATIENCE_MILLISECONDS);
+                let _ = TcpStream::connect_timeout(rt, address, patience);
+            }
+            Place::Socket(file) => {
+                let _ = UnixStream::connect(rt, file.path.as_path());
+            }
+        }
+    }
+
+    /// Gives it up: the file of a socket is removed.
+    pub fn leave<R: Files>(&self, rt: &R) {
+        if let Place::Socket(file) = self {
+            file.remove(rt);
+        }
+    }
+}
