@@ -1,8 +1,11 @@
 #!/usr/bin/env python3
 """A client of a serving worldd: plays lines as one batch, and prints the answer.
 
-    client.py PORT LINE..
+    client.py ADDRESS LINE..
     client.py 7070 'add 0 1' 'get 0'
+    client.py /run/worldd/socket 'add 0 1' 'get 0'
+
+The address is a port of this machine, or the path of a socket.
 """
 import socket
 import sys
@@ -15,9 +18,13 @@ class Refused(Exception):
 class World:
     """A connection to a server. It plays one batch after another."""
 
-    def __init__(self, port: int) -> None:
-        self.stream = socket.create_connection(("127.0.0.1", port))
-        self.stream.setsockopt(socket.IPPROTO_TCP, socket.TCP_NODELAY, 1)
+    def __init__(self, address: str) -> None:
+        if address.isdigit():
+            self.stream = socket.create_connection(("127.0.0.1", int(address)))
+            self.stream.setsockopt(socket.IPPROTO_TCP, socket.TCP_NODELAY, 1)
+        else:
+            self.stream = socket.socket(socket.AF_UNIX)
+            self.stream.connect(address)
         self.answers = self.stream.makefile("r", encoding="ascii", newline="\n")
 
     def play(self, *lines: str) -> tuple[int, list[str]]:
@@ -38,7 +45,7 @@ def main() -> int:
         print(__doc__.strip(), file=sys.stderr)
         return 2
     try:
-        tick, words = World(int(sys.argv[1])).play(*sys.argv[2:])
+        tick, words = World(sys.argv[1]).play(*sys.argv[2:])
     except (Refused, OSError) as error:
         print(f"client: {error}", file=sys.stderr)
         return 1

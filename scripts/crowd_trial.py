@@ -4,10 +4,12 @@
     scripts/crowd_trial.py crates/worldd/out/worldd
 
 First two clients come one after the other, and what they and the program print is known to the byte. Then 50 clients
-send 200 batches each, while one leaves in half a batch, one sends 10 MB without a newline, and one sends its batch byte
+send 100 batches each, while one leaves in half a batch, one sends 10 MB without a newline, and one sends its batch byte
 by byte and ends it last. Each tick must be answered once, and all answers, by tick, must be those of one plain model.
+Each method serves over a port and over a socket.
 """
 import argparse
+import itertools
 import os
 import pathlib
 import random
@@ -18,29 +20,42 @@ import subprocess
 import sys
 import tempfile
 import threading
+from typing import NamedTuple
 
-from kill_trial import CELLS, METHODS, PATIENCE_SECONDS, Batch, Wrong, answer, random_request, text_of
+from kill_trial import CELLS, METHODS, PATIENCE_SECONDS, TRANSPORTS, Batch, Wrong
+from kill_trial import answer, connect, flags_of, random_request, text_of
 
-CLIENTS, BATCHES = 50, 200
+CLIENTS, BATCHES = 50, 100
 FLOOD = 10_000_000
 COUNT = 0
-CLOSED = "worldd: the port is closed: no more clients can come\n"
+CLOSED = "worldd: the {} is closed: no more clients can come\n"
 ROW = b"set 0 5\nget 0\nmove 0 1 9\nfoo\nend\n"
+
+
+class Way(NamedTuple):
+    """How a world is served: by which method, over which transport."""
+
+    method: str
+    transport: str
+
+    def __str__(self) -> str:
+        return f"{self.method}-{self.transport}"
 
 
 class Server:
     """A serving worldd, whose lines are kept."""
 
-    def __init__(self, worldd: str, folder: pathlib.Path, method: str, cells: int, every: int, clients: int) -> None:
+    def __init__(self, worldd: str, folder: pathlib.Path, way: "Way", cells: int, every: int, clients: int) -> None:
         folder.mkdir()
         subprocess.run([worldd, "create", "--dir", folder, "--cells", str(cells)], check=True, capture_output=True)
-        flags = ["--method", method, "--every", str(every), "--port", "0", "--clients", str(clients)]
+        where = flags_of(way.transport, folder.with_suffix(".socket"))
+        flags = ["--method", way.method, "--every", str(every), "--clients", str(clients), *where]
         command = [worldd, "serve", "--dir", folder, *flags]
         self.errors = folder.with_suffix(".errors")
         with self.errors.open("w") as errors:
             self.process = subprocess.Popen(command, stdout=subprocess.PIPE, stderr=errors, text=True)
         self.expect("recovered 0 from 0")
-        self.port = int(self.line().removeprefix("listening "))
+        self.address = self.line().removeprefix("listening ")
 
     def line(self) -> str:
         """The next line that it prints."""
@@ -54,7 +69,7 @@ class Server:
 
     def connect(self) -> socket.socket:
         """A client's connection."""
-        return socket.create_connection(("127.0.0.1", self.port), PATIENCE_SECONDS)
+        return connect(self.address)
 
     def end(self, ticks: int) -> str:
         """Waits for its end after so many ticks, and gives what it told people."""
@@ -72,15 +87,15 @@ def told_to(stream: socket.socket, text: bytes) -> str:
         return stream.makefile(encoding="ascii").read()
 
 
-def try_row(worldd: str, room: pathlib.Path, method: str) -> None:
+def try_row(worldd: str, room: pathlib.Path, way: Way) -> None:
     """Two clients come one after the other."""
-    server = Server(worldd, room / f"row-{method}", method, 2, 64, 2)
+    server = Server(worldd, room / f"row-{way}", way, 2, 64, 2)
     for tick in (1, 2):
         line = told_to(server.connect(), ROW)
         if line != f"tick {tick}: + =5 -3 -16\n":
             raise Wrong(f"the client of tick {tick} was told `{line}`")
     told = server.end(2)
-    if told != CLOSED:
+    if told != CLOSED.format(way.transport):
         raise Wrong(f"worldd told people `{told}`")
 
 
@@ -138,9 +153,9 @@ def judge(answered: list[tuple[Batch, str]], ticks: int) -> None:
             raise Wrong(f"tick {number} was answered `{line}`, and the model has `{wanted}`")
 
 
-def try_crowd(worldd: str, room: pathlib.Path, method: str, seed: int) -> int:
+def try_crowd(worldd: str, room: pathlib.Path, way: Way, seed: int) -> int:
     """A crowd plays at once, and gives how many images were opened meanwhile."""
-    server = Server(worldd, room / f"crowd-{method}", method, CELLS, 8, CLIENTS + 3)
+    server = Server(worldd, room / f"crowd-{way}", way, CELLS, 8, CLIENTS + 3)
     slow, last = server.connect(), (("add", COUNT, 1), ("get", COUNT))
     text = text_of(last)
     rude = [threading.Thread(target=act, args=(server.connect(),), daemon=True) for act in (flood, leave)]
@@ -156,7 +171,7 @@ def try_crowd(worldd: str, room: pathlib.Path, method: str, seed: int) -> int:
     judge(answered, CLIENTS * BATCHES + 1)
     told = server.end(CLIENTS * BATCHES + 1)
     opened = len(re.findall(r"image of tick [0-9]+ opened", told))
-    if opened + 1 != told.count("\n") or told.count(CLOSED) != 1 or not opened:
+    if opened + 1 != told.count("\n") or told.count(CLOSED.format(way.transport)) != 1 or not opened:
         raise Wrong(f"worldd told people `{told[-500:]}`")
     return opened
 
@@ -169,10 +184,10 @@ def main() -> int:
     given = parser.parse_args()
     room = pathlib.Path(tempfile.mkdtemp(prefix="crowd-trial-"))
     try:
-        for method in METHODS:
-            try_row(given.worldd, room, method)
-            opened = try_crowd(given.worldd, room, method, given.seed)
-            print(f"{method}: {CLIENTS * BATCHES + 1} ticks answered once each to one world, {opened} images opened meanwhile")
+        for way in itertools.starmap(Way, itertools.product(METHODS, TRANSPORTS)):
+            try_row(given.worldd, room, way)
+            opened = try_crowd(given.worldd, room, way, given.seed)
+            print(f"{way}: {CLIENTS * BATCHES + 1} ticks answered once each to one world, {opened} images opened meanwhile")
     except (Wrong, OSError, subprocess.SubprocessError) as wrong:
         print(f"crowd_trial: {wrong}\ncrowd_trial: seed {given.seed}, files in {room}", file=sys.stderr)
         return 1

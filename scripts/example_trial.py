@@ -99,12 +99,13 @@ def try_reconnect(room: pathlib.Path) -> None:
     client = room / "client"
     subprocess.run(["cc", "-Wall", "-Wextra", "-Werror", "-o", client, EXAMPLES / "client.c"], check=True)
     for line, printed, status in (("set 0 5", "tick 1: +\n", 0), ("add 0 5", "", 3)):
-        with socket.create_server(("127.0.0.1", 0)) as listener:
-            server = threading.Thread(target=break_once, args=(listener,), daemon=True)
-            server.start()
-            port = str(listener.getsockname()[1])
-            run = subprocess.run([client, port, line], capture_output=True, text=True, timeout=SECONDS)
-            compare(f"examples/client.c: {line}", f"{run.stdout}status {run.returncode}\n", f"{printed}status {status}\n")
+        path = room / f"socket-{status}"
+        with socket.create_server(("127.0.0.1", 0)) as port, socket.create_server(str(path), family=socket.AF_UNIX) as at_path:
+            for listener, address in ((port, str(port.getsockname()[1])), (at_path, str(path))):
+                threading.Thread(target=break_once, args=(listener,), daemon=True).start()
+                run = subprocess.run([client, address, line], capture_output=True, text=True, timeout=SECONDS)
+                got, want = f"{run.stdout}status {run.returncode}\n", f"{printed}status {status}\n"
+                compare(f"examples/client.c: {line}", got, want)
 
 
 def main() -> int:

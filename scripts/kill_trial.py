@@ -7,7 +7,8 @@
 Four clients send random batches at full speed while images are written all the time. After each kill the
 files must hold the world after whole ticks, each answered one among them, and each answer must be the one
 of a plain model. A start is killed after every fourth kill. A kill ends the program and not the system, so
-this tries the order of what is written and answered, and not whether it was synced.
+this tries the order of what is written and answered, and not whether it was synced. Two servers in a row
+listen on a port, and the next two on a socket, whose file the kill leaves.
 """
 import argparse
 import dataclasses
@@ -33,6 +34,7 @@ BAD_CELL, BAD_VALUE, OUT_OF_RANGE, SAME_CELL, TICK_FULL, BAD_LINE = 1, 2, 3, 4, 
 
 CLIENTS = 4
 METHODS = "zigzag", "pingpong"
+PORT, SOCKET = TRANSPORTS = "port", "socket"
 EVERY = 8
 # An image of them is written in two chunks.
 CELLS = 70
@@ -107,6 +109,28 @@ def answer(words: list[int], batch: Batch, number: int) -> str:
     return " ".join(replies)
 
 
+# The connections.
+
+
+def flags_of(transport: str, path: pathlib.Path) -> list[str]:
+    """The flags of a server that lets the system choose its port, or that has a socket at this path."""
+    return ["--port", "0"] if transport == PORT else ["--socket", str(path)]
+
+
+def connect(address: str) -> socket.socket:
+    """A connection to a server that printed this port or this path."""
+    if address.isdigit():
+        return socket.create_connection(("127.0.0.1", int(address)), PATIENCE_SECONDS)
+    stream = socket.socket(socket.AF_UNIX)
+    stream.settimeout(PATIENCE_SECONDS)
+    try:
+        stream.connect(address)
+    except OSError:
+        stream.close()
+        raise
+    return stream
+
+
 # The batches.
 
 
@@ -154,9 +178,9 @@ def text_of(batch: Batch) -> bytes:
 class Client(threading.Thread):
     """A client in its thread: what it was answered, the batch that waits for its answer, and what went wrong."""
 
-    def __init__(self, port: int, plan: Iterator[Batch], killed: threading.Event) -> None:
+    def __init__(self, address: str, plan: Iterator[Batch], killed: threading.Event) -> None:
         super().__init__(daemon=True)
-        self.stream = socket.create_connection(("127.0.0.1", port), PATIENCE_SECONDS)
+        self.stream = connect(address)
         self.plan, self.killed = plan, killed
         self.answered: Answered = {}
         self.waiting: Batch | None = None
@@ -326,13 +350,13 @@ class Server:
         if line != before.line:
             raise Wrong(f"serve began with `{line}` after `{before.line}`{self.complaint()}")
 
-    def listen(self) -> int:
-        """Its port, once its start has ended."""
+    def listen(self) -> str:
+        """Its port or its socket, once its start has ended."""
         line = self.line()
-        match = re.fullmatch(r"listening ([0-9]+)", line)
+        match = re.fullmatch(r"listening (.+)", line)
         if not match:
-            raise Wrong(f"serve told `{line}` in the place of its port{self.complaint()}")
-        return int(match[1])
+            raise Wrong(f"serve told `{line}` in the place of where it listens{self.complaint()}")
+        return match[1]
 
     def kill(self) -> str:
         """Kills it, and gives what it had printed since."""
@@ -358,9 +382,9 @@ class Server:
             raise Wrong(f"serve went on{self.complaint()}")
 
     def complaint(self) -> str:
-        """What it printed on standard error, except of opened images and the closed port."""
+        """What it printed on standard error, except of opened images and the closed port or socket."""
         lines = self.complaints.read_text().splitlines()
-        said = [line for line in lines if " image of tick " not in line and " the port is closed" not in line]
+        said = [line for line in lines if not re.search(" image of tick | the (port|socket) is closed", line)]
         return f", and said `{'; '.join(said)}`" if said else ""
 
 
@@ -376,12 +400,14 @@ class Tally:
     from_a: int = 0
     from_b: int = 0
     starts: int = 0
+    replaced: int = 0
 
     def __str__(self) -> str:
         return (
             f"{self.kills} kills, {self.in_round} of them in an open round; {self.answered} ticks answered, none lost; "
             f"unanswered batches kept by {self.kept} kills and lost by {self.lost}; "
-            f"recovered {self.from_a} times from image.a and {self.from_b} from image.b; {self.starts} starts killed"
+            f"recovered {self.from_a} times from image.a and {self.from_b} from image.b; {self.starts} starts killed; "
+            f"{self.replaced} sockets of killed servers replaced"
         )
 
 
@@ -389,7 +415,7 @@ class Trial:
     """A world in a folder, what stands in its files, and the counts so far."""
 
     def __init__(self, worldd: str, room: pathlib.Path, seed: int) -> None:
-        self.worldd, self.room, self.seed = worldd, room, seed
+        self.worldd, self.room, self.seed, self.socket = worldd, room, seed, room / "socket"
         self.chance, self.tally, self.start_seconds = random.Random(seed), Tally(), 0.0
         (room / "world").mkdir()
         self.ask("create", "--cells", str(CELLS))
@@ -409,25 +435,27 @@ class Trial:
         """What stands in the files now."""
         return found_in("".join(self.ask("recover")), self.ask("inspect", "--words"))
 
-    def serve(self, method: str) -> Server:
-        """Starts a server that lets the system choose its port."""
-        flags = ["--method", method, "--every", str(EVERY), "--port", "0", "--clients", str(CLIENTS)]
+    def serve(self, run: int) -> Server:
+        """Starts a server, by either method and over either transport in turn."""
+        method, transport = METHODS[run % 2], TRANSPORTS[run // 2 % 2]
+        self.tally.replaced += transport == SOCKET and self.socket.exists()
+        flags = ["--method", method, "--every", str(EVERY), "--clients", str(CLIENTS), *flags_of(transport, self.socket)]
         return Server([self.worldd, "serve", "--dir", str(self.room / "world"), *flags], self.room / "complaints")
 
     def play(self, server: Server, run: int, most: int | None) -> list[Client]:
         """Lets clients send their batches, each so many at most."""
         server.begin(self.found)
-        port = server.listen()
+        address = server.listen()
         self.start_seconds = time.monotonic() - server.begun
         plans = [batches(f"{self.seed} {run} {client}", client, run) for client in range(CLIENTS)]
-        clients = [Client(port, itertools.islice(plan, most), server.killed) for plan in plans]
+        clients = [Client(address, itertools.islice(plan, most), server.killed) for plan in plans]
         for client in clients:
             client.start()
         return clients
 
     def kill_play(self, run: int) -> None:
         """Kills a server at a random moment of play, and judges what it leaves."""
-        with self.serve(METHODS[run % 2]) as server:
+        with self.serve(run) as server:
             clients = self.play(server, run, None)
             time.sleep(self.chance.uniform(*LOAD_SECONDS))
             server.kill()
@@ -452,7 +480,7 @@ class Trial:
 
     def kill_start(self, run: int) -> None:
         """Kills a server in its start, which must leave the same world."""
-        with self.serve(METHODS[run % 2]) as server:
+        with self.serve(run) as server:
             time.sleep(self.chance.uniform(0, self.start_seconds))
             printed = server.kill()
         after = self.look()
@@ -461,18 +489,20 @@ class Trial:
         self.found = after
 
     def end_play(self, run: int) -> None:
-        """Lets a server end by itself once its clients have left."""
-        with self.serve(METHODS[run % 2]) as server:
+        """Lets a server end by itself once its clients have left. It removes its socket."""
+        with self.serve(run) as server:
             answered, _ = collected(self.play(server, run, LAST_BATCHES), self.found.tick)
             said, tick = server.end(), self.found.tick + len(answered)
         if said != f"stopped tick {tick} acked {tick}":
             raise Wrong(f"serve ended with `{said}` after tick {tick}")
+        if run // 2 % 2 and (left := list(self.room.glob("socket*"))):
+            raise Wrong(f"serve ended and left {left}")
         after = self.look()
         judge(self.found, after, answered, frozenset())
         self.found = after
 
     def run(self, kills: int, seconds: float) -> Tally:
-        """Kills so many times, for so long at most, and lets a server of each method end."""
+        """Kills so many times, for so long at most, and lets a server of each method end over each transport."""
         begun = time.monotonic()
         for run in range(kills):
             if time.monotonic() - begun > seconds:
@@ -480,8 +510,8 @@ class Trial:
             self.kill_play(run)
             if run % 4 == 3:
                 self.kill_start(run // 4)
-        for run in range(kills, kills + len(METHODS)):
-            self.end_play(run)
+        for run in range(len(METHODS) * len(TRANSPORTS)):
+            self.end_play(kills + run)
         for name, count in dataclasses.asdict(self.tally).items():
             if not count:
                 raise Wrong(f"the count `{name}` is 0: {self.tally}")

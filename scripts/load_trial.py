@@ -13,6 +13,7 @@ import re
 import socket
 import subprocess
 import sys
+import tempfile
 import threading
 
 SECONDS = 60
@@ -25,11 +26,16 @@ REFUSED = "the server refused a batch: "
 
 
 class Server:
-    """A stand-in for worldd on a port, in a thread of its own."""
+    """A stand-in for worldd on a port or on a socket, in a thread of its own."""
 
-    def __init__(self, answers, lines: int):
-        self.listener = socket.create_server(("127.0.0.1", 0))
-        self.port = self.listener.getsockname()[1]
+    def __init__(self, answers, lines: int, path: pathlib.Path | None):
+        if path is None:
+            self.listener = socket.create_server(("127.0.0.1", 0))
+            self.flags = ("--port", str(self.listener.getsockname()[1]))
+        else:
+            self.listener = socket.create_server(str(path), family=socket.AF_UNIX)
+            self.flags = ("--socket", str(path))
+        self.path = path
         self.lines = lines
         self.batches: list[list[bytes]] = []
         self.thread = threading.Thread(target=answers, args=(self,))
@@ -45,6 +51,8 @@ class Server:
         """Waits for the thread."""
         self.thread.join(SECONDS)
         self.listener.close()
+        if self.path is not None:
+            self.path.unlink()
 
 
 def giving(answers):
@@ -79,8 +87,9 @@ def one_wrong(server: Server) -> None:
 class Trial:
     """Runs of one program, and what was seen of them."""
 
-    def __init__(self, program: str):
+    def __init__(self, program: str, path: pathlib.Path):
         self.program = program
+        self.path = path
         self.wrong = 0
         self.runs = 0
         self.seen: collections.Counter[str] = collections.Counter()
@@ -97,10 +106,14 @@ class Trial:
             print(f"WRONG: {what}:\n  got  {got!r}\n  want {want!r}", file=sys.stderr)
 
     def load(self, what: str, serve, want: str, kind: str, lines: int = LINES, more: tuple[str, ...] = ("--batches", "2")) -> None:
+        """Loads a server at a port and one at a socket."""
+        for path in (None, self.path):
+            self.load_at(path, what, serve, want, kind, lines, more)
+
+    def load_at(self, path, what: str, serve, want: str, kind: str, lines: int, more: tuple[str, ...]) -> None:
         """Loads a server, and compares the error, or the count of ticks where the load ends well."""
-        server = Server(serve, lines)
-        words = ("--port", str(server.port), "--lines", str(lines), "--cells", str(CELLS), *more)
-        run = self.run(*words)
+        server = Server(serve, lines, path)
+        run = self.run(*server.flags, "--lines", str(lines), "--cells", str(CELLS), *more)
         server.end()
         self.seen[kind] += 1
         if want.endswith(" ticks"):
@@ -137,18 +150,22 @@ def try_answers(trial: Trial) -> None:
 
 
 def try_no_server(trial: Trial) -> None:
-    """A port on which nobody listens."""
+    """A port on which nobody listens, and a socket that isn't there."""
     with socket.create_server(("127.0.0.1", 0)) as listener:
         port = listener.getsockname()[1]
     run = trial.run("--port", str(port))
     want = f"error: can't connect to port {port} of 127.0.0.1: Connection refused (os error 111)\n"
     trial.check("no server", (run.stdout, run.stderr, run.returncode), ("", want, 1))
     trial.seen["no server"] += 1
+    run = trial.run("--socket", str(trial.path))
+    want = f"error: can't connect to {trial.path}: No such file or directory (os error 2)\n"
+    trial.check("no socket", (run.stdout, run.stderr, run.returncode), ("", want, 1))
+    trial.seen["no server"] += 1
 
 
 def try_command_lines(trial: Trial) -> None:
     """Wrong command lines, and the defaults that help shows."""
-    for words in ("", "--port 0", "--port 7070 --lines 257", "--port 7070 --connections 0"):
+    for words in ("", "--port 0", "--port 7070 --socket s", "--port 7070 --lines 257", "--socket s --connections 0"):
         run = trial.run(*words.split())
         trial.check(f"world_load {words}", (run.stdout, run.returncode), ("", 2))
         trial.seen["mistaken"] += 1
@@ -164,9 +181,11 @@ def main() -> int:
     """Runs all, and prints what was seen."""
     parser = argparse.ArgumentParser(description=__doc__.splitlines()[0])
     parser.add_argument("program", type=pathlib.Path, help="the built world_load")
-    trial = Trial(str(parser.parse_args().program.resolve()))
-    for part in (try_answers, try_no_server, try_command_lines):
-        part(trial)
+    program = parser.parse_args().program.resolve()
+    with tempfile.TemporaryDirectory(prefix="load-trial-") as folder:
+        trial = Trial(str(program), pathlib.Path(folder) / "socket")
+        for part in (try_answers, try_no_server, try_command_lines):
+            part(trial)
     kinds = ("right", "wrong", "refused", "too few cells", "closed", "cut off", "no server", "mistaken", "help")
     never = [kind for kind in kinds if not trial.seen[kind]]
     print("  " + ", ".join(f"{kind}: {trial.seen[kind]}" for kind in kinds))

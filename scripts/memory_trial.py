@@ -4,8 +4,8 @@
     scripts/memory_trial.py crates/worldd/out/worldd
 
 First each call that takes memory, by the program memory_trials; then a script over each store, create, recover and
-inspect, and serve, by either method: each is run again and again, the Nth time with its Nth allocation refused, until it
-has none left to refuse. It needs a C compiler, as cc.
+inspect, and serve, by one method over a port and by the other over a socket: each is run again and again, the Nth time
+with its Nth allocation refused, until it has none left to refuse. It needs a C compiler, as cc.
 """
 import argparse
 import collections
@@ -15,13 +15,12 @@ import os
 import pathlib
 import re
 import shutil
-import socket
 import subprocess
 import sys
 import tempfile
 from collections.abc import Iterator
 
-from kill_trial import METHODS, PATIENCE_SECONDS, QUIET, Batch, Wrong, answer, text_of
+from kill_trial import METHODS, PATIENCE_SECONDS, QUIET, TRANSPORTS, Batch, Wrong, answer, connect, flags_of, text_of
 
 STORES = "plain", "zigzag", "pingpong", "zigzag-shared", "pingpong-shared"
 SCRIPT = """\
@@ -308,9 +307,9 @@ class World:
             raise Wrong(f"`{line}` and `{words}` stand after tick {self.tick}, whose words are {self.words}")
 
 
-def play(port: int, world: World, batches: collections.deque[Batch], seen: collections.Counter[str]) -> None:
+def play(address: str, world: World, batches: collections.deque[Batch], seen: collections.Counter[str]) -> None:
     """Sends what is left of the batches, until all are sent or the connection is closed."""
-    with socket.create_connection(("127.0.0.1", port), PATIENCE_SECONDS) as stream:
+    with connect(address) as stream:
         reader = stream.makefile(encoding="ascii")
         while batches:
             world.unanswered = batches[0]
@@ -326,33 +325,34 @@ def play(port: int, world: World, batches: collections.deque[Batch], seen: colle
             batches.popleft()
 
 
-def play_all(port: int, world: World, seen: collections.Counter[str]) -> bool:
+def play_all(address: str, world: World, seen: collections.Counter[str]) -> bool:
     """Plays by one connection after another, as many as the server takes, and tells whether all batches were sent."""
     batches = collections.deque(BATCHES)
     for _ in range(CLIENTS):
         try:
-            play(port, world, batches, seen)
-        except ConnectionError:
+            play(address, world, batches, seen)
+        except (ConnectionError, FileNotFoundError):
             seen["connections closed"] += 1
     return not batches
 
 
 def try_server(
-    worldd: str, refuser: Refuser, folder: pathlib.Path, method: str, number: int, seen: collections.Counter[str]
+    worldd: str, refuser: Refuser, folder: pathlib.Path, flags: list[str], number: int, seen: collections.Counter[str]
 ) -> bool:
-    """Serves a folder while an allocation is refused, and tells whether one was."""
+    """Serves a folder while an allocation is refused, and tells whether one was. No socket is left."""
     before = told_of(worldd, folder)
     world = World(before[-2], [int(word) for word in before[-1].split(" ")])
-    flags = ["--method", method, "--every", str(EVERY), "--port", "0", "--clients", str(CLIENTS)]
     errors = folder.with_suffix(".errors")
     with errors.open("w") as file:
         command = [worldd, "serve", "--dir", folder, *flags]
         process, reader = refuser.start(command, number, stdin=QUIET, stderr=file)
     lines = [process.stdout.readline(), process.stdout.readline()]
-    is_whole = lines[1].startswith("listening ") and play_all(int(lines[1].split(" ")[1]), world, seen)
+    is_whole = lines[1].startswith("listening ") and play_all(lines[1].split()[1], world, seen)
     last, _ = process.communicate(timeout=PATIENCE_SECONDS)
     run = Run(process.returncode, last, errors.read_text(), was_told(reader))
     world.judge(told_of(worldd, folder))
+    if left := list(folder.glob("socket*")):
+        raise Wrong(f"serve ended and left {left}")
     if is_fault(run):
         seen["ended by the fault"] += 1
     elif (run.status, last) == (0, f"stopped tick {world.tick} acked {world.tick}\n") and is_whole:
@@ -362,13 +362,17 @@ def try_server(
     return run.was_refused
 
 
-def try_serving(worldd: str, refuser: Refuser, room: pathlib.Path, method: str) -> collections.Counter[str]:
+def try_serving(
+    worldd: str, refuser: Refuser, room: pathlib.Path, method: str, transport: str
+) -> collections.Counter[str]:
     """Serves a world again and again."""
     seen: collections.Counter[str] = collections.Counter()
     for number in itertools.count(1):
         folder = room / f"serve-{method}-{number}"
         shutil.copytree(room / "create-1", folder)
-        if not try_server(worldd, refuser, folder, method, number, seen):
+        flags = ["--method", method, "--every", str(EVERY), "--clients", str(CLIENTS)]
+        flags += flags_of(transport, folder / "socket")
+        if not try_server(worldd, refuser, folder, flags, number, seen):
             require(seen, "connections closed", "batches refused", "served to its end", "ended by the fault")
             return seen
         shutil.rmtree(folder)
@@ -395,8 +399,9 @@ def main() -> int:
         print(f"create: refused {try_create(given.worldd, refuser, room)} times, and made once there was memory")
         for command, *flags in (("recover",), ("inspect", "--words")):
             print(f"{command}: refused {try_reading(given.worldd, refuser, room / 'create-1', command, *flags)} times")
-        for method in METHODS:
-            print(f"serve by {method}: {line_of(try_serving(given.worldd, refuser, room, method))}")
+        for method, transport in zip(METHODS, TRANSPORTS):
+            seen = try_serving(given.worldd, refuser, room, method, transport)
+            print(f"serve by {method} over a {transport}: {line_of(seen)}")
     except (Wrong, OSError, subprocess.SubprocessError) as wrong:
         print(f"memory_trial: {wrong}\nmemory_trial: files in {room}", file=sys.stderr)
         return 1

@@ -10,12 +10,15 @@ import argparse
 import collections
 import contextlib
 import fcntl
+import itertools
 import pathlib
 import socket
 import struct
 import subprocess
 import sys
 import tempfile
+
+from kill_trial import SOCKET, TRANSPORTS, connect
 
 NAMES = ("image.a", "image.b", "log.a", "log.b")
 METHODS = ("zigzag", "pingpong")
@@ -110,8 +113,9 @@ def fault_of(folder: pathlib.Path, code: int, name: str, why: str) -> str:
 
 def try_command_lines(trial: Trial) -> None:
     """Wrong command lines, help, the version, and words that aren't text."""
-    serve = "Usage: worldd serve --dir <FOLDER> --method <METHOD> --port <P> --clients <K>"
+    serve = "Usage: worldd serve --dir <FOLDER> --method <METHOD> --clients <K> <--port <P>|--socket <PATH>>"
     lacking = "the following required arguments were not provided:\n  "
+    whole = "serve --dir world --method zigzag --clients 1"
     for words, text in (
         ("", "'worldd' requires a subcommand but one was not provided\n  [subcommands: steps, create, recover, inspect, serve, help]\n\nUsage: worldd <COMMAND>\n\n"),
         ("stepz", "unrecognized subcommand 'stepz'\n\n  tip: a similar subcommand exists: 'steps'\n\nUsage: worldd <COMMAND>\n\n"),
@@ -123,7 +127,11 @@ def try_command_lines(trial: Trial) -> None:
         ("create --dir world --cells two", "invalid value 'two' for '--cells <N>': invalid digit found in string\n\n"),
         ("recover", f"{lacking}--dir <FOLDER>\n\nUsage: worldd recover --dir <FOLDER>\n\n"),
         ("inspect --words", f"{lacking}--dir <FOLDER>\n\nUsage: worldd inspect --dir <FOLDER> --words\n\n"),
-        ("serve --dir world", f"{lacking}--method <METHOD>\n  --port <P>\n  --clients <K>\n\n{serve}\n\n"),
+        ("serve --dir world", f"{lacking}--method <METHOD>\n  --clients <K>\n  <--port <P>|--socket <PATH>>\n\n{serve}\n\n"),
+        (f"{whole}", f"{lacking}<--port <P>|--socket <PATH>>\n\n{serve}\n\n"),
+        (f"{whole} --port 0 --socket s", f"the argument '--port <P>' cannot be used with '--socket <PATH>'\n\n{serve}\n\n"),
+        (f"{whole} --port 0 --socket-mode 0660", f"{lacking}--socket <PATH>\n\n{serve}\n\n"),
+        ("serve --socket-mode 0700", "invalid value '0700' for '--socket-mode <MODE>'\n  [possible values: 0600, 0660, 0666]\n\n"),
         ("serve --method plain", "invalid value 'plain' for '--method <METHOD>'\n  [possible values: zigzag, pingpong]\n\n"),
         ("serve --every 0", "invalid value '0' for '--every <E>': 0 is not in 1..=65536\n\n"),
         ("serve --every 65537", "invalid value '65537' for '--every <E>': 65537 is not in 1..=65536\n\n"),
@@ -156,8 +164,8 @@ def try_command_lines(trial: Trial) -> None:
         ),
         (
             "serve",
-            f"Serves the world in the files of a folder to clients of a port\n\n{serve.replace('serve --dir', 'serve [OPTIONS] --dir')}\n",
-            "\n  listened on, or a line couldn't be printed\n",
+            f"Serves the world in the files of a folder to clients of a port or of a socket\n\n{serve.replace('serve --dir', 'serve [OPTIONS] --dir')}\n",
+            "\n  can't be listened on, or a line couldn't be printed\n",
         ),
     ):
         got = trial.run(*words.split(), "--help")
@@ -381,24 +389,24 @@ def free_port() -> int:
         return listener.getsockname()[1]
 
 
-def answer_to(port: int, batch: bytes) -> str:
+def answer_to(address: str, batch: bytes) -> str:
     """What a client is answered that writes a batch."""
-    with socket.create_connection(("127.0.0.1", port), SECONDS) as client:
+    with connect(address) as client:
         client.sendall(batch)
         client.shutdown(socket.SHUT_WR)
         return client.makefile().read()
 
 
-def serve_two(trial: Trial, folder: pathlib.Path, method: str, more: tuple[str, ...]) -> None:
+def serve_two(trial: Trial, folder: pathlib.Path, method: str, transport: str, more: tuple[str, ...]) -> None:
     """Serves a world to two clients, and compares answers and output."""
-    port = free_port()
-    line = f"serve --dir {folder} --method {method} --port {port} --clients 2".split()
+    address = str(folder / "socket") if transport == SOCKET else str(free_port())
+    line = f"serve --dir {folder} --method {method} --{transport} {address} --clients 2".split()
     with subprocess.Popen([trial.program, *line, *more], stdout=subprocess.PIPE, stderr=subprocess.PIPE, text=True) as server:
         begun = server.stdout.readline(), server.stdout.readline()
-        trial.check(f"serve {more}", begun, ("recovered 0 from 0\n", f"listening {port}\n"))
+        trial.check(f"serve {more}", begun, ("recovered 0 from 0\n", f"listening {address}\n"))
         answers = (
-            answer_to(port, b"set 0 5\nget 0\nmove 0 1 9\nfoo\nend\n"),
-            answer_to(port, b"add 0 1\nget 0\nend\n"),
+            answer_to(address, b"set 0 5\nget 0\nmove 0 1 9\nfoo\nend\n"),
+            answer_to(address, b"add 0 1\nget 0\nend\n"),
         )
         trial.check(f"answers {more}", answers, ("tick 1: + =5 -3 -16\n", "tick 2: + =6\n"))
         output, _ = server.communicate(timeout=SECONDS)
@@ -408,13 +416,13 @@ def serve_two(trial: Trial, folder: pathlib.Path, method: str, more: tuple[str, 
 
 
 def try_serving(trial: Trial) -> None:
-    """Worlds that are served: by each method, with an image after each tick, and after as many as by default."""
-    for method in METHODS:
+    """Worlds that are served: by each method and transport, with an image after each tick, and after as many as by default."""
+    for method, transport in itertools.product(METHODS, TRANSPORTS):
         with new_folder(NEW_IMAGE, b"", b"", b"") as folder:
-            serve_two(trial, folder, method, ())
+            serve_two(trial, folder, method, transport, ())
             trial.ends("no image", trial.run("recover", "--dir", str(folder)), "recovered 2 from 0\n", "", 0)
         with new_folder(NEW_IMAGE, b"", b"", b"") as folder:
-            serve_two(trial, folder, method, ("--every", "1"))
+            serve_two(trial, folder, method, transport, ("--every", "1"))
             recovered = trial.run("recover", "--dir", str(folder))
             trial.check("an image", recovered.output in ("recovered 2 from 1\n", "recovered 2 from 2\n"), True)
 

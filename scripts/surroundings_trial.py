@@ -1,11 +1,12 @@
 #!/usr/bin/env python3
-"""Runs the built worldd in bad surroundings: closed and unread streams, shortages, links, silent clients.
+"""Runs the built worldd in bad surroundings: closed and unread streams, shortages, links, silent clients, other users.
 
     scripts/surroundings_trial.py crates/worldd/out/worldd
     scripts/surroundings_trial.py WORLDD --connections 70000
 
 No answered tick may be lost, no file of a world may get a byte that isn't a world's, and the server must go on or end
-with its reason. It prints how often each case was met, and fails if one was never met.
+with its reason. It prints how often each case was met, and fails if one was never met. Other users of the machine can be
+tried by root alone.
 """
 import argparse
 import collections
@@ -15,13 +16,17 @@ import os
 import pathlib
 import re
 import resource
+import shutil
 import signal
 import socket
+import stat
 import subprocess
 import sys
 import tempfile
 import time
 from collections.abc import Callable
+
+from kill_trial import SOCKET, TRANSPORTS, connect
 
 NAMES = ("image.a", "image.b", "log.a", "log.b")
 PATIENCE_SECONDS = 30
@@ -38,7 +43,29 @@ CASES = (
     "short connections", "descriptors exhausted", "descriptors freed", "errors unread", "lines dropped",
     "output full", "output broken", "port closed", "silent client ended", "link refused", "mode of a new file",
     "short write named", "ended by its log", "no thread named",
+    "socket with its mode", "socket removed", "old socket replaced", "socket in use kept", "socket's place taken", "other file kept",
 )
+CASES_OF_ROOT = ("user let in", "user refused", "socket never open to others")
+# Users and groups, which the system need not know. The server's own are the first ones.
+OWNER, STRANGER = 61_001, 61_002
+CONNECT = """
+import socket, sys
+stream = socket.socket(socket.AF_UNIX)
+stream.connect(sys.argv[1])
+stream.sendall(b"get 0\\nend\\n")
+print(stream.makefile().readline())
+"""
+TRY_TO_CONNECT = """
+import socket, sys
+print("begun", flush=True)
+while True:
+    for path in sys.argv[1], sys.argv[1] + ".new/s":
+        try:
+            socket.socket(socket.AF_UNIX).connect(path)
+            print("connected", flush=True)
+        except OSError:
+            pass
+"""
 
 
 class Wrong(Exception):
@@ -70,8 +97,8 @@ def free_port() -> int:
 class Client:
     """A connection that plays."""
 
-    def __init__(self, port: int) -> None:
-        self.socket = socket.create_connection(("127.0.0.1", port), PATIENCE_SECONDS)
+    def __init__(self, address: str) -> None:
+        self.socket = connect(address)
         self.answers = self.socket.makefile("rb")
 
     def play(self, lines: bytes = b"add 0 1\n") -> bytes:
@@ -91,13 +118,15 @@ class Client:
 class Server:
     """A serving worldd on a world of its own."""
 
-    def __init__(self, worldd: str, folder: pathlib.Path, *flags: str, clients: int = 100_000, **process) -> None:
-        self.worldd, self.folder = worldd, folder
+    def __init__(
+        self, worldd: str, folder: pathlib.Path, *flags: str, clients: int = 100_000, transport: str = "port", **process
+    ) -> None:
+        self.worldd, self.folder, self.path = worldd, folder, folder.with_suffix(".socket")
         if not folder.exists():
             folder.mkdir()
             subprocess.run([worldd, "create", "--dir", folder, "--cells", str(CELLS)], check=True, capture_output=True)
-        self.port = free_port()
-        fixed = ("--method", "zigzag", "--port", str(self.port), "--clients", str(clients))
+        self.address = str(self.path) if transport == SOCKET else str(free_port())
+        fixed = ("--method", "zigzag", f"--{transport}", self.address, "--clients", str(clients))
         process = {"stdout": subprocess.PIPE, "stderr": subprocess.PIPE, **process}
         self.process = subprocess.Popen([worldd, "serve", "--dir", folder, *fixed, *flags], **process)
 
@@ -106,8 +135,8 @@ class Server:
         end = time.monotonic() + PATIENCE_SECONDS
         while True:
             try:
-                return Client(self.port)
-            except ConnectionRefusedError:
+                return Client(self.address)
+            except (ConnectionRefusedError, FileNotFoundError):
                 want(time.monotonic() < end and self.process.poll() is None, f"no server at {self.folder}")
                 time.sleep(0.01)
 
@@ -189,21 +218,21 @@ class Trial:
         server.holds(100)
         self.met["serve with closed streams"] += 1
 
-    def short_connections(self, count: int) -> None:
+    def short_connections(self, count: int, transport: str) -> None:
         """So many clients come and go. The process must not grow by those that have gone."""
-        server = self.server("--every", "65536", stderr=subprocess.DEVNULL, clients=100_000)
+        server = self.server("--every", "65536", stderr=subprocess.DEVNULL, clients=100_000, transport=transport)
         for _ in range(50):
             client = server.client()
             client.play()
             client.leave()
         before = footprint(server.process.pid)
         for _ in range(count):
-            client = Client(server.port)
+            client = Client(server.address)
             want(client.play().startswith(b"tick"), "a short connection got no answer")
             client.leave()
             self.met["short connections"] += 1
         after = footprint(server.process.pid)
-        print(f"surroundings: {count} short connections: {before} before, {after} after")
+        print(f"surroundings: {count} short connections to a {transport}: {before} before, {after} after")
         want(after.maps <= before.maps + 8 and after.threads <= before.threads + 2, "ended sessions keep maps or threads")
         want(after.descriptors <= before.descriptors + 4, "ended sessions keep descriptors")
         want(after.kilobytes <= before.kilobytes + 2_048, "ended sessions keep memory")
@@ -263,23 +292,26 @@ class Trial:
             server.holds(1)
             self.met[case] += 1
 
-    def door(self) -> None:
-        """The port is closed after the last client, and a silent client is sent away."""
-        server = self.server("--idle", "1", clients=3)
+    def door(self, transport: str) -> None:
+        """The port or socket is closed after the last client, and a silent client is sent away."""
+        server = self.server("--idle", "1", clients=3, transport=transport)
         first, second, third = (server.client() for _ in range(3))
         want(first.play() == b"tick 1: +\n" and third.play() == b"tick 2: +\n", "no answer of three clients")
         end = time.monotonic() + PATIENCE_SECONDS
         while time.monotonic() < end:
             try:
-                Client(server.port).leave()
+                Client(server.address).leave()
             except ConnectionRefusedError:
                 self.met["port closed"] += 1
+                break
+            except FileNotFoundError:
+                self.met["socket removed"] += 1
                 break
         want(second.answers.readline() == b"", "a silent client stays")
         self.met["silent client ended"] += 1
         status, output, errors = server.end()
         want(status == 0 and output.endswith("stopped tick 2 acked 2\n"), f"the end by silence: {status} {output}")
-        want("worldd: the port is closed" in errors, f"nothing was printed of the port: {errors}")
+        want(f"worldd: the {transport} is closed" in errors, f"nothing was printed of the {transport}: {errors}")
 
     def links(self) -> None:
         """Files that are no ordinary files of their own, for those that write a world."""
@@ -350,17 +382,177 @@ class Trial:
                 want(status == 1 and errors.startswith("fault 17\n"), f"no thread: {status} {errors}")
                 self.met["no thread named"] += 1
 
+    def socket_modes(self) -> None:
+        """A socket has the mode that is asked for, whatever the mask of the process is, and is removed at the end."""
+        for mode, mask in itertools.product((None, "0600", "0660", "0666"), (0, 0o077)):
+            flags = ("--socket-mode", mode) if mode else ()
+            server = self.server(*flags, clients=1, transport=SOCKET, preexec_fn=lambda: os.umask(mask))
+            client = server.client()
+            found = stat.S_IMODE(server.path.stat().st_mode)
+            want(found == int(mode or "0600", 8), f"a socket of mode {mode} has {found:o}")
+            want(client.play() == b"tick 1: +\n", "no answer by a socket")
+            client.leave()
+            self.met["socket with its mode"] += 1
+            status, output, _ = server.end()
+            want(status == 0 and f"listening {server.path}\n" in output, f"the end at a socket: {status} {output}")
+            self.nothing_left(server.path)
+
+    def nothing_left(self, path: pathlib.Path) -> None:
+        """Neither a socket nor the folder in which it was made is left."""
+        left = list(path.parent.glob(f"{path.name}*"))
+        want(not left, f"a server left {left}")
+        self.met["socket removed"] += 1
+
+    def old_sockets(self) -> None:
+        """A socket that nobody listens on is replaced, also beside the folder of a start that was killed."""
+        server = self.server(transport=SOCKET)
+        client = server.client()
+        want(client.play() == b"tick 1: +\n", "no answer by a new socket")
+        server.kill()
+        client.leave()
+        room = server.path.with_name(f"{server.path.name}.new")
+        room.mkdir()
+        socket.socket(socket.AF_UNIX).bind(str(room / "s"))
+        again = Server(self.worldd, server.folder, clients=1, transport=SOCKET)
+        client = again.client()
+        want(client.play() == b"tick 2: +\n", "no answer by a socket that was replaced")
+        client.leave()
+        want(again.end()[0] == 0, "the end at a socket that was replaced")
+        self.nothing_left(server.path)
+        self.met["old socket replaced"] += 1
+
+    def refused(self, path: pathlib.Path, reason: str) -> None:
+        """A server at this path ends with its reason."""
+        folder = self.folder()
+        folder.mkdir()
+        self.run("create", "--dir", folder, "--cells", 2, capture_output=True)
+        flags = ("--method", "zigzag", "--socket", path, "--clients", 1)
+        run = self.run("serve", "--dir", folder, *flags, capture_output=True, text=True)
+        wanted = f"fault 18\nworldd: {path}: {reason}"
+        want(run.returncode == 1 and run.stderr.startswith(wanted), f"at {path}: {run.returncode} {run.stderr}")
+        want("listening" not in run.stdout, f"it listened at {path}")
+
+    def taken_places(self) -> None:
+        """A server leaves what it finds at its path, and whoever listens there."""
+        room = self.folder()
+        room.mkdir()
+        file, folder, link, pipe, blocked = (room / name for name in ("file", "folder", "link", "pipe", "blocked"))
+        file.write_bytes(b"kept")
+        folder.mkdir()
+        link.symlink_to(room / "nothing")
+        os.mkfifo(pipe)
+        for path, what in ((file, "a file"), (folder, "a folder"), (link, "a symbolic link"), (pipe, "a pipe or a device")):
+            before = path.lstat()
+            self.refused(path, f"{what} is in the socket's place\n")
+            want(path.lstat() == before, f"{path} isn't what it was")
+            self.met["socket's place taken"] += 1
+        want(file.read_bytes() == b"kept" and not (room / "nothing").exists(), "a file was written by its socket's server")
+        (room / "blocked.new").write_bytes(b"kept")
+        self.refused(blocked, "a folder is to be made there, with `.new` behind this name\n")
+        self.refused(room / ("x" * (102 - len(f"{room}/"))), "a socket's path has at most 101 bytes\n")
+        self.refused(room / "missing" / "socket", "No such file or directory (os error 2)\n")
+        self.refused(file / "socket", "Not a directory (os error 20)\n")
+        left = sorted(path.name for path in room.iterdir())
+        want(left == ["blocked.new", "file", "folder", "link", "pipe"], f"servers that were refused left {left}")
+
+    def socket_in_use(self) -> None:
+        """A second server at a path is refused. A file that takes a socket's place stays there."""
+        server = self.server(transport=SOCKET)
+        client = server.client()
+        self.refused(server.path, "another program listens there\n")
+        want(client.play() == b"tick 1: +\n", "no answer beside a server that was refused")
+        want(server.client().play() == b"tick 2: +\n", "no second client beside a server that was refused")
+        self.met["socket in use kept"] += 1
+        server.kill()
+        server = self.server(transport=SOCKET, clients=2)
+        client, aside = server.client(), server.path.with_suffix(".aside")
+        server.path.rename(aside)
+        server.path.write_bytes(b"kept")
+        for one in (client, Client(str(aside))):
+            want(one.play().startswith(b"tick"), "no answer by a socket that was renamed")
+            one.leave()
+        want(server.end()[0] == 0 and server.path.read_bytes() == b"kept", "a server removed another file")
+        self.met["other file kept"] += 1
+
+    def longest_path(self) -> None:
+        """A path of as many bytes as a socket may have."""
+        folder = self.scratch / ("x" * (101 - len(f"{self.scratch}/.socket")))
+        server = Server(self.worldd, folder, clients=1, transport=SOCKET)
+        client = server.client()
+        want(client.play() == b"tick 1: +\n", "no answer by a socket of a long path")
+        client.leave()
+        want(server.end()[0] == 0, "the end at a socket of a long path")
+        self.nothing_left(server.path)
+
+    def users(self) -> None:
+        """The mode of a socket says which users may connect."""
+        self.scratch.chmod(0o755)
+        worldd = self.scratch / "worldd"
+        shutil.copy(self.worldd, worldd)
+        worldd.chmod(0o755)
+        room = self.folder()
+        room.mkdir()
+        os.chown(room, OWNER, OWNER)
+        own = {"user": OWNER, "group": OWNER, "extra_groups": []}
+        subprocess.run([worldd, "create", "--dir", room, "--cells", "2"], check=True, capture_output=True, **own)
+        for mode, groups in (("0600", (False, False)), ("0660", (True, False)), ("0666", (True, True))):
+            path = room / "socket"
+            flags = ("--method", "zigzag", "--socket", path, "--socket-mode", mode, "--clients", "100000")
+            streams = {"stdout": subprocess.PIPE, "stderr": subprocess.DEVNULL}
+            command = [worldd, "serve", "--dir", room, *flags]
+            knocks = self.knocking(path)
+            server = subprocess.Popen(command, umask=0, **streams, **own)
+            try:
+                want([server.stdout.readline()[:9] for _ in range(2)] == [b"recovered", b"listening"], "no server of another user")
+                for user, group, may in ((OWNER, OWNER, True), (STRANGER, OWNER, groups[0]), (STRANGER, STRANGER, groups[1])):
+                    self.enter(path, mode, user, group, may)
+            finally:
+                server.kill()
+                server.communicate()
+                knocks.kill()
+                connected = knocks.communicate()[0]
+            want(bool(connected) == (mode == "0666"), f"a stranger that tried again and again at mode {mode}: `{connected[:9]}`")
+            self.met["socket never open to others"] += mode != "0666"
+
+    def knocking(self, path: pathlib.Path) -> subprocess.Popen:
+        """A process of a stranger, which tries to connect again and again."""
+        command = [sys.executable, "-c", TRY_TO_CONNECT, path]
+        knocks = subprocess.Popen(command, stdout=subprocess.PIPE, text=True, user=STRANGER, group=STRANGER, extra_groups=[])
+        want(knocks.stdout.readline() == "begun\n", "no stranger")
+        return knocks
+
+    def enter(self, path: pathlib.Path, mode: str, user: int, group: int, may: bool) -> None:
+        """A user connects, or is refused."""
+        command = [sys.executable, "-c", CONNECT, path]
+        run = subprocess.run(command, capture_output=True, text=True, user=user, group=group, extra_groups=[])
+        was_refused = run.returncode == 1 and "PermissionError" in run.stderr
+        want(run.stdout.startswith("tick") if may else was_refused, f"user {user} at mode {mode}: {run.stdout}{run.stderr}")
+        self.met["user let in" if may else "user refused"] += 1
+
     def all(self, connections: int) -> None:
         """Every case."""
         self.closed_streams()
-        self.short_connections(connections)
+        for transport in TRANSPORTS:
+            self.short_connections(connections // len(TRANSPORTS), transport)
+            self.door(transport)
         self.descriptors()
         self.unread_errors()
         self.broken_output()
-        self.door()
         self.links()
         self.full_file()
         self.threads()
+        self.socket_modes()
+        self.old_sockets()
+        self.taken_places()
+        self.socket_in_use()
+        self.longest_path()
+        if is_root():
+            self.users()
+
+
+def is_root() -> bool:
+    """Whether other users can be tried."""
+    return os.geteuid() == 0
 
 
 Footprint = collections.namedtuple("Footprint", "maps threads kilobytes descriptors")
@@ -388,9 +580,12 @@ def main() -> int:
         except Wrong as wrong:
             print(f"surroundings: {wrong}", file=sys.stderr)
             return 1
-    for case in CASES:
+    cases = CASES + CASES_OF_ROOT if is_root() else CASES
+    for case in cases:
         print(f"surroundings: {case}: {trial.met[case]}")
-    missed = [case for case in CASES if trial.met[case] == 0]
+    if not is_root():
+        print(f"surroundings: not tried, since only root can: {', '.join(CASES_OF_ROOT)}")
+    missed = [case for case in cases if trial.met[case] == 0]
     if missed:
         print(f"surroundings: never met: {', '.join(missed)}", file=sys.stderr)
     return 1 if missed else 0
