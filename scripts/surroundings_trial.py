@@ -33,6 +33,7 @@ PATIENCE_SECONDS = 30
 CELLS = 1000
 # Text that worldd prints, of which a file of a world has none.
 FOREIGN = (b"recovered", b"listening", b"worldd", b"created", b"stopped")
+EXIT = ("--exit-when-log-down",)
 SMALL_PIPE = 4096
 LINES_WAITING = 256
 # A limit on a file's size that no write ends at.
@@ -348,15 +349,17 @@ class Trial:
 
     def full_file(self) -> None:
         """The log reaches a limit on its size: a line names the cause, and the program ends if it is asked to."""
-        for flags in ((), ("--exit-when-log-down",)):
-            server = self.server("--every", "65536", *flags, clients=2, preexec_fn=limiting(resource.RLIMIT_FSIZE, FILE_LIMIT))
+        # The server that is to end at once waits for a third client then.
+        for flags, clients, transport in (((), 2, "port"), (EXIT, 3, "port"), (EXIT, 3, SOCKET)):
+            limit = limiting(resource.RLIMIT_FSIZE, FILE_LIMIT)
+            server = self.server("--every", "65536", *flags, clients=clients, transport=transport, preexec_fn=limit)
             client, idle = server.client(), server.client()
             ticks = 0
             while (answer := client.play(b"add 0 1\n" * 16)).startswith(b"tick"):
                 ticks += 1
             if flags:
                 status, _, errors = server.end()
-                want(status == 12, f"the end by the log: {status}")
+                want(status == 12 and not server.path.exists(), f"the end by the log: {status}")
                 self.met["ended by its log"] += 1
             else:
                 want(answer == b"fault 12\n", f"the answer after the log is down: {answer}")

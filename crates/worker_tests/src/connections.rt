@@ -1,10 +1,10 @@
 //! Connections by a port and by a socket: what one end writes the other reads, and silence ends a wait.
 use crate::same::same;
+use std::fs::Files;
 use std::io::{self, ErrorKind, Read, Write};
 use std::net::{Net, TcpListener, TcpStream};
 use std::os::unix::net::{SocketAddr, UnixListener, UnixStream};
 use std::process::Abort;
-use std::rt::Files;
 use std::time::Duration;
 use transports::{Listener, Stream};
 
