@@ -1,3 +1,5 @@
+ghost use Rattle.std.specs.Io.{ReadsAtMost, WritesAtMost};
+
 use std::io::{self, Read, Write};
 use std::net::TcpStream;
 use std::os::unix::net::UnixStream;
@@ -26,23 +28,37 @@ impl Stream {
             }
         }
     }
+
+    // Reads once.
+    fn receive(&self, into: &mut [u8]) -> io::Result<usize>
+        ensures { ReadsAtMost result into.new }
+    {
+        match self {
+            Stream::Tcp(stream) => (&*stream).read(into),
+            Stream::Unix(stream) => (&*stream).read(into),
+        }
+    }
+
+    // Writes once.
+    fn send(&self, bytes: &[u8]) -> io::Result<usize>
+        ensures { WritesAtMost result bytes.now }
+    {
+        match self {
+            Stream::Tcp(stream) => (&*stream).write(bytes),
+            Stream::Unix(stream) => (&*stream).write(bytes),
+        }
+    }
 }
 
 impl Read for &Stream {
     fn read(&mut self, into: &mut [u8]) -> io::Result<usize> {
-        match *self {
-            Stream::Tcp(stream) => (&*stream).read(into),
-            Stream::Unix(stream) => (&*stream).read(into),
-        }
+        self.receive(into)
     }
 }
 
 impl Write for &Stream {
     fn write(&mut self, bytes: &[u8]) -> io::Result<usize> {
-        match *self {
-            Stream::Tcp(stream) => (&*stream).write(bytes),
-            Stream::Unix(stream) => (&*stream).write(bytes),
-        }
+        self.send(bytes)
     }
 
     fn flush(&mut self) -> io::Result<()> {

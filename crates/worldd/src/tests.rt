@@ -224,19 +224,20 @@ const ALL: [&str; 17] = [
 
 #[test]
 fn flags_of_serve_are_read(rt: HostRuntime) -> Result<(), Fail> {
-    let Some((folder, is_ping_pong, every, address, clients, idle, exits)) =
-        asked(rt.alloc(), &LEAST)?
+    let Some((folder, is_ping_pong, every, address, clients, idle, exits)) = asked(
+        rt.alloc(),
+        &LEAST,
+    )?
     else {
         return Err(Fail::new("not understood"));
     };
     assert!(rt; folder.as_str() == "world" && is_ping_pong && !exits);
     assert!(rt; address.as_str() == "Port(0)", "{address}");
-    assert_eq!(rt;
-        (every, clients, idle),
-        (Every(64), Clients(100_000), None)
-    );
-    let Some((folder, is_ping_pong, every, address, clients, idle, exits)) =
-        asked(rt.alloc(), &ALL)?
+    assert_eq!(rt; (every, clients, idle), (Every(64), Clients(100_000), None));
+    let Some((folder, is_ping_pong, every, address, clients, idle, exits)) = asked(
+        rt.alloc(),
+        &ALL,
+    )?
     else {
         return Err(Fail::new("not understood"));
     };
@@ -253,10 +254,29 @@ const SOCKET_OF_A_GROUP: &str = "Socket { path: \"run/world\", mode: Group }";
 
 #[test]
 fn one_address_is_wanted(rt: HostRuntime) -> Result<(), Fail> {
-    let serve = ["worldd", "serve", "--dir", "d", "--method", "zigzag", "--clients", "1"];
+    let serve = [
+        "worldd",
+        "serve",
+        "--dir",
+        "d",
+        "--method",
+        "zigzag",
+        "--clients",
+        "1",
+    ];
     let both = [
-        "worldd", "serve", "--dir", "d", "--method", "zigzag", "--clients", "1", "--port", "1",
-        "--socket", "s",
+        "worldd",
+        "serve",
+        "--dir",
+        "d",
+        "--method",
+        "zigzag",
+        "--clients",
+        "1",
+        "--port",
+        "1",
+        "--socket",
+        "s",
     ];
     for line in [serve.as_slice(), both.as_slice()] {
         let line = words(rt.alloc(), line)?;
