@@ -42,7 +42,7 @@ SHORT = "the disk is full, or the file has reached a limit on its size"
 CASES = (
     *(f"{command} with closed streams" for command in ("create", "recover", "inspect", "steps", "serve")),
     "short connections", "descriptors exhausted", "descriptors freed", "errors unread", "lines dropped",
-    "output full", "output broken", "port closed", "silent client ended", "link refused", "mode of a new file",
+    "output full", "output broken", "port closed", "socket closed", "silent client ended", "link refused", "mode of a new file",
     "short write named", "ended by its log", "no thread named",
     "socket with its mode", "socket removed", "old socket replaced", "socket in use kept", "socket's place taken", "other file kept",
 )
@@ -303,10 +303,7 @@ class Trial:
             try:
                 Client(server.address).leave()
             except ConnectionRefusedError:
-                self.met["port closed"] += 1
-                break
-            except FileNotFoundError:
-                self.met["socket removed"] += 1
+                self.met[f"{transport} closed"] += 1
                 break
         want(second.answers.readline() == b"", "a silent client stays")
         self.met["silent client ended"] += 1

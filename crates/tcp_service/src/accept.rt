@@ -87,7 +87,6 @@ pub fn accept_sessions<
         &mut shared,
         &mut sessions,
     );
-    shared.door.closing();
     drop(listener);
     shared.door.closed();
     let Shared { door, .. } = shared;

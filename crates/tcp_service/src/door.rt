@@ -26,10 +26,7 @@ pub trait Door {
     /// The listener failed: no more connections are accepted.
     fn listener_failed(&mut self, error: &io::Error);
 
-    /// No more connections are accepted: the listener is closed next, and nobody else can listen there yet.
-    fn closing(&mut self);
-
-    /// The listener is closed.
+    /// No more connections are accepted, and the listener is closed.
     fn closed(&mut self);
 
     /// Whether the server is to be left at once, with its workers and sessions as they are. It is asked after each

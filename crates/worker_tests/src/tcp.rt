@@ -35,8 +35,6 @@ impl Door for Nobody {
 
     fn listener_failed(&mut self, _error: &io::Error) {}
 
-    fn closing(&mut self) {}
-
     fn closed(&mut self) {}
 
     fn is_left(&self) -> bool {

@@ -83,8 +83,6 @@ impl<R: Wait + Copy> Door for Teller<R> {
         self.tell(Told::ListenerFailed);
     }
 
-    fn closing(&mut self) {}
-
     fn closed(&mut self) {
         self.tell(Told::Closed);
     }

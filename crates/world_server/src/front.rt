@@ -23,7 +23,7 @@ use world_folder::{Ending, NoPort, ServerEnding, opened};
 
 /// The streams, the listener, where that is, and the lines of the workers and sessions.
 #[derive(Drop)]
-pub struct Front<R: Wait + Net + Files + Copy> {
+pub struct Front<R: Wait + Net + Copy> {
     pub streams: Streams,
     pub listener: Listener,
     pub place: Arc<Place, Global>,
@@ -72,7 +72,7 @@ impl<
 }
 
 // The lines that leave by these streams.
-fn lines_of<R: Wait + Net + Files + AllocGlobal + Copy>(
+fn lines_of<R: Wait + Net + AllocGlobal + Copy>(
     rt: &R,
     service: &Service<'_>,
     streams: &Streams,

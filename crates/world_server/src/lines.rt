@@ -5,7 +5,6 @@ use crate::place::Place;
 use crate::printer::Printer;
 use disk_model::FileDisk;
 use std::alloc::{AllocError, Global};
-use std::fs::Files;
 use std::io;
 use std::net::Net;
 use std::sync::atomic::{AtomicBool, Ordering};
@@ -17,7 +16,7 @@ use world_folder::WorldFile;
 
 /// Passes on what happens in a running server as lines, and never waits.
 #[derive(Drop)]
-pub struct Lines<R: Wait + Net + Files + Copy> {
+pub struct Lines<R: Wait + Net + Copy> {
     pub rt: R,
     /// The server listens there.
     pub place: Arc<Place, Global>,
@@ -28,7 +27,7 @@ pub struct Lines<R: Wait + Net + Files + Copy> {
     pub is_left: Arc<AtomicBool, Global>,
 }
 
-impl<R: Wait + Net + Files + Copy> Clone for Lines<R> {
+impl<R: Wait + Net + Copy> Clone for Lines<R> {
     fn clone(&self) -> Result<Self, AllocError> {
         Ok(Lines {
             rt: self.rt,
@@ -41,7 +40,7 @@ impl<R: Wait + Net + Files + Copy> Clone for Lines<R> {
     }
 }
 
-impl<R: Wait + Net + Files + Copy> Lines<R> {
+impl<R: Wait + Net + Copy> Lines<R> {
     // Has the server left, which may wait for clients.
     fn leave(&self) {
         self.is_left.store(true, Ordering::SeqCst);
@@ -60,13 +59,13 @@ pub trait Announce {
     fn stopped(&self, ended: u64, acked: u64);
 }
 
-impl<R: Wait + Net + Files + Copy> Announce for Lines<R> {
+impl<R: Wait + Net + Copy> Announce for Lines<R> {
     fn stopped(&self, ended: u64, acked: u64) {
         self.output.print(&self.rt, Line::Stopped { ended, acked });
     }
 }
 
-impl<R: Wait + Net + Files + Copy> Watch<FileDisk> for Lines<R> {
+impl<R: Wait + Net + Copy> Watch<FileDisk> for Lines<R> {
     fn image_opened(&mut self, tick: u64) {
         self.note(Line::ImageOpened(tick));
     }
@@ -88,7 +87,7 @@ impl<R: Wait + Net + Files + Copy> Watch<FileDisk> for Lines<R> {
     }
 }
 
-impl<R: Wait + Net + Files + Copy> Door for Lines<R> {
+impl<R: Wait + Net + Copy> Door for Lines<R> {
     fn opened(&mut self) {
         self.output.print(&self.rt, self.place.listening());
     }
@@ -107,10 +106,6 @@ impl<R: Wait + Net + Files + Copy> Door for Lines<R> {
 
     fn listener_failed(&mut self, error: &io::Error) {
         self.note(Line::ListenerFailed(*error));
-    }
-
-    fn closing(&mut self) {
-        self.place.leave(&self.rt);
     }
 
     fn closed(&mut self) {

@@ -48,7 +48,7 @@ impl Place {
         }
     }
 
-    /// Gives it up: the file of a socket is removed.
+    /// Gives it up, at the server's end: the file of a socket is removed.
     pub fn leave<R: Files>(&self, rt: &R) {
         if let Place::Socket(file) = self {
             file.remove(rt);

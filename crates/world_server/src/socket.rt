@@ -9,7 +9,6 @@ use std::net::Net;
 use std::os::unix::fs::{DirBuilderExt, FileTypeExt, MetadataExt, PermissionsExt};
 use std::os::unix::net::{UnixListener, UnixStream};
 use std::path::PathBuf;
-use std::sync::atomic::{AtomicBool, Ordering};
 use transports::Listener;
 
 /// Who may connect to a socket. The system's administrator always may.
@@ -44,16 +43,11 @@ impl SocketMode {
 pub struct SocketFile {
     pub path: PathBuf,
     made: Metadata,
-    is_there: AtomicBool,
 }
 
 impl SocketFile {
-    /// Removes the file, if it wasn't removed before and no other file has its name now. While the server listens, no
-    /// other server takes that name.
+    /// Removes the file, unless another one has its name by now, as that of a server that has begun since.
     pub fn remove<R: Files>(&self, rt: &R) {
-        if !self.is_there.swap(false, Ordering::SeqCst) {
-            return;
-        }
         let path = self.path.as_path();
         if let Ok(there) = fs::symlink_metadata(rt, path)
             && is_one_file(&self.made, &there)
@@ -63,8 +57,10 @@ impl SocketFile {
     }
 }
 
+// A new file may get the number of one that was removed, and has a later time then.
 fn is_one_file(a: &Metadata, b: &Metadata) -> bool {
-    a.dev() == b.dev() && a.ino() == b.ino()
+    (a.dev(), a.ino()) == (b.dev(), b.ino())
+        && (a.mtime(), a.mtime_nsec()) == (b.mtime(), b.mtime_nsec())
 }
 
 /// How many bytes a socket's path may have. The system allows 107, and the file is made under a longer name.
@@ -88,12 +84,7 @@ pub fn listen_at<R: Files + Net + AllocGlobal>(
     let first = format!(in rt.alloc(); "{path}.new/s")?;
     let own = PathBuf::from_str(rt.alloc(), path)?;
     let (listener, made) = make_in(rt, room.as_str(), first.as_str(), path, mode)?;
-    let file = SocketFile {
-        path: own,
-        made,
-        is_there: AtomicBool::new(true),
-    };
-    Ok((Listener::Unix(listener), file))
+    Ok((Listener::Unix(listener), SocketFile { path: own, made }))
 }
 
 // Makes sure that nothing stands at a path. It removes a socket that nobody listens on, and refuses anything else.

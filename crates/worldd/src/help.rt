@@ -73,9 +73,9 @@ It recovers the world in the folder, and listens on port P of 127.0.0.1, or on a
 of the system at PATH, until K connections have come and gone, each in a thread of its
 own. It makes no other file. METHOD is zigzag or pingpong, E from 1 to 65536, P from 0 to
 65535, K from 1 to 100000, SECONDS from 1 to 86400, PATH of at most 101 bytes. After the
-last connection the port is closed, or the socket is closed and its file removed. Any
-user of this machine may connect to a port, and to a socket those whom MODE lets write
-its file.
+last connection the port or the socket is closed; the file at PATH is removed at the end.
+Any user of this machine may connect to a port, and to a socket those whom MODE lets
+write its file.
 A client writes lines, and `end` closes a batch, which is answered once it is durable:
   set, add, move, swap, cap, get  as in `steps`; a batch has 1024 lines at most
   end  `tick NUMBER: + =5 -3`, a word for each line, or `fault CODE`
