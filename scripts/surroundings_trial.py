@@ -10,8 +10,10 @@ tried by root alone.
 """
 import argparse
 import collections
+import ctypes
 import fcntl
 import itertools
+import multiprocessing
 import os
 import pathlib
 import re
@@ -49,24 +51,8 @@ CASES = (
 CASES_OF_ROOT = ("user let in", "user refused", "socket never open to others")
 # Users and groups, which the system need not know. The server's own are the first ones.
 OWNER, STRANGER = 61_001, 61_002
-CONNECT = """
-import socket, sys
-stream = socket.socket(socket.AF_UNIX)
-stream.connect(sys.argv[1])
-stream.sendall(b"get 0\\nend\\n")
-print(stream.makefile().readline())
-"""
-TRY_TO_CONNECT = """
-import socket, sys
-print("begun", flush=True)
-while True:
-    for path in sys.argv[1], sys.argv[1] + ".new/s":
-        try:
-            socket.socket(socket.AF_UNIX).connect(path)
-            print("connected", flush=True)
-        except OSError:
-            pass
-"""
+LET_IN, REFUSED = 0, 13
+FORK = multiprocessing.get_context("fork")
 
 
 class Wrong(Exception):
@@ -500,7 +486,11 @@ class Trial:
             flags = ("--method", "zigzag", "--socket", path, "--socket-mode", mode, "--clients", "100000")
             streams = {"stdout": subprocess.PIPE, "stderr": subprocess.DEVNULL}
             command = [worldd, "serve", "--dir", room, *flags]
-            knocks = self.knocking(path)
+            begun, came_in = FORK.RawValue("b"), FORK.RawValue("b")
+            stranger = FORK.Process(target=knock, args=(str(path), begun, came_in), daemon=True)
+            stranger.start()
+            while not begun.value:
+                time.sleep(0.001)
             server = subprocess.Popen(command, umask=0, **streams, **own)
             try:
                 want([server.stdout.readline()[:9] for _ in range(2)] == [b"recovered", b"listening"], "no server of another user")
@@ -509,24 +499,17 @@ class Trial:
             finally:
                 server.kill()
                 server.communicate()
-                knocks.kill()
-                connected = knocks.communicate()[0]
-            want(bool(connected) == (mode == "0666"), f"a stranger that tried again and again at mode {mode}: `{connected[:9]}`")
+                stranger.kill()
+                stranger.join()
+            want(bool(came_in.value) == (mode == "0666"), f"a stranger that tried again and again at mode {mode}: {came_in.value}")
             self.met["socket never open to others"] += mode != "0666"
-
-    def knocking(self, path: pathlib.Path) -> subprocess.Popen:
-        """A process of a stranger, which tries to connect again and again."""
-        command = [sys.executable, "-c", TRY_TO_CONNECT, path]
-        knocks = subprocess.Popen(command, stdout=subprocess.PIPE, text=True, user=STRANGER, group=STRANGER, extra_groups=[])
-        want(knocks.stdout.readline() == "begun\n", "no stranger")
-        return knocks
 
     def enter(self, path: pathlib.Path, mode: str, user: int, group: int, may: bool) -> None:
         """A user connects, or is refused."""
-        command = [sys.executable, "-c", CONNECT, path]
-        run = subprocess.run(command, capture_output=True, text=True, user=user, group=group, extra_groups=[])
-        was_refused = run.returncode == 1 and "PermissionError" in run.stderr
-        want(run.stdout.startswith("tick") if may else was_refused, f"user {user} at mode {mode}: {run.stdout}{run.stderr}")
+        process = FORK.Process(target=play_as, args=(str(path), user, group))
+        process.start()
+        process.join()
+        want(process.exitcode == (LET_IN if may else REFUSED), f"user {user} of group {group} at mode {mode}: {process.exitcode}")
         self.met["user let in" if may else "user refused"] += 1
 
     def all(self, connections: int) -> None:
@@ -548,6 +531,35 @@ class Trial:
         self.longest_path()
         if is_root():
             self.users()
+
+
+def become(user: int, group: int) -> None:
+    """This process goes on as another user."""
+    os.setgroups([])
+    os.setgid(group)
+    os.setuid(user)
+
+
+def play_as(path: str, user: int, group: int) -> None:
+    """The work of a process: a user plays at a socket."""
+    become(user, group)
+    try:
+        sys.exit(LET_IN if Client(path).play(b"get 0\n").startswith(b"tick") else 1)
+    except PermissionError:
+        sys.exit(REFUSED)
+
+
+def knock(path: str, begun: ctypes.c_byte, came_in: ctypes.c_byte) -> None:
+    """The work of a process: a stranger tries to connect, also while the socket is made, again and again until it may."""
+    become(STRANGER, STRANGER)
+    begun.value = 1
+    while not came_in.value:
+        for place in (path, f"{path}.new/s"):
+            try:
+                connect(place).close()
+                came_in.value = 1
+            except OSError:
+                pass
 
 
 def is_root() -> bool:

@@ -93,7 +93,7 @@ fn socket_mode_argument<'a>(alloc: Global) -> Result<Arg<'a>, AllocError> {
         .default_value("0600")
         .value_parser(["0600", "0660", "0666"].as_slice())
         .help("Who may connect to the socket: its owner, its group too, or everyone")
-        .requires_arg(SOCKET)
+        .conflicts_with(PORT)
 }
 
 // Exactly one of the port and the socket is wanted.
