@@ -47,6 +47,7 @@ CASES = (
     "output full", "output broken", "port closed", "socket closed", "silent client ended", "link refused", "mode of a new file",
     "short write named", "ended by its log", "no thread named",
     "socket with its mode", "socket removed", "old socket replaced", "socket in use kept", "socket's place taken", "other file kept",
+    "next server's socket kept",
 )
 CASES_OF_ROOT = ("user let in", "user refused", "socket never open to others")
 # Users and groups, which the system need not know. The server's own are the first ones.
@@ -106,9 +107,10 @@ class Server:
     """A serving worldd on a world of its own."""
 
     def __init__(
-        self, worldd: str, folder: pathlib.Path, *flags: str, clients: int = 100_000, transport: str = "port", **process
+        self, worldd: str, folder: pathlib.Path, *flags: str, clients: int = 100_000, transport: str = "port",
+        path: pathlib.Path | None = None, **process
     ) -> None:
-        self.worldd, self.folder, self.path = worldd, folder, folder.with_suffix(".socket")
+        self.worldd, self.folder, self.path = worldd, folder, path or folder.with_suffix(".socket")
         if not folder.exists():
             folder.mkdir()
             subprocess.run([worldd, "create", "--dir", folder, "--cells", str(CELLS)], check=True, capture_output=True)
@@ -126,6 +128,16 @@ class Server:
             except (ConnectionRefusedError, FileNotFoundError):
                 want(time.monotonic() < end and self.process.poll() is None, f"no server at {self.folder}")
                 time.sleep(0.01)
+
+    def wait_until_closed(self) -> None:
+        """Waits until a further client is refused."""
+        end = time.monotonic() + PATIENCE_SECONDS
+        while True:
+            try:
+                Client(self.address).leave()
+            except ConnectionRefusedError:
+                return
+            want(time.monotonic() < end, f"{self.address} stays open")
 
     def kill(self) -> None:
         """Kills it, and checks the files: they must hold each tick that was answered, and no other text."""
@@ -284,13 +296,8 @@ class Trial:
         server = self.server("--idle", "1", clients=3, transport=transport)
         first, second, third = (server.client() for _ in range(3))
         want(first.play() == b"tick 1: +\n" and third.play() == b"tick 2: +\n", "no answer of three clients")
-        end = time.monotonic() + PATIENCE_SECONDS
-        while time.monotonic() < end:
-            try:
-                Client(server.address).leave()
-            except ConnectionRefusedError:
-                self.met[f"{transport} closed"] += 1
-                break
+        server.wait_until_closed()
+        self.met[f"{transport} closed"] += 1
         want(second.answers.readline() == b"", "a silent client stays")
         self.met["silent client ended"] += 1
         status, output, errors = server.end()
@@ -460,6 +467,21 @@ class Trial:
         want(server.end()[0] == 0 and server.path.read_bytes() == b"kept", "a server removed another file")
         self.met["other file kept"] += 1
 
+    def next_server(self) -> None:
+        """A server takes the path of one that is closed and still plays, and keeps it after the other's end."""
+        first = self.server(transport=SOCKET, clients=1)
+        client = first.client()
+        want(client.play() == b"tick 1: +\n", "no answer by a socket")
+        first.wait_until_closed()
+        second = self.server(transport=SOCKET, path=first.path)
+        want(second.client().play() == b"tick 1: +\n", "no answer by the next server")
+        want(client.play() == b"tick 2: +\n", "no answer of the server before")
+        client.leave()
+        want(first.end()[0] == 0, "the end of the server before")
+        want(second.client().play() == b"tick 2: +\n", "a server removed the socket of the next one")
+        second.kill()
+        self.met["next server's socket kept"] += 1
+
     def longest_path(self) -> None:
         """A path of as many bytes as a socket may have."""
         folder = self.scratch / ("x" * (101 - len(f"{self.scratch}/.socket")))
@@ -528,6 +550,7 @@ class Trial:
         self.old_sockets()
         self.taken_places()
         self.socket_in_use()
+        self.next_server()
         self.longest_path()
         if is_root():
             self.users()
