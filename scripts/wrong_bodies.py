@@ -3,7 +3,7 @@
 
     scripts/wrong_bodies.py action_log recovery     those of two crates
     scripts/wrong_bodies.py --since main            those of the crates that changed since a commit
-    scripts/wrong_bodies.py --all                   those of every crate (hours)
+    scripts/wrong_bodies.py --all --jobs 4          those of every crate, four crates at a time (hours)
     scripts/wrong_bodies.py --can-be-applied        only whether each can still be applied (seconds; `.ci/run` asks)
 
 The gate tries crates/*/must-fail; this tries crates/*/wrong-bodies, by `rt must-fail` on a copy of the repository.
@@ -16,6 +16,9 @@ import shutil
 import subprocess
 import sys
 import tempfile
+from concurrent.futures import ThreadPoolExecutor
+
+from map import below, read_crates
 
 TOP = pathlib.Path(__file__).resolve().parent.parent
 FOLDERS = ("must-fail", "wrong-bodies", "trial-bodies")
@@ -102,28 +105,43 @@ def lay(crates: list[str], copy: pathlib.Path) -> int:
     return count
 
 
-def attempt(crates: list[str]) -> int:
-    """Tries the wrong bodies of some crates, and prints what came of each."""
+def build(crates: list[str], copy: pathlib.Path) -> None:
+    """Builds the libraries below some crates of a copy, one after the other, unless checks have built them."""
+    lower = below(read_crates())
+    for crate in read_crates():
+        if any(crate in lower[name] for name in crates):
+            subprocess.run(["rt", "lib"], cwd=copy / "crates" / crate, capture_output=True, check=True)
+
+
+def attempt(crates: list[str], jobs: int) -> int:
+    """Tries the wrong bodies of some crates, so many crates at a time, and prints what came of each."""
     with tempfile.TemporaryDirectory(prefix="wrong-bodies-") as folder:
         copy = pathlib.Path(folder) / "copy"
         count = lay(crates, copy)
         if not count:
             print("no wrong body to try")
             return 0
-        run = subprocess.run(["rt", "must-fail", *crates], cwd=copy, stdout=subprocess.PIPE, stderr=subprocess.STDOUT, text=True)
-    told: dict[str, list[str]] = collections.defaultdict(list)
+        build(crates, copy)
+        with ThreadPoolExecutor(jobs) as pool:
+            told = collections.Counter()
+            for answers in pool.map(lambda crate: attempt_crate(crate, copy), crates):
+                told += answers
+    print(f"wrong bodies: {told['refused']} of {count} refused ({' '.join(crates)})")
+    return 0 if told["refused"] == count else 1
+
+
+def attempt_crate(crate: str, copy: pathlib.Path) -> collections.Counter:
+    """Tries the wrong bodies of a crate of a copy, prints what came of each, and counts the answers."""
+    run = subprocess.run(["rt", "must-fail", crate], cwd=copy, stdout=subprocess.PIPE, stderr=subprocess.STDOUT, text=True)
+    told: collections.Counter = collections.Counter()
     for line in run.stdout.splitlines():
         of = re.search(r"must-fail (\S+)\.edit: (" + "|".join(ANSWERS) + r")(.*)", line)
         if of:
-            answer = ANSWERS[of[2]]
-            told[answer].append(of[1])
-            print(f"{of[1]}: {answer}{of[3]}")
-    refused = len(told["refused"])
-    if refused != count:
-        others = [f"{answer}: {' '.join(names)}" for answer, names in told.items() if answer != "refused" and names]
-        print("\n".join(others) or run.stdout[-2000:], file=sys.stderr)
-    print(f"wrong bodies: {refused} of {count} refused ({' '.join(crates)})")
-    return 0 if refused == count else 1
+            told[ANSWERS[of[2]]] += 1
+            print(f"{of[1]}: {ANSWERS[of[2]]}{of[3]}", flush=True)
+    if not told:
+        print(run.stdout[-2000:], file=sys.stderr)
+    return told
 
 
 def main() -> int:
@@ -133,6 +151,7 @@ def main() -> int:
     parser.add_argument("--since", metavar="COMMIT", help="try those of the crates that changed since this commit")
     parser.add_argument("--all", action="store_true", help="try those of every crate")
     parser.add_argument("--can-be-applied", action="store_true", help="only check that each can still be applied")
+    parser.add_argument("--jobs", type=int, default=1, help="how many crates are tried at a time")
     given = parser.parse_args()
     if given.can_be_applied:
         return can_be_applied()
@@ -148,7 +167,7 @@ def main() -> int:
         crates = given.crates
     if not crates and not given.since:
         parser.error("name a crate, or give --since COMMIT or --all")
-    return attempt(crates)
+    return attempt(crates, given.jobs)
 
 
 if __name__ == "__main__":
