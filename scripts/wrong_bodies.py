@@ -105,9 +105,9 @@ def changed_since(commit: str) -> list[str]:
 
 
 def left_out(folder: str, names: list[str]) -> set[str]:
-    """What a copy of the repository doesn't have. It has the work that earlier checks kept."""
+    """What a copy of the repository doesn't have. It has the libraries that checks have built."""
     if pathlib.Path(folder).name == "out":
-        return set(names) - {"rlib", "incremental"}
+        return set(names) - {"rlib"}
     return set(names) & {".git", "must-fail"}
 
 
@@ -201,9 +201,19 @@ def refused_together(crate: pathlib.Path, group: dict[pathlib.Path, set]) -> set
     return {body for body, them in group.items() if any(it.holds(path) for it in them for path in failed)}
 
 
+def own_copy(name: str, copy: pathlib.Path) -> pathlib.Path:
+    """A crate in a copy of its own, with the work that its checks kept. Checks in one copy would wait for one another."""
+    own = copy.with_name(name)
+    shutil.copytree(copy, own)
+    kept = TOP / "crates" / name / "out" / "incremental"
+    if kept.is_dir():
+        shutil.copytree(kept, own / "crates" / name / "out" / "incremental")
+    return own / "crates" / name
+
+
 def attempt_crate(name: str, copy: pathlib.Path) -> collections.Counter:
-    """Tries the wrong bodies of a crate of the copy, prints what came of each, and counts the answers."""
-    crate, told = copy / "crates" / name, collections.Counter()
+    """Tries the wrong bodies of a crate, prints what came of each, and counts the answers."""
+    crate, told = own_copy(name, copy), collections.Counter()
     bodies = bodies_of(crate)
     if bodies and check(crate, []).returncode:
         print(f"{name}: the crate itself isn't proved", flush=True)
@@ -214,6 +224,7 @@ def attempt_crate(name: str, copy: pathlib.Path) -> collections.Counter:
             answer = "refused" if body in refused else attempt_alone(crate, body)
             told[answer.partition(",")[0]] += 1
             print(f"{name}/{body.stem}: {answer}", flush=True)
+    shutil.rmtree(crate.parent.parent)
     return told
 
 
