@@ -1,0 +1,213 @@
+#!/usr/bin/env python3
+"""Cuts the power of a machine whose worldd serves, at many recorded moments, and looks at what stands in the files each time.
+
+    scripts/power_trial.py crates/worldd/out/worldd
+    scripts/power_trial.py WORLDD --fs ext4 --data journal --cuts 500 --seed 7
+
+A machine's disk keeps its writes and flushes in one order with what clients were answered. A cut leaves the writes that a
+flush had covered, and of the others any, whole or torn at sectors. A second machine recovers what is left: each answered tick
+must be there, as kill_trial.py judges it. The next run begins with such a disk. With --show syncs are left out, and then
+flushes: each must cost answered ticks, except that of the folder, which these file systems don't need.
+"""
+import argparse
+import collections
+import contextlib
+import os
+import pathlib
+import random
+import re
+import shutil
+import struct
+import subprocess
+import sys
+import tempfile
+import time
+
+from kill_trial import CELLS, CLIENTS, COUNT, METHODS, Found, Wrong, batches, found_in, judge, text_of
+from power_machine import DISK, Machine, lacking, pack
+
+MEGABYTES = {"ext4": 64, "xfs": 300, "btrfs": 128}
+BLOCKS, EVERY = ("1024", "4096"), (1, 8, 64)
+CUTS_OF_A_RUN, RUNS_OF_A_DISK, PATIENCE_SECONDS, WRITE_SECONDS = 50, 4, 180, 0.001
+# How likely the power is cut after a request of the disk, and before a flush is done: until clients are served, and then.
+EARLY, LATE = {"request": 0.03, "flush": 0.1}, {"request": 0.01, "flush": 0.05}
+# In every other run a write with these bytes, which the log has of each tick, takes longer: covers come by that.
+SLOW_LOG = struct.pack("<BIq", 2, COUNT, 1), 0.05
+# A disk that drops flushes keeps so many writes back.
+KEPT_BACK = 64
+# What is left of the writes that no flush has covered: pieces of such a size, each by such a chance or by any.
+WHOLE, SECTOR = 1 << 30, 512
+WAYS = {"no write left": (WHOLE, 0), "all writes left": (WHOLE, 1), "some writes left": (WHOLE, None)}
+WAYS |= {"some sectors left": (SECTOR, None), "most sectors left": (SECTOR, 0.95)}
+CREATE, MOUNT, PARTS = "in create", "in a mount", {"created": "just created", "recovered": "in a start", "listening": "in play"}
+STOOD = "in a round", "in a switch", "covered", "tail of log.a", "tail of log.b", "from image.a", "from image.b"
+STOOD += ("more than answered",)
+KINDS, MENDED = (*WAYS, CREATE, MOUNT, *PARTS.values(), "no world", *STOOD), "mended by e2fsck"
+FOLDER, FLUSHES = "folder", "flushes"
+SYNCS = "log body", "log gate", "image body", "image gate", FOLDER
+LOG = re.compile(r"log\.([ab]): open, format \d, base (\d+), \d+ groups?, (\d+) ticks?,")
+MOUNTED = "mount -t {fs} -o {options} /dev/vda /mnt || {{ e2fsck -fy /dev/vda; mount -t {fs} -o {options} /dev/vda /mnt; }}"
+SERVES = f"""{MOUNTED} >/dev/null
+echo 10 >/proc/sys/vm/dirty_writeback_centisecs; echo 20 >/proc/sys/vm/dirty_expire_centisecs
+mkdir -p /mnt/w; export {{variables}}
+worldd recover --dir /mnt/w 2>/dev/null || worldd create --dir /mnt/w --cells {{cells}}
+(while :; do dd if=/dev/urandom of=/mnt/n bs=4k count=20; mv /mnt/n /mnt/o; sleep 0.2; rm /mnt/o; done) 2>/dev/null &
+for port in $(ls /sys/class/virtio-ports); do
+    (until nc 127.0.0.1 7070; do sleep 0.1; done) <>/dev/$port >&0 2>/dev/null &
+done
+worldd serve --dir /mnt/w --method {{method}} --every {{every}} --port 7070 --clients 1000
+"""
+READS = f"""exec <>/dev/$(ls /sys/class/virtio-ports) >&0 2>&1
+while read look; do
+    {MOUNTED}
+    worldd recover --dir /mnt/w || {{{{ mkdir -p /mnt/w; worldd create --dir /mnt/w --cells {{cells}}; }}}}
+    worldd inspect --dir /mnt/w --words
+    umount /mnt || rm -r /mnt/w
+    echo looked
+done
+"""
+
+
+class Trial:
+    """A trial on a file system, with the counts so far."""
+
+    def __init__(self, given: argparse.Namespace, folder: pathlib.Path, fault: str) -> None:
+        self.given, self.folder, self.fault, self.fresh = given, folder, fault, Found("", 0, 0, "", [0] * given.cells, False)
+        self.tally: collections.Counter[str] = collections.Counter()
+
+    def machine(self, script: str, image: bytearray, ports: int, **words: object) -> contextlib.closing[Machine]:
+        """Starts a machine with this script. A library leaves a sync out, if that is the fault."""
+        given, room = self.given, pathlib.Path(tempfile.mkdtemp(dir=self.folder))
+        programs = {"bin/worldd": given.worldd, "bin/e2fsck": shutil.which("e2fsck")}
+        words |= {"options": f"data={given.data}" if given.fs == "ext4" else "rw", "variables": "SYNCS_LEFT_OUT="}
+        if self.fault in SYNCS:
+            source, programs["lib/left_out.so"] = pathlib.Path(__file__).with_name("left_out_syncs.c"), f"{room}/left_out.so"
+            subprocess.run(["cc", "-shared", "-fPIC", "-o", f"{room}/left_out.so", source], check=True)
+            words["variables"] = f'LD_PRELOAD=/lib/left_out.so SYNCS_LEFT_OUT="{self.fault}"'
+        pack(room, given.kernel, given.fs, programs, script.format(**vars(given) | words))
+        return contextlib.closing(Machine(room, given.kernel, image, ports))
+
+    def serve(self, run: int, image: bytearray, before: Found | None, cuts: int) -> tuple[bytearray, Found | None]:
+        """Lets a machine serve until the power was cut so often, and gives a disk that was left, with the world on it."""
+        method, every = self.given.method or METHODS[run % 2], self.given.every or EVERY[run % 3]
+        plans = [batches(f"{self.given.seed} {run} {client}", client, run) for client in range(CLIENTS)]
+        end, kept, chances = time.monotonic() + PATIENCE_SECONDS, random.randrange(cuts), EARLY
+        self.before, self.part, self.answered, self.waiting = before or self.fresh, MOUNT if before else CREATE, {}, {}
+        with self.machine(SERVES, bytearray(image), CLIENTS, method=method, every=every) as machine:
+            machine.slow, machine.kept_back = SLOW_LOG if run % 4 in (0, 3) else (b"", 0), KEPT_BACK * (self.fault == FLUSHES)
+            while cuts and time.monotonic() < end:
+                for port, line in machine.events(WRITE_SECONDS):
+                    told, word = re.match(r"tick (\d+):", line), line.partition(" ")[0]
+                    if port == DISK and cuts and random.random() < chances[word]:
+                        left, cuts = self.cut(machine), cuts - 1
+                        image, before = left if cuts >= kept else (image, before)
+                    elif told:
+                        self.answered[int(told[1])] = self.waiting[port], line
+                    elif word in PARTS:
+                        self.part, chances = PARTS[word], LATE if word == "listening" else EARLY
+                    elif port > 0 or re.search("fault|down|refused|panic|error", line):
+                        raise Wrong(f"the machine told `{line}`")
+                    # A client sends its first batch once it listens, and each other one once the one before is answered.
+                    for client in range(1, 1 + CLIENTS) if word == "listening" else [port] if port > 0 else ():
+                        self.waiting[client] = next(plans[client - 1])
+                        machine.streams[client].sendall(text_of(self.waiting[client]))
+        if cuts:
+            raise Wrong(f"the machine is too slow: {cuts} cuts are left")
+        self.tally["ticks answered"] += len(self.answered)
+        return image, before
+
+    def cut(self, machine: Machine) -> tuple[bytearray, Found | None]:
+        """Cuts the power, judges what another machine recovers then, and gives the disk that was left and the world on it."""
+        way, (size, share) = random.choice(list(WAYS.items()))
+        left, told, end = machine.left(size, random.random() if share is None else share), [], time.monotonic() + PATIENCE_SECONDS
+        self.reader.image = bytearray(left)
+        self.reader.streams[1].sendall(b"look\n")
+        while "looked" not in told and time.monotonic() < end:
+            told += [line for port, line in self.reader.events(0) if port > 0]
+        self.reader.writes.clear()
+        self.tally.update({"cuts": 1, way: 1, self.part: 1, MENDED: "\n".join(told).count("FILE SYSTEM WAS MODIFIED")})
+        told = [line for line in told if re.match(r"recovered|fault|created|image|log|\d+ ", line)] or ["nothing"]
+        is_unmade = self.part == CREATE and told[0] in ("fault 13", "fault 18") and f"created {self.given.cells}" in told[1:2]
+        told = ["recovered 0 from 0", *told[2:]] if is_unmade else told
+        if not told[0].startswith("recovered"):
+            raise Wrong(f"recovered no world: {told[0]}")
+        found = found_in(told[0], told)
+        judge(self.before, found, self.answered, frozenset(self.waiting.values()))
+        self.tally.update([*["no world"] * is_unmade, *self.stood(found, told)])
+        return left, None if is_unmade else found
+
+    def stood(self, found: Found, told: list[str]) -> list[str]:
+        """The kinds of what stands in the files."""
+        logs = sorted((int(base), int(ticks), name) for name, base, ticks in LOG.findall("\n".join(told)))
+        (base, ticks, _), (last, tail, name) = (logs[0], logs[-1]) if logs else [(0, 0, "")] * 2
+        first, is_more = self.before.tick, found.tick > max(self.answered, default=self.before.tick)
+        is_so = found.in_round, len(logs) == 1 and base > first, first <= base and base + ticks < last
+        is_so += *(tail > 0 and name == log for log in "ab"), *(found.image == f"image.{image}" for image in "ab"), is_more
+        return [kind for kind, holds in zip(STOOD, is_so) if holds]
+
+    def run(self) -> str:
+        """Cuts as often as was asked, and gives the counts, each of which has to grow."""
+        path, size = self.folder / "new", MEGABYTES[self.given.fs] << 20
+        with self.machine(READS, bytearray(size), 1) as self.reader:
+            for run, done in enumerate(range(0, self.given.cuts, CUTS_OF_A_RUN)):
+                if run % RUNS_OF_A_DISK == 0 or self.fault == FOLDER:
+                    path.write_bytes(bytes(size))
+                    flags = ["-q", "-g", "8192", "-b", random.choice(BLOCKS)] if self.given.fs == "ext4" else []
+                    subprocess.run([f"mkfs.{self.given.fs}", *flags, path], check=True, capture_output=True)
+                    image, before = bytearray(path.read_bytes()), None
+                image, before = self.serve(run, image, before, min(CUTS_OF_A_RUN, self.given.cuts - done))
+        counts = "; ".join(f"{name} {self.tally[name]}" for name in ("cuts", "ticks answered", *KINDS, MENDED))
+        if not self.fault and not all(self.tally[kind] for kind in KINDS):
+            raise Wrong(f"a count is 0: {counts}")
+        return counts
+
+
+def seen(given: argparse.Namespace, folder: pathlib.Path, fault: str) -> str:
+    """What is lost without these syncs, or without flushes."""
+    trial = Trial(given, folder, fault)
+    try:
+        trial.run()
+    except Wrong as wrong:
+        if re.match("recovered", str(wrong)):
+            return f"without {fault}: seen at cut {trial.tally['cuts']}: {wrong}"
+        raise
+    if fault != FOLDER:
+        raise Wrong(f"without {fault}: not seen in {given.cuts} cuts")
+    return f"without {fault}: tried in {given.cuts} cuts, and not seen"
+
+
+def main() -> int:
+    """Runs the trial, and keeps the files where it fails."""
+    parser = argparse.ArgumentParser(description=__doc__.splitlines()[0])
+    parser.add_argument("worldd", type=os.path.abspath, help="the built program")
+    parser.add_argument("--fs", choices=MEGABYTES, default="ext4", help="the file system (ext4)")
+    parser.add_argument("--data", choices=("ordered", "journal", "writeback"), default="ordered", help="of ext4 (ordered)")
+    parser.add_argument("--method", choices=METHODS, help="in place of both in turn")
+    parser.add_argument("--every", type=int, help="in place of 1, 8 and 64 in turn")
+    parser.add_argument("--cells", type=int, default=600, help=f"of the world, {CELLS} at least (600)")
+    parser.add_argument("--cuts", type=int, default=150, help="how often the power is cut (150)")
+    parser.add_argument("--seed", type=int, default=time.time_ns() % 10**9, help="of the batches, the moments and what is left")
+    parser.add_argument("--kernel", type=pathlib.Path, default="/", help="where a kernel is installed or unpacked (/)")
+    parser.add_argument("--show", action="store_true", help="leave syncs and flushes out, one after another")
+    given = parser.parse_args()
+    os.environ["PATH"] += ":/usr/sbin:/sbin"
+    random.seed(given.seed)
+    if missing := lacking(given.kernel):
+        print(f"power_trial: skipped: there is no {', no '.join(missing)}")
+        return 0
+    print(f"power_trial: seed {given.seed}", flush=True)
+    folder = pathlib.Path(tempfile.mkdtemp(prefix="power-trial-"))
+    try:
+        for fault in (*SYNCS, FLUSHES) if given.show else ():
+            print(seen(given, folder, fault), flush=True)
+        if not given.show:
+            print(Trial(given, folder, "").run())
+    except (Wrong, OSError, subprocess.SubprocessError) as wrong:
+        print(f"power_trial: {wrong}\npower_trial: seed {given.seed}, files in {folder}", file=sys.stderr)
+        return 1
+    shutil.rmtree(folder)
+    return 0
+
+
+if __name__ == "__main__":
+    sys.exit(main())
