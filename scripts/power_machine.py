@@ -24,11 +24,11 @@ mount -t proc proc /proc; mount -t sysfs sys /sys; mount -t devtmpfs dev /dev
 for module in {modules} {modules}; do insmod /modules/$module 2>/dev/null; done
 ifconfig lo 127.0.0.1 up
 """
-QEMU = """qemu-system-x86_64 -accel tcg -cpu max -m 384 -display none -nodefaults -no-reboot -serial chardev:c0
-    -device virtio-serial-pci -device virtio-blk-pci,drive=d,discard=off,write-zeroes=off"""
+QEMU = """qemu-system-x86_64 -accel tcg -cpu max -m 384 -display none -nodefaults -no-reboot -initrd {room}/files
+    -blockdev driver=nbd,node-name=d,server.type=unix,server.path={room}/disk -serial chardev:c0 -device virtio-serial-pci
+    -device virtio-blk-pci,drive=d,discard=off,write-zeroes=off"""
 # Of the NBD protocol: the greeting of a disk that can be flushed, and the kinds of requests.
-NBD, GREETING, CAN_BE_FLUSHED = "driver=nbd,node-name=d,server.type=unix,server.path=", struct.Struct(">8sQQI124x"), 5
-READ, WRITE = 0, 1
+GREETING, CAN_BE_FLUSHED, READ, WRITE = struct.Struct(">8sQQI124x"), 5, 0, 1
 DISK = -1
 
 
@@ -75,8 +75,7 @@ class Machine:
         self.writes: dict[int, tuple[int, bytes]] = {}
         self.done, self.due, self.count, self.rests = set(), [], 0, [b""] * (1 + ports)
         doors = [socket.create_server(f"{room}/{name}", family=socket.AF_UNIX) for name in ("disk", "lines")]
-        words = [*QEMU.split(), "-kernel", str(kernel_of(root)), "-initrd", f"{room}/files"]
-        words += ["-append", "console=ttyS0 quiet panic=-1", "-blockdev", f"{NBD}{room}/disk"]
+        words = [*QEMU.format(room=room).split(), "-kernel", str(kernel_of(root)), "-append", "console=ttyS0 quiet panic=-1"]
         for port in range(1 + ports):
             words += ["-chardev", f"socket,id=c{port},path={room}/lines"]
             words += ["-device", f"virtserialport,chardev=c{port}"] if port else []
@@ -93,8 +92,6 @@ class Machine:
         """Takes its power."""
         self.process.kill()
         self.process.wait()
-        for stream in self.streams:
-            stream.close()
 
     def left(self, size: int, share: float) -> bytearray:
         """The disk that a cut leaves now: of the writes that aren't durable a share, in pieces of this size."""

@@ -40,8 +40,7 @@ WHOLE, SECTOR = 1 << 30, 512
 WAYS = {"no write left": (WHOLE, 0), "all writes left": (WHOLE, 1), "some writes left": (WHOLE, None)}
 WAYS |= {"some sectors left": (SECTOR, None), "most sectors left": (SECTOR, 0.95)}
 CREATE, MOUNT, PARTS = "in create", "in a mount", {"created": "just created", "recovered": "in a start", "listening": "in play"}
-STOOD = "in a round", "in a switch", "covered", "tail of log.a", "tail of log.b", "from image.a", "from image.b"
-STOOD += ("more than answered",)
+STOOD = "in a round", "in a switch", "covered", "tail of log.a", "tail of log.b", "from image.a", "from image.b", "kept more"
 KINDS, MENDED = (*WAYS, CREATE, MOUNT, *PARTS.values(), "no world", *STOOD), "mended by e2fsck"
 FOLDER, FLUSHES = "folder", "flushes"
 SYNCS = "log body", "log gate", "image body", "image gate", FOLDER
@@ -138,11 +137,11 @@ class Trial:
 
     def stood(self, found: Found, told: list[str]) -> list[str]:
         """The kinds of what stands in the files."""
-        logs = sorted((int(base), int(ticks), name) for name, base, ticks in LOG.findall("\n".join(told)))
-        (base, ticks, _), (last, tail, name) = (logs[0], logs[-1]) if logs else [(0, 0, "")] * 2
-        first, is_more = self.before.tick, found.tick > max(self.answered, default=self.before.tick)
+        logs = sorted((int(base), int(ticks), name) for name, base, ticks in LOG.findall("\n".join(told))) or [(0, 0, "")]
+        (base, ticks, _), (last, tail, name), first = logs[0], logs[-1], self.before.tick
         is_so = found.in_round, len(logs) == 1 and base > first, first <= base and base + ticks < last
-        is_so += *(tail > 0 and name == log for log in "ab"), *(found.image == f"image.{image}" for image in "ab"), is_more
+        is_so += *(tail > 0 and name == log for log in "ab"), *(found.image == f"image.{image}" for image in "ab")
+        is_so += (found.tick > max(self.answered, default=first),)
         return [kind for kind, holds in zip(STOOD, is_so) if holds]
 
     def run(self) -> str:
@@ -162,18 +161,18 @@ class Trial:
         return counts
 
 
-def seen(given: argparse.Namespace, folder: pathlib.Path, fault: str) -> str:
-    """What is lost without these syncs, or without flushes."""
+def told_of(given: argparse.Namespace, folder: pathlib.Path, fault: str) -> str:
+    """What came of a trial, which without some syncs, or without flushes, has to be a loss."""
     trial = Trial(given, folder, fault)
     try:
-        trial.run()
+        counts = trial.run()
     except Wrong as wrong:
-        if re.match("recovered", str(wrong)):
+        if fault and str(wrong).startswith("recovered"):
             return f"without {fault}: seen at cut {trial.tally['cuts']}: {wrong}"
         raise
-    if fault != FOLDER:
+    if fault not in ("", FOLDER):
         raise Wrong(f"without {fault}: not seen in {given.cuts} cuts")
-    return f"without {fault}: tried in {given.cuts} cuts, and not seen"
+    return f"without {fault}: tried in {given.cuts} cuts, and not seen" if fault else counts
 
 
 def main() -> int:
@@ -198,10 +197,8 @@ def main() -> int:
     print(f"power_trial: seed {given.seed}", flush=True)
     folder = pathlib.Path(tempfile.mkdtemp(prefix="power-trial-"))
     try:
-        for fault in (*SYNCS, FLUSHES) if given.show else ():
-            print(seen(given, folder, fault), flush=True)
-        if not given.show:
-            print(Trial(given, folder, "").run())
+        for fault in (*SYNCS, FLUSHES) if given.show else ("",):
+            print(told_of(given, folder, fault), flush=True)
     except (Wrong, OSError, subprocess.SubprocessError) as wrong:
         print(f"power_trial: {wrong}\npower_trial: seed {given.seed}, files in {folder}", file=sys.stderr)
         return 1
