@@ -17,12 +17,10 @@ from kill_trial import PATIENCE_SECONDS, QUIET, Wrong
 PACKAGES = {"qemu-system-x86": "qemu-system-x86_64", "busybox-static": "busybox", "e2fsprogs": "mkfs.ext4"}
 PACKAGES |= {"xfsprogs": "mkfs.xfs", "btrfs-progs": "mkfs.btrfs"}
 MODULES = "virtio_pci", "virtio_blk", "virtio_console", "crc32c_generic", "crc32c_intel"
-FOLDERS = "proc", "sys", "dev", "mnt"
 INIT = """#!/bin/busybox sh
 /bin/busybox --install -s /bin; export PATH=/bin
-mount -t proc proc /proc; mount -t sysfs sys /sys; mount -t devtmpfs dev /dev
+mount -t proc proc /proc; mount -t sysfs sys /sys; mount -t devtmpfs dev /dev; ifconfig lo 127.0.0.1 up
 for module in {modules} {modules}; do insmod /modules/$module 2>/dev/null; done
-ifconfig lo 127.0.0.1 up
 """
 QEMU = """qemu-system-x86_64 -accel tcg -cpu max -m 384 -display none -nodefaults -no-reboot -initrd {room}/files
     -blockdev driver=nbd,node-name=d,server.type=unix,server.path={room}/disk -serial chardev:c0 -device virtio-serial-pci
@@ -57,7 +55,7 @@ def pack(room: pathlib.Path, root: pathlib.Path, fs: str, programs: dict[str, st
     programs = {"bin/busybox": shutil.which("busybox"), **programs}
     linked = re.findall(r"(/\S+) \(0x", subprocess.run(["ldd", *programs.values()], capture_output=True, text=True).stdout)
     paths = {path.lstrip("/"): path for path in linked} | programs | {f"modules/{path.name}": path for path in loaded}
-    for folder in (*FOLDERS, *(pathlib.Path(name).parent for name in paths)):
+    for folder in ("proc", "sys", "dev", "mnt", *(pathlib.Path(name).parent for name in paths)):
         (room / "first" / folder).mkdir(parents=True, exist_ok=True)
     for name, path in paths.items():
         shutil.copy(path, room / "first" / name)
@@ -116,22 +114,18 @@ class Machine:
         due = time.monotonic() + seconds * random.expovariate(1) + self.slow[1] * (self.slow[0] in data)
         heapq.heappush(self.due, (due, self.count, kind, covered, answer))
 
-    def finish(self, number: int, kind: int, covered: set[int], answer: bytes) -> None:
-        """Ends a write or a flush."""
-        self.done.add(number)
-        lasting = sorted(self.writes)[: -self.kept_back] if self.kept_back else sorted(covered & self.writes.keys())
-        for at, data in map(self.writes.pop, lasting if kind != WRITE else ()):
-            self.durable[at : at + len(data)] = data
-        self.disk.sendall(answer)
-
     def events(self, seconds: float) -> Iterator[tuple[int, str]]:
         """Serves the disk for a moment. Gives each line that has come with its port, which is 0 for the console, and DISK after
         each request and before the end of each flush. A request that came with a line follows it."""
         while self.due and self.due[0][0] <= time.monotonic():
             _, number, kind, covered, answer = heapq.heappop(self.due)
+            self.done.add(number)
             if kind != WRITE:
                 yield DISK, "flush"
-            self.finish(number, kind, covered, answer)
+                lasting = sorted(self.writes)[: -self.kept_back] if self.kept_back else sorted(covered & self.writes.keys())
+                for at, data in map(self.writes.pop, lasting):
+                    self.durable[at : at + len(data)] = data
+            self.disk.sendall(answer)
         wait = max(0.0, self.due[0][0] - time.monotonic()) if self.due else 0.05
         for number in sorted(key.data for key, _ in self.chosen.select(wait)):
             if self.streams[number] is self.disk:

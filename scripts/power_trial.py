@@ -1,8 +1,7 @@
 #!/usr/bin/env python3
 """Cuts the power of a machine whose worldd serves, at many recorded moments, and looks at what stands in the files each time.
 
-    scripts/power_trial.py crates/worldd/out/worldd
-    scripts/power_trial.py WORLDD --fs ext4 --data journal --cuts 500 --seed 7
+    scripts/power_trial.py crates/worldd/out/worldd --fs ext4 --options data=journal --cuts 500 --seed 7
 
 A machine's disk keeps its writes and flushes in one order with what clients were answered. A cut leaves the writes that a
 flush had covered, and of the others any, whole or torn at sectors. A second machine recovers what is left: each answered tick
@@ -42,8 +41,7 @@ WAYS |= {"some sectors left": (SECTOR, None), "most sectors left": (SECTOR, 0.95
 CREATE, MOUNT, PARTS = "in create", "in a mount", {"created": "just created", "recovered": "in a start", "listening": "in play"}
 STOOD = "in a round", "in a switch", "covered", "tail of log.a", "tail of log.b", "from image.a", "from image.b", "kept more"
 KINDS, MENDED = (*WAYS, CREATE, MOUNT, *PARTS.values(), "no world", *STOOD), "mended by e2fsck"
-FOLDER, FLUSHES = "folder", "flushes"
-SYNCS = "log body", "log gate", "image body", "image gate", FOLDER
+SYNCS, FOLDER, FLUSHES = ("log body", "log gate", "image body", "image gate"), "folder", "flushes"
 LOG = re.compile(r"log\.([ab]): open, format \d, base (\d+), \d+ groups?, (\d+) ticks?,")
 MOUNTED = "mount -t {fs} -o {options} /dev/vda /mnt || {{ e2fsck -fy /dev/vda; mount -t {fs} -o {options} /dev/vda /mnt; }}"
 SERVES = f"""{MOUNTED} >/dev/null
@@ -51,9 +49,7 @@ echo 10 >/proc/sys/vm/dirty_writeback_centisecs; echo 20 >/proc/sys/vm/dirty_exp
 mkdir -p /mnt/w; export {{variables}}
 worldd recover --dir /mnt/w 2>/dev/null || worldd create --dir /mnt/w --cells {{cells}}
 (while :; do dd if=/dev/urandom of=/mnt/n bs=4k count=20; mv /mnt/n /mnt/o; sleep 0.2; rm /mnt/o; done) 2>/dev/null &
-for port in $(ls /sys/class/virtio-ports); do
-    (until nc 127.0.0.1 7070; do sleep 0.1; done) <>/dev/$port >&0 2>/dev/null &
-done
+for port in $(ls /sys/class/virtio-ports); do (until nc 127.0.0.1 7070; do sleep 0.1; done) <>/dev/$port >&0 2>/dev/null & done
 worldd serve --dir /mnt/w --method {{method}} --every {{every}} --port 7070 --clients 1000
 """
 READS = f"""exec <>/dev/$(ls /sys/class/virtio-ports) >&0 2>&1
@@ -71,15 +67,16 @@ class Trial:
     """A trial on a file system, with the counts so far."""
 
     def __init__(self, given: argparse.Namespace, folder: pathlib.Path, fault: str) -> None:
-        self.given, self.folder, self.fault, self.fresh = given, folder, fault, Found("", 0, 0, "", [0] * given.cells, False)
+        self.given, self.folder, self.fault, self.left = given, folder, fault, bytearray()
+        self.fresh = Found("recovered 0 from 0", 0, 0, "image.a", [0] * given.cells, False)
         self.tally: collections.Counter[str] = collections.Counter()
 
     def machine(self, script: str, image: bytearray, ports: int, **words: object) -> contextlib.closing[Machine]:
         """Starts a machine with this script. A library leaves a sync out, if that is the fault."""
         given, room = self.given, pathlib.Path(tempfile.mkdtemp(dir=self.folder))
         programs = {"bin/worldd": given.worldd, "bin/e2fsck": shutil.which("e2fsck")}
-        words |= {"options": f"data={given.data}" if given.fs == "ext4" else "rw", "variables": "SYNCS_LEFT_OUT="}
-        if self.fault in SYNCS:
+        words["variables"] = "SYNCS_LEFT_OUT="
+        if self.fault not in ("", FLUSHES):
             source, programs["lib/left_out.so"] = pathlib.Path(__file__).with_name("left_out_syncs.c"), f"{room}/left_out.so"
             subprocess.run(["cc", "-shared", "-fPIC", "-o", f"{room}/left_out.so", source], check=True)
             words["variables"] = f'LD_PRELOAD=/lib/left_out.so SYNCS_LEFT_OUT="{self.fault}"'
@@ -98,13 +95,13 @@ class Trial:
                 for port, line in machine.events(WRITE_SECONDS):
                     told, word = re.match(r"tick (\d+):", line), line.partition(" ")[0]
                     if port == DISK and cuts and random.random() < chances[word]:
-                        left, cuts = self.cut(machine), cuts - 1
-                        image, before = left if cuts >= kept else (image, before)
+                        found, cuts = self.cut(machine), cuts - 1
+                        image, before = (self.left, found) if cuts >= kept else (image, before)
                     elif told:
                         self.answered[int(told[1])] = self.waiting[port], line
-                    elif word in PARTS:
+                    elif word in ("created", "listening") or line == self.before.line:
                         self.part, chances = PARTS[word], LATE if word == "listening" else EARLY
-                    elif port > 0 or re.search("fault|down|refused|panic|error", line):
+                    elif port > 0 or re.search("fault|recovered|down|refused|panic|error", line):
                         raise Wrong(f"the machine told `{line}`")
                     # A client sends its first batch once it listens, and each other one once the one before is answered.
                     for client in range(1, 1 + CLIENTS) if word == "listening" else [port] if port > 0 else ():
@@ -115,11 +112,11 @@ class Trial:
         self.tally["ticks answered"] += len(self.answered)
         return image, before
 
-    def cut(self, machine: Machine) -> tuple[bytearray, Found | None]:
-        """Cuts the power, judges what another machine recovers then, and gives the disk that was left and the world on it."""
-        way, (size, share) = random.choice(list(WAYS.items()))
-        left, told, end = machine.left(size, random.random() if share is None else share), [], time.monotonic() + PATIENCE_SECONDS
-        self.reader.image = bytearray(left)
+    def cut(self, machine: Machine) -> Found | None:
+        """Cuts the power, judges what another machine recovers then, and gives the world on the disk that was left."""
+        (way, (size, share)), told, end = random.choice(list(WAYS.items())), [], time.monotonic() + PATIENCE_SECONDS
+        self.left = machine.left(size, random.random() if share is None else share)
+        self.reader.image = bytearray(self.left)
         self.reader.streams[1].sendall(b"look\n")
         while "looked" not in told and time.monotonic() < end:
             told += [line for port, line in self.reader.events(0) if port > 0]
@@ -127,22 +124,21 @@ class Trial:
         self.tally.update({"cuts": 1, way: 1, self.part: 1, MENDED: "\n".join(told).count("FILE SYSTEM WAS MODIFIED")})
         told = [line for line in told if re.match(r"recovered|fault|created|image|log|\d+ ", line)] or ["nothing"]
         is_unmade = self.part == CREATE and told[0] in ("fault 13", "fault 18") and f"created {self.given.cells}" in told[1:2]
-        told = ["recovered 0 from 0", *told[2:]] if is_unmade else told
+        told = [self.fresh.line, *told[2:]] if is_unmade else told
         if not told[0].startswith("recovered"):
             raise Wrong(f"recovered no world: {told[0]}")
         found = found_in(told[0], told)
         judge(self.before, found, self.answered, frozenset(self.waiting.values()))
         self.tally.update([*["no world"] * is_unmade, *self.stood(found, told)])
-        return left, None if is_unmade else found
+        return None if is_unmade else found
 
     def stood(self, found: Found, told: list[str]) -> list[str]:
         """The kinds of what stands in the files."""
         logs = sorted((int(base), int(ticks), name) for name, base, ticks in LOG.findall("\n".join(told))) or [(0, 0, "")]
         (base, ticks, _), (last, tail, name), first = logs[0], logs[-1], self.before.tick
-        is_so = found.in_round, len(logs) == 1 and base > first, first <= base and base + ticks < last
-        is_so += *(tail > 0 and name == log for log in "ab"), *(found.image == f"image.{image}" for image in "ab")
-        is_so += (found.tick > max(self.answered, default=first),)
-        return [kind for kind, holds in zip(STOOD, is_so) if holds]
+        kinds = [f"from {found.image}", *["in a round"] * found.in_round, *[f"tail of log.{name}"] * (tail > 0)]
+        kinds += ["in a switch"] * (len(logs) == 1 and base > first) + ["covered"] * (first <= base and base + ticks < last)
+        return kinds + ["kept more"] * (found.tick > max(self.answered, default=first))
 
     def run(self) -> str:
         """Cuts as often as was asked, and gives the counts, each of which has to grow."""
@@ -169,6 +165,7 @@ def told_of(given: argparse.Namespace, folder: pathlib.Path, fault: str) -> str:
     except Wrong as wrong:
         if fault and str(wrong).startswith("recovered"):
             return f"without {fault}: seen at cut {trial.tally['cuts']}: {wrong}"
+        (folder / "left").write_bytes(trial.left)
         raise
     if fault not in ("", FOLDER):
         raise Wrong(f"without {fault}: not seen in {given.cuts} cuts")
@@ -180,7 +177,7 @@ def main() -> int:
     parser = argparse.ArgumentParser(description=__doc__.splitlines()[0])
     parser.add_argument("worldd", type=os.path.abspath, help="the built program")
     parser.add_argument("--fs", choices=MEGABYTES, default="ext4", help="the file system (ext4)")
-    parser.add_argument("--data", choices=("ordered", "journal", "writeback"), default="ordered", help="of ext4 (ordered)")
+    parser.add_argument("--options", default="rw", help="of its mount, as data=journal (rw)")
     parser.add_argument("--method", choices=METHODS, help="in place of both in turn")
     parser.add_argument("--every", type=int, help="in place of 1, 8 and 64 in turn")
     parser.add_argument("--cells", type=int, default=600, help=f"of the world, {CELLS} at least (600)")
@@ -197,7 +194,7 @@ def main() -> int:
     print(f"power_trial: seed {given.seed}", flush=True)
     folder = pathlib.Path(tempfile.mkdtemp(prefix="power-trial-"))
     try:
-        for fault in (*SYNCS, FLUSHES) if given.show else ("",):
+        for fault in (*SYNCS, FOLDER, FLUSHES) if given.show else ("",):
             print(told_of(given, folder, fault), flush=True)
     except (Wrong, OSError, subprocess.SubprocessError) as wrong:
         print(f"power_trial: {wrong}\npower_trial: seed {given.seed}, files in {folder}", file=sys.stderr)
