@@ -104,11 +104,12 @@ class Machine:
     def take(self, seconds: float) -> None:
         """Takes a request of the disk. A write or a flush is done after some such time."""
         _, _, kind, handle, at, length = struct.unpack(">IHHQQI", self.disk.recv(28, socket.MSG_WAITALL))
-        answer, self.count = struct.pack(">IIQ", 0x67446698, 0, handle), self.count + 1
+        answer = struct.pack(">IIQ", 0x67446698, 0, handle)
         if kind == READ:
             self.disk.sendall(answer + self.image[at : at + length])
             return
         data, covered = self.disk.recv(length, socket.MSG_WAITALL) if kind == WRITE else b"", self.done & self.writes.keys()
+        self.count += 1
         if kind == WRITE:
             self.writes[self.count], self.image[at : at + length] = (at, data), data
         due = time.monotonic() + seconds * random.expovariate(1) + self.slow[1] * (self.slow[0] in data)
@@ -116,7 +117,7 @@ class Machine:
 
     def events(self, seconds: float) -> Iterator[tuple[int, str]]:
         """Serves the disk for a moment. Gives each line that has come with its port, which is 0 for the console, and DISK after
-        each request and before the end of each flush. A request that came with a line follows it."""
+        each write or flush that is asked for and before the end of each flush. A request that came with a line follows it."""
         while self.due and self.due[0][0] <= time.monotonic():
             _, number, kind, covered, answer = heapq.heappop(self.due)
             self.done.add(number)
@@ -129,8 +130,9 @@ class Machine:
         wait = max(0.0, self.due[0][0] - time.monotonic()) if self.due else 0.05
         for number in sorted(key.data for key, _ in self.chosen.select(wait)):
             if self.streams[number] is self.disk:
+                before = self.count
                 self.take(seconds)
-                yield DISK, "request"
+                yield from [(DISK, "request")] * (self.count - before)
                 continue
             data = self.streams[number].recv(1 << 16)
             if not data:
