@@ -49,10 +49,11 @@ echo 10 >/proc/sys/vm/dirty_writeback_centisecs; echo 20 >/proc/sys/vm/dirty_exp
 mkdir -p /mnt/w; export {{variables}}
 worldd recover --dir /mnt/w 2>/dev/null || worldd create --dir /mnt/w --cells {{cells}}
 (while :; do dd if=/dev/urandom of=/mnt/n bs=4k count=20; mv /mnt/n /mnt/o; sleep 0.2; rm /mnt/o; done) 2>/dev/null &
-for port in $(ls /sys/class/virtio-ports); do (until nc 127.0.0.1 7070; do sleep 0.1; done) <>/dev/$port >&0 2>/dev/null & done
+for port in /dev/vport*; do (until nc 127.0.0.1 7070; do sleep 0.1; done) <>$port >&0 2>/dev/null & done
 worldd serve --dir /mnt/w --method {{method}} --every {{every}} --port 7070 --clients 1000
 """
-READS = f"""exec <>/dev/$(ls /sys/class/virtio-ports) >&0 2>&1
+READS = f"""while ! ls /dev/vport*; do sleep 0.1; done
+exec <>$(ls /dev/vport*) >&0 2>&1
 while read look; do
     {MOUNTED}
     worldd recover --dir /mnt/w || {{{{ mkdir -p /mnt/w; worldd create --dir /mnt/w --cells {{cells}}; }}}}
