@@ -22,9 +22,10 @@ INIT = """#!/bin/busybox sh
 mount -t proc proc /proc; mount -t sysfs sys /sys; mount -t devtmpfs dev /dev; ifconfig lo 127.0.0.1 up
 for module in {modules} {modules}; do insmod /modules/$module 2>/dev/null; done
 """
-QEMU = """qemu-system-x86_64 -accel tcg -cpu max -m 384 -display none -nodefaults -no-reboot -initrd {room}/files
+QEMU = """qemu-system-x86_64 -accel tcg -cpu Nehalem -m 384 -display none -nodefaults -no-reboot -initrd {room}/files
     -blockdev driver=nbd,node-name=d,server.type=unix,server.path={room}/disk -serial chardev:c0 -device virtio-serial-pci
     -device virtio-blk-pci,drive=d,discard=off,write-zeroes=off"""
+APPENDED = "console=ttyS0 quiet panic=-1 mitigations=off nokaslr"
 # Of the NBD protocol: the greeting of a disk that can be flushed, and the kinds of requests.
 GREETING, CAN_BE_FLUSHED, READ, WRITE = struct.Struct(">8sQQI124x"), 5, 0, 1
 DISK = -1
@@ -73,7 +74,7 @@ class Machine:
         self.writes: dict[int, tuple[int, bytes]] = {}
         self.done, self.due, self.count, self.rests = set(), [], 0, [b""] * (1 + ports)
         doors = [socket.create_server(f"{room}/{name}", family=socket.AF_UNIX) for name in ("disk", "lines")]
-        words = [*QEMU.format(room=room).split(), "-kernel", str(kernel_of(root)), "-append", "console=ttyS0 quiet panic=-1"]
+        words = [*QEMU.format(room=room).split(), "-kernel", str(kernel_of(root)), "-append", APPENDED]
         for port in range(1 + ports):
             words += ["-chardev", f"socket,id=c{port},path={room}/lines"]
             words += ["-device", f"virtserialport,chardev=c{port}"] if port else []
@@ -91,15 +92,14 @@ class Machine:
         self.process.kill()
         self.process.wait()
 
-    def left(self, size: int, share: float) -> bytearray:
-        """The disk that a cut leaves now: of the writes that aren't durable a share, in pieces of this size."""
-        image = bytearray(self.durable)
+    def cut(self, image: bytearray, size: int, share: float) -> None:
+        """Makes the image one that a cut leaves now: of the writes that aren't durable a share, in pieces of this size."""
+        image[:] = self.durable
         for at, data in self.writes.values():
             for begin in range(0, len(data), size):
                 if random.random() < share:
                     end = min(begin + size, len(data))
                     image[at + begin : at + end] = data[begin:end]
-        return image
 
     def take(self, seconds: float) -> None:
         """Takes a request of the disk. A write or a flush is done after some such time."""

@@ -25,11 +25,11 @@ import time
 from kill_trial import CELLS, CLIENTS, COUNT, METHODS, Found, Wrong, batches, found_in, judge, text_of
 from power_machine import DISK, Machine, lacking, pack
 
-MEGABYTES = {"ext4": 64, "xfs": 300, "btrfs": 128}
+MEGABYTES = {"ext4": 32, "xfs": 300, "btrfs": 128}
 BLOCKS, EVERY = ("1024", "4096"), (1, 8, 64)
-CUTS_OF_A_RUN, RUNS_OF_A_DISK, PATIENCE_SECONDS, WRITE_SECONDS = 50, 4, 180, 0.001
+CUTS_OF_A_RUN, RUNS_OF_A_DISK, PATIENCE_SECONDS, WRITE_SECONDS = 75, 4, 600, 0.001
 # How likely the power is cut after a request of the disk, and before a flush is done: until clients are served, and then.
-EARLY, LATE = {"request": 0.03, "flush": 0.1}, {"request": 0.01, "flush": 0.05}
+EARLY, LATE = {"request": 0.05, "flush": 0.3}, {"request": 0.02, "flush": 0.1}
 # In every other run a write with these bytes, which the log has of each tick, takes longer: covers come by that.
 SLOW_LOG = struct.pack("<BIq", 2, COUNT, 1), 0.05
 # A disk that drops flushes keeps so many writes back.
@@ -68,7 +68,7 @@ class Trial:
     """A trial on a file system, with the counts so far."""
 
     def __init__(self, given: argparse.Namespace, folder: pathlib.Path, fault: str) -> None:
-        self.given, self.folder, self.fault, self.left = given, folder, fault, bytearray()
+        self.given, self.folder, self.fault, self.left = given, folder, fault, bytearray(MEGABYTES[given.fs] << 20)
         self.fresh = Found("recovered 0 from 0", 0, 0, "image.a", [0] * given.cells, False)
         self.tally: collections.Counter[str] = collections.Counter()
 
@@ -97,7 +97,7 @@ class Trial:
                     told, word = re.match(r"tick (\d+):", line), line.partition(" ")[0]
                     if port == DISK and cuts and random.random() < chances[word]:
                         found, cuts = self.cut(machine), cuts - 1
-                        image, before = (self.left, found) if cuts >= kept else (image, before)
+                        image, before = (bytearray(self.left), found) if cuts == kept else (image, before)
                     elif told:
                         self.answered[int(told[1])] = self.waiting[port], line
                     elif word in ("created", "listening") or line == self.before.line:
@@ -116,8 +116,8 @@ class Trial:
     def cut(self, machine: Machine) -> Found | None:
         """Cuts the power, judges what another machine recovers then, and gives the world on the disk that was left."""
         (way, (size, share)), told, end = random.choice(list(WAYS.items())), [], time.monotonic() + PATIENCE_SECONDS
-        self.left = machine.left(size, random.random() if share is None else share)
-        self.reader.image = bytearray(self.left)
+        machine.cut(self.left, size, random.random() if share is None else share)
+        self.reader.image[:] = self.left
         self.reader.streams[1].sendall(b"look\n")
         while "looked" not in told and time.monotonic() < end:
             told += [line for port, line in self.reader.events(0) if port > 0]
@@ -143,12 +143,12 @@ class Trial:
 
     def run(self) -> str:
         """Cuts as often as was asked, and gives the counts, each of which has to grow."""
-        path, size = self.folder / "new", MEGABYTES[self.given.fs] << 20
-        with self.machine(READS, bytearray(size), 1) as self.reader:
+        path = self.folder / "new"
+        with self.machine(READS, bytearray(self.left), 1) as self.reader:
             for run, done in enumerate(range(0, self.given.cuts, CUTS_OF_A_RUN)):
                 if run % RUNS_OF_A_DISK == 0 or self.fault == FOLDER:
-                    path.write_bytes(bytes(size))
-                    flags = ["-q", "-g", "8192", "-b", random.choice(BLOCKS)] if self.given.fs == "ext4" else []
+                    path.write_bytes(bytes(len(self.left)))
+                    flags = ["-q", "-g", "4096", "-b", random.choice(BLOCKS)] if self.given.fs == "ext4" else []
                     subprocess.run([f"mkfs.{self.given.fs}", *flags, path], check=True, capture_output=True)
                     image, before = bytearray(path.read_bytes()), None
                 image, before = self.serve(run, image, before, min(CUTS_OF_A_RUN, self.given.cuts - done))
