@@ -25,7 +25,7 @@ for module in {modules} {modules}; do insmod /modules/$module 2>/dev/null; done
 QEMU = """qemu-system-x86_64 -accel tcg -cpu Nehalem -m 384 -display none -nodefaults -no-reboot -initrd {room}/files
     -blockdev driver=nbd,node-name=d,server.type=unix,server.path={room}/disk -serial chardev:c0 -device virtio-serial-pci
     -device virtio-blk-pci,drive=d,discard=off,write-zeroes=off"""
-APPENDED = "console=ttyS0 quiet panic=-1 mitigations=off nokaslr"
+APPENDED = "console=ttyS0 quiet panic=-1 mitigations=off nokaslr no_timer_check"
 # Of the NBD protocol: the greeting of a disk that can be flushed, and the kinds of requests.
 GREETING, CAN_BE_FLUSHED, READ, WRITE = struct.Struct(">8sQQI124x"), 5, 0, 1
 DISK = -1
@@ -71,8 +71,7 @@ class Machine:
 
     def __init__(self, room: pathlib.Path, root: pathlib.Path, image: bytearray, ports: int) -> None:
         self.image, self.durable, self.slow, self.kept_back = image, bytearray(image), (b"", 0.0), 0
-        self.writes: dict[int, tuple[int, bytes]] = {}
-        self.done, self.due, self.count, self.rests = set(), [], 0, [b""] * (1 + ports)
+        self.writes, self.done, self.due, self.count, self.rests = {}, set(), [], 0, [b""] * (1 + ports)
         doors = [socket.create_server(f"{room}/{name}", family=socket.AF_UNIX) for name in ("disk", "lines")]
         words = [*QEMU.format(room=room).split(), "-kernel", str(kernel_of(root)), "-append", APPENDED]
         for port in range(1 + ports):
@@ -101,19 +100,20 @@ class Machine:
                     end = min(begin + size, len(data))
                     image[at + begin : at + end] = data[begin:end]
 
-    def take(self, seconds: float) -> None:
-        """Takes a request of the disk. A write or a flush is done after some such time."""
+    def take(self, seconds: float) -> int:
+        """Takes a request of the disk, and gives how many writes and flushes that was. They are done after some such time."""
         _, _, kind, handle, at, length = struct.unpack(">IHHQQI", self.disk.recv(28, socket.MSG_WAITALL))
         answer = struct.pack(">IIQ", 0x67446698, 0, handle)
         if kind == READ:
             self.disk.sendall(answer + self.image[at : at + length])
-            return
+            return 0
         data, covered = self.disk.recv(length, socket.MSG_WAITALL) if kind == WRITE else b"", self.done & self.writes.keys()
         self.count += 1
         if kind == WRITE:
             self.writes[self.count], self.image[at : at + length] = (at, data), data
         due = time.monotonic() + seconds * random.expovariate(1) + self.slow[1] * (self.slow[0] in data)
         heapq.heappush(self.due, (due, self.count, kind, covered, answer))
+        return 1
 
     def events(self, seconds: float) -> Iterator[tuple[int, str]]:
         """Serves the disk for a moment. Gives each line that has come with its port, which is 0 for the console, and DISK after
@@ -130,9 +130,7 @@ class Machine:
         wait = max(0.0, self.due[0][0] - time.monotonic()) if self.due else 0.05
         for number in sorted(key.data for key, _ in self.chosen.select(wait)):
             if self.streams[number] is self.disk:
-                before = self.count
-                self.take(seconds)
-                yield from [(DISK, "request")] * (self.count - before)
+                yield from [(DISK, "request")] * self.take(seconds)
                 continue
             data = self.streams[number].recv(1 << 16)
             if not data:

@@ -16,6 +16,7 @@ import pathlib
 import random
 import re
 import shutil
+import signal
 import struct
 import subprocess
 import sys
@@ -30,10 +31,9 @@ BLOCKS, EVERY = ("1024", "4096"), (1, 8, 64)
 CUTS_OF_A_RUN, RUNS_OF_A_DISK, PATIENCE_SECONDS, WRITE_SECONDS = 75, 4, 600, 0.001
 # How likely the power is cut after a request of the disk, and before a flush is done: until clients are served, and then.
 EARLY, LATE = {"request": 0.05, "flush": 0.3}, {"request": 0.02, "flush": 0.1}
-# In every other run a write with these bytes, which the log has of each tick, takes longer: covers come by that.
-SLOW_LOG = struct.pack("<BIq", 2, COUNT, 1), 0.05
-# A disk that drops flushes keeps so many writes back.
-KEPT_BACK = 64
+# In every other run a write with these bytes, which the log has of each tick, takes longer: covers come by that. A disk that
+# drops flushes keeps so many writes back.
+SLOW_LOG, KEPT_BACK = (struct.pack("<BIq", 2, COUNT, 1), 0.05), 64
 # What is left of the writes that no flush has covered: pieces of such a size, each by such a chance or by any.
 WHOLE, SECTOR = 1 << 30, 512
 WAYS = {"no write left": (WHOLE, 0), "all writes left": (WHOLE, 1), "some writes left": (WHOLE, None)}
@@ -48,7 +48,7 @@ SERVES = f"""{MOUNTED} >/dev/null
 echo 10 >/proc/sys/vm/dirty_writeback_centisecs; echo 20 >/proc/sys/vm/dirty_expire_centisecs
 mkdir -p /mnt/w; export {{variables}}
 worldd recover --dir /mnt/w 2>/dev/null || worldd create --dir /mnt/w --cells {{cells}}
-(while :; do dd if=/dev/urandom of=/mnt/n bs=4k count=20; mv /mnt/n /mnt/o; sleep 0.2; rm /mnt/o; done) 2>/dev/null &
+(while :; do dd if=/dev/urandom of=/mnt/n bs=4k count=20; mv /mnt/n /mnt/o; sleep 1; rm /mnt/o; done) 2>/dev/null &
 for port in /dev/vport*; do (until nc 127.0.0.1 7070; do sleep 0.1; done) <>$port >&0 2>/dev/null & done
 worldd serve --dir /mnt/w --method {{method}} --every {{every}} --port 7070 --clients 1000
 """
@@ -116,12 +116,14 @@ class Trial:
     def cut(self, machine: Machine) -> Found | None:
         """Cuts the power, judges what another machine recovers then, and gives the world on the disk that was left."""
         (way, (size, share)), told, end = random.choice(list(WAYS.items())), [], time.monotonic() + PATIENCE_SECONDS
+        machine.process.send_signal(signal.SIGSTOP)
         machine.cut(self.left, size, random.random() if share is None else share)
         self.reader.image[:] = self.left
         self.reader.streams[1].sendall(b"look\n")
         while "looked" not in told and time.monotonic() < end:
             told += [line for port, line in self.reader.events(0) if port > 0]
         self.reader.writes.clear()
+        machine.process.send_signal(signal.SIGCONT)
         self.tally.update({"cuts": 1, way: 1, self.part: 1, MENDED: "\n".join(told).count("FILE SYSTEM WAS MODIFIED")})
         told = [line for line in told if re.match(r"recovered|fault|created|image|log|\d+ ", line)] or ["nothing"]
         is_unmade = self.part == CREATE and told[0] in ("fault 13", "fault 18") and f"created {self.given.cells}" in told[1:2]
