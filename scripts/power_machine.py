@@ -77,7 +77,7 @@ class Machine:
         for port in range(1 + ports):
             words += ["-chardev", f"socket,id=c{port},path={room}/lines"]
             words += ["-device", f"virtserialport,chardev=c{port}"] if port else []
-        self.process, self.chosen = subprocess.Popen(words, stdin=QUIET), selectors.DefaultSelector()
+        self.process, self.chosen = subprocess.Popen(words, stdin=QUIET, start_new_session=True), selectors.DefaultSelector()
         for door in doors:
             door.settimeout(PATIENCE_SECONDS)
         self.disk = doors[0].accept()[0]
