@@ -26,7 +26,8 @@ import time
 from kill_trial import CELLS, CLIENTS, COUNT, METHODS, Found, Wrong, batches, found_in, judge, text_of
 from power_machine import DISK, Machine, lacking, pack
 
-MEGABYTES = {"ext4": 32, "xfs": 300, "btrfs": 128}
+# The disk of a file system, and the sectors at which its writes are torn: btrfs has no current copy of its 4,096-byte superblock.
+MEGABYTES, SECTORS = {"ext4": 32, "xfs": 300, "btrfs": 128}, {"ext4": 512, "xfs": 512, "btrfs": 4096}
 BLOCKS, EVERY = ("1024", "4096"), (1, 8, 64)
 CUTS_OF_A_RUN, RUNS_OF_A_DISK, PATIENCE_SECONDS, WRITE_SECONDS = 75, 4, 600, 0.001
 # How likely the power is cut after a request of the disk, and before a flush is done: until clients are served, and then.
@@ -34,10 +35,9 @@ EARLY, LATE = {"request": 0.05, "flush": 0.3}, {"request": 0.02, "flush": 0.1}
 # In every other run a write with these bytes, which the log has of each tick, takes longer: covers come by that. A disk that
 # drops flushes keeps so many writes back.
 SLOW_LOG, KEPT_BACK = (struct.pack("<BIq", 2, COUNT, 1), 0.05), 64
-# What is left of the writes that no flush has covered: pieces of such a size, each by such a chance or by any.
-WHOLE, SECTOR = 1 << 30, 512
-WAYS = {"no write left": (WHOLE, 0), "all writes left": (WHOLE, 1), "some writes left": (WHOLE, None)}
-WAYS |= {"some sectors left": (SECTOR, None), "most sectors left": (SECTOR, 0.95)}
+# What is left of the writes that no flush has covered: whole ones or sectors, each by such a chance or by any.
+WHOLE, WAYS = 1 << 30, {"no write left": (False, 0), "all writes left": (False, 1), "some writes left": (False, None)}
+WAYS |= {"some sectors left": (True, None), "most sectors left": (True, 0.95)}
 CREATE, MOUNT, PARTS = "in create", "in a mount", {"created": "just created", "recovered": "in a start", "listening": "in play"}
 STOOD = "in a round", "in a switch", "covered", "tail of log.a", "tail of log.b", "from image.a", "from image.b", "kept more"
 KINDS, MENDED = (*WAYS, CREATE, MOUNT, *PARTS.values(), "no world", *STOOD), "mended by e2fsck"
@@ -115,7 +115,8 @@ class Trial:
 
     def cut(self, machine: Machine) -> Found | None:
         """Cuts the power, judges what another machine recovers then, and gives the world on the disk that was left."""
-        (way, (size, share)), told, end = random.choice(list(WAYS.items())), [], time.monotonic() + PATIENCE_SECONDS
+        (way, (is_torn, share)), told, end = random.choice(list(WAYS.items())), [], time.monotonic() + PATIENCE_SECONDS
+        size = self.given.sector or SECTORS[self.given.fs] if is_torn else WHOLE
         machine.process.send_signal(signal.SIGSTOP)
         machine.cut(self.left, size, random.random() if share is None else share)
         self.reader.image[:] = self.left
@@ -185,6 +186,7 @@ def main() -> int:
     parser.add_argument("--every", type=int, help="in place of 1, 8 and 64 in turn")
     parser.add_argument("--cells", type=int, default=600, help=f"of the world, {CELLS} at least (600)")
     parser.add_argument("--cuts", type=int, default=150, help="how often the power is cut (150)")
+    parser.add_argument("--sector", type=int, help="at how many bytes a write is torn (512, and 4096 of btrfs)")
     parser.add_argument("--seed", type=int, default=time.time_ns() % 10**9, help="of the batches, the moments and what is left")
     parser.add_argument("--kernel", type=pathlib.Path, default="/", help="where a kernel is installed or unpacked (/)")
     parser.add_argument("--show", action="store_true", help="leave syncs and flushes out, one after another")
