@@ -46,7 +46,7 @@ LOG = re.compile(r"log\.([ab]): open, format \d, base (\d+), \d+ groups?, (\d+) 
 MOUNTED = "mount -t {fs} -o {options} /dev/vda /mnt || {{ e2fsck -fy /dev/vda; mount -t {fs} -o {options} /dev/vda /mnt; }}"
 SERVES = f"""{MOUNTED} >/dev/null
 echo 10 >/proc/sys/vm/dirty_writeback_centisecs; echo 20 >/proc/sys/vm/dirty_expire_centisecs
-mkdir -p /mnt/w; export {{variables}}
+mkdir -p /mnt/w; export LD_PRELOAD={{library}} SYNCS_LEFT_OUT="{{fault}}"
 worldd recover --dir /mnt/w 2>/dev/null || worldd create --dir /mnt/w --cells {{cells}}
 (while :; do dd if=/dev/urandom of=/mnt/n bs=4k count=20; mv /mnt/n /mnt/o; sleep 1; rm /mnt/o; done) 2>/dev/null &
 for port in /dev/vport*; do (until nc 127.0.0.1 7070; do sleep 0.1; done) <>$port >&0 2>/dev/null & done
@@ -76,11 +76,10 @@ class Trial:
         """Starts a machine with this script. A library leaves a sync out, if that is the fault."""
         given, room = self.given, pathlib.Path(tempfile.mkdtemp(dir=self.folder))
         programs = {"bin/worldd": given.worldd, "bin/e2fsck": shutil.which("e2fsck")}
-        words["variables"] = "SYNCS_LEFT_OUT="
         if self.fault not in ("", FLUSHES):
             source, programs["lib/left_out.so"] = pathlib.Path(__file__).with_name("left_out_syncs.c"), f"{room}/left_out.so"
             subprocess.run(["cc", "-shared", "-fPIC", "-o", f"{room}/left_out.so", source], check=True)
-            words["variables"] = f'LD_PRELOAD=/lib/left_out.so SYNCS_LEFT_OUT="{self.fault}"'
+        words |= {"fault": self.fault, "library": "/lib/left_out.so" if "lib/left_out.so" in programs else ""}
         pack(room, given.kernel, given.fs, programs, script.format(**vars(given) | words))
         return contextlib.closing(Machine(room, given.kernel, image, ports))
 
