@@ -27,11 +27,11 @@ from kill_trial import CELLS, CLIENTS, COUNT, METHODS, Found, Wrong, batches, fo
 from power_machine import DISK, Machine, lacking, pack
 
 # The disk of a file system, and the sectors at which its writes are torn: btrfs has no current copy of its 4,096-byte superblock.
-MEGABYTES, SECTORS = {"ext4": 32, "xfs": 300, "btrfs": 128}, {"ext4": 512, "xfs": 512, "btrfs": 4096}
+MEGABYTES, SECTORS = {"ext4": 144, "xfs": 300, "btrfs": 128}, {"ext4": 512, "xfs": 512, "btrfs": 4096}
 BLOCKS, EVERY = ("1024", "4096"), (1, 8, 64)
 CUTS_OF_A_RUN, RUNS_OF_A_DISK, PATIENCE_SECONDS, WRITE_SECONDS = 75, 4, 600, 0.001
 # How likely the power is cut after a request of the disk, and before a flush is done: until clients are served, and then.
-EARLY, LATE = {"request": 0.05, "flush": 0.3}, {"request": 0.02, "flush": 0.1}
+EARLY, LATE = {"request": 0.1, "flush": 0.6}, {"request": 0.02, "flush": 0.1}
 # In every other run a write with these bytes, which the log has of each tick, takes longer: covers come by that. A disk that
 # drops flushes keeps so many writes back.
 SLOW_LOG, KEPT_BACK = (struct.pack("<BIq", 2, COUNT, 1), 0.05), 64
@@ -101,7 +101,7 @@ class Trial:
                         self.answered[int(told[1])] = self.waiting[port], line
                     elif word in ("created", "listening") or line == self.before.line:
                         self.part, chances = PARTS[word], LATE if word == "listening" else EARLY
-                    elif port > 0 or re.search("fault|recovered|down|refused|panic|error", line):
+                    elif port > 0 or re.search("fault|recovered|down|refused|panic", line):
                         raise Wrong(f"the machine told `{line}`")
                     # A client sends its first batch once it listens, and each other one once the one before is answered.
                     for client in range(1, 1 + CLIENTS) if word == "listening" else [port] if port > 0 else ():
@@ -150,7 +150,7 @@ class Trial:
             for run, done in enumerate(range(0, self.given.cuts, CUTS_OF_A_RUN)):
                 if run % RUNS_OF_A_DISK == 0 or self.fault == FOLDER:
                     path.write_bytes(bytes(len(self.left)))
-                    flags = ["-q", "-g", "4096", "-b", random.choice(BLOCKS)] if self.given.fs == "ext4" else []
+                    flags = ["-q", "-b", random.choice(BLOCKS)] if self.given.fs == "ext4" else []
                     subprocess.run([f"mkfs.{self.given.fs}", *flags, path], check=True, capture_output=True)
                     image, before = bytearray(path.read_bytes()), None
                 image, before = self.serve(run, image, before, min(CUTS_OF_A_RUN, self.given.cuts - done))
