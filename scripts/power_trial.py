@@ -144,7 +144,7 @@ class Trial:
         return kinds + ["kept more"] * (found.tick > max(self.answered, default=first))
 
     def run(self) -> str:
-        """Cuts as often as was asked, and gives the counts, each of which has to grow."""
+        """Cuts as often as was asked, and gives the counts, which have to grow. With one journal of data no image leads the log."""
         path = self.folder / "new"
         with self.machine(READS, bytearray(self.left), 1) as self.reader:
             for run, done in enumerate(range(0, self.given.cuts, CUTS_OF_A_RUN)):
@@ -155,8 +155,9 @@ class Trial:
                     image, before = bytearray(path.read_bytes()), None
                 image, before = self.serve(run, image, before, min(CUTS_OF_A_RUN, self.given.cuts - done))
         counts = "; ".join(f"{name} {self.tally[name]}" for name in ("cuts", "ticks answered", *KINDS, MENDED))
-        if not self.fault and not all(self.tally[kind] for kind in KINDS):
-            raise Wrong(f"a count is 0: {counts}")
+        never = [kind for kind in KINDS if not self.tally[kind] and (kind, self.given.options) != ("covered", "data=journal")]
+        if never and not self.fault:
+            raise Wrong(f"never met: {', '.join(never)}: {counts}")
         return counts
 
 
@@ -189,8 +190,7 @@ def main() -> int:
     parser.add_argument("--seed", type=int, default=time.time_ns() % 10**9, help="of the batches, the moments and what is left")
     parser.add_argument("--kernel", type=pathlib.Path, default="/", help="where a kernel is installed or unpacked (/)")
     parser.add_argument("--show", action="store_true", help="leave syncs and flushes out, one after another")
-    given = parser.parse_args()
-    os.environ["PATH"] += ":/usr/sbin:/sbin"
+    given, os.environ["PATH"] = parser.parse_args(), f"{os.environ['PATH']}:/usr/sbin:/sbin"
     random.seed(given.seed)
     if missing := lacking(given.kernel):
         print(f"power_trial: skipped: there is no {', no '.join(missing)}")
