@@ -22,7 +22,7 @@ INIT = """#!/bin/busybox sh
 mount -t proc proc /proc; mount -t sysfs sys /sys; mount -t devtmpfs dev /dev; ifconfig lo 127.0.0.1 up
 for module in {modules} {modules}; do insmod /modules/$module 2>/dev/null; done
 """
-QEMU = """qemu-system-x86_64 -accel tcg -cpu Nehalem -m 384 -display none -nodefaults -no-reboot -initrd {room}/files
+QEMU = """qemu-system-x86_64 -accel tcg,tb-size=128 -cpu Nehalem -m 384 -display none -nodefaults -no-reboot -initrd {room}/files
     -blockdev driver=nbd,node-name=d,server.type=unix,server.path={room}/disk -serial chardev:c0 -device virtio-serial-pci
     -device virtio-blk-pci,drive=d,discard=off,write-zeroes=off"""
 APPENDED = "console=ttyS0 quiet panic=-1 mitigations=off nokaslr no_timer_check"

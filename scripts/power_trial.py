@@ -144,7 +144,7 @@ class Trial:
         return kinds + ["kept more"] * (found.tick > max(self.answered, default=first))
 
     def run(self) -> str:
-        """Cuts as often as was asked, and gives the counts, which have to grow. One journal of data lets no image lead the log."""
+        """Cuts as often as was asked, and gives the counts, which have to grow. One journal of data lets no image lead."""
         path = self.folder / "new"
         with self.machine(READS, bytearray(self.left), 1) as self.reader:
             for run, done in enumerate(range(0, self.given.cuts, CUTS_OF_A_RUN)):
