@@ -33,8 +33,8 @@ CUTS_OF_A_RUN, RUNS_OF_A_DISK, PATIENCE_SECONDS, WRITE_SECONDS = 75, 4, 600, 0.0
 # How likely the power is cut after a request of the disk, and before a flush is done: until clients are served, and then.
 EARLY, LATE = {"request": 0.1, "flush": 0.6}, {"request": 0.02, "flush": 0.1}
 # In every other run a write with these bytes, which the log has of each tick, takes longer: covers come by that. A disk that
-# drops flushes keeps so many writes back.
-SLOW_LOG, KEPT_BACK = (struct.pack("<BIq", 2, COUNT, 1), 0.05), 64
+# drops flushes keeps so many writes back. To show that a sync matters may take so many times the cuts.
+SLOW_LOG, KEPT_BACK, SHOWN = (struct.pack("<BIq", 2, COUNT, 1), 0.05), 64, 5
 # What is left of the writes that no flush has covered: whole ones or sectors, each by such a chance or by any.
 WHOLE, WAYS = 1 << 30, {"no write left": (False, 0), "all writes left": (False, 1), "some writes left": (False, None)}
 WAYS |= {"some sectors left": (True, None), "most sectors left": (True, 0.95)}
@@ -143,17 +143,17 @@ class Trial:
         kinds += ["in a switch"] * (len(logs) == 1 and base > first) + ["covered"] * (first <= base and base + ticks < last)
         return kinds + ["kept more"] * (found.tick > max(self.answered, default=first))
 
-    def run(self) -> str:
+    def run(self, cuts: int) -> str:
         """Cuts as often as was asked, and gives the counts, which have to grow. One journal of data lets no image lead."""
         path = self.folder / "new"
         with self.machine(READS, bytearray(self.left), 1) as self.reader:
-            for run, done in enumerate(range(0, self.given.cuts, CUTS_OF_A_RUN)):
+            for run, done in enumerate(range(0, cuts, CUTS_OF_A_RUN)):
                 if run % RUNS_OF_A_DISK == 0 or self.fault == FOLDER:
                     path.write_bytes(bytes(len(self.left)))
                     flags = ["-q", "-b", random.choice(BLOCKS)] if self.given.fs == "ext4" else []
                     subprocess.run([f"mkfs.{self.given.fs}", *flags, path], check=True, capture_output=True)
                     image, before = bytearray(path.read_bytes()), None
-                image, before = self.serve(run, image, before, min(CUTS_OF_A_RUN, self.given.cuts - done))
+                image, before = self.serve(run, image, before, min(CUTS_OF_A_RUN, cuts - done))
         counts = "; ".join(f"{name} {self.tally[name]}" for name in ("cuts", "ticks answered", *KINDS, MENDED))
         never = [kind for kind in KINDS if not self.tally[kind] and (kind, self.given.options) != ("covered", "data=journal")]
         if never and not self.fault:
@@ -165,14 +165,14 @@ def told_of(given: argparse.Namespace, folder: pathlib.Path, fault: str) -> str:
     """What came of a trial, which without some syncs, or without flushes, has to be a loss."""
     trial = Trial(given, folder, fault)
     try:
-        counts = trial.run()
+        counts = trial.run(given.cuts * (SHOWN if fault in SYNCS else 1))
     except Wrong as wrong:
         if fault and str(wrong).startswith("recovered"):
             return f"without {fault}: seen at cut {trial.tally['cuts']}: {wrong}"
         (folder / "left").write_bytes(trial.left)
         raise
     if fault not in ("", FOLDER):
-        raise Wrong(f"without {fault}: not seen in {given.cuts} cuts")
+        raise Wrong(f"without {fault}: not seen in {trial.tally['cuts']} cuts")
     return f"without {fault}: tried in {given.cuts} cuts, and not seen" if fault else counts
 
 
