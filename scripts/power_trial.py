@@ -29,9 +29,9 @@ from power_machine import DISK, Machine, lacking, pack
 # The disk of a file system, and the sectors at which its writes are torn: btrfs has no current copy of its 4,096-byte superblock.
 MEGABYTES, SECTORS = {"ext4": 144, "xfs": 300, "btrfs": 128}, {"ext4": 512, "xfs": 512, "btrfs": 4096}
 BLOCKS, EVERY = ("1024", "4096"), (1, 8, 64)
-CUTS_OF_A_RUN, RUNS_OF_A_DISK, PATIENCE_SECONDS, WRITE_SECONDS = 75, 4, 600, 0.001
+CUTS_OF_A_RUN, RUNS_OF_A_DISK, PATIENCE_SECONDS, WRITE_SECONDS = 60, 4, 600, 0.001
 # How likely the power is cut after a request of the disk, and before a flush is done: until clients are served, and then.
-EARLY, LATE = {"request": 0.1, "flush": 0.6}, {"request": 0.02, "flush": 0.1}
+EARLY, LATE = {"request": 0.06, "flush": 0.4}, {"request": 0.02, "flush": 0.1}
 # In every other run a write with these bytes, which the log has of each tick, takes longer: covers come by that. A disk that
 # drops flushes keeps so many writes back. To show that a sync matters may take so many times the cuts.
 SLOW_LOG, KEPT_BACK, SHOWN = (struct.pack("<BIq", 2, COUNT, 1), 0.05), 64, 5
@@ -87,7 +87,7 @@ class Trial:
         """Lets a machine serve until the power was cut so often, and gives a disk that was left, with the world on it."""
         method, every = self.given.method or METHODS[run % 2], self.given.every or EVERY[run % 3]
         plans = [batches(f"{self.given.seed} {run} {client}", client, run) for client in range(CLIENTS)]
-        end, kept, chances = time.monotonic() + PATIENCE_SECONDS, random.randrange(cuts), EARLY
+        end, kept, chances = time.monotonic() + PATIENCE_SECONDS, random.randrange(1 + cuts // 2), EARLY
         self.before, self.part, self.answered, self.waiting = before or self.fresh, MOUNT if before else CREATE, {}, {}
         with self.machine(SERVES, bytearray(image), CLIENTS, method=method, every=every) as machine:
             machine.slow, machine.kept_back = SLOW_LOG if run % 4 in (0, 3) else (b"", 0), KEPT_BACK * (self.fault == FLUSHES)
@@ -185,7 +185,7 @@ def main() -> int:
     parser.add_argument("--method", choices=METHODS, help="in place of both in turn")
     parser.add_argument("--every", type=int, help="in place of 1, 8 and 64 in turn")
     parser.add_argument("--cells", type=int, default=600, help=f"of the world, {CELLS} at least (600)")
-    parser.add_argument("--cuts", type=int, default=150, help="how often the power is cut (150)")
+    parser.add_argument("--cuts", type=int, default=120, help="how often the power is cut (120)")
     parser.add_argument("--sector", type=int, help="at how many bytes a write is torn (512, and 4096 of btrfs)")
     parser.add_argument("--seed", type=int, default=time.time_ns() % 10**9, help="of the batches, the moments and what is left")
     parser.add_argument("--kernel", type=pathlib.Path, default="/", help="where a kernel is installed or unpacked (/)")
