@@ -12,6 +12,7 @@ use crate::world_file::{IMAGE_A, IMAGE_B, LOG_A, LOG_B, Named, WorldFile};
 use disk_model::{FileDisk, FourFiles, read_all};
 use std::alloc::{AllocError, Global};
 use std::fs::{self, File, Files, TryLockError};
+use std::io::ErrorKind;
 use std::os::unix::fs::MetadataExt;
 use std::path::{Path, PathBuf};
 use std::{fmt, io};
@@ -263,14 +264,18 @@ fn sync_folder<R: Files<File = File>>(rt: &R, folder: Path<'_>) -> io::Result<()
 // The name of the folder above a folder.
 const ABOVE: &str = "..";
 
-// Makes the name of a folder durable, except of one at which a file system is mounted: that needs no name.
+// Makes the name of a folder durable, unless a file system is mounted there, which needs no name, or this user can't read the
+// folder above it.
 fn sync_above<R: Files<File = File> + AllocGlobal>(rt: &R, folder: &str) -> io::Result<()> {
     let above = Path::new(folder).join(rt.alloc(), ABOVE)?;
     let device = fs::metadata(rt, above.as_path())?.dev();
     if device != fs::metadata(rt, Path::new(folder))?.dev() {
         return Ok(());
     }
-    sync_folder(rt, above.as_path())
+    match sync_folder(rt, above.as_path()) {
+        Err(error) if error.kind() == ErrorKind::PermissionDenied => Ok(()),
+        synced => synced,
+    }
 }
 
 /// The bytes of all files, where each was read, else how the program ends for the first that wasn't.
