@@ -3,28 +3,49 @@
 
     scripts/wrong_bodies.py action_log recovery     those of two crates
     scripts/wrong_bodies.py --since main            those of the crates that changed since a commit
-    scripts/wrong_bodies.py --all                   those of every crate (hours)
+    scripts/wrong_bodies.py --all --jobs 4          those of every crate, four crates at a time (hours)
     scripts/wrong_bodies.py --can-be-applied        only whether each can still be applied (seconds; `.ci/run` asks)
 
-The gate tries crates/*/must-fail; this tries crates/*/wrong-bodies, by `rt must-fail` on a copy of the repository.
+The gate tries crates/*/must-fail one by one; this tries crates/*/wrong-bodies by `rt check` on a copy of the repository. A
+function is proved from the contracts of those that it calls. So wrong bodies of different functions are tried in one check,
+and each has to fail a goal of its own function. One that doesn't is tried again alone, and so is an edit outside a body.
 """
 import argparse
 import collections
+import dataclasses
+import itertools
 import pathlib
 import re
 import shutil
 import subprocess
 import sys
 import tempfile
+from concurrent.futures import ThreadPoolExecutor
+
+from map import below, read_crates
 
 TOP = pathlib.Path(__file__).resolve().parent.parent
 FOLDERS = ("must-fail", "wrong-bodies", "trial-bodies")
-ANSWERS = {
-    "refused, as it must be": "refused",
-    "NOT REFUSED": "let through",
-    "BAD EDIT": "can't be applied",
-    "NOT TRIED": "not tried",
-}
+# The most wrong bodies in one check.
+MOST = 10
+# A goal that isn't proved, and an error, by the place that they name.
+OPEN_GOAL = re.compile(r"of (?:\./)?proofs/(\S+)/\w+\.antt must prove")
+ERROR = re.compile(r"^(?:\./)?(src|proofs)/(\S+?):(\d+):\d+: error", re.M)
+
+
+@dataclasses.dataclass(frozen=True)
+class Function:
+    """A function of a file of src/, and the lines of its body."""
+
+    file: str
+    name: str
+    first: int
+    last: int
+
+    def holds(self, path: str) -> bool:
+        """Whether a folder of proofs/ belongs to it."""
+        module = "" if self.file in ("lib.rt", "main.rt") else self.file.removesuffix(".rt") + "/"
+        return path.startswith(module) and self.name in path.removeprefix(module).split("/")
 
 
 def bodies_of(crate: pathlib.Path, folder: str = "wrong-bodies") -> list[pathlib.Path]:
@@ -90,40 +111,148 @@ def left_out(folder: str, names: list[str]) -> set[str]:
     return set(names) & {".git", "must-fail"}
 
 
-def lay(crates: list[str], copy: pathlib.Path) -> int:
-    """Lays a copy of the repository in which these crates' must-fail/ has their other wrong bodies alone, and counts those."""
+def lay(crates: list[str], copy: pathlib.Path) -> None:
+    """Lays a copy of the repository, and builds there the libraries below these crates, unless checks have built them."""
     shutil.copytree(TOP, copy, ignore=left_out)
-    count = 0
-    for crate in crates:
-        bodies = copy / "crates" / crate / "wrong-bodies"
-        count += len(bodies_of(bodies.parent))
-        if bodies.is_dir():
-            bodies.rename(bodies.with_name("must-fail"))
-    return count
+    lower = below(read_crates())
+    for crate in read_crates():
+        if any(crate in lower[name] for name in crates):
+            subprocess.run(["rt", "lib"], cwd=copy / "crates" / crate, capture_output=True, check=True)
 
 
-def attempt(crates: list[str]) -> int:
-    """Tries the wrong bodies of some crates, and prints what came of each."""
+def functions_of(file: str, text: str) -> list[Function]:
+    """The functions of a source file that have bodies, as `rt fmt` lays them out."""
+    found, lines = [], text.splitlines()
+    for at, line in enumerate(lines):
+        head = re.match(r"( *)(?:pub(?:\(\w+\))? )?(?:const )?fn (\w+)", line)
+        if not head:
+            continue
+        margin = head[1]
+        heads = [i for i in range(at, len(lines)) if re.match(margin + r"\S", lines[i]) and lines[i][-1] in "{};"]
+        if heads and lines[heads[0]].endswith("{"):
+            last = next(i for i in range(heads[0], len(lines)) if lines[i] == margin + "}")
+            found.append(Function(file, head[2], heads[0] + 2, last))
+    return found
+
+
+def function_of(file: str, text: str, line: int) -> Function | None:
+    """The function whose body has this line, counted from 1."""
+    holding = [it for it in functions_of(file, text) if it.first <= line <= it.last]
+    return max(holding, key=lambda it: it.first, default=None)
+
+
+def changed_by(body: pathlib.Path, crate: pathlib.Path) -> set[Function | None]:
+    """The functions that a wrong body changes. None stands for a place outside a function's body."""
+    found: set[Function | None] = set()
+    for path, text in apply(body, crate).items():
+        name, old = str(path.relative_to(crate)), path.read_text()
+        for at, (one, other) in enumerate(itertools.zip_longest(old.splitlines(), text.splitlines()), 1):
+            if one != other:
+                found.add(function_of(name.removeprefix("src/"), old, at) if name.startswith("src/") else None)
+    return found
+
+
+def groups_of(bodies: list[pathlib.Path], crate: pathlib.Path) -> list[dict[pathlib.Path, set]]:
+    """Wrong bodies by the check in which they are tried: those of a check change different functions, or it has one."""
+    groups: list[dict[pathlib.Path, set]] = []
+    for body in bodies:
+        changed = changed_by(body, crate)
+        names = {(it.file, it.name) if it else None for it in changed}
+        for group in groups:
+            others = {(it.file, it.name) if it else None for them in group.values() for it in them}
+            if None not in names | others and not names & others and len(group) < MOST:
+                group[body] = changed
+                break
+        else:
+            groups.append({body: changed})
+    return groups
+
+
+def check(crate: pathlib.Path, bodies: list[pathlib.Path]) -> subprocess.CompletedProcess:
+    """Checks a crate of the copy with these wrong bodies, and takes them away again."""
+    were: dict[pathlib.Path, str] = {}
+    try:
+        for body in bodies:
+            for file, text in apply(body, crate).items():
+                were.setdefault(file, file.read_text())
+                file.write_text(text)
+        return subprocess.run(["rt", "check", "--jobs", "1"], cwd=crate, stdout=subprocess.PIPE, stderr=subprocess.STDOUT, text=True)
+    finally:
+        for file, text in were.items():
+            file.write_text(text)
+
+
+def failed_in(run: subprocess.CompletedProcess) -> set[str]:
+    """The folders of proofs/ of which a check names an open goal or an error."""
+    errors = {path.rpartition("/")[0] for part, path, _ in ERROR.findall(run.stdout) if part == "proofs"}
+    return set(OPEN_GOAL.findall(run.stdout)) | errors
+
+
+def refused_together(crate: pathlib.Path, group: dict[pathlib.Path, set]) -> set[pathlib.Path]:
+    """Those of a group that one check refuses, each by a goal of a function that it alone changes; none if another failed."""
+    try:
+        run = check(crate, list(group))
+    except ValueError:
+        return set()
+    failed = failed_in(run)
+    changed = {it for them in group.values() for it in them}
+    if run.returncode != 1 or not all(any(it.holds(path) for it in changed) for path in failed):
+        return set()
+    return {body for body, them in group.items() if any(it.holds(path) for it in them for path in failed)}
+
+
+def own_copy(name: str, copy: pathlib.Path) -> pathlib.Path:
+    """A crate in a copy of its own, with the work that its checks kept. Checks in one copy would wait for one another."""
+    own = copy.with_name(name)
+    shutil.copytree(copy, own)
+    kept = TOP / "crates" / name / "out" / "incremental"
+    if kept.is_dir():
+        shutil.copytree(kept, own / "crates" / name / "out" / "incremental")
+    return own / "crates" / name
+
+
+def attempt_crate(name: str, copy: pathlib.Path) -> collections.Counter:
+    """Tries the wrong bodies of a crate, prints what came of each, and counts the answers."""
+    crate, told = own_copy(name, copy), collections.Counter()
+    bodies = bodies_of(crate)
+    if bodies and check(crate, []).returncode:
+        print(f"{name}: the crate itself isn't proved", flush=True)
+        return told
+    for group in groups_of(bodies, crate):
+        refused = refused_together(crate, group) if len(group) > 1 else set()
+        for body in group:
+            answer = "refused" if body in refused else attempt_alone(crate, body)
+            told[answer.partition(",")[0]] += 1
+            print(f"{name}/{body.stem}: {answer}", flush=True)
+    shutil.rmtree(crate.parent.parent)
+    return told
+
+
+def attempt_alone(crate: pathlib.Path, body: pathlib.Path) -> str:
+    """Tries one wrong body, and says what came of it."""
+    run = check(crate, [body])
+    if run.returncode == 0:
+        return "let through"
+    if "logic=not-proved" not in run.stdout:
+        return f"not tried, {run.stdout[-300:]!r}"
+    names = r"^(?!.*must prove).*proofs/.*(has no field|is not in scope|has no `|was not admitted)"
+    by_name = re.search(names, run.stdout, re.M) and not OPEN_GOAL.search(run.stdout)
+    return "refused, only because a proof names what it takes away" if by_name else "refused"
+
+
+def attempt(crates: list[str], jobs: int) -> int:
+    """Tries the wrong bodies of some crates, so many crates at a time."""
     with tempfile.TemporaryDirectory(prefix="wrong-bodies-") as folder:
         copy = pathlib.Path(folder) / "copy"
-        count = lay(crates, copy)
+        count = sum(len(bodies_of(TOP / "crates" / crate)) for crate in crates)
         if not count:
             print("no wrong body to try")
             return 0
-        run = subprocess.run(["rt", "must-fail", *crates], cwd=copy, stdout=subprocess.PIPE, stderr=subprocess.STDOUT, text=True)
-    told: dict[str, list[str]] = collections.defaultdict(list)
-    for line in run.stdout.splitlines():
-        of = re.search(r"must-fail (\S+)\.edit: (" + "|".join(ANSWERS) + r")(.*)", line)
-        if of:
-            answer = ANSWERS[of[2]]
-            told[answer].append(of[1])
-            print(f"{of[1]}: {answer}{of[3]}")
-    refused = len(told["refused"])
-    if refused != count:
-        others = [f"{answer}: {' '.join(names)}" for answer, names in told.items() if answer != "refused" and names]
-        print("\n".join(others) or run.stdout[-2000:], file=sys.stderr)
-    print(f"wrong bodies: {refused} of {count} refused ({' '.join(crates)})")
-    return 0 if refused == count else 1
+        lay(crates, copy)
+        with ThreadPoolExecutor(jobs) as pool:
+            told = sum(pool.map(lambda crate: attempt_crate(crate, copy), crates), collections.Counter())
+    print(f"wrong bodies: {told['refused']} of {count} refused ({' '.join(crates)})")
+    return 0 if told["refused"] == count else 1
 
 
 def main() -> int:
@@ -133,6 +262,7 @@ def main() -> int:
     parser.add_argument("--since", metavar="COMMIT", help="try those of the crates that changed since this commit")
     parser.add_argument("--all", action="store_true", help="try those of every crate")
     parser.add_argument("--can-be-applied", action="store_true", help="only check that each can still be applied")
+    parser.add_argument("--jobs", type=int, default=1, help="how many crates are tried at a time")
     given = parser.parse_args()
     if given.can_be_applied:
         return can_be_applied()
@@ -148,7 +278,7 @@ def main() -> int:
         crates = given.crates
     if not crates and not given.since:
         parser.error("name a crate, or give --since COMMIT or --all")
-    return attempt(crates)
+    return attempt(crates, given.jobs)
 
 
 if __name__ == "__main__":

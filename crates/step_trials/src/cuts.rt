@@ -68,12 +68,21 @@ fn cut_once<R: Threads + Wait + Copy + Send + 'static, M: Seats + Send + 'static
         Ok((opened, _)) => {
             let play = |asks: Sender<Ask>| played.play(rt, trial, &asks);
             match stop_after(rt, alloc, cuts, Quiet, opened, every, play) {
-                Ok(ends) => played.judge(rt, trial, &ends),
+                Ok(ends) => judge(rt, trial, played, ends),
                 Err(_) => Err(Refusal::NoMemory),
             }
         }
         Err((_, refusal)) => Err(refusal),
     }
+}
+
+fn judge<R: Wait, M: Method>(
+    rt: &R,
+    trial: &mut Trial,
+    played: &mut Played,
+    ends: Workers<M>,
+) -> Result<(), Refusal> {
+    played.judge(rt, trial, &ends)
 }
 
 // After how many steps each worker is held.

@@ -73,10 +73,11 @@ fn try_world<R: Wait, M: Seats>(
 
 // Opens the world that a crash left, makes random steps, and crashes.
 fn run_once<R: Wait, M: Seats>(rt: &R, trial: &mut Trial, rest: &mut u64) -> Result<(), Refusal> {
+    let sessions = sessions(trial.alloc, SESSIONS)?;
     let files = trial.files()?;
     let (gates, every) = (trial.gates(), trial.every());
     match World::<M>::open(rt, trial.alloc, files, gates, every) {
-        Ok(world) => run_world(rt, trial, world, every, rest),
+        Ok(world) => run_world(rt, trial, Run::new(world, sessions, every), rest),
         Err(NotOpened::Failed(files)) => judge_opening(trial, &files),
         Err(NotOpened::NoMemory) => Err(Refusal::NoMemory),
     }
@@ -85,12 +86,10 @@ fn run_once<R: Wait, M: Seats>(rt: &R, trial: &mut Trial, rest: &mut u64) -> Res
 fn run_world<R: Wait, M: Method>(
     rt: &R,
     trial: &mut Trial,
-    world: World<M>,
-    every: u32,
+    run: Run<M>,
     rest: &mut u64,
 ) -> Result<(), Refusal> {
-    let sessions = sessions(trial.alloc, SESSIONS)?;
-    let mut run = Run::new(world, sessions, every);
+    let mut run = run;
     run_steps(rt, trial, &mut run, rest)
 }
 
@@ -138,21 +137,17 @@ fn make_steps<R: Wait, M: Method>(
 fn try_segment<R: Wait, M: Seats>(rt: &R, trial: &mut Trial) -> Result<(), Refusal> {
     trial.begin_world(1, 0, Odds::NONE)?;
     trial.draft.fill_small();
+    let sessions = sessions(trial.alloc, SESSIONS)?;
     let files = trial.files()?;
     let gates = trial.gates();
     match World::<M>::open(rt, trial.alloc, files, gates, 1) {
-        Ok(world) => fill_world(rt, trial, world),
+        Ok(world) => fill_world(rt, trial, Run::new(world, sessions, 1)),
         Err(_) => Err(Refusal::Device),
     }
 }
 
-fn fill_world<R: Wait, M: Method>(
-    rt: &R,
-    trial: &mut Trial,
-    world: World<M>,
-) -> Result<(), Refusal> {
-    let sessions = sessions(trial.alloc, SESSIONS)?;
-    let mut run = Run::new(world, sessions, 1);
+fn fill_world<R: Wait, M: Method>(rt: &R, trial: &mut Trial, run: Run<M>) -> Result<(), Refusal> {
+    let mut run = run;
     fill_segment(rt, trial, &mut run)
 }
 

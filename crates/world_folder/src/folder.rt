@@ -12,6 +12,8 @@ use crate::world_file::{IMAGE_A, IMAGE_B, LOG_A, LOG_B, Named, WorldFile};
 use disk_model::{FileDisk, FourFiles, read_all};
 use std::alloc::{AllocError, Global};
 use std::fs::{self, File, Files, TryLockError};
+use std::io::ErrorKind;
+use std::os::unix::fs::MetadataExt;
 use std::path::{Path, PathBuf};
 use std::{fmt, io};
 use world_actions::Refusal;
@@ -82,8 +84,8 @@ fn open_to_read<R: Files<File = File> + AllocGlobal>(
 }
 
 /// Opens the four files of a folder to make a world in them. It makes those that are absent, for their owner alone, and
-/// syncs the folder. It refuses a symbolic link, a file with a second name, and one file twice. A writer of a world
-/// holds a lock on its image.a as long as the file is open, so no two programs write it.
+/// syncs the folder and the one above it. It refuses a symbolic link, a file with a second name, and one file twice. A
+/// writer of a world holds a lock on its image.a as long as the file is open, so no two programs write it.
 pub fn open_to_write<R: Files<File = File> + AllocGlobal>(
     rt: &R,
     folder: &str,
@@ -91,11 +93,12 @@ pub fn open_to_write<R: Files<File = File> + AllocGlobal>(
     ensures { IfErr result IsFault }
 {
     let files = open_files(rt, folder, Absent::Make)?;
-    opened(rt.alloc(), folder, "", sync_folder(rt, folder))?;
+    opened(rt.alloc(), folder, ABOVE, sync_above(rt, folder))?;
     Ok(files)
 }
 
-/// Opens the four files of a folder to serve the world in them, with the same refusals and the same lock. It makes none.
+/// Opens the four files of a folder to serve the world in them, with the same refusals and the same lock. It makes none,
+/// and syncs the folder.
 pub fn open_existing<R: Files<File = File> + AllocGlobal>(
     rt: &R,
     folder: &str,
@@ -113,8 +116,15 @@ fn open_files<R: Files<File = File> + AllocGlobal>(
     ensures { IfErr result IsFault }
 {
     let files = open_each(rt, folder, absent)?;
-    opened(rt.alloc(), folder, "", are_four(&identities_of(&files)))?;
+    let settled = settle(rt, folder, &identities_of(&files));
+    opened(rt.alloc(), folder, "", settled)?;
     Ok(disks_of(files))
+}
+
+// Refuses one file under two names, and makes the names durable.
+fn settle<R: Files<File = File>>(rt: &R, folder: &str, files: &[Identity; 4]) -> io::Result<()> {
+    are_four(files)?;
+    sync_folder(rt, Path::new(folder))
 }
 
 // Opens each file by its own name, image.a first: no two programs then hold a part of the files each.
@@ -246,9 +256,26 @@ fn lock(file: &File) -> io::Result<()> {
     }
 }
 
-// Makes the names of new files durable.
-fn sync_folder<R: Files<File = File>>(rt: &R, folder: &str) -> io::Result<()> {
-    File::open(rt, Path::new(folder))?.sync_all()
+// Makes the names in a folder durable.
+fn sync_folder<R: Files<File = File>>(rt: &R, folder: Path<'_>) -> io::Result<()> {
+    File::open(rt, folder)?.sync_all()
+}
+
+// The name of the folder above a folder.
+const ABOVE: &str = "..";
+
+// Makes the name of a folder durable, unless a file system is mounted there, which needs no name, or this user can't read the
+// folder above it.
+fn sync_above<R: Files<File = File> + AllocGlobal>(rt: &R, folder: &str) -> io::Result<()> {
+    let above = Path::new(folder).join(rt.alloc(), ABOVE)?;
+    let device = fs::metadata(rt, above.as_path())?.dev();
+    if device != fs::metadata(rt, Path::new(folder))?.dev() {
+        return Ok(());
+    }
+    match sync_folder(rt, above.as_path()) {
+        Err(error) if error.kind() == ErrorKind::PermissionDenied => Ok(()),
+        synced => synced,
+    }
 }
 
 /// The bytes of all files, where each was read, else how the program ends for the first that wasn't.

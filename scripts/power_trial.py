@@ -1,0 +1,211 @@
+#!/usr/bin/env python3
+"""Cuts the power of a machine whose worldd serves, at many recorded moments, and looks at what stands in the files each time.
+
+    scripts/power_trial.py crates/worldd/out/worldd --fs ext4 --options data=journal --cuts 500 --seed 7
+
+A machine's disk keeps its writes and flushes in one order with what clients were answered. A cut leaves the writes that a
+flush had covered, and of the others any, whole or torn at sectors. A second machine recovers what is left: each answered tick
+must be there, as kill_trial.py judges it. The next run begins with such a disk. With --show syncs are left out, and then
+flushes: each must cost answered ticks, except that of the folder, which these file systems don't need.
+"""
+import argparse
+import collections
+import contextlib
+import os
+import pathlib
+import random
+import re
+import shutil
+import signal
+import struct
+import subprocess
+import sys
+import tempfile
+import time
+
+from kill_trial import CELLS, CLIENTS, COUNT, METHODS, Found, Wrong, batches, found_in, judge, text_of
+from power_machine import DISK, Machine, lacking, pack
+
+# The disk of a file system, and the sectors at which its writes are torn: btrfs has no current copy of its 4,096-byte superblock.
+MEGABYTES, SECTORS = {"ext4": 144, "xfs": 300, "btrfs": 128}, {"ext4": 512, "xfs": 512, "btrfs": 4096}
+BLOCKS, EVERY = ("1024", "4096"), (1, 8, 64)
+CUTS_OF_A_RUN, RUNS_OF_A_DISK, PATIENCE_SECONDS, WRITE_SECONDS = 60, 4, 600, 0.001
+# How likely the power is cut after a request of the disk, and before a flush is done: until clients are served, and then.
+EARLY, LATE = {"request": 0.06, "flush": 0.4}, {"request": 0.02, "flush": 0.1}
+# In every other run a write with these bytes, which the log has of each tick, takes longer: covers come by that. A disk that
+# drops flushes keeps so many writes back. To show that a sync matters may take so many times the cuts.
+SLOW_LOG, KEPT_BACK, SHOWN = (struct.pack("<BIq", 2, COUNT, 1), 0.05), 64, 5
+# What is left of the writes that no flush has covered: whole ones or sectors, each by such a chance or by any.
+WHOLE, WAYS = 1 << 30, {"no write left": (False, 0), "all writes left": (False, 1), "some writes left": (False, None)}
+WAYS |= {"some sectors left": (True, None), "most sectors left": (True, 0.95)}
+CREATE, MOUNT, PARTS = "in create", "in a mount", {"created": "just created", "recovered": "in a start", "listening": "in play"}
+STOOD = "in a round", "in a switch", "covered", "tail of log.a", "tail of log.b", "from image.a", "from image.b", "kept more"
+KINDS, MENDED = (*WAYS, CREATE, MOUNT, *PARTS.values(), "no world", *STOOD), "mended by e2fsck"
+SYNCS, FOLDER, FLUSHES = ("log body", "log gate", "image body", "image gate"), "folder", "flushes"
+LOG = re.compile(r"log\.([ab]): open, format \d, base (\d+), \d+ groups?, (\d+) ticks?,")
+MOUNTED = "mount -t {fs} -o {options} /dev/vda /mnt || {{ e2fsck -fy /dev/vda; mount -t {fs} -o {options} /dev/vda /mnt; }}"
+SERVES = f"""{MOUNTED} >/dev/null
+echo 10 >/proc/sys/vm/dirty_writeback_centisecs; echo 20 >/proc/sys/vm/dirty_expire_centisecs
+mkdir -p /mnt/w; export LD_PRELOAD={{library}} SYNCS_LEFT_OUT="{{fault}}"
+worldd recover --dir /mnt/w 2>/dev/null || worldd create --dir /mnt/w --cells {{cells}}
+(while :; do dd if=/dev/urandom of=/mnt/n bs=4k count=20; mv /mnt/n /mnt/o; sleep 1; rm /mnt/o; done) 2>/dev/null &
+for port in /dev/vport*; do (until nc 127.0.0.1 7070; do sleep 0.1; done) <>$port >&0 2>/dev/null & done
+worldd serve --dir /mnt/w --method {{method}} --every {{every}} --port 7070 --clients 1000
+"""
+READS = f"""while ! ls /dev/vport*; do sleep 0.1; done
+exec <>$(ls /dev/vport*) >&0 2>&1
+while read look; do
+    {MOUNTED}
+    worldd recover --dir /mnt/w || {{{{ mkdir -p /mnt/w; worldd create --dir /mnt/w --cells {{cells}}; }}}}
+    worldd inspect --dir /mnt/w --words
+    umount /mnt || rm -r /mnt/w
+    echo looked
+done
+"""
+
+
+class Trial:
+    """A trial on a file system, with the counts so far."""
+
+    def __init__(self, given: argparse.Namespace, folder: pathlib.Path, fault: str) -> None:
+        self.given, self.folder, self.fault, self.left = given, folder, fault, bytearray(MEGABYTES[given.fs] << 20)
+        self.fresh = Found("recovered 0 from 0", 0, 0, "image.a", [0] * given.cells, False)
+        self.tally: collections.Counter[str] = collections.Counter()
+
+    def machine(self, script: str, image: bytearray, ports: int, **words: object) -> contextlib.closing[Machine]:
+        """Starts a machine with this script. A library leaves a sync out, if that is the fault."""
+        given, room = self.given, pathlib.Path(tempfile.mkdtemp(dir=self.folder))
+        programs = {"bin/worldd": given.worldd, "bin/e2fsck": shutil.which("e2fsck")}
+        if self.fault not in ("", FLUSHES):
+            source, programs["lib/left_out.so"] = pathlib.Path(__file__).with_name("left_out_syncs.c"), f"{room}/left_out.so"
+            subprocess.run(["cc", "-shared", "-fPIC", "-o", f"{room}/left_out.so", source], check=True)
+        words |= {"fault": self.fault, "library": "/lib/left_out.so" if "lib/left_out.so" in programs else ""}
+        pack(room, given.kernel, given.fs, programs, script.format(**vars(given) | words))
+        return contextlib.closing(Machine(room, given.kernel, image, ports))
+
+    def serve(self, run: int, image: bytearray, before: Found | None, cuts: int) -> tuple[bytearray, Found | None]:
+        """Lets a machine serve until the power was cut so often, and gives a disk that was left, with the world on it."""
+        method, every = self.given.method or METHODS[run % 2], self.given.every or EVERY[run % 3]
+        plans = [batches(f"{self.given.seed} {run} {client}", client, run) for client in range(CLIENTS)]
+        end, kept, chances = time.monotonic() + PATIENCE_SECONDS, random.randrange(1 + cuts // 2), EARLY
+        self.before, self.part, self.answered, self.waiting = before or self.fresh, MOUNT if before else CREATE, {}, {}
+        with self.machine(SERVES, bytearray(image), CLIENTS, method=method, every=every) as machine:
+            machine.slow, machine.kept_back = SLOW_LOG if run % 4 in (0, 3) else (b"", 0), KEPT_BACK * (self.fault == FLUSHES)
+            while cuts and time.monotonic() < end:
+                for port, line in machine.events(WRITE_SECONDS):
+                    told, word = re.match(r"tick (\d+):", line), line.partition(" ")[0]
+                    if port == DISK and cuts and random.random() < chances[word]:
+                        found, cuts = self.cut(machine), cuts - 1
+                        image, before = (bytearray(self.left), found) if cuts == kept else (image, before)
+                    elif told:
+                        self.answered[int(told[1])] = self.waiting[port], line
+                    elif word in ("created", "listening") or line == self.before.line:
+                        self.part, chances = PARTS[word], LATE if word == "listening" else EARLY
+                    elif port > 0 or re.search("fault|recovered|down|refused|panic", line):
+                        raise Wrong(f"the machine told `{line}`")
+                    # A client sends its first batch once it listens, and each other one once the one before is answered.
+                    for client in range(1, 1 + CLIENTS) if word == "listening" else [port] if port > 0 else ():
+                        self.waiting[client] = next(plans[client - 1])
+                        machine.streams[client].sendall(text_of(self.waiting[client]))
+        if cuts:
+            raise Wrong(f"the machine is too slow: {cuts} cuts are left")
+        self.tally["ticks answered"] += len(self.answered)
+        return image, before
+
+    def cut(self, machine: Machine) -> Found | None:
+        """Cuts the power, judges what another machine recovers then, and gives the world on the disk that was left."""
+        (way, (is_torn, share)), told, end = random.choice(list(WAYS.items())), [], time.monotonic() + PATIENCE_SECONDS
+        size = self.given.sector or SECTORS[self.given.fs] if is_torn else WHOLE
+        machine.process.send_signal(signal.SIGSTOP)
+        machine.cut(self.left, size, random.random() if share is None else share)
+        self.reader.image[:] = self.left
+        self.reader.streams[1].sendall(b"look\n")
+        while "looked" not in told and time.monotonic() < end:
+            told += [line for port, line in self.reader.events(0) if port > 0]
+        self.reader.writes.clear()
+        machine.process.send_signal(signal.SIGCONT)
+        self.tally.update({"cuts": 1, way: 1, self.part: 1, MENDED: "\n".join(told).count("FILE SYSTEM WAS MODIFIED")})
+        told = [line for line in told if re.match(r"recovered|fault|created|image|log|\d+ ", line)] or ["nothing"]
+        is_unmade = self.part == CREATE and told[0] in ("fault 13", "fault 18") and f"created {self.given.cells}" in told[1:2]
+        told = [self.fresh.line, *told[2:]] if is_unmade else told
+        if not told[0].startswith("recovered"):
+            raise Wrong(f"recovered no world: {told[0]}")
+        found = found_in(told[0], told)
+        judge(self.before, found, self.answered, frozenset(self.waiting.values()))
+        self.tally.update([*["no world"] * is_unmade, *self.stood(found, told)])
+        return None if is_unmade else found
+
+    def stood(self, found: Found, told: list[str]) -> list[str]:
+        """The kinds of what stands in the files."""
+        logs = sorted((int(base), int(ticks), name) for name, base, ticks in LOG.findall("\n".join(told))) or [(0, 0, "")]
+        (base, ticks, _), (last, tail, name), first = logs[0], logs[-1], self.before.tick
+        kinds = [f"from {found.image}", *["in a round"] * found.in_round, *[f"tail of log.{name}"] * (tail > 0)]
+        kinds += ["in a switch"] * (len(logs) == 1 and base > first) + ["covered"] * (first <= base and base + ticks < last)
+        return kinds + ["kept more"] * (found.tick > max(self.answered, default=first))
+
+    def run(self, cuts: int) -> str:
+        """Cuts as often as was asked, and gives the counts, which have to grow. One journal of data lets no image lead."""
+        path = self.folder / "new"
+        with self.machine(READS, bytearray(self.left), 1) as self.reader:
+            for run, done in enumerate(range(0, cuts, CUTS_OF_A_RUN)):
+                if run % RUNS_OF_A_DISK == 0 or self.fault == FOLDER:
+                    path.write_bytes(bytes(len(self.left)))
+                    flags = ["-q", "-b", random.choice(BLOCKS)] if self.given.fs == "ext4" else []
+                    subprocess.run([f"mkfs.{self.given.fs}", *flags, path], check=True, capture_output=True)
+                    image, before = bytearray(path.read_bytes()), None
+                image, before = self.serve(run, image, before, min(CUTS_OF_A_RUN, cuts - done))
+        counts = "; ".join(f"{name} {self.tally[name]}" for name in ("cuts", "ticks answered", *KINDS, MENDED))
+        never = [kind for kind in KINDS if not self.tally[kind] and (kind, self.given.options) != ("covered", "data=journal")]
+        if never and not self.fault:
+            raise Wrong(f"never met: {', '.join(never)}: {counts}")
+        return counts
+
+
+def told_of(given: argparse.Namespace, folder: pathlib.Path, fault: str) -> str:
+    """What came of a trial, which without some syncs, or without flushes, has to be a loss."""
+    trial = Trial(given, folder, fault)
+    try:
+        counts = trial.run(given.cuts * (SHOWN if fault in SYNCS else 1))
+    except Wrong as wrong:
+        if fault and str(wrong).startswith("recovered"):
+            return f"without {fault}: seen at cut {trial.tally['cuts']}: {wrong}"
+        (folder / "left").write_bytes(trial.left)
+        raise
+    if fault not in ("", FOLDER):
+        raise Wrong(f"without {fault}: not seen in {trial.tally['cuts']} cuts")
+    return f"without {fault}: tried in {given.cuts} cuts, and not seen" if fault else counts
+
+
+def main() -> int:
+    """Runs the trial, and keeps the files where it fails."""
+    parser = argparse.ArgumentParser(description=__doc__.splitlines()[0])
+    parser.add_argument("worldd", type=os.path.abspath, help="the built program")
+    parser.add_argument("--fs", choices=MEGABYTES, default="ext4", help="the file system (ext4)")
+    parser.add_argument("--options", default="rw", help="of its mount, as data=journal (rw)")
+    parser.add_argument("--method", choices=METHODS, help="in place of both in turn")
+    parser.add_argument("--every", type=int, help="in place of 1, 8 and 64 in turn")
+    parser.add_argument("--cells", type=int, default=600, help=f"of the world, {CELLS} at least (600)")
+    parser.add_argument("--cuts", type=int, default=120, help="how often the power is cut (120)")
+    parser.add_argument("--sector", type=int, help="at how many bytes a write is torn (512, and 4096 of btrfs)")
+    parser.add_argument("--seed", type=int, default=time.time_ns() % 10**9, help="of the batches, the moments and what is left")
+    parser.add_argument("--kernel", type=pathlib.Path, default="/", help="where a kernel is installed or unpacked (/)")
+    parser.add_argument("--show", action="store_true", help="leave syncs and flushes out, one after another")
+    given, os.environ["PATH"] = parser.parse_args(), f"{os.environ['PATH']}:/usr/sbin:/sbin"
+    random.seed(given.seed)
+    if missing := lacking(given.kernel):
+        print(f"power_trial: skipped: there is no {', no '.join(missing)}")
+        return 0
+    print(f"power_trial: seed {given.seed}", flush=True)
+    folder = pathlib.Path(tempfile.mkdtemp(prefix="power-trial-"))
+    try:
+        for fault in (*SYNCS, FOLDER, FLUSHES) if given.show else ("",):
+            print(told_of(given, folder, fault), flush=True)
+    except (Wrong, OSError, subprocess.SubprocessError) as wrong:
+        print(f"power_trial: {wrong}\npower_trial: seed {given.seed}, files in {folder}", file=sys.stderr)
+        return 1
+    shutil.rmtree(folder)
+    return 0
+
+
+if __name__ == "__main__":
+    sys.exit(main())
