@@ -4,7 +4,7 @@
     scripts/crowd_trial.py crates/worldd/out/worldd
 
 First two clients come one after the other, and what they and the program print is known to the byte. Then 50 clients
-send 100 batches each, while one leaves in half a batch, one sends 10 MB without a newline, and one sends its batch byte
+send 200 batches each, while one leaves in half a batch, one sends 10 MB without a newline, and one sends its batch byte
 by byte and ends it last. Each tick must be answered once, and all answers, by tick, must be those of one plain model.
 Each method serves over a port and over a socket.
 """
@@ -25,7 +25,7 @@ from typing import NamedTuple
 from kill_trial import CELLS, METHODS, PATIENCE_SECONDS, TRANSPORTS, Batch, Wrong
 from kill_trial import answer, connect, flags_of, random_request, text_of
 
-CLIENTS, BATCHES = 50, 100
+CLIENTS, BATCHES = 50, 200
 FLOOD = 10_000_000
 COUNT = 0
 CLOSED = "worldd: the {} is closed: no more clients can come\n"

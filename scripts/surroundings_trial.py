@@ -10,6 +10,7 @@ tried by root alone.
 """
 import argparse
 import collections
+import contextlib
 import ctypes
 import fcntl
 import itertools
@@ -26,7 +27,7 @@ import subprocess
 import sys
 import tempfile
 import time
-from collections.abc import Callable
+from collections.abc import Callable, Iterator
 
 from kill_trial import SOCKET, TRANSPORTS, connect
 
@@ -46,13 +47,16 @@ CASES = (
     "short connections", "descriptors exhausted", "descriptors freed", "errors unread", "lines dropped",
     "output full", "output broken", "port closed", "socket closed", "silent client ended", "link refused", "mode of a new file",
     "short write named", "ended by its log", "no thread named",
-    "socket with its mode", "socket removed", "old socket replaced", "socket in use kept", "socket's place taken", "other file kept",
-    "next server's socket kept",
+    "socket with its mode", "socket removed", "old socket replaced", "socket in use kept", "socket's place taken",
+    "other file kept", "next server's socket kept",
 )
 CASES_OF_ROOT = ("user let in", "user refused", "socket never open to others")
 # Users and groups, which the system need not know. The server's own are the first ones.
 OWNER, STRANGER = 61_001, 61_002
+AS_OWNER = {"user": OWNER, "group": OWNER, "extra_groups": []}
 LET_IN, REFUSED = 0, 13
+# How many servers start at each mode while a stranger tries to connect.
+STARTS = 25
 FORK = multiprocessing.get_context("fork")
 
 
@@ -339,8 +343,8 @@ class Trial:
 
     def full_file(self) -> None:
         """The log reaches a limit on its size: a line names the cause, and the program ends if it is asked to."""
-        # The server that is to end at once waits for a third client then.
-        for flags, clients, transport in (((), 2, "port"), (EXIT, 3, "port"), (EXIT, 3, SOCKET)):
+        # A server that is to end at once waits for its second client's end then, or for a third client.
+        for flags, clients, transport in (((), 2, "port"), (EXIT, 2, "port"), (EXIT, 3, "port"), (EXIT, 3, SOCKET)):
             limit = limiting(resource.RLIMIT_FSIZE, FILE_LIMIT)
             server = self.server("--every", "65536", *flags, clients=clients, transport=transport, preexec_fn=limit)
             client, idle = server.client(), server.client()
@@ -493,38 +497,36 @@ class Trial:
         self.nothing_left(server.path)
 
     def users(self) -> None:
-        """The mode of a socket says which users may connect."""
+        """The mode of a socket says which users may connect, from its first moment on."""
         self.scratch.chmod(0o755)
-        worldd = self.scratch / "worldd"
+        worldd, room = self.scratch / "worldd", self.folder()
         shutil.copy(self.worldd, worldd)
         worldd.chmod(0o755)
-        room = self.folder()
         room.mkdir()
         os.chown(room, OWNER, OWNER)
-        own = {"user": OWNER, "group": OWNER, "extra_groups": []}
-        subprocess.run([worldd, "create", "--dir", room, "--cells", "2"], check=True, capture_output=True, **own)
-        for mode, groups in (("0600", (False, False)), ("0660", (True, False)), ("0666", (True, True))):
-            path = room / "socket"
-            flags = ("--method", "zigzag", "--socket", path, "--socket-mode", mode, "--clients", "100000")
-            streams = {"stdout": subprocess.PIPE, "stderr": subprocess.DEVNULL}
-            command = [worldd, "serve", "--dir", room, *flags]
-            begun, came_in = FORK.RawValue("b"), FORK.RawValue("b")
-            stranger = FORK.Process(target=knock, args=(str(path), begun, came_in), daemon=True)
-            stranger.start()
-            while not begun.value:
-                time.sleep(0.001)
-            server = subprocess.Popen(command, umask=0, **streams, **own)
-            try:
-                want([server.stdout.readline()[:9] for _ in range(2)] == [b"recovered", b"listening"], "no server of another user")
-                for user, group, may in ((OWNER, OWNER, True), (STRANGER, OWNER, groups[0]), (STRANGER, STRANGER, groups[1])):
+        subprocess.run([worldd, "create", "--dir", room, "--cells", "2"], check=True, capture_output=True, **AS_OWNER)
+        path = room / "socket"
+        fixed = (worldd, "serve", "--dir", room, "--method", "zigzag", "--clients", "100000", "--socket", path)
+        for mode, of_group, of_all in (("0600", False, False), ("0660", True, False), ("0666", True, True)):
+            command = (*fixed, "--socket-mode", mode)
+            with serving(command):
+                for user, group, may in ((OWNER, OWNER, True), (STRANGER, OWNER, of_group), (STRANGER, STRANGER, of_all)):
                     self.enter(path, mode, user, group, may)
-            finally:
-                server.kill()
-                server.communicate()
-                stranger.kill()
-                stranger.join()
-            want(bool(came_in.value) == (mode == "0666"), f"a stranger that tried again and again at mode {mode}: {came_in.value}")
-            self.met["socket never open to others"] += mode != "0666"
+            self.knocked(command, path, of_all)
+
+    def knocked(self, command: tuple[object, ...], path: pathlib.Path, may: bool) -> None:
+        """A stranger tries to connect all the time while servers start at a path. It comes in if it may, and else never."""
+        with Stranger(path) as stranger:
+            for _ in range(STARTS):
+                tries = stranger.tries.value
+                with serving(command):
+                    if may:
+                        stranger.process.join(PATIENCE_SECONDS)
+                    else:
+                        want(stranger.tries.value > tries, "no stranger tried to connect while a server started")
+                        self.met["socket never open to others"] += 1
+            came_in = bool(stranger.came_in.value)
+        want(came_in == may, f"a stranger {'came in' if came_in else 'stayed outside'}: {command}")
 
     def enter(self, path: pathlib.Path, mode: str, user: int, group: int, may: bool) -> None:
         """A user connects, or is refused."""
@@ -538,7 +540,7 @@ class Trial:
         """Every case."""
         self.closed_streams()
         for transport in TRANSPORTS:
-            self.short_connections(connections // len(TRANSPORTS), transport)
+            self.short_connections(connections, transport)
             self.door(transport)
         self.descriptors()
         self.unread_errors()
@@ -572,10 +574,9 @@ def play_as(path: str, user: int, group: int) -> None:
         sys.exit(REFUSED)
 
 
-def knock(path: str, begun: ctypes.c_byte, came_in: ctypes.c_byte) -> None:
+def knock(path: str, tries: ctypes.c_long, came_in: ctypes.c_byte) -> None:
     """The work of a process: a stranger tries to connect, also while the socket is made, again and again until it may."""
     become(STRANGER, STRANGER)
-    begun.value = 1
     while not came_in.value:
         for place in (path, f"{path}.new/s"):
             try:
@@ -583,6 +584,39 @@ def knock(path: str, begun: ctypes.c_byte, came_in: ctypes.c_byte) -> None:
                 came_in.value = 1
             except OSError:
                 pass
+        tries.value += 1
+
+
+class Stranger:
+    """A process of another user that tries to connect to a path."""
+
+    def __init__(self, path: pathlib.Path) -> None:
+        self.tries, self.came_in = FORK.RawValue("l"), FORK.RawValue("b")
+        self.process = FORK.Process(target=knock, args=(str(path), self.tries, self.came_in), daemon=True)
+
+    def __enter__(self) -> "Stranger":
+        self.process.start()
+        while not self.tries.value:
+            want(self.process.is_alive(), "there is no stranger")
+            time.sleep(0.001)
+        return self
+
+    def __exit__(self, *_) -> None:
+        self.process.kill()
+        self.process.join()
+
+
+@contextlib.contextmanager
+def serving(command: tuple[object, ...]) -> Iterator[None]:
+    """A server of the owner, whose process has no mask, from the line that it listens on."""
+    server = subprocess.Popen(command, umask=0, stdout=subprocess.PIPE, stderr=subprocess.DEVNULL, **AS_OWNER)
+    try:
+        lines = [server.stdout.readline()[:9] for _ in range(2)]
+        want(lines == [b"recovered", b"listening"], f"no server of another user: {command}")
+        yield
+    finally:
+        server.kill()
+        server.communicate()
 
 
 def is_root() -> bool:

@@ -1,6 +1,7 @@
-//! Tests of sessions over a port and of connections, and of workers that run in threads, in files of a model: a round that is open while
-//! ticks are answered, ticks that an image has before the log, each call of a file failing in turn, and what a crash leaves
-//! once their ends have met. And of the steps of workers in one thread.
+//! Tests of sessions over a port, of connections by a port and by a socket, and of workers that run in threads, in files
+//! of a model. Workers have a round that is open while ticks are answered, and ticks that an image has before the log.
+//! Each call of a file fails in turn, and crashes leave something once the workers' ends have met. And tests of the steps of
+//! workers in one thread.
 //!
 //! A large value is dropped by a call of `drop`, which is proved much faster than its drop at the end of a scope.
 #![tactic(auto)]

@@ -126,7 +126,7 @@ fn seconds_argument<'a>(alloc: Global) -> Arg<'a> {
         .help("After how many seconds no more batches are sent")
 }
 
-/// Where the server listens, and what is asked of it.
+/// The server's address, and the load that is asked for.
 pub fn load_of<'a>(matches: &ArgMatches<'a>) -> Option<(Address<'a>, Load)> {
     let load = Load {
         connections: matches.get_one(CONNECTIONS)?,

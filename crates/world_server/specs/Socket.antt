@@ -1,5 +1,5 @@
 -- Who may connect to a socket.
-use Rattle.std.specs.Prelude.{ℕ}
+use Rattle.std.specs.Prelude.{ℕ, List, codes}
 use Rattle.world_server.specs.declared.socket.SocketMode.{SocketMode}
 use Rattle.world_server.specs.declared.socket.SocketMode.TheVariants.{Owner, Group, Everyone}
 
@@ -8,3 +8,9 @@ abbrev pub bits_of : SocketMode → ℕ
 bits_of Owner = 0o600
 bits_of Group = 0o660
 bits_of Everyone = 0o666
+
+-- the same, as a command line has it
+abbrev pub text_of : SocketMode → List ℕ
+text_of Owner = codes "0600"
+text_of Group = codes "0660"
+text_of Everyone = codes "0666"

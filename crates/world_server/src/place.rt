@@ -1,4 +1,4 @@
-//! Where a server listens, as its threads know it.
+//! The place where a server listens, as its threads know it.
 
 use crate::line::Line;
 use crate::socket::SocketFile;

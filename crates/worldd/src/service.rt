@@ -1,4 +1,6 @@
-ghost use Rattle.std.specs.Prelude.{◌≤◌, IfSome};
+ghost use Rattle.std.specs.Prelude.{◌≡◌, ◌≢◌, IfSome, IfNone};
+ghost use Rattle.world_server.specs.declared.socket.SocketMode.{SocketMode as Mode};
+ghost use Rattle.world_server.specs.Socket.{text_of};
 
 use crate::arguments::{FOLDER, folder_argument};
 use crate::help::SERVE_HELP;
@@ -112,8 +114,11 @@ fn address_of<'a>(given: &ArgMatches<'a>) -> Option<Address<'a>> {
     }
 }
 
-fn mode_of(bits: &str) -> Option<SocketMode> {
-    match bits {
+fn mode_of(text: &str) -> Option<SocketMode>
+    ensures some { IfSome result (λ mode. text.now ≡ text_of mode) }
+    ensures none { IfNone result ((mode : Mode) → text.now ≢ text_of mode) }
+{
+    match text {
         "0600" => Some(SocketMode::Owner),
         "0660" => Some(SocketMode::Group),
         "0666" => Some(SocketMode::Everyone),

@@ -166,8 +166,8 @@ fn words(alloc: Global, line: &[&str]) -> Result<Vec<String>, Fail> {
     Ok(words)
 }
 
-// The service that a command line asks for: the folder, whether the method is Ping-Pong, the number of ticks, where it
-// listens, how many clients are taken and how long they may be silent, and whether it ends when the log is down.
+// The parts of the service that a command line asks for: the folder, whether the method is Ping-Pong, the number of ticks
+// and the address as text. Then the number of clients, their seconds of silence, and whether it ends when the log is down.
 fn asked(alloc: Global, line: &[&str]) -> Result<Option<Asked>, Fail> {
     let words = words(alloc, line)?;
     let matches = matches_of(alloc, &words)?;
