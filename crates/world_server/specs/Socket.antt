@@ -10,7 +10,7 @@ bits_of Group = 0o660
 bits_of Everyone = 0o666
 
 -- the same, as a command line has it
-abbrev pub text_of : SocketMode → List ℕ
-text_of Owner = codes "0600"
-text_of Group = codes "0660"
-text_of Everyone = codes "0666"
+abbrev pub mode_word : SocketMode → List ℕ
+mode_word Owner = codes "0600"
+mode_word Group = codes "0660"
+mode_word Everyone = codes "0666"

@@ -1,6 +1,6 @@
 ghost use Rattle.std.specs.Prelude.{◌≡◌, ◌≢◌, IfSome, IfNone};
 ghost use Rattle.world_server.specs.declared.socket.SocketMode.{SocketMode as Mode};
-ghost use Rattle.world_server.specs.Socket.{text_of};
+ghost use Rattle.world_server.specs.Socket.{mode_word};
 
 use crate::arguments::{FOLDER, folder_argument};
 use crate::help::SERVE_HELP;
@@ -115,8 +115,8 @@ fn address_of<'a>(given: &ArgMatches<'a>) -> Option<Address<'a>> {
 }
 
 fn mode_of(text: &str) -> Option<SocketMode>
-    ensures some { IfSome result (λ mode. text.now ≡ text_of mode) }
-    ensures none { IfNone result ((mode : Mode) → text.now ≢ text_of mode) }
+    ensures some { IfSome result (λ mode. text.now ≡ mode_word mode) }
+    ensures none { IfNone result ((mode : Mode) → text.now ≢ mode_word mode) }
 {
     match text {
         "0600" => Some(SocketMode::Owner),
