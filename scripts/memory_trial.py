@@ -4,8 +4,8 @@
     scripts/memory_trial.py crates/worldd/out/worldd
 
 First each call that takes memory, by the program memory_trials; then a script over each store, create, recover and
-inspect, and serve, by one method over a port and by the other over a socket: each is run again and again, the Nth time
-with its Nth allocation refused, until it has none left to refuse. It needs a C compiler, as cc.
+inspect, and serve, by either method over a port and over a socket: each is run again and again, the Nth time with its Nth
+allocation refused, until it has none left to refuse. It needs a C compiler, as cc.
 """
 import argparse
 import collections
@@ -368,7 +368,7 @@ def try_serving(
     """Serves a world again and again."""
     seen: collections.Counter[str] = collections.Counter()
     for number in itertools.count(1):
-        folder = room / f"serve-{method}-{number}"
+        folder = room / f"serve-{method}-{transport}-{number}"
         shutil.copytree(room / "create-1", folder)
         flags = ["--method", method, "--every", str(EVERY), "--clients", str(CLIENTS)]
         flags += flags_of(transport, folder / "socket")
@@ -399,7 +399,7 @@ def main() -> int:
         print(f"create: refused {try_create(given.worldd, refuser, room)} times, and made once there was memory")
         for command, *flags in (("recover",), ("inspect", "--words")):
             print(f"{command}: refused {try_reading(given.worldd, refuser, room / 'create-1', command, *flags)} times")
-        for method, transport in zip(METHODS, TRANSPORTS):
+        for method, transport in itertools.product(METHODS, TRANSPORTS):
             seen = try_serving(given.worldd, refuser, room, method, transport)
             print(f"serve by {method} over a {transport}: {line_of(seen)}")
     except (Wrong, OSError, subprocess.SubprocessError) as wrong:
