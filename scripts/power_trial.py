@@ -27,7 +27,7 @@ from power_machine import DISK, Machine, lacking, pack
 
 # The disk of a file system, and the sectors at which its writes are torn: btrfs has no current copy of its 4,096-byte superblock.
 # udf brings no name along with a sync of a new file, so the syncs of folders are left out there. Nothing mends its map of free
-# blocks after a cut: each run has a new disk, cuts begin once the world was created, and the system writes nothing on its own.
+# blocks after a cut: each run has a new disk, cuts begin once the world was created, and the system's own writing is put off.
 MEGABYTES, SECTORS, UDF = {"ext4": 144, "xfs": 300, "btrfs": 128, "udf": 64}, {"btrfs": 4096}, {"fs": "udf", "options": "rw"}
 BLOCKS, EVERY = ("1024", "4096"), (1, 8, 64)
 CUTS_OF_A_RUN, RUNS_OF_A_DISK, PATIENCE_SECONDS, WRITE_SECONDS = 60, 4, 600, 0.001
@@ -46,8 +46,8 @@ SYNCS, FLUSHES = ("log body", "log gate", "image body", "image gate"), "flushes"
 FOLDERS, UNMET = ("folder", "folder above"), {"covered": "data=journal", CREATE: "udf", MOUNT: "udf", "no world": "udf"}
 LOG = re.compile(r"log\.([ab]): open, format \d, base (\d+), \d+ groups?, (\d+) ticks?,")
 MOUNTED = "mount -t {fs} -o {options} /dev/vda /mnt || {{ e2fsck -fy /dev/vda; mount -t {fs} -o {options} /dev/vda /mnt; }}"
-SERVES = f"""{MOUNTED} >/dev/null
-echo {{wakes}} >/proc/sys/vm/dirty_writeback_centisecs; echo 20 >/proc/sys/vm/dirty_expire_centisecs
+SERVES = f"""echo {{wakes}} >/proc/sys/vm/dirty_writeback_centisecs; echo 20 >/proc/sys/vm/dirty_expire_centisecs
+{MOUNTED} >/dev/null
 mkdir -p /mnt/w; export LD_PRELOAD={{library}} SYNCS_LEFT_OUT="{{fault}}"
 worldd recover --dir /mnt/w 2>/dev/null || worldd create --dir /mnt/w --cells {{cells}}
 (while :; do dd if=/dev/urandom of=/mnt/n bs=4k count=20; mv /mnt/n /mnt/o; sleep 1; rm /mnt/o; done) 2>/dev/null &
@@ -85,11 +85,11 @@ class Trial:
 
     def serve(self, run: int, image: bytearray, before: Found | None, cuts: int) -> tuple[bytearray, Found | None]:
         """Lets a machine serve until the power was cut so often, and gives a disk that was left, with the world on it."""
-        method, every = self.given.method or METHODS[run % 2], self.given.every or EVERY[run % 3]
+        words = {"method": self.given.method or METHODS[run % 2], "every": self.given.every or EVERY[run % 3]}
         plans = [batches(f"{self.given.seed} {run} {client}", client, run) for client in range(CLIENTS)]
         end, kept, chances = time.monotonic() + PATIENCE_SECONDS, random.randrange(1 + cuts // 2), NEVER if self.is_udf else EARLY
         self.before, self.part, self.answered, self.waiting = before or self.fresh, MOUNT if before else CREATE, {}, {}
-        with self.machine(SERVES, bytearray(image), CLIENTS, method=method, every=every, wakes=10 * (not self.is_udf)) as machine:
+        with self.machine(SERVES, bytearray(image), CLIENTS, **words, wakes=60_000 if self.is_udf else 10) as machine:
             machine.slow, machine.kept_back = SLOW_LOG if run % 4 in (0, 3) else (b"", 0), KEPT_BACK * (self.fault == FLUSHES)
             while cuts and time.monotonic() < end:
                 for port, line in machine.events(WRITE_SECONDS):
