@@ -1,9 +1,10 @@
 ghost use Rattle.std.specs.Prelude.{◌≡◌, [], List, false, All, IsTrue, IfOk, IfErr};
 ghost use Rattle.world_actions.specs.World.{IsWord};
 ghost use Rattle.world_actions.specs.declared.action.Action.{Action};
+ghost use Rattle.disk_model.specs.FourFiles.{fault_counts};
 ghost use Rattle.image_files.specs.declared.phase.Phase.TheVariants.{Idle};
 ghost use Rattle.served.specs.Parts.{AreAtRest, AreSettled};
-ghost use Rattle.served.specs.Opening.{IsRefused};
+ghost use Rattle.served.specs.Opening.{IsRefused, SomeGrew};
 ghost use Rattle.shared_capture.specs.States.{IsStart};
 ghost use Rattle.worker_steps.specs.Begun.{IsWhole};
 ghost use Rattle.worker_ends.specs.Ends.{WorldStands};
@@ -52,6 +53,8 @@ pub fn open_world<M: Seats, D: Disk + Drop>(
     ensures stands { IsTrue D.honest → IfOk result (λ made.
         StandsOpened D.content D.may_leave files made.0.front.live made.0.images made.0.log made.0.ended) }
     ensures refused { IfErr result (λ refused. IsRefused D.content D.honest files refused.1) }
+    ensures device { IfErr result (λ refused. refused.1 ≡ Refusal.Device
+        → SomeGrew (fault_counts D.faults files) (fault_counts D.faults refused.0)) }
 {
     let served = Served::<PlainCopy, D>::open(alloc, files, 1)?;
     let (_, from) = served.recovered();

@@ -1,4 +1,4 @@
-//! A mutator that may run no batch: all ticks have ended, or the segment of the log is full.
+//! A mutator that may run no batch: all ticks have ended, the segment of the log is full, or a push was refused.
 ghost use Rattle.std.specs.Prelude.{◌≤◌};
 ghost use Rattle.world_ticks.specs.declared.tick.TheConstants.{TICK_MAX};
 
@@ -76,6 +76,23 @@ fn try_full_segment<M: Seats>(rt: &(impl Wait + Abort), alloc: Global) {
     is_refused(rt, alloc, &mut mutator, Refusal::SegmentFull);
     drop(mutator);
     drop(from);
+}
+
+// Nobody pops any more, so the push of the tick is refused: its session gets no answer, and no other batch is run.
+fn try_refused_push<M: Seats>(rt: &(impl Wait + Abort), alloc: Global) {
+    let (mut mutator, from) = mutator_at::<M>(rt, alloc, 0);
+    drop(from);
+    let answered = send(rt, alloc, &mut mutator);
+    assert!(rt; answered.recv(rt).is_err());
+    same(rt, "ticks that ended", mutator.ended(), 0);
+    is_refused(rt, alloc, &mut mutator, Refusal::LogDown);
+    drop(mutator);
+}
+
+#[test]
+fn a_mutator_whose_push_is_refused_runs_no_more(rt: HostRuntime) {
+    try_refused_push::<Zig>(&rt, rt.alloc());
+    try_refused_push::<Pong>(&rt, rt.alloc());
 }
 
 #[test]

@@ -1,4 +1,4 @@
-use super::same::same_for;
+use super::same::{same, same_for};
 use line_service::{World, serve_lines};
 use sessions::{Batch, answer_text};
 use std::alloc::{AllocError, Global};
@@ -84,13 +84,18 @@ struct End<'a> {
     ticks: u64,
 }
 
-// A session with a world of two cells ends so.
-fn check_session(rt: &impl Abort, alloc: Global, mut input: Pieces<'_>, room: usize, end: End<'_>) {
-    let mut world = Memory {
+// A world of two cells.
+fn new_world(rt: &impl Abort, alloc: Global) -> Memory {
+    Memory {
         alloc,
         words: Words::new(vec![in alloc; 0, 0].expect(rt, "memory")),
         ended: 0,
-    };
+    }
+}
+
+// A session with a world of two cells ends so.
+fn check_session(rt: &impl Abort, alloc: Global, mut input: Pieces<'_>, room: usize, end: End<'_>) {
+    let mut world = new_world(rt, alloc);
     let mut page = Page {
         bytes: Vec::new(alloc),
         room,
@@ -189,6 +194,29 @@ fn a_writer_that_fails_has_a_front(rt: HostRuntime) {
         };
         check_session(&rt, rt.alloc(), input, room, end);
     }
+}
+
+// How many bytes of an input that comes byte by byte are left once an answer to it can't be written.
+fn left_unread(rt: &impl Abort, alloc: Global, bytes: &[u8]) -> usize {
+    let mut input = Pieces {
+        bytes,
+        most: 1,
+        fails: false,
+    };
+    let mut page = Page {
+        bytes: Vec::new(alloc),
+        room: 0,
+    };
+    let mut world = new_world(rt, alloc);
+    let result = serve_lines(alloc, &mut input, &mut page, &mut world);
+    same(rt, result, Err(Refusal::Device));
+    input.bytes.len()
+}
+
+#[test]
+fn a_writer_that_fails_ends_the_reading(rt: HostRuntime) {
+    let left = left_unread(&rt, rt.alloc(), b"set 0 5\nend\nget 0\nend\n");
+    same(&rt, left, b"get 0\nend\n".len());
 }
 
 #[test]
