@@ -274,7 +274,7 @@ def try_answers(trial: Trial) -> None:
     for answer in (*garbled, b"tick 1: x\n", b"tick 1:" + b" " * 70_000):
         answering(trial, [answer])
         trial.expect(trial.play(Get(0)), GARBLED)
-        trial.expect(trial.player.send([Get(0)]), NOT_CONNECTED if isinstance(trial.player, CPlayer) else UNANSWERED)
+        trial.expect(trial.player.send([Get(0)]), NOT_CONNECTED)
     for half in (b"", b"t", b"tick", b"tick 1: ", b"tick 1: +", b"tick 1: =12", b"fault ", b"fault 12"):
         answering(trial, [half])
         trial.expect(trial.play(Get(0)), UNANSWERED)

@@ -21,8 +21,8 @@ from collections.abc import Iterable, Iterator
 from typing import Union
 
 __all__ = [
-    "Action", "Add", "Answer", "BatchRefused", "Cap", "Fault", "Garbled", "Get", "Move", "Refusal", "Set", "Swap", "Tick",
-    "TooLarge", "Unanswered", "World", "batches", "does_no_harm_twice",
+    "Action", "Add", "Answer", "BatchRefused", "Cap", "Fault", "Garbled", "Get", "Move", "NotConnected", "Refusal", "Set", "Swap",
+    "Tick", "TooLarge", "Unanswered", "World", "batches", "does_no_harm_twice",
 ]
 
 #: The greatest number that a cell holds.
@@ -83,6 +83,10 @@ class BatchRefused(Exception):
 
 class TooLarge(ValueError):
     """A batch has more actions or more changes than a batch may have. Nothing was sent."""
+
+
+class NotConnected(ConnectionError):
+    """The connection was closed, or broke earlier. Nothing was sent."""
 
 
 class Unanswered(ConnectionError):
@@ -298,11 +302,12 @@ class World:
         changes = sum(not isinstance(action, Get) for action in actions)
         if len(actions) > BATCH_LINES or changes > BATCH_CHANGES:
             raise TooLarge(f"the batch has {len(actions)} actions, of which {changes} are changes")
+        if self._stream is None:
+            raise NotConnected("there is no connection: connect again first")
         text = "".join(f"{action}\n" for action in actions) + "end\n"
-        stream = self._open()
         self._sent.append(actions)
         try:
-            stream.sendall(text.encode("ascii"))
+            self._stream.sendall(text.encode("ascii"))
         except OSError as error:
             raise self._broken(str(error)) from error
 
@@ -310,7 +315,9 @@ class World:
         """The answer to the oldest batch that waits for one. `BatchRefused` if the server refused it."""
         if not self._sent:
             raise RuntimeError("no batch waits for an answer")
-        line = self._line(self._open())
+        if self._stream is None:
+            raise self._broken("the connection is closed")
+        line = self._line(self._stream)
         return self._tick(line, self._sent.popleft())
 
     def reconnect(self, patience: float = 30.0) -> list[tuple[Action, ...]]:
@@ -354,17 +361,11 @@ class World:
         while True:
             try:
                 return self.play(*actions)
-            except Unanswered:
+            except (NotConnected, Unanswered):
                 left = deadline - time.monotonic()
                 if left <= 0:
                     raise
                 self.reconnect(left)
-
-    def _open(self) -> socket.socket:
-        """The connection. `Unanswered` if it is closed or broke earlier."""
-        if self._stream is None:
-            raise self._broken("the connection is closed")
-        return self._stream
 
     def _line(self, stream: socket.socket) -> str:
         """The next line, without its newline."""
