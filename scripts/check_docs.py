@@ -43,13 +43,13 @@ NUMBER = r"(?<![\d,.])(\d[\d,]*)"
 # What follows these words speaks of an earlier tree.
 PAST = re.compile(r"\b(?:[Bb]efore|Until then),[^.|\n]*")
 # A path of the repository. What a program's folder out/ has is made by a run of the gate.
-PATH = re.compile(r"(?<![\w/.-])((?:docs|scripts|bench|examples|crates|\.ci)/[\w./*-]*[\w*/])")
+PATH = re.compile(r"(?<![\w/.-])((?:docs|scripts|bench|examples|clients|crates|\.ci)/[\w./*-]*[\w*/])")
 MADE = re.compile(r"crates/\w+/out/.*")
-FOLDERS = (".", "docs", "docs/proofs", "scripts", "bench", "examples")
+FOLDERS = (".", "docs", "docs/proofs", "scripts", "bench", "examples", "clients/python", "clients/c")
 FILE = re.compile(r"(?<![\w/.*-])(\w+\.(?:md|py|sh|c))\b")
 PLACEHOLDERS = re.compile(r"\b(?:NAME|CRATE|FILE)\b")
 LINK = re.compile(r"\[[^\]\n]*\]\(([^)\s]+)\)")
-MARKER = re.compile(r"<!-- (run|examples/[\w.]+) -->")
+MARKER = re.compile(r"<!-- (run|(?:examples|clients)/[\w./]+) -->")
 FENCE = re.compile(r"```(\w*)")
 # A block between fences that name no language.
 CODE = "code"
@@ -232,7 +232,7 @@ def wrong_quotes(page: Page, code: list[str]) -> Iterator[Finding]:
     """Blocks between fences that are not in the file that they quote."""
     for block in page.blocks:
         file = TOP / block.marker
-        if block.marker.startswith("examples/"):
+        if block.marker.startswith(("examples/", "clients/")):
             if not file.is_file():
                 yield page.name, block.line, f"there is no {block.marker}"
             elif f"\n{block.text}" not in f"\n{file.read_text()}":

@@ -19,7 +19,7 @@ import threading
 
 from check_docs import TOP, Block, pages
 
-EXAMPLES = TOP / "examples"
+EXAMPLES, CLIENTS = TOP / "examples", TOP / "clients"
 SECONDS = 60
 PORT = "7070"
 
@@ -52,6 +52,7 @@ def run_block(worldd: pathlib.Path, page: str, block: Block, room: pathlib.Path)
     room.mkdir()
     (room / "worldd").symlink_to(worldd)
     (room / "examples").symlink_to(EXAMPLES)
+    (room / "clients").symlink_to(CLIENTS)
     path = f"{room}:{os.environ['PATH']}"
     shell = subprocess.Popen(
         ["sh"],

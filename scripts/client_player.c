@@ -1,0 +1,81 @@
+/* Plays by clients/c/cektaulis.h what its input says, one command a line, and prints what came of each. For client_trial.py.
+ *
+ *   open ADDRESS MS | reconnect MS | send ACTION, ACTION .. | receive COUNT | played CELL NUMBER
+ */
+#include "cektaulis.h"
+
+enum { MOST = 4096, LINE_BYTES = 65536 };
+
+/* Reads actions that commas part, and returns how many there are. */
+static size_t read_actions(char *text, struct cektaulis_action *actions) {
+    size_t count = 0;
+    char *rest = NULL;
+    for (char *line = strtok_r(text, ",\n", &rest); line && count < MOST; line = strtok_r(NULL, ",\n", &rest)) {
+        char kind[8];
+        uint64_t first = 0, second = 0;
+        int64_t difference = 0;
+        if (sscanf(line, " add %" SCNu64 " %" SCNd64, &first, &difference) == 2) {
+            actions[count++] = cektaulis_add((uint32_t)first, difference);
+            continue;
+        }
+        uint64_t third = 0;
+        sscanf(line, " %7s %" SCNu64 " %" SCNu64 " %" SCNu64, kind, &first, &second, &third);
+        uint32_t cell = (uint32_t)first, target = (uint32_t)second;
+        actions[count++] = !strcmp(kind, "set") ? cektaulis_set(cell, second)
+                           : !strcmp(kind, "move") ? cektaulis_move(cell, target, third)
+                           : !strcmp(kind, "swap") ? cektaulis_swap(cell, target)
+                           : !strcmp(kind, "cap") ? cektaulis_cap(cell, second)
+                                                  : cektaulis_get(cell);
+    }
+    return count;
+}
+
+/* Prints what came of a call, unless it went well. */
+static bool went_well(const struct cektaulis *world, enum cektaulis_status status) {
+    static const char *const names[] = {"ok", "not connected", "too large", "fault", "unanswered", "garbled"};
+    if (status == CEKTAULIS_OK) return true;
+    if (status == CEKTAULIS_BATCH_REFUSED) printf("fault %d: %s\n", world->fault, cektaulis_fault_text(world->fault));
+    else printf("%s\n", names[status]);
+    return false;
+}
+
+static void receive(struct cektaulis *world, size_t count) {
+    static struct cektaulis_answer answers[MOST];
+    uint64_t tick;
+    if (!went_well(world, cektaulis_receive(world, answers, count, &tick))) return;
+    printf("tick %" PRIu64 ":", tick);
+    for (size_t i = 0; i < count; i++) {
+        if (answers[i].outcome == CEKTAULIS_DONE) printf(" +");
+        else if (answers[i].outcome == CEKTAULIS_VALUE) printf(" =%" PRIu64, answers[i].value);
+        else printf(" -%d(%s)", answers[i].code, cektaulis_refusal_text(answers[i].code));
+    }
+    printf("\n");
+}
+
+int main(void) {
+    static char line[LINE_BYTES], address[108];
+    static struct cektaulis_action actions[MOST];
+    struct cektaulis world = {.stream = -1};
+    while (fgets(line, sizeof line, stdin)) {
+        int milliseconds;
+        uint32_t cell;
+        uint64_t number;
+        bool played;
+        if (sscanf(line, "open %107s %d", address, &milliseconds) == 2) {
+            if (went_well(&world, cektaulis_open(&world, address, milliseconds))) printf("ok\n");
+        } else if (sscanf(line, "reconnect %d", &milliseconds) == 1) {
+            if (went_well(&world, cektaulis_reconnect(&world, milliseconds))) printf("ok\n");
+        } else if (!strncmp(line, "send ", 5)) {
+            if (went_well(&world, cektaulis_send(&world, actions, read_actions(line + 5, actions)))) printf("ok\n");
+        } else if (sscanf(line, "receive %" SCNu64, &number) == 1) {
+            receive(&world, (size_t)number);
+        } else if (sscanf(line, "played %" SCNu32 " %" SCNu64, &cell, &number) == 2) {
+            if (went_well(&world, cektaulis_was_played(&world, cell, number, &played))) printf("%s\n", played ? "yes" : "no");
+        } else if (!strncmp(line, "batch ", 6)) {
+            printf("%zu\n", cektaulis_batch(actions, read_actions(line + 6, actions)));
+        }
+        fflush(stdout);
+    }
+    cektaulis_close(&world);
+    return 0;
+}
