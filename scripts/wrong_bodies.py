@@ -8,7 +8,8 @@
 
 The gate tries crates/*/must-fail one by one; this tries crates/*/wrong-bodies by `rt check` on a copy of the repository. A
 function is proved from the contracts of those that it calls. So wrong bodies of different functions are tried in one check,
-and each has to fail a goal of its own function. One that doesn't is tried again alone, and so is an edit outside a body.
+and each has to fail a goal of its own function. If anything else fails, the check is made again in halves. A body that fails
+nothing is tried again alone, and so is an edit outside a body.
 """
 import argparse
 import collections
@@ -168,6 +169,12 @@ def groups_of(bodies: list[pathlib.Path], crate: pathlib.Path) -> list[dict[path
     return groups
 
 
+def halves_of(group: dict[pathlib.Path, set]) -> list[dict[pathlib.Path, set]]:
+    """A group as two, one of which lacks the wrong body that fails another function than its own."""
+    items = list(group.items())
+    return [dict(items[: len(items) // 2]), dict(items[len(items) // 2 :])]
+
+
 def check(crate: pathlib.Path, bodies: list[pathlib.Path]) -> subprocess.CompletedProcess:
     """Checks a crate of the copy with these wrong bodies, and takes them away again."""
     were: dict[pathlib.Path, str] = {}
@@ -218,8 +225,13 @@ def attempt_crate(name: str, copy: pathlib.Path) -> collections.Counter:
     if bodies and check(crate, []).returncode:
         print(f"{name}: the crate itself isn't proved", flush=True)
         return told
-    for group in groups_of(bodies, crate):
+    groups = groups_of(bodies, crate)
+    while groups:
+        group = groups.pop(0)
         refused = refused_together(crate, group) if len(group) > 1 else set()
+        if len(group) > 1 and not refused:
+            groups[:0] = halves_of(group)
+            continue
         for body in group:
             answer = "refused" if body in refused else attempt_alone(crate, body)
             told[answer.partition(",")[0]] += 1
