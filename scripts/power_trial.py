@@ -42,8 +42,8 @@ WAYS |= {"some sectors left": (True, None), "most sectors left": (True, 0.95)}
 CREATE, MOUNT, PARTS = "in create", "in a mount", {"created": "just created", "recovered": "in a start", "listening": "in play"}
 STOOD = "in a round", "in a switch", "covered", "tail of log.a", "tail of log.b", "from image.a", "from image.b", "kept more"
 KINDS, MENDED = (*WAYS, CREATE, MOUNT, *PARTS.values(), "no world", *STOOD), "mended by e2fsck"
-SYNCS, FLUSHES = ("log body", "log gate", "image body", "image gate"), "flushes"
-FOLDERS, UNMET = ("folder", "folder above"), {"covered": "data=journal", CREATE: "udf", MOUNT: "udf", "no world": "udf"}
+UNMET = {"covered": "data=journal", CREATE: "udf", MOUNT: "udf", "in a start": "udf", "no world": "udf"}
+SYNCS, FOLDERS, FLUSHES = ("log body", "log gate", "image body", "image gate"), ("folder", "folder above"), "flushes"
 LOG = re.compile(r"log\.([ab]): open, format \d, base (\d+), \d+ groups?, (\d+) ticks?,")
 MOUNTED = "mount -t {fs} -o {options} /dev/vda /mnt || {{ e2fsck -fy /dev/vda; mount -t {fs} -o {options} /dev/vda /mnt; }}"
 SERVES = f"""echo {{wakes}} >/proc/sys/vm/dirty_writeback_centisecs; echo 20 >/proc/sys/vm/dirty_expire_centisecs
