@@ -78,7 +78,7 @@ fn socket_argument<'a>(alloc: Global) -> Arg<'a> {
 
 // Exactly one of the port and the socket is wanted.
 fn address_group<'a>(alloc: Global) -> Result<ArgGroup<'a>, AllocError> {
-    let group = ArgGroup::new(alloc, ADDRESS).args(&[PORT, SOCKET])?;
+    let group = ArgGroup::new(alloc, ADDRESS).arg(PORT)?.arg(SOCKET)?;
     Ok(group.required(true))
 }
 

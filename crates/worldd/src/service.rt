@@ -100,7 +100,7 @@ fn socket_mode_argument<'a>(alloc: Global) -> Result<Arg<'a>, AllocError> {
 
 // Exactly one of the port and the socket is wanted.
 fn address_group<'a>(alloc: Global) -> Result<ArgGroup<'a>, AllocError> {
-    let group = ArgGroup::new(alloc, ADDRESS).args(&[PORT, SOCKET])?;
+    let group = ArgGroup::new(alloc, ADDRESS).arg(PORT)?.arg(SOCKET)?;
     Ok(group.required(true))
 }
 
