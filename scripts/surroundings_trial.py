@@ -523,6 +523,7 @@ class Trial:
                     if may:
                         stranger.process.join(PATIENCE_SECONDS)
                     else:
+                        want(not stranger.came_in.value, f"a stranger came in as a server started: {command}")
                         want(stranger.tries.value > tries, "no stranger tried to connect while a server started")
                         self.met["socket never open to others"] += 1
             came_in = bool(stranger.came_in.value)
