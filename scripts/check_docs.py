@@ -9,8 +9,8 @@ It takes seconds, and prints the page, the line and the reason of each of these:
 - a block of code that differs from the file that it quotes
 - a wrong body of the gate that no table has, and a row on one that is not there
 
-A block between fences is a quote, whole or in part: of the file in a marker on a line above it, `<!-- examples/FILE -->`, or
-without a language of any file in src/ or specs/ of a crate. An indented block is text. The marker `<!-- run -->` makes it
+A block between fences is a quote, whole or in part: of the file in a marker on a line above it, `<!-- examples/FILE -->` or
+`<!-- clients/.. -->`, or without a language of any file in src/ or specs/ of a crate. An indented block is text. The marker `<!-- run -->` makes it
 commands with their output, which scripts/example_trial.py runs.
 """
 import dataclasses
