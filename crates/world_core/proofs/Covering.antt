@@ -81,10 +81,10 @@ covers_in laws keepers past old tick given left images (InStart start) waits sta
 covers_in laws keepers past old tick given left (NoneYet images) (Writing logs) waits stands started opened step w = absurd w.phase
 covers_in laws keepers past old tick given left (Newest images) (Writing logs) waits stands started opened step w =
     let s = step logs (λ ready. keepers.ready old.log old.log_a old.log_b logs waits stands ready) in
-    let kept = laws.cover old.cells past.history.ticks past.acknowledged old.content images logs old.queue tick given left opened s w in
+    let kept = laws.goes_on.cover old.cells past.history.ticks past.acknowledged old.content images logs old.queue tick given left opened s w in
     record {
       in_step = subst (λ a. InStep old.cells past.history.ticks a old.content (Newest images) (Writing logs) left) (sym (counts past.acknowledged given)) kept;
-      receipt = λ number is. receipt_of past.history.ticks given left number is (laws.cover_receipt old.cells past.history.ticks past.acknowledged images logs old.queue tick given left w.phase s);
+      receipt = λ number is. receipt_of past.history.ticks given left number is (laws.keeps.cover_receipt old.cells past.history.ticks past.acknowledged images logs old.queue tick given left w.phase s);
     }
 
 covered_from : EventLaws → KeeperLaws → (past : Past) (old new : State) (tick : ℕ) (given : LogAnswer) (c : IsCoreAt past old) → None ≡ refusal_in old tick → CoversQueue tick old given new

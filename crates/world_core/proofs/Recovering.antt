@@ -123,7 +123,7 @@ recovered_keeps events queues keepers safety past old new c r ia ib la lb oa ob 
     begins_core queues keepers old.cells (Some (r.slot, r.from)) r.tick r.words (nat_lt r.from r.tick) ia ib la lb (recovered_past past r la lb) new b c.some_cells c.few_cells numbered
     (Newest (recovered_images r (image_of ia) (image_of ib))) (refl, refl, s.newest_whole, by_slot r.slot ia ib ∙ s.chosen, by_other r.slot ia ib) refl e.a e.b e.reads_a e.reads_b
     (length-take-le r.tick ticks s.world.ended) refl s.whole s.world.words_are refl refl refl
-    (events.recovery old.cells ticks past.acknowledged r (image_of ia) (image_of ib) e.a e.b new.content c.some_cells s b.store)
+    (events.goes_on.recovery old.cells ticks past.acknowledged r (image_of ia) (image_of ib) e.a e.b new.content c.some_cells s b.store)
 
 -- ---- no image
 
@@ -138,7 +138,7 @@ begins_blank events queues keepers cells past new ia ib la lb some few unknown u
     (NoneYet (record { round = None })) (refl, refl, closed_a, closed_b) refl ClosedSegment ClosedSegment reads_a reads_b
     refl refl (length-replicate cells 0) refl refl unknown refl
     (subst (λ n. InStep cells [] n new.content (images_begun true 0 (NoneYet (record { round = None }))) (InStart (start_at 0 ClosedSegment ClosedSegment)) []) (sym unacknowledged)
-    (events.fresh cells new.content some begins.store))
+    (events.goes_on.fresh cells new.content some begins.store))
 
 pub blank_keeps : EventLaws → QueueLaws → KeeperLaws → SafetyLaws → (past : Past) (old new : State) (c : IsCoreAt past old) (ia ib la lb : List ℕ)
     → IsCrashOutcome old.image_a.inner ia → IsCrashOutcome old.image_b.inner ib → IsCrashOutcome old.log_a.inner la → IsCrashOutcome old.log_b.inner lb → Recovers ia ib la lb (Err NoImage)

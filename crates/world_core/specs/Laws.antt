@@ -23,27 +23,17 @@ use Rattle.action_log.specs.Progress.{begun as begun_log, QueueFollows, end_of}
 use Rattle.action_log.specs.Logs.{Logs, Writing, LogPlace, start_of, start_moves}
 use Rattle.action_log.specs.LogSteps.{is_idle}
 use Rattle.action_log.specs.declared.phase.Phase.TheVariants.{Ready}
-use Rattle.recovery.specs.Events.{TickEnds, ReceiptIsExact, CoverReceiptIsExact}
+use Rattle.capture_core.specs.Content.{Takes}
+use Rattle.recovery.specs.Events.{EventsKeep}
 use Rattle.recovery.specs.Restart.{SoundRestarts, FreshRestarts}
 use Rattle.restart.specs.Start.{is_shut}
-use Rattle.restart.specs.Rounds.{WritesFollow, TicksFollow, AllAreTaken}
-use Rattle.restart.specs.InStep.{InStep, RecoveryBegins, FreshBegins, ImageStepGoesOn, LogStepGoesOn, CoverGoesOn, MarkGoesOn, IsSafe}
+use Rattle.restart.specs.InStep.{InStep, WorldsGoOn, IsSafe}
 use Rattle.world_core.specs.State.{File, State, ImagesIn, LogIn, HasImages, HasLog}
 
 pub record EventLaws : Type 0 where
   pub append : (world : List ℕ) (before after : List Action) → after_actions world (before ++ after) ≡ and_then (after_actions world before) (λ next. after_actions next after)
-  pub recovery : RecoveryBegins
-  pub fresh : FreshBegins
-  pub writes : WritesFollow
-  pub ticks : TicksFollow
-  pub tick_ends : TickEnds
-  pub mark : MarkGoesOn
-  pub image_step : ImageStepGoesOn
-  pub log_step : LogStepGoesOn
-  pub cover : CoverGoesOn
-  pub receipt : ReceiptIsExact
-  pub cover_receipt : CoverReceiptIsExact
-  pub all_taken : AllAreTaken
+  pub keeps : EventsKeep Takes
+  pub goes_on : WorldsGoOn
 
 pub record QueueLaws : Type 0 where
   pub begins : (tick : ℕ) (shut_a shut_b : Bool) → QueueFollows (begun_log tick shut_a shut_b) [] × (end_of (begun_log tick shut_a shut_b) [] ≡ record { base = tick; count = 0 })
