@@ -1,5 +1,5 @@
-ghost use Rattle.std.specs.Prelude.{◌≤◌, ◌↔◌, ◌≡◌, ◌+◌, ◌-◌, min, Err, IsTrue, Some, None, Result, Option};
-ghost use Rattle.disk_model.specs.Disk.{last_count, min-last_count};
+ghost use Rattle.std.specs.Prelude.{◌≤◌, ◌↔◌, ◌≡◌, ◌+◌, ◌-◌, Err, IsTrue, Some, None, Result, Option};
+ghost use Rattle.disk_model.specs.Disk.{min-last_count};
 ghost use Rattle.disk_model.specs.Fused.{Fuse, counted_down, IsDue, fault_count, more_faults, CallsThrough};
 
 use crate::Disk;

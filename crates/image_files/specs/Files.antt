@@ -41,6 +41,10 @@ Stands keeper images image_a image_b outcomes_a outcomes_b =
     StandsFor keeper images (of_slot (target_of keeper.newest) image_a image_b) (of_slot (target_of keeper.newest) image_b image_a)
     (in_slot (target_of keeper.newest) outcomes_a outcomes_b) (beside_slot (target_of keeper.newest) outcomes_a outcomes_b)
 
+-- the same of two disks
+abbrev pub DisksStand : {D : Type 0} → (content : D → List ℕ) → (may_leave : D → List ℕ → Type 0) → Progress → ImageFiles → (image_a image_b : D) → Type 0
+DisksStand content may_leave keeper images image_a image_b = Stands keeper images (content image_a) (content image_b) (may_leave image_a) (may_leave image_b)
+
 -- ---- a keeper just made
 
 -- whether a file is shut is told rightly

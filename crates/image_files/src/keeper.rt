@@ -8,7 +8,7 @@ ghost use Rattle.image_files.specs.Image.{Image, image_of};
 ghost use Rattle.image_files.specs.Images.{ImageFiles, StepsImages};
 ghost use Rattle.image_files.specs.Progress.{target_of, done, cells_taken, left_of, made_keeper, begun_keeper, opened_keeper};
 ghost use Rattle.image_files.specs.Keeper.{Fits, Endures};
-ghost use Rattle.image_files.specs.Files.{done_in, FitsFiles, Stands};
+ghost use Rattle.image_files.specs.Files.{done_in, FitsFiles, DisksStand};
 ghost use Rattle.image_files.specs.Steps.{IfOpened, OnOpened, OnWorking, CallsIn, Closes, TookWord, HasCause, IsOnlyRead, IsOpenedImage};
 ghost use Rattle.image_files.specs.Calls.{TookCell};
 
@@ -239,11 +239,8 @@ impl ImageKeeper {
         ensures fits { IsTrue D.honest
             → FitsFiles self.new (D.content image_a.new) (D.content image_b.new) }
         ensures stands { IsTrue D.honest → (images : ImageFiles)
-            → Stands self.old images (D.content image_a.old) (D.content image_b.old)
-            (D.may_leave image_a.old) (D.may_leave image_b.old)
-            → (next : ImageFiles)
-            × Stands self.new next (D.content image_a.new) (D.content image_b.new)
-            (D.may_leave image_a.new) (D.may_leave image_b.new)
+            → DisksStand D.content D.may_leave self.old images image_a.old image_b.old
+            → (next : ImageFiles) × DisksStand D.content D.may_leave self.new next image_a.new image_b.new
             × StepsImages T.took self.old.cells images result next from.old from.new }
     {
         match self.target() {

@@ -9,7 +9,7 @@ use Rattle.image_files.specs.declared.phase.Phase.TheVariants.{Idle, Closing, He
 use Rattle.image_files.specs.declared.answer.ImageAnswer.{ImageAnswer}
 use Rattle.image_files.specs.declared.answer.ImageAnswer.TheVariants as answer
 use Rattle.image_files.specs.Images.{Round, ImageFiles, NoneYet, Newest, StepsImages, round_in, with_cell, with_round, with_taken, with_opened}
-use Rattle.image_files.specs.Progress.{Progress, target_of, cells_taken, left_of, moves_left, begun_keeper, opened_keeper}
+use Rattle.image_files.specs.Progress.{Progress, target_of, cells_taken, left_of, moves_left, begun_keeper, opened_keeper, newest_tick}
 use Rattle.file_format.specs.Slot.{of_slot}
 use Rattle.image_files.specs.Files.{FitsFiles}
 use Rattle.image_files.specs.Keeper.{Fits}
@@ -19,7 +19,7 @@ use Rattle.shared_capture.specs.declared.view.Snapshot.{Snapshot}
 use Rattle.shared_capture.specs.States.{BackState, TookBack, SameDone, FoundRound}
 use Rattle.workers.specs.declared.checkpointer.round.ImageWriter.{ImageWriter}
 use Rattle.workers.specs.Imaging.{round_of, with_work, images_after, newest_after, HasRound, AreInStep, SamePair, IsInWork, RoundRuns, IsDone, ImagesStand, FollowsRounds, WriterFits, TellsFaults, Imaging, IsCheckpointer, Turned}
-use Rattle.workers.specs.Publishing.{IsNoneDue, newest_tick, ArePublished}
+use Rattle.workers.specs.Publishing.{IsNoneDue, ArePublished}
 
 -- ---- the words of a round
 

@@ -6,7 +6,7 @@ use Rattle.image_files.specs.declared.phase.Phase.{Phase}
 use Rattle.image_files.specs.declared.phase.Phase.TheVariants.{Idle, Taking, Down}
 use Rattle.image_files.specs.Images.{Round, ImageFiles, NoneYet, Newest, with_opened}
 use Rattle.image_files.specs.Files.{FitsFiles, Stands}
-use Rattle.image_files.specs.Progress.{Progress, target_of, cells_taken, begun_keeper}
+use Rattle.image_files.specs.Progress.{Progress, target_of, cells_taken, begun_keeper, newest_tick}
 use Rattle.image_files.specs.Taken.{filled_words}
 use Rattle.restart.specs.Rounds.{words_of}
 use Rattle.shared_capture.specs.declared.view.Snapshot.{Snapshot}
@@ -15,7 +15,7 @@ use Rattle.shared_capture.specs.CoverWord.{CoverState}
 use Rattle.workers.specs.declared.gate.Place.{Place}
 use Rattle.workers.specs.declared.gate.Place.TheVariants.{Take, Device}
 use Rattle.workers.specs.declared.checkpointer.round.ImageWriter.{ImageWriter}
-use Rattle.workers.specs.Publishing.{IsNoneDue, newest_tick, told, ArePublished}
+use Rattle.workers.specs.Publishing.{IsNoneDue, told, ArePublished}
 
 -- ---- the images of rounds
 

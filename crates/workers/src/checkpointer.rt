@@ -3,12 +3,12 @@ ghost use Rattle.std.specs.Prelude.{◌≡◌, ◌⊎◌, ◌↔◌, ◌<◌, �
 ghost use Rattle.world_ticks.specs.declared.tick.TheConstants.{TICK_MAX};
 ghost use Rattle.disk_model.specs.Disk.{OneCalledAtMostOnce};
 ghost use Rattle.image_files.specs.declared.phase.Phase.TheVariants.{Down, Idle, Taking};
-ghost use Rattle.image_files.specs.Progress.{left_of};
+ghost use Rattle.image_files.specs.Progress.{left_of, newest_tick};
 ghost use Rattle.workers.specs.declared.gate.Place.{Place as Asked};
 ghost use Rattle.workers.specs.declared.gate.Place.TheVariants.{Device};
 ghost use Rattle.workers.specs.Gates.{MayGo, MayStick};
 ghost use Rattle.workers.specs.Imaging.{place_of, HasRound, IsUp, FindsNone, FindsRound, GoesOn, IsAtRest, IsDone, KeepsBack, TellsFaults, Turned, WriterFits};
-ghost use Rattle.workers.specs.Publishing.{newest_tick, IsNoneDue};
+ghost use Rattle.workers.specs.Publishing.{IsNoneDue};
 
 use crate::checkpointer::publisher::Publisher;
 use crate::checkpointer::round::step;

@@ -14,11 +14,11 @@ use Rattle.world_core.specs.declared.moves.Answer.TheVariants as answer
 use Rattle.world_core.specs.History.{opens}
 use Rattle.world_core.specs.Standing.{Standing, standing_after}
 use Rattle.world_core.specs.Past.{Past, past_after}
-use Rattle.world_core.specs.State.{State, newest_tick, is_down}
+use Rattle.world_core.specs.State.{State, is_down}
 use Rattle.world_core.specs.Laws.{EventLaws, KeeperLaws}
 use Rattle.world_core.specs.Exact.{Progresses, IsImageAnswer}
 use Rattle.capture_core.specs.Taken.{taken_of}
-use Rattle.image_files.specs.Progress.{Progress, cells_taken, moves_left, left_of, opened_keeper}
+use Rattle.image_files.specs.Progress.{Progress, cells_taken, moves_left, left_of, opened_keeper, newest_tick}
 use Rattle.std.specs.Prelude.{slice_get}
 use Rattle.world_core.specs.Moving.{StepsImageKeeper}
 use Rattle.world_core.specs.Facts.{IsCoreAt, is_known}

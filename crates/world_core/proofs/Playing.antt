@@ -11,7 +11,7 @@ use Rattle.world_ticks.specs.declared.tick.TheConstants.{TICK_MAX, TICK_ACTIONS}
 use Rattle.world_ticks.specs.After.{and_then, after_actions, after_ticks}
 use Rattle.capture_core.specs.Content.{Content}
 use Rattle.image_files.specs.declared.phase.Phase.TheVariants.{Idle, Closing, Header}
-use Rattle.image_files.specs.Progress.{begun_keeper}
+use Rattle.image_files.specs.Progress.{begun_keeper, newest_tick}
 use Rattle.image_files.specs.Images.{Images, ImageFiles, NoneYet, Newest, newest_in, with_round}
 use Rattle.action_log.specs.declared.format.TheConstants.{SEGMENT_TICKS}
 use Rattle.action_log.specs.declared.record.Record.TheVariants as records
@@ -23,7 +23,7 @@ use Rattle.world_core.specs.declared.moves.Move.TheVariants as move
 use Rattle.world_core.specs.declared.moves.Answer.TheVariants as answer
 use Rattle.world_core.specs.Standing.{QueuedTick, QueuedSwitch, queued_of}
 use Rattle.world_core.specs.Past.{Past, past_after}
-use Rattle.world_core.specs.State.{State, HasImages, HasLog, newest_tick, is_down}
+use Rattle.world_core.specs.State.{State, HasImages, HasLog, is_down}
 use Rattle.restart.specs.InStep.{InStep}
 use Rattle.world_core.specs.Laws.{EventLaws, QueueLaws, KeeperLaws}
 use Rattle.world_core.specs.Moving.{DoesAction, EndsTick, BeginsRound}

@@ -1,5 +1,5 @@
 -- What contracts see of a core's parts.
-use Rattle.std.specs.Prelude.{◌⊎◌, ℕ, List, Bool, true, false, Option, Some, None, min}
+use Rattle.std.specs.Prelude.{◌⊎◌, ℕ, List, Bool, true, false, min}
 use Rattle.world_actions.specs.declared.action.Action.{Action}
 use Rattle.capture_core.specs.Content.{Content}
 use Rattle.disk_model.specs.Disk.{last_count, Grew}
@@ -7,7 +7,6 @@ use Rattle.disk_model.specs.FileState.{FileState}
 use Rattle.disk_model.specs.Fused.{Fuse, fault_count}
 use Rattle.disk_model.specs.CrashOutcome.{IsCrashOutcome}
 use Rattle.disk_model.specs.declared.four_files.FourFiles.{FourFiles}
-use Rattle.file_format.specs.declared.slot.Slot.{Slot}
 use Rattle.image_files.specs.declared.phase.Phase.{Phase}
 use Rattle.image_files.specs.declared.phase.Phase.TheVariants.{Idle, Down}
 use Rattle.image_files.specs.Images.{ImageFiles}
@@ -51,11 +50,6 @@ is_down phase = false
 abbrev pub is_in_round : Phase → Bool
 is_in_round Idle = false
 is_in_round phase = true
-
--- the tick of the newest image, 0 before the first
-abbrev pub newest_tick : Option (Slot × ℕ) → ℕ
-newest_tick None = 0
-newest_tick (Some image) = image.1
 
 -- how often a call of a file failed
 abbrev pub failures : File → ℕ
