@@ -3,13 +3,13 @@ ghost use Rattle.world_ticks.specs.declared.tick.TheConstants.{TICK_MAX};
 ghost use Rattle.file_format.specs.Slot.{of_slot, in_slot};
 ghost use Rattle.capture_core.specs.declared.taker.Taken.{Taken};
 ghost use Rattle.image_files.specs.declared.format.TheConstants.{CELLS_MAX};
-ghost use Rattle.image_files.specs.declared.phase.Phase.TheVariants.{Idle, Taking, Down};
+ghost use Rattle.image_files.specs.declared.phase.Phase.TheVariants.{Idle, Closing, Taking, Down};
 ghost use Rattle.image_files.specs.Image.{Image, image_of};
 ghost use Rattle.image_files.specs.Images.{ImageFiles, StepsImages};
 ghost use Rattle.image_files.specs.Progress.{target_of, done, cells_taken, left_of, made_keeper, begun_keeper, opened_keeper};
 ghost use Rattle.image_files.specs.Keeper.{Fits, Endures};
 ghost use Rattle.image_files.specs.Files.{done_in, FitsFiles, DisksStand};
-ghost use Rattle.image_files.specs.Steps.{IfOpened, OnOpened, OnWorking, CallsIn, Closes, TookWord, HasCause, IsOnlyRead, IsOpenedImage};
+ghost use Rattle.image_files.specs.Steps.{IfOpened, OnOpened, OnWorking, CallsIn, closed, TookWord, HasCause, IsOnlyRead, IsOpenedImage};
 ghost use Rattle.image_files.specs.Calls.{TookCell};
 
 use crate::answer::ImageAnswer;
@@ -230,9 +230,9 @@ impl ImageKeeper {
             (of_slot (target_of self.old.newest) image_b.new image_a.new) }
         ensures cause { HasCause result self.old.phase (D.faults image_a.old) (D.faults image_a.new)
             (D.faults image_b.old) (D.faults image_b.new) }
-        ensures closes { IsTrue D.honest → Closes result self.old.phase
-            (of_slot (target_of self.old.newest) (D.content image_a.old) (D.content image_b.old))
-            (of_slot (target_of self.old.newest) (D.content image_a.new) (D.content image_b.new)) }
+        ensures closes { IsTrue D.honest → self.old.phase ≡ Closing → OnWorking result
+            (of_slot (target_of self.old.newest) (D.content image_a.new) (D.content image_b.new)
+            ≡ closed (of_slot (target_of self.old.newest) (D.content image_a.old) (D.content image_b.old))) }
 
         // Crashes: the next step may be made, and what keeper and files stand for goes on by takes and openings.
         // `images_stay` begins it, and says what a crash leaves of files that stand for it.
@@ -302,8 +302,8 @@ impl ImageKeeper {
         ensures down { (result ≡ ImageAnswer.Down) ↔ (self.new.phase ≡ Down) }
 
         // The target is closed by the closed gate, and by no other byte.
-        ensures closes { IsTrue D.honest → Closes result self.old.phase
-            (D.content target.old) (D.content target.new) }
+        ensures closes { IsTrue D.honest → self.old.phase ≡ Closing
+            → OnWorking result (D.content target.new ≡ closed (D.content target.old)) }
 
         // Nothing else of the round changes, and an opened image ends it.
         ensures cells { self.new.cells ≡ self.old.cells }

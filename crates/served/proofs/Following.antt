@@ -21,7 +21,7 @@ use Rattle.action_log.specs.declared.phase.Phase.TheVariants as phase
 use Rattle.action_log.specs.declared.phase.Phase.TheVariants.{Ready}
 use Rattle.action_log.specs.declared.progress.Progress.{Progress as LogProgress}
 use Rattle.action_log.specs.Queue.{QueueEnd, queue_work}
-use Rattle.action_log.specs.Progress.{rest_in, work_of, end_of, QueueFollows}
+use Rattle.action_log.specs.Progress.{rest_in, work_of, end_of}
 use Rattle.action_log.specs.Logs.{Logs, Journal, InStart, Writing, LogPlace}
 use Rattle.action_log.specs.Stands.{Stands as LogStands}
 use Rattle.recovery.specs.Follow.{round_tick, base_in, coming}
@@ -76,16 +76,13 @@ stands_at keeper queue base count none end =
     let e = sym (end_ready keeper none.0) ∙ (ap (end_of keeper) (sym none.1) ∙ end) in
     (ap (λ (e : QueueEnd). e.base) e, ap (λ (e : QueueEnd). e.count) e)
 
-follows_ready : (keeper : LogProgress) → keeper.phase ≡ phase.Ready → QueueFollows keeper []
-follows_ready keeper ready = subst (λ p. QueueFollows (record keeper { phase = p }) []) (sym ready) tt
-
 -- a keeper that isn't down is ready to go on from the ended ticks
 pub log_is_ready : (keeper : LogProgress) (queue : List Record) (ended since : ℕ) → (keeper.down ≡ true) ⊎ (work_of keeper queue ≡ 0)
     → end_of keeper queue ≡ record { base = ended - since; count = since } → since ≤ ended → keeper.down ≡ false → LogIsReady keeper ended since
 log_is_ready keeper queue ended since rests end within up =
     let none = none_waits keeper queue (no_work keeper queue rests up) in
     let at = stands_at keeper queue (ended - since) since none end in
-    record { ready = none.0; follows = follows_ready keeper none.0; count = at.1; all = omega (arith, at.0, within) }
+    record { ready = none.0; count = at.1; all = omega (arith, at.0, within) }
 
 -- ---- a log after its start
 

@@ -20,6 +20,7 @@ use Rattle.action_log.specs.declared.record.Record.{Record}
 use Rattle.action_log.specs.declared.record.Record.TheVariants as records
 use Rattle.recovery.specs.Sound.{IsWorldAt}
 use Rattle.recovery.specs.Events.{ticks_in, IsKept}
+use Rattle.sessions.specs.declared.batch.Request.{Request}
 use Rattle.shared_capture.specs.declared.view.Round.{Round}
 use Rattle.shared_capture.specs.declared.view.Snapshot.{Snapshot}
 use Rattle.shared_capture.specs.Rounds.{round, IsTakenOf, Agree}
@@ -27,7 +28,7 @@ use Rattle.workers.specs.declared.item.Item.{Item}
 use Rattle.workers.specs.declared.item.Ended.{Ended}
 use Rattle.workers.specs.declared.item.Item.TheVariants.{Start, Tick, Switch, End}
 use Rattle.workers.specs.Items.{records_of, end_after, GoAll}
-use Rattle.workers.specs.Worlds.{World, Ran, Leads, IsUnchanged, AreUnchanged}
+use Rattle.workers.specs.Worlds.{World, RanBatch, Leads, IsUnchanged, AreUnchanged}
 use Rattle.worker_ends.proofs.Below.{Laws}
 use Rattle.worker_ends.proofs.Parts.{one_or_none, images_with}
 use Rattle.worker_ends.proofs.Images.{filled_is_marked}
@@ -91,7 +92,7 @@ module _ (laws : Laws) (cells : ℕ) (logs : Logs) where
       ∙ done
 
   -- a batch was run
-  ran : (ticks : List (List Action)) (queue : List Record) (images : Images) (w v : World) (ended : Ended) → Keeps ticks w.words images queue → Ran w ended v
+  ran : (ticks : List (List Action)) (queue : List Record) (images : Images) (w v : World) (ended : Ended) → Keeps ticks w.words images queue → (requests : List Request) × RanBatch requests w ended v
       → Keeps (ticks ++ ended.tick.list ∷ []) v.words images (queue ++ records.Tick ended.tick ∷ [])
   ran ticks queue images w v ended k is =
       let done : after_actions w.words ended.tick.list ≡ Ok v.words =

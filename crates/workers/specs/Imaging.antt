@@ -165,10 +165,6 @@ abbrev pub place_of : Phase → Place
 place_of Taking = Take
 place_of phase = Device
 
--- no call of a device failed
-abbrev pub IsUp : Progress → Type 0
-IsUp keeper = keeper.phase ≡ Down → ⊥
-
 -- a look found no round
 abbrev pub FindsNone : {D : Type 0} → Imaging D → Imaging D → Type 0
 FindsNone old new = (new ≡ record old { back = new.back }) × SameDone old.back new.back × (old.back.working ≡ false → FoundNone old.back new.back)
@@ -190,4 +186,4 @@ pub record GoesOn {D : Type 0} (go stuck : Type 0) (faults : D → ℕ) (old new
   pub failures : TellsFaults faults old.images new.images
   pub asks : (new.images ≡ old.images) ⊎ go
   pub over : new.over ≡ true → HasRound new.images.keeper × ((new.images.keeper.phase ≡ Down) ⊎ stuck)
-  pub up : new.over ≡ false → IsUp new.images.keeper
+  pub up : new.over ≡ false → new.images.keeper.phase ≢ Down
