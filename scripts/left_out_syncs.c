@@ -1,5 +1,6 @@
 /* Loaded before the C library, it leaves out syncs of a world's files and reports them as done. SYNCS_LEFT_OUT names them:
- * "log body", "log gate", "image body", "image gate" or "folder". A file whose last write had one byte is synced for a gate. */
+ * "log body", "log gate", "image body", "image gate", "folder" or "folder above". A file whose last write had one byte is
+ * synced for a gate. The folder above has no image.a. */
 #define _GNU_SOURCE
 #include <limits.h>
 #include <stdio.h>
@@ -52,7 +53,8 @@ int fdatasync(int file)
 int fsync(int file)
 {
     struct stat status;
-    if (fstat(file, &status) == 0 && S_ISDIR(status.st_mode) && is_named("folder"))
+    const char *name = faccessat(file, "image.a", F_OK, 0) == 0 ? "folder" : "folder above";
+    if (fstat(file, &status) == 0 && S_ISDIR(status.st_mode) && is_named(name))
         return 0;
     return (int)syscall(SYS_fsync, file);
 }

@@ -15,7 +15,7 @@ from kill_trial import PATIENCE_SECONDS, QUIET, Wrong
 
 # What has to be there: programs, by their packages.
 PACKAGES = {"qemu-system-x86": "qemu-system-x86_64", "busybox-static": "busybox", "e2fsprogs": "mkfs.ext4"}
-PACKAGES |= {"xfsprogs": "mkfs.xfs", "btrfs-progs": "mkfs.btrfs"}
+PACKAGES |= {"xfsprogs": "mkfs.xfs", "btrfs-progs": "mkfs.btrfs", "udftools": "mkfs.udf"}
 MODULES = "virtio_pci", "virtio_blk", "virtio_console", "crc32c_generic", "crc32c_intel"
 INIT = """#!/bin/busybox sh
 /bin/busybox --install -s /bin; export PATH=/bin

@@ -5,8 +5,7 @@
 
 A machine's disk keeps its writes and flushes in one order with what clients were answered. A cut leaves the writes that a
 flush had covered, and of the others any, whole or torn at sectors. A second machine recovers what is left: each answered tick
-must be there, as kill_trial.py judges it. The next run begins with such a disk. With --show syncs are left out, and then
-flushes: each must cost answered ticks, except that of the folder, which these file systems don't need.
+must be there, as kill_trial.py judges it. The next run begins with such a disk. With --show each kind of sync must matter.
 """
 import argparse
 import collections
@@ -27,11 +26,13 @@ from kill_trial import CELLS, CLIENTS, COUNT, METHODS, Found, Wrong, batches, fo
 from power_machine import DISK, Machine, lacking, pack
 
 # The disk of a file system, and the sectors at which its writes are torn: btrfs has no current copy of its 4,096-byte superblock.
-MEGABYTES, SECTORS = {"ext4": 144, "xfs": 300, "btrfs": 128}, {"ext4": 512, "xfs": 512, "btrfs": 4096}
+# udf brings no name along with a sync of a new file, so the syncs of folders are left out there. Nothing mends its map of free
+# blocks after a cut: each run has a new disk, cuts begin once the world was created, and the system's own writing is put off.
+MEGABYTES, SECTORS, UDF = {"ext4": 144, "xfs": 300, "btrfs": 128, "udf": 64}, {"btrfs": 4096}, {"fs": "udf", "options": "rw"}
 BLOCKS, EVERY = ("1024", "4096"), (1, 8, 64)
 CUTS_OF_A_RUN, RUNS_OF_A_DISK, PATIENCE_SECONDS, WRITE_SECONDS = 60, 4, 600, 0.001
 # How likely the power is cut after a request of the disk, and before a flush is done: until clients are served, and then.
-EARLY, LATE = {"request": 0.06, "flush": 0.4}, {"request": 0.02, "flush": 0.1}
+NEVER, EARLY, LATE = {"request": 0, "flush": 0}, {"request": 0.06, "flush": 0.4}, {"request": 0.02, "flush": 0.1}
 # In every other run a write with these bytes, which the log has of each tick, takes longer: covers come by that. A disk that
 # drops flushes keeps so many writes back. To show that a sync matters may take so many times the cuts.
 SLOW_LOG, KEPT_BACK, SHOWN = (struct.pack("<BIq", 2, COUNT, 1), 0.05), 64, 5
@@ -41,11 +42,12 @@ WAYS |= {"some sectors left": (True, None), "most sectors left": (True, 0.95)}
 CREATE, MOUNT, PARTS = "in create", "in a mount", {"created": "just created", "recovered": "in a start", "listening": "in play"}
 STOOD = "in a round", "in a switch", "covered", "tail of log.a", "tail of log.b", "from image.a", "from image.b", "kept more"
 KINDS, MENDED = (*WAYS, CREATE, MOUNT, *PARTS.values(), "no world", *STOOD), "mended by e2fsck"
-SYNCS, FOLDER, FLUSHES = ("log body", "log gate", "image body", "image gate"), "folder", "flushes"
+SYNCS, FLUSHES = ("log body", "log gate", "image body", "image gate"), "flushes"
+FOLDERS, UNMET = ("folder", "folder above"), {"covered": "data=journal", CREATE: "udf", MOUNT: "udf", "no world": "udf"}
 LOG = re.compile(r"log\.([ab]): open, format \d, base (\d+), \d+ groups?, (\d+) ticks?,")
 MOUNTED = "mount -t {fs} -o {options} /dev/vda /mnt || {{ e2fsck -fy /dev/vda; mount -t {fs} -o {options} /dev/vda /mnt; }}"
-SERVES = f"""{MOUNTED} >/dev/null
-echo 10 >/proc/sys/vm/dirty_writeback_centisecs; echo 20 >/proc/sys/vm/dirty_expire_centisecs
+SERVES = f"""echo {{wakes}} >/proc/sys/vm/dirty_writeback_centisecs; echo 20 >/proc/sys/vm/dirty_expire_centisecs
+{MOUNTED} >/dev/null
 mkdir -p /mnt/w; export LD_PRELOAD={{library}} SYNCS_LEFT_OUT="{{fault}}"
 worldd recover --dir /mnt/w 2>/dev/null || worldd create --dir /mnt/w --cells {{cells}}
 (while :; do dd if=/dev/urandom of=/mnt/n bs=4k count=20; mv /mnt/n /mnt/o; sleep 1; rm /mnt/o; done) 2>/dev/null &
@@ -57,9 +59,7 @@ exec <>$(ls /dev/vport*) >&0 2>&1
 while read look; do
     {MOUNTED}
     worldd recover --dir /mnt/w || {{{{ mkdir -p /mnt/w; worldd create --dir /mnt/w --cells {{cells}}; }}}}
-    worldd inspect --dir /mnt/w --words
-    umount /mnt || rm -r /mnt/w
-    echo looked
+    worldd inspect --dir /mnt/w --words; umount /mnt || rm -r /mnt/w; echo looked
 done
 """
 
@@ -69,7 +69,7 @@ class Trial:
 
     def __init__(self, given: argparse.Namespace, folder: pathlib.Path, fault: str) -> None:
         self.given, self.folder, self.fault, self.left = given, folder, fault, bytearray(MEGABYTES[given.fs] << 20)
-        self.fresh = Found("recovered 0 from 0", 0, 0, "image.a", [0] * given.cells, False)
+        self.fresh, self.is_udf = Found("recovered 0 from 0", 0, 0, "image.a", [0] * given.cells, False), given.fs == "udf"
         self.tally: collections.Counter[str] = collections.Counter()
 
     def machine(self, script: str, image: bytearray, ports: int, **words: object) -> contextlib.closing[Machine]:
@@ -85,11 +85,11 @@ class Trial:
 
     def serve(self, run: int, image: bytearray, before: Found | None, cuts: int) -> tuple[bytearray, Found | None]:
         """Lets a machine serve until the power was cut so often, and gives a disk that was left, with the world on it."""
-        method, every = self.given.method or METHODS[run % 2], self.given.every or EVERY[run % 3]
+        words = {"method": self.given.method or METHODS[run % 2], "every": self.given.every or EVERY[run % 3]}
         plans = [batches(f"{self.given.seed} {run} {client}", client, run) for client in range(CLIENTS)]
-        end, kept, chances = time.monotonic() + PATIENCE_SECONDS, random.randrange(1 + cuts // 2), EARLY
+        end, kept, chances = time.monotonic() + PATIENCE_SECONDS, random.randrange(1 + cuts // 2), NEVER if self.is_udf else EARLY
         self.before, self.part, self.answered, self.waiting = before or self.fresh, MOUNT if before else CREATE, {}, {}
-        with self.machine(SERVES, bytearray(image), CLIENTS, method=method, every=every) as machine:
+        with self.machine(SERVES, bytearray(image), CLIENTS, **words, wakes=60_000 if self.is_udf else 10) as machine:
             machine.slow, machine.kept_back = SLOW_LOG if run % 4 in (0, 3) else (b"", 0), KEPT_BACK * (self.fault == FLUSHES)
             while cuts and time.monotonic() < end:
                 for port, line in machine.events(WRITE_SECONDS):
@@ -115,7 +115,7 @@ class Trial:
     def cut(self, machine: Machine) -> Found | None:
         """Cuts the power, judges what another machine recovers then, and gives the world on the disk that was left."""
         (way, (is_torn, share)), told, end = random.choice(list(WAYS.items())), [], time.monotonic() + PATIENCE_SECONDS
-        size = self.given.sector or SECTORS[self.given.fs] if is_torn else WHOLE
+        size = self.given.sector or SECTORS.get(self.given.fs, 512) if is_torn else WHOLE
         machine.process.send_signal(signal.SIGSTOP)
         machine.cut(self.left, size, random.random() if share is None else share)
         self.reader.image[:] = self.left
@@ -148,32 +148,32 @@ class Trial:
         path = self.folder / "new"
         with self.machine(READS, bytearray(self.left), 1) as self.reader:
             for run, done in enumerate(range(0, cuts, CUTS_OF_A_RUN)):
-                if run % RUNS_OF_A_DISK == 0 or self.fault == FOLDER:
+                if run % RUNS_OF_A_DISK == 0 or self.is_udf:
                     path.write_bytes(bytes(len(self.left)))
-                    flags = ["-q", "-b", random.choice(BLOCKS)] if self.given.fs == "ext4" else []
+                    flags = {"ext4": ["-q", "-b", random.choice(BLOCKS)], "udf": ["-b", "512"]}.get(self.given.fs, [])
                     subprocess.run([f"mkfs.{self.given.fs}", *flags, path], check=True, capture_output=True)
                     image, before = bytearray(path.read_bytes()), None
                 image, before = self.serve(run, image, before, min(CUTS_OF_A_RUN, cuts - done))
         counts = "; ".join(f"{name} {self.tally[name]}" for name in ("cuts", "ticks answered", *KINDS, MENDED))
-        never = [kind for kind in KINDS if not self.tally[kind] and (kind, self.given.options) != ("covered", "data=journal")]
-        if never and not self.fault:
+        never = [kind for kind in KINDS if not self.tally[kind] and UNMET.get(kind) not in (self.given.fs, self.given.options)]
+        if never and not self.given.show:
             raise Wrong(f"never met: {', '.join(never)}: {counts}")
         return counts
 
 
 def told_of(given: argparse.Namespace, folder: pathlib.Path, fault: str) -> str:
     """What came of a trial, which without some syncs, or without flushes, has to be a loss."""
-    trial = Trial(given, folder, fault)
+    trial = Trial(argparse.Namespace(**vars(given) | (UDF if given.show and fault in ("", *FOLDERS) else {})), folder, fault)
     try:
         counts = trial.run(given.cuts * (SHOWN if fault in SYNCS else 1))
     except Wrong as wrong:
         if fault and str(wrong).startswith("recovered"):
-            return f"without {fault}: seen at cut {trial.tally['cuts']}: {wrong}"
+            return f"without {fault} on {trial.given.fs}: seen at cut {trial.tally['cuts']}: {wrong}"
         (folder / "left").write_bytes(trial.left)
         raise
-    if fault not in ("", FOLDER):
-        raise Wrong(f"without {fault}: not seen in {trial.tally['cuts']} cuts")
-    return f"without {fault}: tried in {given.cuts} cuts, and not seen" if fault else counts
+    if fault:
+        raise Wrong(f"without {fault} on {trial.given.fs}: not seen in {trial.tally['cuts']} cuts")
+    return f"with each sync on {trial.given.fs}: {counts}" if given.show else counts
 
 
 def main() -> int:
@@ -198,7 +198,7 @@ def main() -> int:
     print(f"power_trial: seed {given.seed}", flush=True)
     folder = pathlib.Path(tempfile.mkdtemp(prefix="power-trial-"))
     try:
-        for fault in (*SYNCS, FOLDER, FLUSHES) if given.show else ("",):
+        for fault in (*SYNCS, "", *FOLDERS, FLUSHES) if given.show else ("",):
             print(told_of(given, folder, fault), flush=True)
     except (Wrong, OSError, subprocess.SubprocessError) as wrong:
         print(f"power_trial: {wrong}\npower_trial: seed {given.seed}, files in {folder}", file=sys.stderr)
