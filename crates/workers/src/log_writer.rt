@@ -146,8 +146,11 @@ impl<D: Disk + Drop, G: Gate + Drop> LogWriter<D, G> {
     // The log is down: tells it, and refuses each answer that waits.
     fn fall<R: Wait>(&mut self, rt: &R)
         requires up { self.old.down ≡ false }
-        ensures { self.new ≡ record self.old { down = true; told_down = with_told self.old.told_down 1;
-            answers = refused self.old.answers } }
+        ensures { self.new ≡ record self.old {
+          down = true;
+          told_down = with_told self.old.told_down 1;
+          answers = refused self.old.answers;
+        } }
     {
         self.down = true;
         self.told_down.publish(1);
