@@ -1,5 +1,5 @@
-ghost use Rattle.std.specs.Prelude.{OnOk, OnErr, IfOk, length, take, drop, ◌≤◌, ◌↔◌, ◌≡◌, ◌+◌, ◌-◌, min, Err, IsTrue, is_ok, Some, None, Result, Option};
-ghost use Rattle.disk_model.specs.Disk.{last_count, min-last_count, counted, Within, Follows, Torn, Only, overwritten, IsDeviceFault, Length, Read, Write, Sync};
+ghost use Rattle.std.specs.Prelude.{◌≤◌, ◌↔◌, ◌≡◌, ◌+◌, ◌-◌, Err, IsTrue, Some, None, Result, Option};
+ghost use Rattle.disk_model.specs.Disk.{min-last_count};
 ghost use Rattle.disk_model.specs.Fused.{Fuse, counted_down, IsDue, fault_count, more_faults, CallsThrough};
 
 use crate::Disk;
@@ -118,17 +118,7 @@ impl<D: Disk> Disk for Fused<D> {
     ghost few_faults = { λ disk. min-last_count (D.faults disk.inner + disk.faults) };
 
     /// The call that is due isn't made below.
-    fn len(&mut self) -> Result<u64, Refusal>
-        ensures length { IsTrue D.honest
-            → IfOk result (λ len. len ≡ length (D.content self.old.inner)) }
-        ensures content { IsTrue D.honest → D.content self.new.inner ≡ D.content self.old.inner }
-        ensures crash { IsTrue D.honest
-            → Within (D.may_leave self.old.inner) (D.may_leave self.new.inner) }
-        ensures faults { fault_count D.faults self.new
-            ≡ counted (fault_count D.faults self.old) result }
-        ensures device { IsDeviceFault result }
-        ensures called { CallsThrough D.called self.old Length (is_ok result) self.new }
-    {
+    fn len(&mut self) -> Result<u64, Refusal> {
         if self.burns() {
             return self.failed();
         }
@@ -136,18 +126,7 @@ impl<D: Disk> Disk for Fused<D> {
     }
 
     /// The call that is due isn't made below.
-    fn read_at(&mut self, at: u64, into: &mut [u8]) -> Result<(), Refusal>
-        requires { IsTrue D.honest → at + length into.old ≤ length (D.content self.old.inner) }
-        ensures read { IsTrue D.honest
-            → OnOk result (into.new ≡ take (length into.old) (drop at (D.content self.old.inner))) }
-        ensures content { IsTrue D.honest → D.content self.new.inner ≡ D.content self.old.inner }
-        ensures crash { IsTrue D.honest
-            → Within (D.may_leave self.old.inner) (D.may_leave self.new.inner) }
-        ensures faults { fault_count D.faults self.new
-            ≡ counted (fault_count D.faults self.old) result }
-        ensures device { IsDeviceFault result }
-        ensures called { CallsThrough D.called self.old (Read at (length into.old)) (is_ok result) self.new }
-    {
+    fn read_at(&mut self, at: u64, into: &mut [u8]) -> Result<(), Refusal> {
         if self.burns() {
             return self.failed();
         }
@@ -155,19 +134,7 @@ impl<D: Disk> Disk for Fused<D> {
     }
 
     /// The write that is due is made below, and fails then.
-    fn write_at(&mut self, at: u64, bytes: &[u8]) -> Result<(), Refusal>
-        requires { IsTrue D.honest → at ≤ length (D.content self.old.inner) }
-        ensures written { IsTrue D.honest → OnOk result
-            (D.content self.new.inner ≡ overwritten (D.content self.old.inner) at bytes.now) }
-        ensures torn { IsTrue D.honest → OnErr result
-            (Torn at (length bytes.now) (D.content self.old.inner) (D.content self.new.inner)) }
-        ensures crash { IsTrue D.honest → Follows (Torn at (length bytes.now))
-            (D.may_leave self.old.inner) (D.may_leave self.new.inner) }
-        ensures faults { fault_count D.faults self.new
-            ≡ counted (fault_count D.faults self.old) result }
-        ensures device { IsDeviceFault result }
-        ensures called { CallsThrough D.called self.old (Write at bytes.now) (is_ok result) self.new }
-    {
+    fn write_at(&mut self, at: u64, bytes: &[u8]) -> Result<(), Refusal> {
         let burns = self.burns();
         self.inner.write_at(at, bytes)?;
         if burns {
@@ -177,17 +144,7 @@ impl<D: Disk> Disk for Fused<D> {
     }
 
     /// The call that is due isn't made below.
-    fn sync(&mut self) -> Result<(), Refusal>
-        ensures durable { IsTrue D.honest
-            → OnOk result (Only (D.content self.old.inner) (D.may_leave self.new.inner)) }
-        ensures content { IsTrue D.honest → D.content self.new.inner ≡ D.content self.old.inner }
-        ensures crash { IsTrue D.honest
-            → Within (D.may_leave self.old.inner) (D.may_leave self.new.inner) }
-        ensures faults { fault_count D.faults self.new
-            ≡ counted (fault_count D.faults self.old) result }
-        ensures device { IsDeviceFault result }
-        ensures called { CallsThrough D.called self.old Sync (is_ok result) self.new }
-    {
+    fn sync(&mut self) -> Result<(), Refusal> {
         // A failed sync makes nothing durable.
         if self.burns() {
             return self.failed();

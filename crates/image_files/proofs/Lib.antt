@@ -7,4 +7,5 @@ pub mod ChunkWrites
 pub mod ChunkReads
 pub mod TakeLemmas
 pub mod ClaimLemmas
+pub mod FileWords
 pub mod StandsLemmas

@@ -6,12 +6,16 @@ use Rattle.file_format.specs.Gate.{HasShutGate, HasNoShutGate}
 use Rattle.image_files.specs.Image.{Image, image_of}
 use Rattle.image_files.specs.Image.Image.{Closed, Open}
 use Rattle.image_files.specs.Images.{ImageFiles, NoneYet, Newest}
-use Rattle.image_files.specs.Progress.{Progress, target_of, newest_words, round_of}
+use Rattle.image_files.specs.Progress.{Progress, target_of, done, newest_words, round_of}
 use Rattle.image_files.specs.Keeper.{Fits, Endures}
 
 -- the two files hold what the keeper takes them to hold
 abbrev pub FitsFiles : Progress → (image_a image_b : List ℕ) → Type 0
 FitsFiles keeper image_a image_b = Fits keeper (of_slot (target_of keeper.newest) image_a image_b) (of_slot (target_of keeper.newest) image_b image_a)
+
+-- the words taken so far
+abbrev pub done_in : Progress → (image_a image_b : List ℕ) → List ℕ
+done_in keeper image_a image_b = done keeper (of_slot (target_of keeper.newest) image_a image_b) (of_slot (target_of keeper.newest) image_b image_a)
 
 -- how the round's target read before it
 abbrev pub before_in : ImageFiles → Image
@@ -36,6 +40,10 @@ abbrev pub Stands : Progress → ImageFiles → (image_a image_b : List ℕ) →
 Stands keeper images image_a image_b outcomes_a outcomes_b =
     StandsFor keeper images (of_slot (target_of keeper.newest) image_a image_b) (of_slot (target_of keeper.newest) image_b image_a)
     (in_slot (target_of keeper.newest) outcomes_a outcomes_b) (beside_slot (target_of keeper.newest) outcomes_a outcomes_b)
+
+-- the same of two disks
+abbrev pub DisksStand : {D : Type 0} → (content : D → List ℕ) → (may_leave : D → List ℕ → Type 0) → Progress → ImageFiles → (image_a image_b : D) → Type 0
+DisksStand content may_leave keeper images image_a image_b = Stands keeper images (content image_a) (content image_b) (may_leave image_a) (may_leave image_b)
 
 -- ---- a keeper just made
 

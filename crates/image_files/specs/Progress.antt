@@ -35,6 +35,11 @@ abbrev pub target_of : Option (Slot × ℕ) → Slot
 target_of None = A
 target_of (Some (slot, tick)) = other_slot slot
 
+-- the tick of the newest image, 0 before the first
+abbrev pub newest_tick : Option (Slot × ℕ) → ℕ
+newest_tick None = 0
+newest_tick (Some newest) = newest.1
+
 -- ---- the words of the round
 
 -- the words of the newest image, in its file
@@ -96,7 +101,6 @@ chunks cells = (cells + (CHUNK_CELLS - 1)) / CHUNK_CELLS
 
 -- by phase: a take each for the cells that are left, and at most a read and a write each for the chunks
 abbrev pub moves_left : Phase → Progress → ℕ
-moves_left Idle keeper = 0
 moves_left Closing keeper = keeper.cells + 2 * chunks keeper.cells + 6
 moves_left ClosingSync keeper = keeper.cells + 2 * chunks keeper.cells + 5
 moves_left Header keeper = keeper.cells + 2 * chunks keeper.cells + 4
@@ -106,7 +110,7 @@ moves_left Writing keeper = keeper.cells - (keeper.written + length keeper.chunk
 moves_left BodySync keeper = 3
 moves_left Opening keeper = 2
 moves_left OpeningSync keeper = 1
-moves_left Down keeper = 0
+moves_left phase keeper = 0
 
 -- of a keeper
 abbrev pub left_of : Progress → ℕ

@@ -6,7 +6,7 @@ use Rattle.file_format.specs.Format.{marked_in}
 use Rattle.capture_core.specs.declared.taker.Taken.{Taken}
 use Rattle.disk_model.specs.Disk.{overwritten, Only, Within, FaultsBy, Call, CalledOnce}
 use Rattle.image_files.specs.declared.phase.Phase.{Phase}
-use Rattle.image_files.specs.declared.phase.Phase.TheVariants.{Idle, Closing, Taking, Reading, Down}
+use Rattle.image_files.specs.declared.phase.Phase.TheVariants.{Idle, Taking, Reading, Down}
 use Rattle.image_files.specs.declared.answer.ImageAnswer.{ImageAnswer}
 use Rattle.image_files.specs.declared.answer.ImageAnswer.TheVariants as answer
 use Rattle.image_files.specs.Image.{Image, image_of}
@@ -49,10 +49,6 @@ HasCause other was target_before target_after newest_before newest_after = Fault
 -- a file with the closed gate written over its first byte
 abbrev pub closed : List ℕ → List ℕ
 closed file = overwritten file 0 (CLOSED_GATE ∷ [])
-
--- where the target was to be closed and the round goes on, it has the closed gate and stays as it was behind it
-abbrev pub Closes : ImageAnswer → (was : Phase) → (before after : List ℕ) → Type 0
-Closes answer was before after = was ≡ Closing → OnWorking answer (after ≡ closed before)
 
 -- a file is only read
 abbrev pub IsOnlyRead : {D : Type 0} → Bool → (content : D → List ℕ) → (may_leave : D → List ℕ → Type 0) → (before after : D) → Type 0

@@ -1,15 +1,15 @@
 ghost use Rattle.std.specs.Prelude.{◌≡◌, ◌+◌, ◌*◌, ◌/◌, if◌then◌else◌, ◌≤◌, ◌<◌, ◌⊎◌, ◌↔◌, ℕ, List, [], false, get_or, IsTrue, OnOk, OnErr, IfOk, IfErr, IfNone, Option, Some, None, ⊤};
 ghost use Rattle.world_ticks.specs.declared.tick.TheConstants.{TICK_MAX};
-ghost use Rattle.file_format.specs.Slot.{of_slot};
+ghost use Rattle.file_format.specs.Slot.{of_slot, in_slot};
 ghost use Rattle.capture_core.specs.declared.taker.Taken.{Taken};
 ghost use Rattle.image_files.specs.declared.format.TheConstants.{CELLS_MAX};
-ghost use Rattle.image_files.specs.declared.phase.Phase.TheVariants.{Idle, Taking, Down};
+ghost use Rattle.image_files.specs.declared.phase.Phase.TheVariants.{Idle, Closing, Taking, Down};
 ghost use Rattle.image_files.specs.Image.{Image, image_of};
 ghost use Rattle.image_files.specs.Images.{ImageFiles, StepsImages};
 ghost use Rattle.image_files.specs.Progress.{target_of, done, cells_taken, left_of, made_keeper, begun_keeper, opened_keeper};
 ghost use Rattle.image_files.specs.Keeper.{Fits, Endures};
-ghost use Rattle.image_files.specs.Files.{FitsFiles, Stands, StandsFor};
-ghost use Rattle.image_files.specs.Steps.{IfOpened, OnOpened, OnWorking, CallsIn, Closes, TookWord, HasCause, IsOnlyRead, IsOpenedImage};
+ghost use Rattle.image_files.specs.Files.{done_in, FitsFiles, DisksStand};
+ghost use Rattle.image_files.specs.Steps.{IfOpened, OnOpened, OnWorking, CallsIn, closed, TookWord, HasCause, IsOnlyRead, IsOpenedImage};
 ghost use Rattle.image_files.specs.Calls.{TookCell};
 
 use crate::answer::ImageAnswer;
@@ -168,81 +168,8 @@ impl ImageKeeper {
         };
     }
 
-    /// One take, or at most one call of a device. `target` and `newest` are the keeper's own two
-    /// files, which nothing else changes: the one that the round writes, and the other, which holds
-    /// the newest image once there is one.
-    pub fn step<T: Taker, D: Disk>(
-        &mut self,
-        from: &mut T,
-        target: &mut D,
-        newest: &mut D,
-    ) -> ImageAnswer
-        requires fits { IsTrue D.honest
-            → Fits self.old (D.content target.old) (D.content newest.old) }
-
-        // Answers: Idle with no round in work, Opened where the last call of a round went well, which ends it, Down
-        // from a failed call on, else Working. With Idle, and once it is down, nothing changes.
-        ensures idle { (result ≡ ImageAnswer.Idle) ↔ (self.old.phase ≡ Idle) }
-        ensures ended { IfOpened result (self.new ≡ opened_keeper self.old)
-            ((self.new.tick ≡ self.old.tick) × (self.new.newest ≡ self.old.newest)) }
-        ensures down { (result ≡ ImageAnswer.Down) ↔ (self.new.phase ≡ Down) }
-        ensures goes_on { OnWorking result (self.new.phase ≡ Idle → ⊥) }
-        ensures rests { (self.old.phase ≡ Idle) ⊎ (self.old.phase ≡ Down)
-            → (self.new ≡ self.old) × (target.new ≡ target.old) × (newest.new ≡ newest.old) }
-
-        // Counts: a round that goes on has less left, but where a take gave no cell with cells still to be taken.
-        ensures working { OnWorking result ((left_of self.new < left_of self.old)
-            ⊎ ((cells_taken self.old < self.old.cells) × T.took from.old None from.new × (from.new ≡ from.old)
-            × (self.new ≡ self.old) × (target.new ≡ target.old) × (newest.new ≡ newest.old))) }
-        ensures cells { self.new.cells ≡ self.old.cells }
-
-        // Takes: a step takes a cell and calls no device, or leaves the taker. All are taken where the image is opened.
-        ensures taken { ((from.new ≡ from.old) × IfOpened result ⊤ (cells_taken self.new ≡ cells_taken self.old))
-            ⊎ ((cell : Taken) × T.took from.old (Some cell) from.new
-            × (cells_taken self.new ≡ cells_taken self.old + 1)
-            × (target.new ≡ target.old) × (newest.new ≡ newest.old)) }
-        ensures all_taken { IfOpened result (cells_taken self.old ≡ self.old.cells) ⊤ }
-
-        // Words: a take adds the cell's own, or the newest image's word of that cell; no other step changes them.
-        ensures took { self.old.phase ≡ Taking → (cell : Option Taken) × T.took from.old cell from.new
-            × (IsTrue D.honest → TookWord cell self.old (D.content newest.old)
-            (done self.old (D.content target.old) (D.content newest.old))
-            (done self.new (D.content target.new) (D.content newest.new))) }
-        ensures done { (self.old.phase ≡ Taking → ⊥) → IsTrue D.honest → IfOpened result ⊤
-            (done self.new (D.content target.new) (D.content newest.new)
-            ≡ done self.old (D.content target.old) (D.content newest.old)) }
-
-        // Disks: by the keeper's phase no call, or one on one of them, and the newest image's file is only read. Down
-        // comes only once a call failed, and no failure is passed over.
-        ensures calls { CallsIn self.old.phase D.called target.old target.new newest.old newest.new }
-        ensures cause { HasCause result self.old.phase (D.faults target.old) (D.faults target.new)
-            (D.faults newest.old) (D.faults newest.new) }
-        ensures newest { IsOnlyRead D.honest D.content D.may_leave newest.old newest.new }
-
-        // Opening: whatever a crash leaves, the target has the image of the round.
-        ensures opened { IsTrue D.honest → OnOpened result (IsOpenedImage self.old
-            (done self.old (D.content target.old) (D.content newest.old))
-            (D.content target.new) (D.may_leave target.new)) }
-
-        // Crashes: the next step may be made, and what keeper and files stand for goes on by takes and openings. An
-        // opened image is the newest one, and its file that one's.
-        ensures fits { IsTrue D.honest → IfOpened result
-            (Fits self.new (D.content newest.new) (D.content target.new))
-            (Fits self.new (D.content target.new) (D.content newest.new)) }
-        ensures stands { IsTrue D.honest → (images : ImageFiles)
-            → StandsFor self.old images (D.content target.old) (D.content newest.old)
-            (D.may_leave target.old) (D.may_leave newest.old)
-            → (next : ImageFiles) × IfOpened result
-            (StandsFor self.new next (D.content newest.new) (D.content target.new)
-            (D.may_leave newest.new) (D.may_leave target.new))
-            (StandsFor self.new next (D.content target.new) (D.content newest.new)
-            (D.may_leave target.new) (D.may_leave newest.new))
-            × StepsImages T.took self.old.cells images result next from.old from.new }
-    {
-        self.step_by_phase(from, target, newest)
-    }
-
-    /// `step` on the keeper's two files by their names.
+    /// One take, or at most one call of a device. The two files are the keeper's own, which nothing else changes: the
+    /// round writes the one, and the other holds the newest image once there is one.
     pub fn step_files<T: Taker, D: Disk>(
         &mut self,
         from: &mut T,
@@ -275,8 +202,27 @@ impl ImageKeeper {
             × (cells_taken self.new ≡ cells_taken self.old + 1)) }
         ensures all_taken { IfOpened result (cells_taken self.old ≡ self.old.cells) ⊤ }
 
-        // Disks: by the keeper's phase no call, or one on one of them. Down comes only once a call failed, and no
-        // failure is passed over. A file is closed by the closed gate, and by no other byte.
+        // Words: a take adds the cell's own, or the newest image's word of that cell; no other step changes them. An
+        // opened image has those of the round, whatever a crash leaves.
+        ensures took { self.old.phase ≡ Taking → (cell : Option Taken) × T.took from.old cell from.new
+            × (IsTrue D.honest → TookWord cell self.old
+            (of_slot (target_of self.old.newest) (D.content image_b.old) (D.content image_a.old))
+            (done_in self.old (D.content image_a.old) (D.content image_b.old))
+            (done_in self.new (D.content image_a.new) (D.content image_b.new))) }
+        ensures done { (self.old.phase ≡ Taking → ⊥) → IsTrue D.honest → IfOpened result ⊤
+            (done_in self.new (D.content image_a.new) (D.content image_b.new)
+            ≡ done_in self.old (D.content image_a.old) (D.content image_b.old)) }
+        ensures opened { IsTrue D.honest → OnOpened result (IsOpenedImage self.old
+            (done_in self.old (D.content image_a.old) (D.content image_b.old))
+            (of_slot (target_of self.old.newest) (D.content image_a.new) (D.content image_b.new))
+            (in_slot (target_of self.old.newest) (D.may_leave image_a.new) (D.may_leave image_b.new))) }
+
+        // Disks: by the keeper's phase no call, or one on one of them, and the newest image's file is only read. Down
+        // comes only once a call failed, and no failure is passed over. A file is closed by the closed gate, and by no
+        // other byte.
+        ensures newest { IsOnlyRead D.honest D.content D.may_leave
+            (of_slot (target_of self.old.newest) image_b.old image_a.old)
+            (of_slot (target_of self.old.newest) image_b.new image_a.new) }
         ensures calls { CallsIn self.old.phase D.called
             (of_slot (target_of self.old.newest) image_a.old image_b.old)
             (of_slot (target_of self.old.newest) image_a.new image_b.new)
@@ -284,20 +230,17 @@ impl ImageKeeper {
             (of_slot (target_of self.old.newest) image_b.new image_a.new) }
         ensures cause { HasCause result self.old.phase (D.faults image_a.old) (D.faults image_a.new)
             (D.faults image_b.old) (D.faults image_b.new) }
-        ensures closes { IsTrue D.honest → Closes result self.old.phase
-            (of_slot (target_of self.old.newest) (D.content image_a.old) (D.content image_b.old))
-            (of_slot (target_of self.old.newest) (D.content image_a.new) (D.content image_b.new)) }
+        ensures closes { IsTrue D.honest → self.old.phase ≡ Closing → OnWorking result
+            (of_slot (target_of self.old.newest) (D.content image_a.new) (D.content image_b.new)
+            ≡ closed (of_slot (target_of self.old.newest) (D.content image_a.old) (D.content image_b.old))) }
 
         // Crashes: the next step may be made, and what keeper and files stand for goes on by takes and openings.
         // `images_stay` begins it, and says what a crash leaves of files that stand for it.
         ensures fits { IsTrue D.honest
             → FitsFiles self.new (D.content image_a.new) (D.content image_b.new) }
         ensures stands { IsTrue D.honest → (images : ImageFiles)
-            → Stands self.old images (D.content image_a.old) (D.content image_b.old)
-            (D.may_leave image_a.old) (D.may_leave image_b.old)
-            → (next : ImageFiles)
-            × Stands self.new next (D.content image_a.new) (D.content image_b.new)
-            (D.may_leave image_a.new) (D.may_leave image_b.new)
+            → DisksStand D.content D.may_leave self.old images image_a.old image_b.old
+            → (next : ImageFiles) × DisksStand D.content D.may_leave self.new next image_a.new image_b.new
             × StepsImages T.took self.old.cells images result next from.old from.new }
     {
         match self.target() {
@@ -359,8 +302,8 @@ impl ImageKeeper {
         ensures down { (result ≡ ImageAnswer.Down) ↔ (self.new.phase ≡ Down) }
 
         // The target is closed by the closed gate, and by no other byte.
-        ensures closes { IsTrue D.honest → Closes result self.old.phase
-            (D.content target.old) (D.content target.new) }
+        ensures closes { IsTrue D.honest → self.old.phase ≡ Closing
+            → OnWorking result (D.content target.new ≡ closed (D.content target.old)) }
 
         // Nothing else of the round changes, and an opened image ends it.
         ensures cells { self.new.cells ≡ self.old.cells }

@@ -7,7 +7,7 @@ ghost use Rattle.image_files.specs.declared.format.TheConstants.{CELLS_MAX};
 ghost use Rattle.image_files.specs.declared.phase.Phase.TheVariants.{Idle};
 ghost use Rattle.image_files.specs.Images.{Round, ImageFiles, ImageFilesAre, newest_in, round_in, with_round};
 ghost use Rattle.image_files.specs.Progress.{Progress, made_keeper, begun_keeper, cells_taken};
-ghost use Rattle.image_files.specs.Files.{FitsFiles, Stands, HoldsNewest, TellsShut, IsTold};
+ghost use Rattle.image_files.specs.Files.{FitsFiles, DisksStand, HoldsNewest, TellsShut, IsTold};
 
 use disk_model::Disk;
 
@@ -27,34 +27,24 @@ pub fn images_stay<D: Disk>()
         → Only (D.content image_b) (D.may_leave image_b)
         → TellsShut shut_a (D.content image_a) → TellsShut shut_b (D.content image_b)
         → IsTold cells newest images (D.content image_a) (D.content image_b)
-        → Stands (made_keeper cells newest shut_a shut_b) images
-        (D.content image_a) (D.content image_b) (D.may_leave image_a) (D.may_leave image_b) }
+        → DisksStand D.content D.may_leave (made_keeper cells newest shut_a shut_b) images image_a image_b }
     ensures begun { (keeper : Progress) (tick : ℕ) (images : ImageFiles) (image_a image_b : D)
         → keeper.phase ≡ Idle → tick ≤ TICK_MAX
-        → Stands keeper images
-        (D.content image_a) (D.content image_b) (D.may_leave image_a) (D.may_leave image_b)
-        → Stands (begun_keeper tick keeper) (with_round tick images)
-        (D.content image_a) (D.content image_b) (D.may_leave image_a) (D.may_leave image_b) }
+        → DisksStand D.content D.may_leave keeper images image_a image_b
+        → DisksStand D.content D.may_leave (begun_keeper tick keeper) (with_round tick images) image_a image_b }
     ensures newest { (keeper : Progress) (images : ImageFiles) (image_a image_b : D)
-        → Stands keeper images
-        (D.content image_a) (D.content image_b) (D.may_leave image_a) (D.may_leave image_b)
-        → keeper.newest ≡ newest_in images }
+        → DisksStand D.content D.may_leave keeper images image_a image_b → keeper.newest ≡ newest_in images }
     ensures idle { (keeper : Progress) (images : ImageFiles) (image_a image_b : D)
-        → Stands keeper images
-        (D.content image_a) (D.content image_b) (D.may_leave image_a) (D.may_leave image_b)
-        → keeper.phase ≡ Idle → round_in images ≡ None }
+        → DisksStand D.content D.may_leave keeper images image_a image_b → keeper.phase ≡ Idle
+        → round_in images ≡ None }
     ensures rests { (keeper : Progress) (images : ImageFiles) (image_a image_b : D)
-        → Stands keeper images
-        (D.content image_a) (D.content image_b) (D.may_leave image_a) (D.may_leave image_b)
-        → keeper.phase ≡ Idle
+        → DisksStand D.content D.may_leave keeper images image_a image_b → keeper.phase ≡ Idle
         → Only (D.content image_a) (D.may_leave image_a) × Only (D.content image_b) (D.may_leave image_b) }
     ensures round { (keeper : Progress) (images : ImageFiles) (image_a image_b : D)
-        → Stands keeper images
-        (D.content image_a) (D.content image_b) (D.may_leave image_a) (D.may_leave image_b)
+        → DisksStand D.content D.may_leave keeper images image_a image_b
         → (keeper.phase ≡ Idle → ⊥) → (round : Round) × (round_in images ≡ Some round)
         × (round.tick ≡ keeper.tick) × (length round.taken ≡ cells_taken keeper) }
     ensures left { (keeper : Progress) (images : ImageFiles) (image_a image_b : D)
-        → Stands keeper images
-        (D.content image_a) (D.content image_b) (D.may_leave image_a) (D.may_leave image_b)
+        → DisksStand D.content D.may_leave keeper images image_a image_b
         → ImageFilesAre keeper.cells images (D.may_leave image_a) (D.may_leave image_b) }
 {}

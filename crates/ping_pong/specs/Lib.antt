@@ -1,1 +1,2 @@
 pub mod PingPong
+pub mod View

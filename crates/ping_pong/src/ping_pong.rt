@@ -28,28 +28,13 @@ pub struct PingPong {
 
 impl Model for PingPong {
     ghost use Rattle.ping_pong.specs.PingPong.{Arrays, IsInOrder};
+    ghost use Rattle.ping_pong.specs.View.{arrays_of};
 
     ghost Value = { Arrays };
 
-    ghost view = { λ store. record {
-      live = store.live.items;
-      current_words = store.current_words.items;
-      current_dirty = store.current_dirty;
-      previous_words = store.previous_words.items;
-      previous_dirty = store.previous_dirty;
-      odd_is_current = store.odd_is_current;
-      taken = store.taken;
-    } };
+    ghost view = { arrays_of };
 
-    ghost invariant = { λ store. IsInOrder (record {
-      live = store.live.items;
-      current_words = store.current_words.items;
-      current_dirty = store.current_dirty;
-      previous_words = store.previous_words.items;
-      previous_dirty = store.previous_dirty;
-      odd_is_current = store.odd_is_current;
-      taken = store.taken;
-    }) };
+    ghost invariant = { λ store. IsInOrder (arrays_of store) };
 }
 
 impl PingPong {
@@ -181,12 +166,7 @@ impl Capture for PingPong {
 
     ghost after_take = { λ old new answer takes. takes };
 
-    fn build(alloc: Global, words: &[u64]) -> Result<Self, Refusal>
-        requires { All IsWord words.now }
-        ensures ok { IfOk result (λ store. content_of store ≡ all_touched words.now []) }
-        ensures err { IfErr result (λ refusal. refusal ≡ Refusal.NoMemory) }
-        ensures arrays { IfOk result (λ store. store ≡ built_arrays words.now) }
-    {
+    fn build(alloc: Global, words: &[u64]) -> Result<Self, Refusal> {
         PingPong::new(alloc, words)
     }
 

@@ -70,150 +70,106 @@ pub record IsKept (cells : ℕ) (ticks : List (List Action)) (acknowledged : ℕ
 
 -- ---- the events
 
--- a tick ends whose actions are all accepted, and is queued
-abbrev pub TickEnds : Type 0
-TickEnds =
-    (cells : ℕ) (ticks : List (List Action)) (acknowledged : ℕ) (images : Images) (logs : Logs) (queue : List Record)
-    (kept : IsKept cells ticks acknowledged images logs queue) (tick : Actions) (next : List ℕ) → after_actions kept.last tick.list ≡ Ok next
-    → IsKept cells (ticks ++ tick.list ∷ []) acknowledged images logs (queue ++ records.Tick tick ∷ [])
-
--- with no round in work, and a tick ended since the newest image, the number of ended ticks is marked: a round begins at
--- it, and its switch is queued
-abbrev pub MarkIsMade : Type 0
-MarkIsMade =
-    (cells : ℕ) (ticks : List (List Action)) (acknowledged : ℕ) (images next : Images) (logs : Logs) (queue : List Record)
-    → IsKept cells ticks acknowledged images logs queue → images.round ≡ None → images.tick < length ticks
-    → with_round (length ticks) (Newest images) ≡ Newest next
-    → IsKept cells ticks acknowledged next logs (queue ++ records.Switch (length ticks) ∷ [])
-
 -- what is acknowledged after a step of the image keeper: the tick of an image that was opened
 abbrev pub acknowledged_opened : ℕ → ImageAnswer → ℕ
 acknowledged_opened acknowledged (image_answer.Opened tick) = max acknowledged tick
 acknowledged_opened acknowledged answer = acknowledged
-
--- a step of the image keeper, whose round is the world after its tick once all cells are taken
-abbrev pub ImageStepKeeps : {S : Type 0} → (S → Option Taken → S → Type 0) → Type 0
-ImageStepKeeps {S = S} took =
-    (cells : ℕ) (ticks : List (List Action)) (acknowledged : ℕ) (images : Images) (logs : Logs) (queue : List Record)
-    (answer : ImageAnswer) (next : ImageFiles) (old new : S)
-    → IsKept cells ticks acknowledged images logs queue → StepsImages took cells (Newest images) answer next old new
-    → IsRoundOf cells ticks images.tick (round_in next)
-    → (after : Images) × (next ≡ Newest after) × IsKept cells ticks (acknowledged_opened acknowledged answer) after logs queue
 
 -- what is acknowledged after a step of the log keeper: the greatest tick of a receipt
 abbrev pub acknowledged_after : ℕ → LogAnswer → ℕ
 acknowledged_after acknowledged (log_answer.Acked tick) = max acknowledged tick
 acknowledged_after acknowledged answer = acknowledged
 
--- a step of the log keeper
-abbrev pub LogStepKeeps : Type 0
-LogStepKeeps =
-    (cells : ℕ) (ticks : List (List Action)) (acknowledged : ℕ) (images : Images) (logs : Logs) (queue : List Record)
-    (answer : LogAnswer) (next : Logs) (left : List Record)
-    → IsKept cells ticks acknowledged images logs queue → LogsStep logs queue answer next left
-    → IsKept cells ticks (acknowledged_after acknowledged answer) images next left
-
--- a cover of a tick whose image was opened
-abbrev pub CoverKeeps : Type 0
-CoverKeeps =
-    (cells : ℕ) (ticks : List (List Action)) (acknowledged : ℕ) (images : Images) (logs : Logs) (queue : List Record)
-    (tick : ℕ) (answer : LogAnswer) (left : List Record)
-    → IsKept cells ticks acknowledged images logs queue → tick ≤ images.tick → CoverStep logs queue tick answer left
-    → IsKept cells ticks (acknowledged_after acknowledged answer) images logs left
-
 -- a receipt's tick is the number of ended ticks, less those that still wait
 abbrev pub ReceiptIs : LogAnswer → (ticks : List (List Action)) → (left : List Record) → Type 0
 ReceiptIs (log_answer.Acked tick) ticks left = tick + length (ticks_in left) ≡ length ticks
 ReceiptIs answer ticks left = Unit {0}
 
--- each step's receipt is exact
-abbrev pub ReceiptIsExact : Type 0
-ReceiptIsExact =
-    (cells : ℕ) (ticks : List (List Action)) (acknowledged : ℕ) (images : Images) (logs : Logs) (queue : List Record)
-    (answer : LogAnswer) (next : Logs) (left : List Record)
-    → IsKept cells ticks acknowledged images logs queue → LogsStep logs queue answer next left → ReceiptIs answer ticks left
+-- Each event keeps it.
+pub record EventsKeep {S : Type 0} (took : S → Option Taken → S → Type 0) : Type 0 where
+  -- a tick ends whose actions are all accepted, and is queued
+  pub tick_ends : (cells : ℕ) (ticks : List (List Action)) (acknowledged : ℕ) (images : Images) (logs : Logs) (queue : List Record)
+      (kept : IsKept cells ticks acknowledged images logs queue) (tick : Actions) (next : List ℕ) → after_actions kept.last tick.list ≡ Ok next
+      → IsKept cells (ticks ++ tick.list ∷ []) acknowledged images logs (queue ++ records.Tick tick ∷ [])
+  -- with no round in work, and a tick ended since the newest image, the number of ended ticks is marked: a round begins at
+  -- it, and its switch is queued
+  pub mark : (cells : ℕ) (ticks : List (List Action)) (acknowledged : ℕ) (images next : Images) (logs : Logs) (queue : List Record)
+      → IsKept cells ticks acknowledged images logs queue → images.round ≡ None → images.tick < length ticks
+      → with_round (length ticks) (Newest images) ≡ Newest next
+      → IsKept cells ticks acknowledged next logs (queue ++ records.Switch (length ticks) ∷ [])
+  -- a step of the image keeper, whose round is the world after its tick once all cells are taken
+  pub image_step : (cells : ℕ) (ticks : List (List Action)) (acknowledged : ℕ) (images : Images) (logs : Logs) (queue : List Record)
+      (answer : ImageAnswer) (next : ImageFiles) (old new : S)
+      → IsKept cells ticks acknowledged images logs queue → StepsImages took cells (Newest images) answer next old new
+      → IsRoundOf cells ticks images.tick (round_in next)
+      → (after : Images) × (next ≡ Newest after) × IsKept cells ticks (acknowledged_opened acknowledged answer) after logs queue
+  -- a step of the log keeper
+  pub log_step : (cells : ℕ) (ticks : List (List Action)) (acknowledged : ℕ) (images : Images) (logs : Logs) (queue : List Record)
+      (answer : LogAnswer) (next : Logs) (left : List Record)
+      → IsKept cells ticks acknowledged images logs queue → LogsStep logs queue answer next left
+      → IsKept cells ticks (acknowledged_after acknowledged answer) images next left
+  -- a cover of a tick whose image was opened
+  pub cover : (cells : ℕ) (ticks : List (List Action)) (acknowledged : ℕ) (images : Images) (logs : Logs) (queue : List Record)
+      (tick : ℕ) (answer : LogAnswer) (left : List Record)
+      → IsKept cells ticks acknowledged images logs queue → tick ≤ images.tick → CoverStep logs queue tick answer left
+      → IsKept cells ticks (acknowledged_after acknowledged answer) images logs left
+  -- each step's receipt is exact, and so is each cover's
+  pub receipt : (cells : ℕ) (ticks : List (List Action)) (acknowledged : ℕ) (images : Images) (logs : Logs) (queue : List Record)
+      (answer : LogAnswer) (next : Logs) (left : List Record)
+      → IsKept cells ticks acknowledged images logs queue → LogsStep logs queue answer next left → ReceiptIs answer ticks left
+  pub cover_receipt : (cells : ℕ) (ticks : List (List Action)) (acknowledged : ℕ) (images : Images) (logs : Logs) (queue : List Record)
+      (tick : ℕ) (answer : LogAnswer) (left : List Record)
+      → IsKept cells ticks acknowledged images logs queue → CoverStep logs queue tick answer left → ReceiptIs answer ticks left
 
--- and so is each cover's
-abbrev pub CoverReceiptIsExact : Type 0
-CoverReceiptIsExact =
-    (cells : ℕ) (ticks : List (List Action)) (acknowledged : ℕ) (images : Images) (logs : Logs) (queue : List Record)
-    (tick : ℕ) (answer : LogAnswer) (left : List Record)
-    → IsKept cells ticks acknowledged images logs queue → CoverStep logs queue tick answer left → ReceiptIs answer ticks left
-
--- ---- the same events as whole ones, for who knows only what came of a keeper's steps
-
--- the words taken of the round in work are these
-abbrev pub RoundIsTaken : Type 0
-RoundIsTaken =
-    (cells : ℕ) (ticks : List (List Action)) (acknowledged : ℕ) (images : Images) (logs : Logs) (queue : List Record) (round : Round) (words : List ℕ)
-    → IsKept cells ticks acknowledged images logs queue → images.round ≡ Some round → (length words ≡ cells → IsWorldAt cells ticks round.tick words)
-    → IsKept cells ticks acknowledged (record images { round = Some (record round { taken = words }) }) logs queue
-
--- the round in work, whose words are all taken, is opened
-abbrev pub RoundIsOpened : Type 0
-RoundIsOpened =
-    (cells : ℕ) (ticks : List (List Action)) (acknowledged : ℕ) (images next : Images) (logs : Logs) (queue : List Record) (round : Round)
-    → IsKept cells ticks acknowledged images logs queue → images.round ≡ Some round → length round.taken ≡ cells → with_opened round (Newest images) ≡ Newest next
-    → IsKept cells ticks (max acknowledged round.tick) next logs queue
-
--- with no job in work, the tick that comes first is written in a group of its own
-abbrev pub TickIsWritten : Type 0
-TickIsWritten =
-    (cells : ℕ) (ticks : List (List Action)) (acknowledged : ℕ) (images : Images) (logs : Logs) (tick : Actions) (queue : List Record)
-    → IsKept cells ticks acknowledged images logs (records.Tick tick ∷ queue) → is_idle logs
-    → IsKept cells ticks acknowledged images (record logs { kept = logs.kept ++ tick.list ∷ [] }) queue
-
--- with no job in work, the switch that comes first is taken
-abbrev pub SwitchIsTaken : Type 0
-SwitchIsTaken =
-    (cells : ℕ) (ticks : List (List Action)) (acknowledged : ℕ) (images : Images) (logs : Logs) (tick : ℕ) (queue : List Record)
-    → IsKept cells ticks acknowledged images logs (records.Switch tick ∷ queue) → is_idle logs
-    → IsKept cells ticks acknowledged images (record logs { switch = Some tick }) queue
-
--- the switch in work is done
-abbrev pub SwitchIsDone : Type 0
-SwitchIsDone =
-    (cells : ℕ) (ticks : List (List Action)) (acknowledged : ℕ) (images : Images) (logs : Logs) (tick : ℕ) (queue : List Record)
-    → IsKept cells ticks acknowledged images logs queue → logs.switch ≡ Some tick
-    → IsKept cells ticks acknowledged images (switched_to logs tick) queue
+-- The same events as whole ones, for who knows only what came of a keeper's steps.
+pub record WholeEventsKeep : Type 0 where
+  -- the words taken of the round in work are these
+  pub taken : (cells : ℕ) (ticks : List (List Action)) (acknowledged : ℕ) (images : Images) (logs : Logs) (queue : List Record) (round : Round) (words : List ℕ)
+      → IsKept cells ticks acknowledged images logs queue → images.round ≡ Some round → (length words ≡ cells → IsWorldAt cells ticks round.tick words)
+      → IsKept cells ticks acknowledged (record images { round = Some (record round { taken = words }) }) logs queue
+  -- the round in work, whose words are all taken, is opened
+  pub opened : (cells : ℕ) (ticks : List (List Action)) (acknowledged : ℕ) (images next : Images) (logs : Logs) (queue : List Record) (round : Round)
+      → IsKept cells ticks acknowledged images logs queue → images.round ≡ Some round → length round.taken ≡ cells → with_opened round (Newest images) ≡ Newest next
+      → IsKept cells ticks (max acknowledged round.tick) next logs queue
+  -- with no job in work, the tick that comes first is written in a group of its own
+  pub written : (cells : ℕ) (ticks : List (List Action)) (acknowledged : ℕ) (images : Images) (logs : Logs) (tick : Actions) (queue : List Record)
+      → IsKept cells ticks acknowledged images logs (records.Tick tick ∷ queue) → is_idle logs
+      → IsKept cells ticks acknowledged images (record logs { kept = logs.kept ++ tick.list ∷ [] }) queue
+  -- with no job in work, the switch that comes first is taken
+  pub switch : (cells : ℕ) (ticks : List (List Action)) (acknowledged : ℕ) (images : Images) (logs : Logs) (tick : ℕ) (queue : List Record)
+      → IsKept cells ticks acknowledged images logs (records.Switch tick ∷ queue) → is_idle logs
+      → IsKept cells ticks acknowledged images (record logs { switch = Some tick }) queue
+  -- the switch in work is done
+  pub switched : (cells : ℕ) (ticks : List (List Action)) (acknowledged : ℕ) (images : Images) (logs : Logs) (tick : ℕ) (queue : List Record)
+      → IsKept cells ticks acknowledged images logs queue → logs.switch ≡ Some tick
+      → IsKept cells ticks acknowledged images (switched_to logs tick) queue
 
 -- ---- the events of a start
 
--- where the log was ahead of the image, the round of the recovered tick begins
-abbrev pub StartRoundBegins : Type 0
-StartRoundBegins =
-    (cells : ℕ) (ticks : List (List Action)) (acknowledged : ℕ) (images next : Images) (from : ℕ) (start : Start)
-    → 1 ≤ cells → IsStarting cells ticks acknowledged images from start → images.tick < start.tick
-    → with_round start.tick (Newest images) ≡ Newest next → IsStarting cells ticks acknowledged next from start
-
--- a step of the image keeper
-abbrev pub StartImageStepKeeps : {S : Type 0} → (S → Option Taken → S → Type 0) → Type 0
-StartImageStepKeeps {S = S} took =
-    (cells : ℕ) (ticks : List (List Action)) (acknowledged : ℕ) (images : Images) (from : ℕ) (start : Start)
-    (answer : ImageAnswer) (next : ImageFiles) (old new : S)
-    → IsStarting cells ticks acknowledged images from start → StepsImages took cells (Newest images) answer next old new
-    → IsRoundOf cells ticks images.tick (round_in next)
-    → (after : Images) × (next ≡ Newest after) × IsStarting cells ticks (acknowledged_opened acknowledged answer) after from start
-
--- a step of the log keeper, once the newest image is of the recovered tick: the start goes on, or ends, with its tick
--- as the newest image's and the segment's
-abbrev pub StartLogStepKeeps : Type 0
-StartLogStepKeeps =
-    (cells : ℕ) (ticks : List (List Action)) (acknowledged : ℕ) (images : Images) (from : ℕ) (start : Start)
-    (left : ℕ) (answer : LogAnswer) (next : LogPlace)
-    → 1 ≤ cells → IsStarting cells ticks acknowledged images from start → images.tick ≡ start.tick → images.round ≡ None
-    → StartStep start left answer next
-    → ((after : Start) × (next.journal ≡ InStart after) × IsStarting cells ticks acknowledged images from after)
-    ⊎ ((next.journal ≡ Writing (started start.tick)) × IsKept cells ticks acknowledged images (started start.tick) [])
-
--- ---- and of a fresh world's start
-
--- a step of the image keeper, whose round is of zeros at tick 0 once all cells are taken: until the image is opened no
--- segment is touched, and then the start goes on as after a recovery at tick 0
-abbrev pub FirstImageStepKeeps : {S : Type 0} → (S → Option Taken → S → Type 0) → Type 0
-FirstImageStepKeeps {S = S} took =
-    (cells : ℕ) (images : FirstImages) (start : Start) (answer : ImageAnswer) (next : ImageFiles) (old new : S)
-    → FirstFollows cells images start → StepsImages took cells (NoneYet images) answer next old new → IsFirstRound cells (round_in next)
-    → ((after : FirstImages) × (next ≡ NoneYet after) × FirstFollows cells after start)
-    ⊎ ((after : Images) × (next ≡ Newest after) × (after.tick ≡ 0) × (after.round ≡ None)
-    × IsStarting cells [] (acknowledged_opened 0 answer) after 0 start)
+-- Each event of a start keeps what `law_of_start` asks for.
+pub record StartEventsKeep {S : Type 0} (took : S → Option Taken → S → Type 0) : Type 0 where
+  -- where the log was ahead of the image, the round of the recovered tick begins
+  pub round_begins : (cells : ℕ) (ticks : List (List Action)) (acknowledged : ℕ) (images next : Images) (from : ℕ) (start : Start)
+      → 1 ≤ cells → IsStarting cells ticks acknowledged images from start → images.tick < start.tick
+      → with_round start.tick (Newest images) ≡ Newest next → IsStarting cells ticks acknowledged next from start
+  -- a step of the image keeper
+  pub image_step : (cells : ℕ) (ticks : List (List Action)) (acknowledged : ℕ) (images : Images) (from : ℕ) (start : Start)
+      (answer : ImageAnswer) (next : ImageFiles) (old new : S)
+      → IsStarting cells ticks acknowledged images from start → StepsImages took cells (Newest images) answer next old new
+      → IsRoundOf cells ticks images.tick (round_in next)
+      → (after : Images) × (next ≡ Newest after) × IsStarting cells ticks (acknowledged_opened acknowledged answer) after from start
+  -- a step of the log keeper, once the newest image is of the recovered tick: the start goes on, or ends, with its tick
+  -- as the newest image's and the segment's
+  pub log_step : (cells : ℕ) (ticks : List (List Action)) (acknowledged : ℕ) (images : Images) (from : ℕ) (start : Start)
+      (left : ℕ) (answer : LogAnswer) (next : LogPlace)
+      → 1 ≤ cells → IsStarting cells ticks acknowledged images from start → images.tick ≡ start.tick → images.round ≡ None
+      → StartStep start left answer next
+      → ((after : Start) × (next.journal ≡ InStart after) × IsStarting cells ticks acknowledged images from after)
+      ⊎ ((next.journal ≡ Writing (started start.tick)) × IsKept cells ticks acknowledged images (started start.tick) [])
+  -- Of a fresh world's start a step of the image keeper, whose round is of zeros at tick 0 once all cells are taken. Until the
+  -- image is opened no segment is touched, and then the start goes on as after a recovery at tick 0.
+  pub first_image_step : (cells : ℕ) (images : FirstImages) (start : Start) (answer : ImageAnswer) (next : ImageFiles) (old new : S)
+      → FirstFollows cells images start → StepsImages took cells (NoneYet images) answer next old new → IsFirstRound cells (round_in next)
+      → ((after : FirstImages) × (next ≡ NoneYet after) × FirstFollows cells after start)
+      ⊎ ((after : Images) × (next ≡ Newest after) × (after.tick ≡ 0) × (after.round ≡ None)
+      × IsStarting cells [] (acknowledged_opened 0 answer) after 0 start)

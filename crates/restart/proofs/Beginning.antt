@@ -4,14 +4,14 @@ use Rattle.std.proofs.lemmas.Bool.{cases_lt}
 use Rattle.std.proofs.lemmas.List.{take_all, length-take-le, length-replicate}
 use Rattle.world_actions.specs.declared.action.Action.{Action}
 use Rattle.world_ticks.specs.After.{after_ticks}
-use Rattle.capture_core.specs.Content.{Content}
+use Rattle.capture_core.specs.Content.{Content, Takes}
 use Rattle.image_files.specs.Image.{Image}
 use Rattle.image_files.specs.Images.{NoneYet, Newest}
 use Rattle.action_log.specs.Segment.{Segment, ClosedSegment}
 use Rattle.action_log.specs.Logs.{InStart}
 use Rattle.recovery.specs.Recovery.{Recovery}
 use Rattle.recovery.specs.Sound.{IsWorldAt}
-use Rattle.recovery.specs.Events.{StartRoundBegins}
+use Rattle.recovery.specs.Events.{StartEventsKeep}
 use Rattle.recovery.specs.Restart.{Restarts, recovered_images, recovered_start}
 use Rattle.restart.specs.Start.{IsBuilt, images_begun}
 use Rattle.restart.specs.InStep.{HasPhase, InStep}
@@ -20,13 +20,13 @@ use Rattle.restart.proofs.Begun.{built_follows}
 no_less : (from tick : ℕ) → nat_lt from tick ≡ false → tick ≤ from
 no_less from tick e = elim (cases_lt from tick) [ inl lt ↦ (let h : nat_lt from tick ≡ true = lt-ltb from tick lt in absurd (let g : true ≡ false = sym h ∙ e in cc)) | inr ge ↦ ge ]
 
-recovered_phase : StartRoundBegins → (cells : ℕ) (ticks : List (List Action)) (acknowledged : ℕ) (r : Recovery) (image_a image_b : Image) (log_a log_b : Segment) → 1 ≤ cells
+recovered_phase : StartEventsKeep Takes → (cells : ℕ) (ticks : List (List Action)) (acknowledged : ℕ) (r : Recovery) (image_a image_b : Image) (log_a log_b : Segment) → 1 ≤ cells
     → Restarts cells ticks acknowledged r image_a image_b log_a log_b → (round : Bool) → nat_lt r.from r.tick ≡ round
     → HasPhase cells (take r.tick ticks) acknowledged (images_begun round r.tick (Newest (recovered_images r image_a image_b))) (InStart (recovered_start r log_a log_b)) []
 recovered_phase begins cells ticks acknowledged r image_a image_b log_a log_b some s true e = (
   record {
     from = r.from;
-    starting = begins cells (take r.tick ticks) acknowledged (recovered_images r image_a image_b)
+    starting = begins.round_begins cells (take r.tick ticks) acknowledged (recovered_images r image_a image_b)
         (record (recovered_images r image_a image_b) { round = Some (record { tick = r.tick; taken = [] }) })
         r.from (recovered_start r log_a log_b) some s.starting (ltb-true r.from r.tick e) refl;
     caught_up = λ none. absurd (let g = none in cc);
@@ -42,7 +42,7 @@ recovered_phase begins cells ticks acknowledged r image_a image_b log_a log_b so
   refl,
 )
 
-pub recovery_begins : StartRoundBegins → (cells : ℕ) (ticks : List (List Action)) (acknowledged : ℕ) (r : Recovery) (image_a image_b : Image) (log_a log_b : Segment) (content : Content)
+pub recovery_begins : StartEventsKeep Takes → (cells : ℕ) (ticks : List (List Action)) (acknowledged : ℕ) (r : Recovery) (image_a image_b : Image) (log_a log_b : Segment) (content : Content)
     → 1 ≤ cells → Restarts cells ticks acknowledged r image_a image_b log_a log_b → IsBuilt r.words (nat_lt r.from r.tick) content
     → InStep cells (take r.tick ticks) acknowledged content
     (images_begun (nat_lt r.from r.tick) r.tick (Newest (recovered_images r image_a image_b))) (InStart (recovered_start r log_a log_b)) []

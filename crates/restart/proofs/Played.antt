@@ -7,13 +7,13 @@ use Rattle.world_actions.specs.declared.action.Action.{Action}
 use Rattle.world_actions.specs.declared.refusal.Refusal.{Refusal}
 use Rattle.world_ticks.specs.Tick.{Actions}
 use Rattle.world_ticks.specs.After.{and_then, after_actions, after_ticks}
-use Rattle.capture_core.specs.Content.{Content, Marks, Covers}
+use Rattle.capture_core.specs.Content.{Content, Marks, Takes, Covers}
 use Rattle.image_files.specs.Images.{Images, ImageFiles, NoneYet, Newest, with_round}
 use Rattle.action_log.specs.declared.record.Record.{Record}
 use Rattle.action_log.specs.declared.record.Record.TheVariants as records
 use Rattle.action_log.specs.Logs.{Logs, Writing}
 use Rattle.recovery.specs.Sound.{IsWorldAt}
-use Rattle.recovery.specs.Events.{IsKept, TickEnds, MarkIsMade}
+use Rattle.recovery.specs.Events.{IsKept, EventsKeep}
 use Rattle.restart.specs.Rounds.{StoreFollows}
 use Rattle.restart.specs.InStep.{HasPhase, InStep}
 use Rattle.restart.proofs.Marked.{mark_follows, writes_follow, ticks_follow}
@@ -31,15 +31,15 @@ one_more append cells ticks tick last live e h =
     ∙ append (replicate cells 0) (flat_map (λ t. t) ticks) tick
     ∙ ap (λ r. and_then r (λ next. after_actions next tick)) e ∙ h
 
-tick_phase : TickEnds → (cells : ℕ) (ticks : List (List Action)) (acknowledged : ℕ) (images : ImageFiles) (logs : Logs) (queue : List Record) (tick : Actions) (live next : List ℕ)
+tick_phase : EventsKeep Takes → (cells : ℕ) (ticks : List (List Action)) (acknowledged : ℕ) (images : ImageFiles) (logs : Logs) (queue : List Record) (tick : Actions) (live next : List ℕ)
     → after_ticks cells ticks ≡ Ok live → after_actions live tick.list ≡ Ok next → HasPhase cells ticks acknowledged images (Writing logs) queue
     → HasPhase cells (ticks ++ tick.list ∷ []) acknowledged images (Writing logs) (queue ++ records.Tick tick ∷ [])
 tick_phase ends cells ticks acknowledged (NoneYet images) logs queue tick live next e h phase = absurd phase
 tick_phase ends cells ticks acknowledged (Newest images) logs queue tick live next e h phase =
     let same : phase.last ≡ live = ok_injective phase.last live (sym phase.accepted ∙ e) in
-    ends cells ticks acknowledged images logs queue phase tick next (ap (λ w. after_actions w tick.list) same ∙ h)
+    ends.tick_ends cells ticks acknowledged images logs queue phase tick next (ap (λ w. after_actions w tick.list) same ∙ h)
 
-pub tick_goes_on : ((world : List ℕ) (before after : List Action) → after_actions world (before ++ after) ≡ and_then (after_actions world before) (λ next. after_actions next after)) → TickEnds
+pub tick_goes_on : ((world : List ℕ) (before after : List Action) → after_actions world (before ++ after) ≡ and_then (after_actions world before) (λ next. after_actions next after)) → EventsKeep Takes
     → (cells : ℕ) (ticks : List (List Action)) (acknowledged : ℕ) (images : ImageFiles) (logs : Logs) (queue : List Record) (tick : Actions) (old new : Content)
     → after_ticks cells ticks ≡ Ok old.live → after_actions old.live tick.list ≡ Ok new.live
     → new.left ≡ old.left → ((image : List ℕ) → Covers image old → Covers image new) → InStep cells ticks acknowledged old images (Writing logs) queue
@@ -54,7 +54,7 @@ tick_goes_on append ends cells ticks acknowledged images logs queue tick old new
 
 -- ---- a mark
 
-pub mark_goes_on : MarkIsMade → (cells : ℕ) (ticks : List (List Action)) (acknowledged : ℕ) (images : Images) (logs : Logs) (queue : List Record) (old new : Content)
+pub mark_goes_on : EventsKeep Takes → (cells : ℕ) (ticks : List (List Action)) (acknowledged : ℕ) (images : Images) (logs : Logs) (queue : List Record) (old new : Content)
     → images.round ≡ None → images.tick < length ticks → after_ticks cells ticks ≡ Ok old.live → length old.live ≡ cells → Marks old new
     → InStep cells ticks acknowledged old (Newest images) (Writing logs) queue
     → InStep cells ticks acknowledged new (with_round (length ticks) (Newest images)) (Writing logs) (queue ++ records.Switch (length ticks) ∷ [])
@@ -63,7 +63,7 @@ mark_goes_on made cells ticks acknowledged images logs queue old new none above 
     let idle : StoreFollows cells ticks old images.words None = subst (StoreFollows cells ticks old images.words) none w.store in
     record {
       store = mark_follows cells ticks (length ticks) images.words old new all at idle.1 marks;
-      phase = made cells ticks acknowledged images (record images { round = Some (record { tick = length ticks; taken = [] }) }) logs queue w.phase none above refl;
+      phase = made.mark cells ticks acknowledged images (record images { round = Some (record { tick = length ticks; taken = [] }) }) logs queue w.phase none above refl;
     }
 
 -- ---- no work is left

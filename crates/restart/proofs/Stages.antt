@@ -16,7 +16,7 @@ use Rattle.action_log.specs.Logs.{Logs, Start, Journal, InStart, Writing, LogPla
 use Rattle.action_log.specs.LogSteps.{StartStep, StepIn, JournalStep}
 use Rattle.action_log.specs.Cover.{CoverStep}
 use Rattle.recovery.specs.Start.{IsStarting}
-use Rattle.recovery.specs.Events.{IsKept, acknowledged_opened, acknowledged_after, ImageStepKeeps, LogStepKeeps, CoverKeeps, StartImageStepKeeps, StartLogStepKeeps, FirstImageStepKeeps}
+use Rattle.recovery.specs.Events.{IsKept, acknowledged_opened, acknowledged_after, EventsKeep, StartEventsKeep}
 use Rattle.restart.specs.Rounds.{StoreFollowsImages}
 use Rattle.restart.specs.InStep.{IsInStart, HasPhase, InStep, NoneWaitedFor}
 use Rattle.restart.proofs.Stepped.{step_follows, round_follows, first_round_follows}
@@ -85,18 +85,18 @@ still_none cells old new acknowledged (image_answer.Opened tick) images next aft
     absurd (let g : true ≡ false = sym (opened_newest s.0 images) ∙ ap is_newest (sym s.4 ∙ e) ∙ newest_none after in cc)
 still_none cells old new acknowledged image_answer.Down images next after s e = refl
 
-module _ (kept_by : ImageStepKeeps Takes) (started_by : StartImageStepKeeps Takes) (first_by : FirstImageStepKeeps Takes) (cells : ℕ) (ticks : List (List Action)) (acknowledged : ℕ) where
+module _ (kept_by : EventsKeep Takes) (started_by : StartEventsKeep Takes) (cells : ℕ) (ticks : List (List Action)) (acknowledged : ℕ) where
   image_phase : (images : ImageFiles) (journal : Journal) (queue : List Record) (given : ImageAnswer) (next : ImageFiles) (old new : Content) → StepsImages Takes cells images given next old new
       → StoreFollowsImages cells ticks new next → HasPhase cells ticks acknowledged images journal queue → HasPhase cells ticks (acknowledged_opened acknowledged given) next journal queue
   image_phase (NoneYet images) (Writing logs) queue given next old new s store phase = absurd phase
   image_phase (Newest images) (Writing logs) queue given next old new s store phase =
       let round = round_follows cells ticks images given next old new s phase.images_follow.round store in
-      let k = kept_by cells ticks acknowledged images logs queue given next old new phase s round in
+      let k = kept_by.image_step cells ticks acknowledged images logs queue given next old new phase s round in
       subst (λ i. HasPhase cells ticks (acknowledged_opened acknowledged given) i (Writing logs) queue) (sym k.1) k.2
   image_phase (Newest images) (InStart start) queue given next old new s store phase =
       let p = phase.0 in
       let round = round_follows cells ticks images given next old new s p.starting.images_follow.round store in
-      let k = started_by cells ticks acknowledged images p.from start given next old new p.starting s round in
+      let k = started_by.image_step cells ticks acknowledged images p.from start given next old new p.starting s round in
       let on : IsInStart cells ticks (acknowledged_opened acknowledged given) k.0 start = record {
         from = p.from;
         starting = k.2;
@@ -106,7 +106,7 @@ module _ (kept_by : ImageStepKeeps Takes) (started_by : StartImageStepKeeps Take
   image_phase (NoneYet images) (InStart start) queue given next old new s store phase =
       let p = phase.0 in
       let first = first_round_follows cells images given next old new s p.follows.round (subst (λ t. StoreFollowsImages cells t new next) p.no_ticks store) in
-      elim (first_by cells images start given next old new p.follows s first) [
+      elim (started_by.first_image_step cells images start given next old new p.follows s first) [
         | inl k ↦ subst (λ i. HasPhase cells ticks (acknowledged_opened acknowledged given) i (InStart start) queue) (sym k.1) (
           record {
             no_ticks = p.no_ticks;
@@ -156,13 +156,13 @@ start_unacknowledged acknowledged start left log_answer.Working next s = refl
 start_unacknowledged acknowledged start left (log_answer.Acked tick) next s = absurd s
 start_unacknowledged acknowledged start left log_answer.Down next s = refl
 
-module _ (kept_by : LogStepKeeps) (started_by : StartLogStepKeeps) (cells : ℕ) (ticks : List (List Action)) (acknowledged : ℕ) where
+module _ (kept_by : EventsKeep Takes) (started_by : StartEventsKeep Takes) (cells : ℕ) (ticks : List (List Action)) (acknowledged : ℕ) where
   -- in the start, once the newest image is of its tick
   started_phase : (images : Images) (start : Start) (left : ℕ) (given : LogAnswer) (next : LogPlace) (queue : List Record) → 1 ≤ cells → images.round ≡ None → StartStep start left given next
       → queue ≡ [] → IsInStart cells ticks acknowledged images start → HasPhase cells ticks (acknowledged_after acknowledged given) (Newest images) next.journal queue
   started_phase images start left given next queue some none s empty p =
       let none_more = start_unacknowledged acknowledged start left given next s in
-      elim (started_by cells ticks acknowledged images p.from start left given next some p.starting (p.caught_up none) none s) [
+      elim (started_by.log_step cells ticks acknowledged images p.from start left given next some p.starting (p.caught_up none) none s) [
         | inl k ↦ subst (λ j. HasPhase cells ticks (acknowledged_after acknowledged given) (Newest images) j queue) (sym k.1) (
           record {
             from = p.from;
@@ -185,7 +185,7 @@ module _ (kept_by : LogStepKeeps) (started_by : StartLogStepKeeps) (cells : ℕ)
       started_phase images start left given next queue_left some waits s.0 (s.1 ∙ phase.1) phase.0
   log_phase (Newest images) (Writing logs) left queue given next queue_left some waits s phase =
       subst (λ (p : LogPlace). HasPhase cells ticks (acknowledged_after acknowledged given) (Newest images) p.journal queue_left) (sym s.1)
-      (kept_by cells ticks acknowledged images logs queue given s.0 queue_left phase s.2)
+      (kept_by.log_step cells ticks acknowledged images logs queue given s.0 queue_left phase s.2)
 
   pub log_step : (content : Content) (images : ImageFiles) (place : LogPlace) (queue : List Record) (given : LogAnswer) (next : LogPlace) (queue_left : List Record) → 1 ≤ cells → NoneWaitedFor place.journal images
       → JournalStep place queue given next queue_left → InStep cells ticks acknowledged content images place.journal queue
@@ -195,8 +195,8 @@ module _ (kept_by : LogStepKeeps) (started_by : StartLogStepKeeps) (cells : ℕ)
 
 -- ---- a cover
 
-pub cover : CoverKeeps → (cells : ℕ) (ticks : List (List Action)) (acknowledged : ℕ) (content : Content) (images : Images) (logs : Logs) (queue : List Record) (tick : ℕ) (given : LogAnswer) (left : List Record)
+pub cover : EventsKeep Takes → (cells : ℕ) (ticks : List (List Action)) (acknowledged : ℕ) (content : Content) (images : Images) (logs : Logs) (queue : List Record) (tick : ℕ) (given : LogAnswer) (left : List Record)
     → tick ≤ images.tick → CoverStep logs queue tick given left → InStep cells ticks acknowledged content (Newest images) (Writing logs) queue
     → InStep cells ticks (acknowledged_after acknowledged given) content (Newest images) (Writing logs) left
 cover kept_by cells ticks acknowledged content images logs queue tick given left opened s w =
-    record { store = w.store; phase = kept_by cells ticks acknowledged images logs queue tick given left w.phase opened s }
+    record { store = w.store; phase = kept_by.cover cells ticks acknowledged images logs queue tick given left w.phase opened s }

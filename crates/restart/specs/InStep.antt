@@ -20,7 +20,7 @@ use Rattle.recovery.specs.Start.{IsStarting, FirstFollows}
 use Rattle.recovery.specs.Events.{IsKept, acknowledged_opened, acknowledged_after}
 use Rattle.recovery.specs.Restart.{Restarts, recovered_images, recovered_start}
 use Rattle.restart.specs.Start.{IsBuilt, images_begun}
-use Rattle.restart.specs.Rounds.{StoreFollowsImages}
+use Rattle.restart.specs.Rounds.{StoreFollowsImages, WritesFollow, TicksFollow, AllAreTaken}
 
 -- in the start of a fresh world, before its first image is open
 pub record IsBeforeFirst (cells : ℕ) (ticks : List (List Action)) (acknowledged : ℕ) (images : FirstImages) (start : Start) : Type 0 where
@@ -47,82 +47,63 @@ pub record InStep (cells : ℕ) (ticks : List (List Action)) (acknowledged : ℕ
   pub store : StoreFollowsImages cells ticks content images
   pub phase : HasPhase cells ticks acknowledged images journal queue
 
--- ---- what begins it
-
--- A start after a recovery, on a store that was built of the recovered words, keeps the recovered ticks.
-abbrev pub RecoveryBegins : Type 0
-RecoveryBegins =
-    (cells : ℕ) (ticks : List (List Action)) (acknowledged : ℕ) (r : Recovery) (image_a image_b : Image) (log_a log_b : Segment) (content : Content)
-    → 1 ≤ cells → Restarts cells ticks acknowledged r image_a image_b log_a log_b → IsBuilt r.words (nat_lt r.from r.tick) content
-    → InStep cells (take r.tick ticks) acknowledged content
-    (images_begun (nat_lt r.from r.tick) r.tick (Newest (recovered_images r image_a image_b))) (InStart (recovered_start r log_a log_b)) []
-
--- the start of a fresh world, of closed segments
-abbrev pub FreshBegins : Type 0
-FreshBegins =
-    (cells : ℕ) (content : Content) → 1 ≤ cells → IsBuilt (replicate cells 0) true content
-    → InStep cells [] 0 content (images_begun true 0 (NoneYet (record { round = None })))
-    (InStart (record { tick = 0; before_a = ClosedSegment; before_b = ClosedSegment; begun = false })) []
-
--- ---- what keeps it
-
--- a step of the image keeper; an image that it opens acknowledges
-abbrev pub ImageStepGoesOn : Type 0
-ImageStepGoesOn =
-    (cells : ℕ) (ticks : List (List Action)) (acknowledged : ℕ) (images : ImageFiles) (journal : Journal) (queue : List Record)
-    (answer : ImageAnswer) (next : ImageFiles) (old new : Content)
-    → StepsImages Takes cells images answer next old new
-    → InStep cells ticks acknowledged old images journal queue
-    → InStep cells ticks (acknowledged_opened acknowledged answer) new next journal queue
-
 -- a start's log waits until no round is in work
 abbrev pub NoneWaitedFor : Journal → ImageFiles → Type 0
 NoneWaitedFor (InStart start) images = round_in images ≡ None
 NoneWaitedFor (Writing logs) images = Unit {0}
 
--- a step of the log keeper, whose receipt acknowledges
-abbrev pub LogStepGoesOn : Type 0
-LogStepGoesOn =
-    (cells : ℕ) (ticks : List (List Action)) (acknowledged : ℕ) (content : Content) (images : ImageFiles) (place : LogPlace) (queue : List Record)
-    (answer : LogAnswer) (next : LogPlace) (left : List Record)
-    → 1 ≤ cells → NoneWaitedFor place.journal images → JournalStep place queue answer next left
-    → InStep cells ticks acknowledged content images place.journal queue
-    → InStep cells ticks (acknowledged_after acknowledged answer) content images next.journal left
+-- ---- what begins it, and what keeps it
 
--- a cover of the tick of an open image, whose receipt acknowledges
-abbrev pub CoverGoesOn : Type 0
-CoverGoesOn =
-    (cells : ℕ) (ticks : List (List Action)) (acknowledged : ℕ) (content : Content) (images : Images) (logs : Logs) (queue : List Record)
-    (tick : ℕ) (answer : LogAnswer) (left : List Record)
-    → tick ≤ images.tick → CoverStep logs queue tick answer left
-    → InStep cells ticks acknowledged content (Newest images) (Writing logs) queue
-    → InStep cells ticks (acknowledged_after acknowledged answer) content (Newest images) (Writing logs) left
-
--- a tick whose actions were done on the store ends, and is queued
-abbrev pub TickGoesOn : Type 0
-TickGoesOn =
-    (cells : ℕ) (ticks : List (List Action)) (acknowledged : ℕ) (images : ImageFiles) (logs : Logs) (queue : List Record)
-    (tick : Actions) (old new : Content)
-    → after_ticks cells ticks ≡ Ok old.live → after_actions old.live tick.list ≡ Ok new.live
-    → new.left ≡ old.left → ((image : List ℕ) → Covers image old → Covers image new)
-    → InStep cells ticks acknowledged old images (Writing logs) queue
-    → (after_ticks cells (ticks ++ tick.list ∷ []) ≡ Ok new.live)
-    × InStep cells (ticks ++ tick.list ∷ []) acknowledged new images (Writing logs) (queue ++ records.Tick tick ∷ [])
-
--- with no round in work, and a tick ended since the newest image, the store is marked, and the switch of the mark is queued
-abbrev pub MarkGoesOn : Type 0
-MarkGoesOn =
-    (cells : ℕ) (ticks : List (List Action)) (acknowledged : ℕ) (images : Images) (logs : Logs) (queue : List Record) (old new : Content)
-    → images.round ≡ None → images.tick < length ticks → after_ticks cells ticks ≡ Ok old.live → length old.live ≡ cells → Marks old new
-    → InStep cells ticks acknowledged old (Newest images) (Writing logs) queue
-    → InStep cells ticks acknowledged new (with_round (length ticks) (Newest images)) (Writing logs) (queue ++ records.Switch (length ticks) ∷ [])
-
--- once nothing waits and no group is in work, all ended ticks are acknowledged
-abbrev pub AllAreAcknowledged : Type 0
-AllAreAcknowledged =
-    (cells : ℕ) (ticks : List (List Action)) (acknowledged : ℕ) (content : Content) (images : ImageFiles) (logs : Logs)
-    → logs.pending ≡ [] → InStep cells ticks acknowledged content images (Writing logs) []
-    → InStep cells ticks (length ticks) content images (Writing logs) []
+-- What goes on between any two events, and a start begins it.
+pub record WorldsGoOn : Type 0 where
+  -- A start after a recovery, on a store that was built of the recovered words, keeps the recovered ticks.
+  pub recovery : (cells : ℕ) (ticks : List (List Action)) (acknowledged : ℕ) (r : Recovery) (image_a image_b : Image) (log_a log_b : Segment) (content : Content)
+      → 1 ≤ cells → Restarts cells ticks acknowledged r image_a image_b log_a log_b → IsBuilt r.words (nat_lt r.from r.tick) content
+      → InStep cells (take r.tick ticks) acknowledged content
+      (images_begun (nat_lt r.from r.tick) r.tick (Newest (recovered_images r image_a image_b))) (InStart (recovered_start r log_a log_b)) []
+  -- the start of a fresh world, of closed segments
+  pub fresh : (cells : ℕ) (content : Content) → 1 ≤ cells → IsBuilt (replicate cells 0) true content
+      → InStep cells [] 0 content (images_begun true 0 (NoneYet (record { round = None })))
+      (InStart (record { tick = 0; before_a = ClosedSegment; before_b = ClosedSegment; begun = false })) []
+  -- a step of the image keeper; an image that it opens acknowledges
+  pub image_step : (cells : ℕ) (ticks : List (List Action)) (acknowledged : ℕ) (images : ImageFiles) (journal : Journal) (queue : List Record)
+      (answer : ImageAnswer) (next : ImageFiles) (old new : Content)
+      → StepsImages Takes cells images answer next old new
+      → InStep cells ticks acknowledged old images journal queue
+      → InStep cells ticks (acknowledged_opened acknowledged answer) new next journal queue
+  -- a step of the log keeper, whose receipt acknowledges
+  pub log_step : (cells : ℕ) (ticks : List (List Action)) (acknowledged : ℕ) (content : Content) (images : ImageFiles) (place : LogPlace) (queue : List Record)
+      (answer : LogAnswer) (next : LogPlace) (left : List Record)
+      → 1 ≤ cells → NoneWaitedFor place.journal images → JournalStep place queue answer next left
+      → InStep cells ticks acknowledged content images place.journal queue
+      → InStep cells ticks (acknowledged_after acknowledged answer) content images next.journal left
+  -- a cover of the tick of an open image, whose receipt acknowledges
+  pub cover : (cells : ℕ) (ticks : List (List Action)) (acknowledged : ℕ) (content : Content) (images : Images) (logs : Logs) (queue : List Record)
+      (tick : ℕ) (answer : LogAnswer) (left : List Record)
+      → tick ≤ images.tick → CoverStep logs queue tick answer left
+      → InStep cells ticks acknowledged content (Newest images) (Writing logs) queue
+      → InStep cells ticks (acknowledged_after acknowledged answer) content (Newest images) (Writing logs) left
+  -- a tick whose actions were done on the store ends, and is queued
+  pub tick : (cells : ℕ) (ticks : List (List Action)) (acknowledged : ℕ) (images : ImageFiles) (logs : Logs) (queue : List Record)
+      (tick : Actions) (old new : Content)
+      → after_ticks cells ticks ≡ Ok old.live → after_actions old.live tick.list ≡ Ok new.live
+      → new.left ≡ old.left → ((image : List ℕ) → Covers image old → Covers image new)
+      → InStep cells ticks acknowledged old images (Writing logs) queue
+      → (after_ticks cells (ticks ++ tick.list ∷ []) ≡ Ok new.live)
+      × InStep cells (ticks ++ tick.list ∷ []) acknowledged new images (Writing logs) (queue ++ records.Tick tick ∷ [])
+  -- with no round in work, and a tick ended since the newest image, the store is marked, and the switch of the mark is queued
+  pub mark : (cells : ℕ) (ticks : List (List Action)) (acknowledged : ℕ) (images : Images) (logs : Logs) (queue : List Record) (old new : Content)
+      → images.round ≡ None → images.tick < length ticks → after_ticks cells ticks ≡ Ok old.live → length old.live ≡ cells → Marks old new
+      → InStep cells ticks acknowledged old (Newest images) (Writing logs) queue
+      → InStep cells ticks acknowledged new (with_round (length ticks) (Newest images)) (Writing logs) (queue ++ records.Switch (length ticks) ∷ [])
+  -- once nothing waits and no group is in work, all ended ticks are acknowledged
+  pub all_acknowledged : (cells : ℕ) (ticks : List (List Action)) (acknowledged : ℕ) (content : Content) (images : ImageFiles) (logs : Logs)
+      → logs.pending ≡ [] → InStep cells ticks acknowledged content images (Writing logs) []
+      → InStep cells ticks (length ticks) content images (Writing logs) []
+  -- the store alone goes on through the writes of an action, and through the end of a tick; a round of which nothing is left is whole
+  pub writes : WritesFollow
+  pub ticks : TicksFollow
+  pub all_taken : AllAreTaken
 
 -- ---- a world at rest
 

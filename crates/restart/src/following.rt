@@ -2,7 +2,7 @@ ghost use Rattle.restart.specs.Rounds.{MarkFollows, BuiltFollows, WritesFollow, 
 
 /// Laws: a store goes on to follow the images through marks, writes, ticks, takes and openings, and
 /// so a round's words are the world at its tick once all its cells are taken.
-pub fn stores_follow()
+pub(crate) fn stores_follow()
     ensures mark { MarkFollows }
     ensures built { BuiltFollows }
     ensures writes { WritesFollow }

@@ -4,7 +4,7 @@ ghost use Rattle.capture_core.specs.Content.{Content};
 ghost use Rattle.image_files.specs.Images.{ImageFiles, ImageFilesAre};
 ghost use Rattle.action_log.specs.declared.record.Record.{Record};
 ghost use Rattle.action_log.specs.Logs.{Journal, JournalIs};
-ghost use Rattle.restart.specs.InStep.{InStep, RecoveryBegins, FreshBegins, ImageStepGoesOn, LogStepGoesOn, CoverGoesOn, TickGoesOn, MarkGoesOn, AllAreAcknowledged, IsSafe};
+ghost use Rattle.restart.specs.InStep.{InStep, WorldsGoOn, IsSafe};
 
 use crate::following::stores_follow;
 use capture_core::PlainCopy;
@@ -13,16 +13,9 @@ use recovery::{events_keep, law_of_first_start, law_of_recovery, law_of_start, s
 use world_ticks::actions_go_on;
 
 /// Laws: a start begins in step with the ticks that it keeps, and store, images, log and queue go on in step, event by
-/// event.
+/// event. A round of which nothing is left is whole.
 pub fn worlds_go_on()
-    ensures recovery { RecoveryBegins }
-    ensures fresh { FreshBegins }
-    ensures image_step { ImageStepGoesOn }
-    ensures log_step { LogStepGoesOn }
-    ensures cover { CoverGoesOn }
-    ensures tick { TickGoesOn }
-    ensures mark { MarkGoesOn }
-    ensures all_acknowledged { AllAreAcknowledged }
+    ensures { WorldsGoOn }
 {
     actions_go_on();
     events_keep::<PlainCopy>();

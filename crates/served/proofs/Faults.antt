@@ -55,6 +55,9 @@ round_faults given was mid now a mid_a now_a b mid_b now_b so_far some down caus
 pub round_failed : (was now : Phase) (a now_a b now_b : ℕ) → RoundFaults was now a now_a b now_b → (was ≡ Down → ⊥) → now ≡ Down → Grew a now_a ⊎ Grew b now_b
 round_failed was now a now_a b now_b faults up down = elim (faults up) [ inl still ↦ absurd (still.0 down) | inr failed ↦ failed.1 ]
 
+pub round_passed : (was now : Phase) (a now_a b now_b : ℕ) → RoundFaults was now a now_a b now_b → (was ≡ Down → ⊥) → (now ≡ Down → ⊥) → (now_a ≡ a) × (now_b ≡ b)
+round_passed was now a now_a b now_b faults up still_up = elim (faults up) [ inl still ↦ (still.1, still.2) | inr failed ↦ absurd (still_up failed.0) ]
+
 true_or_false : (b : Bool) → (b ≡ true) ⊎ (b ≡ false)
 true_or_false true = inl refl
 true_or_false false = inr refl
@@ -82,6 +85,9 @@ log_faults given was mid now a mid_a now_a b mid_b now_b so_far down cause same 
 pub log_failed : (was now : Bool) (a now_a b now_b : ℕ) → LogFaults was now a now_a b now_b → was ≡ false → now ≡ true → Grew a now_a ⊎ Grew b now_b
 log_failed was now a now_a b now_b faults up down = elim (faults up) [ inl still ↦ absurd (both now down still.0) | inr failed ↦ failed.1 ]
 
+pub log_passed : (was now : Bool) (a now_a b now_b : ℕ) → LogFaults was now a now_a b now_b → was ≡ false → now ≡ false → (now_a ≡ a) × (now_b ≡ b)
+log_passed was now a now_a b now_b faults up still_up = elim (faults up) [ inl still ↦ (still.1, still.2) | inr failed ↦ absurd (both now failed.0 still_up) ]
+
 -- ---- of four files
 
 module _ {D : Type 0} (faults : D → ℕ) where
@@ -92,6 +98,19 @@ module _ {D : Type 0} (faults : D → ℕ) where
   pub logs_grew : (old new : FourFiles D) → Grew (faults old.log_a) (faults new.log_a) ⊎ Grew (faults old.log_b) (faults new.log_b) → SomeGrew (fault_counts faults old) (fault_counts faults new)
   logs_grew old new (inl grew) = (2, lit< tt, grew)
   logs_grew old new (inr grew) = (3, lit< tt, grew)
+
+  pub counts_stay : (old new : FourFiles D) → faults new.image_a ≡ faults old.image_a → faults new.image_b ≡ faults old.image_b
+      → faults new.log_a ≡ faults old.log_a → faults new.log_b ≡ faults old.log_b → fault_counts faults new ≡ fault_counts faults old
+  counts_stay old new a b la lb = rw (a, b, la, lb) refl
+
+  -- images and then the log ran over the files, and no call failed
+  pub both_passed : (old mid new : FourFiles D) → mid ≡ record old { image_a = mid.image_a; image_b = mid.image_b } → new ≡ record mid { log_a = new.log_a; log_b = new.log_b }
+      → (faults mid.image_a ≡ faults old.image_a) × (faults mid.image_b ≡ faults old.image_b)
+      → (faults new.log_a ≡ faults mid.log_a) × (faults new.log_b ≡ faults mid.log_b) → fault_counts faults new ≡ fault_counts faults old
+  both_passed old mid new images logs image log =
+      counts_stay old new
+      (ap (λ (f : FourFiles D). faults f.image_a) logs ∙ image.0) (ap (λ (f : FourFiles D). faults f.image_b) logs ∙ image.1)
+      (log.0 ∙ ap (λ (f : FourFiles D). faults f.log_a) images) (log.1 ∙ ap (λ (f : FourFiles D). faults f.log_b) images)
 
 pub some_of_one : (old new : List ℕ) → OneGrew old new → SomeGrew old new
 some_of_one old new one = (

@@ -21,12 +21,12 @@ use Rattle.action_log.specs.declared.phase.Phase.TheVariants as phase
 use Rattle.action_log.specs.declared.phase.Phase.TheVariants.{Ready}
 use Rattle.action_log.specs.declared.progress.Progress.{Progress as LogProgress}
 use Rattle.action_log.specs.Queue.{QueueEnd, queue_work}
-use Rattle.action_log.specs.Progress.{rest_in, work_of, end_of, QueueFollows}
+use Rattle.action_log.specs.Progress.{rest_in, work_of, end_of}
 use Rattle.action_log.specs.Logs.{Logs, Journal, InStart, Writing, LogPlace}
 use Rattle.action_log.specs.Stands.{Stands as LogStands}
 use Rattle.recovery.specs.Follow.{round_tick, base_in, coming}
 use Rattle.recovery.specs.Events.{IsKept}
-use Rattle.restart.specs.InStep.{HasPhase, InStep, IsSettled, TickGoesOn, MarkGoesOn, AllAreAcknowledged}
+use Rattle.restart.specs.InStep.{HasPhase, InStep, IsSettled, WorldsGoOn}
 use Rattle.sessions.specs.declared.batch.Request.{Request}
 use Rattle.sessions.specs.Answer.{accepted_of, words_after}
 use Rattle.served.specs.declared.engine.Engine.{Engine}
@@ -76,16 +76,13 @@ stands_at keeper queue base count none end =
     let e = sym (end_ready keeper none.0) ∙ (ap (end_of keeper) (sym none.1) ∙ end) in
     (ap (λ (e : QueueEnd). e.base) e, ap (λ (e : QueueEnd). e.count) e)
 
-follows_ready : (keeper : LogProgress) → keeper.phase ≡ phase.Ready → QueueFollows keeper []
-follows_ready keeper ready = subst (λ p. QueueFollows (record keeper { phase = p }) []) (sym ready) tt
-
 -- a keeper that isn't down is ready to go on from the ended ticks
 pub log_is_ready : (keeper : LogProgress) (queue : List Record) (ended since : ℕ) → (keeper.down ≡ true) ⊎ (work_of keeper queue ≡ 0)
     → end_of keeper queue ≡ record { base = ended - since; count = since } → since ≤ ended → keeper.down ≡ false → LogIsReady keeper ended since
 log_is_ready keeper queue ended since rests end within up =
     let none = none_waits keeper queue (no_work keeper queue rests up) in
     let at = stands_at keeper queue (ended - since) since none end in
-    record { ready = none.0; follows = follows_ready keeper none.0; count = at.1; all = omega (arith, at.0, within) }
+    record { ready = none.0; count = at.1; all = omega (arith, at.0, within) }
 
 -- ---- a log after its start
 
@@ -240,14 +237,14 @@ module _ {C D : Type 0} (content : C → Content) (file : D → List ℕ) (leave
       }
 
   -- a batch was played
-  pub tick_follows : TickGoesOn → ((requests : List Request) (words : List ℕ) → after_actions words (accepted_of requests words) ≡ Ok (words_after requests words))
+  pub tick_follows : WorldsGoOn → ((requests : List Request) (words : List ℕ) → after_actions words (accepted_of requests words) ≡ Ok (words_after requests words))
       → (old new : Engine C) (files : FourFiles D) (requests : List Request) (ticks : List (List Action)) (acknowledged : ℕ) → old.log.starting ≡ false → Plays content old new requests
       → Follows content file leaves old files ticks acknowledged → Follows content file leaves new files (ticks ++ accepted_of requests (content old.store).live ∷ []) acknowledged
   tick_follows goes accepts old new files requests ticks acknowledged over p f =
       let live = (content old.store).live in
       let logs = logs_of_place old.log (file files.log_a) (file files.log_b) (leaves files.log_a) (leaves files.log_b) f.place over f.has_log in
       let done : after_actions live p.tick.list ≡ Ok (content new.store).live = ap (after_actions live) p.list ∙ (accepts requests live ∙ ap (λ (w : List ℕ). Ok w) (sym p.live)) in
-      let on = goes old.images.cells ticks f.count f.images logs.0 old.queue.items p.tick (content old.store) (content new.store) f.world done p.left p.covers
+      let on = goes.tick old.images.cells ticks f.count f.images logs.0 old.queue.items p.tick (content old.store) (content new.store) f.world done p.left p.covers
       (subst (λ j. InStep old.images.cells ticks f.count (content old.store) f.images j old.queue.items) logs.1 f.in_step) in
       let mid : Engine C = record old { store = new.store; queue = new.queue; ended = old.ended + 1; since = old.since + 1 } in
       let after : Follows content file leaves mid files (ticks ++ p.tick.list ∷ []) acknowledged = record {
@@ -265,18 +262,18 @@ module _ {C D : Type 0} (content : C → Content) (file : D → List ℕ) (leave
       subst (λ l. Follows content file leaves new files (ticks ++ l ∷ []) acknowledged) p.list (subst (λ e. Follows content file leaves e files (ticks ++ p.tick.list ∷ []) acknowledged) (sym p.is) after)
 
   -- the log has no work left
-  pub all_follows : AllAreAcknowledged
+  pub all_follows : WorldsGoOn
       → ((keeper : LogProgress) (a b : D) (logs : Logs) (left : ℕ) → LogStands keeper (file a) (file b) (leaves a) (leaves b) (record { journal = Writing logs; left = left }) → keeper.phase ≡ Ready
       → (logs.pending ≡ []) × (logs.switch ≡ None) × (logs.base ≡ keeper.base))
       → (s : Engine C) (files : FourFiles D) (ticks : List (List Action)) (acknowledged : ℕ) → s.log.starting ≡ false → work_of s.log s.queue.items ≡ 0
       → Follows content file leaves s files ticks acknowledged → Follows content file leaves s files ticks s.ended
-  all_follows all ready s files ticks acknowledged over rests f =
+  all_follows goes ready s files ticks acknowledged over rests f =
       let idle = none_waits s.log s.queue.items rests in
       let logs = logs_of_place s.log (file files.log_a) (file files.log_b) (leaves files.log_a) (leaves files.log_b) f.place over f.has_log in
       let is_ready = ready s.log files.log_a files.log_b logs.0 f.place.left (subst (λ j. LogStands s.log (file files.log_a) (file files.log_b) (leaves files.log_a) (leaves files.log_b) (record { journal = j; left = f.place.left })) logs.1 f.has_log) idle.0 in
       let empty = subst (λ q. InStep s.images.cells ticks f.count (content s.store) f.images (Writing logs.0) q) idle.1
       (subst (λ j. InStep s.images.cells ticks f.count (content s.store) f.images j s.queue.items) logs.1 f.in_step) in
-      let on = all s.images.cells ticks f.count (content s.store) f.images logs.0 is_ready.0 empty in
+      let on = goes.all_acknowledged s.images.cells ticks f.count (content s.store) f.images logs.0 is_ready.0 empty in
       record {
         images = f.images;
         place = f.place;
@@ -291,7 +288,7 @@ module _ {C D : Type 0} (content : C → Content) (file : D → List ℕ) (leave
       }
 
   -- a checkpoint began
-  pub mark_follows : MarkGoesOn
+  pub mark_follows : WorldsGoOn
       → ((keeper : LogProgress) (a b : D) (logs : Logs) (left : ℕ) → LogStands keeper (file a) (file b) (leaves a) (leaves b) (record { journal = Writing logs; left = left }) → keeper.phase ≡ Ready
       → (logs.pending ≡ []) × (logs.switch ≡ None) × (logs.base ≡ keeper.base))
       → ((keeper : ImageProgress) (images : ImageFiles) (a b : D) → ImagesStand keeper images (file a) (file b) (leaves a) (leaves b) → keeper.phase ≡ Idle → round_in images ≡ None)
@@ -311,7 +308,7 @@ module _ {C D : Type 0} (content : C → Content) (file : D → List ℕ) (leave
       let same : newest.0.tick ≡ old.log.base = newest_is_base old.images.cells ticks f.count newest.0 logs.0 (subst (λ i. HasPhase old.images.cells ticks f.count i (Writing logs.0) []) newest.1 here.phase) none is_ready.1 ∙ is_ready.2 in
       let at_end : old.log.base ≡ old.ended - old.since = (stands_at old.log old.queue.items (old.ended - old.since) old.since waits end).0 in
       let above : newest.0.tick < length ticks = omega (arith, same, at_end, within, some, f.ended) in
-      let on = goes old.images.cells ticks f.count newest.0 logs.0 [] (content old.store) (content new.store) none above f.world (sym cells) d.marks
+      let on = goes.mark old.images.cells ticks f.count newest.0 logs.0 [] (content old.store) (content new.store) none above f.world (sym cells) d.marks
       (subst (λ i. InStep old.images.cells ticks f.count (content old.store) i (Writing logs.0) []) newest.1 here) in
       let mid : Engine C = record old { store = new.store; images = begun_keeper old.ended old.images; queue = new.queue; since = 0 } in
       let queue : new.queue.items ≡ records.Switch (length ticks) ∷ [] = d.queue ∙ (ap (λ q. q ++ records.Switch old.ended ∷ []) waits.1 ∙ ap (λ n. records.Switch n ∷ []) f.ended) in

@@ -13,7 +13,7 @@ use Rattle.action_log.specs.Logs.{Journal, InStart, Writing, LogPlace}
 use Rattle.action_log.specs.LogSteps.{JournalStep}
 use Rattle.action_log.specs.Stands.{Stands}
 use Rattle.recovery.specs.Events.{acknowledged_after}
-use Rattle.restart.specs.InStep.{LogStepGoesOn, NoneWaitedFor}
+use Rattle.restart.specs.InStep.{WorldsGoOn, NoneWaitedFor}
 use Rattle.served.specs.Running.{IsFirst, LogGoes}
 
 -- a step acknowledges no less
@@ -47,7 +47,7 @@ first_over keeper queue (none, inl starting) over = absurd (let e : true ≡ fal
 first_over keeper queue (none, inr (slot, ready)) over = slot
 
 module _ {D : Type 0} (file : D → List ℕ) (leaves : D → List ℕ → Type 0) where
-  pub log_steps : LogStepGoesOn → (keeper next : Progress) (queue left : List Record) (a next_a b next_b : D) (given : LogAnswer)
+  pub log_steps : WorldsGoOn → (keeper next : Progress) (queue left : List Record) (a next_a b next_b : D) (given : LogAnswer)
       → ((place : LogPlace) → Stands keeper (file a) (file b) (leaves a) (leaves b) place
       → (after : LogPlace) × Stands next (file next_a) (file next_b) (leaves next_a) (leaves next_b) after × JournalStep place queue given after left)
       → LogGoes file leaves keeper next queue left a next_a b next_b
@@ -60,7 +60,7 @@ module _ {D : Type 0} (file : D → List ℕ) (leaves : D → List ℕ → Type 
         stands = after.1;
         count = acknowledged_after g.count given;
         at_least = omega (arith, g.at_least, more);
-        in_step = goes_on cells ticks g.count content images g.place queue given after.0 left some none after.2 g.in_step;
+        in_step = goes_on.log_step cells ticks g.count content images g.place queue given after.0 left some none after.2 g.in_step;
       }
 
   -- what waits for nothing goes on so

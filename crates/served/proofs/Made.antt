@@ -11,7 +11,7 @@ use Rattle.image_files.specs.Progress.{Progress as ImageProgress}
 use Rattle.action_log.specs.declared.progress.Progress.{Progress as LogProgress}
 use Rattle.action_log.specs.Segment.{ClosedSegment}
 use Rattle.recovery.specs.Sound.{IsSound, IsFresh}
-use Rattle.restart.specs.InStep.{FreshBegins, IsSafe}
+use Rattle.restart.specs.InStep.{WorldsGoOn, IsSafe}
 use Rattle.served.specs.declared.engine.Engine.{Engine}
 use Rattle.served.specs.Steps.{Begins, IsBegunFresh}
 use Rattle.served.specs.Opening.{AreRead}
@@ -39,7 +39,7 @@ if_refused (Ok value) P Q f h = tt
 if_refused (Err refusal) P Q f h = f refusal h
 
 module _ {C D : Type 0} (content : C → Content) (file : D → List ℕ) (leaves : D → List ℕ → Type 0) where
-  pub fresh_begun : StartLaws content file leaves false → FreshBegins → (files left : FourFiles D) → EachFile files left (KeepsFile file leaves)
+  pub fresh_begun : StartLaws content file leaves false → WorldsGoOn → (files left : FourFiles D) → EachFile files left (KeepsFile file leaves)
       → (ia ib la lb : List ℕ) → AreRead file files ia ib la lb → AreClosed ia ib la lb → (cells : ℕ) → 1 ≤ cells → cells ≤ CELLS → (words : List ℕ) → words ≡ replicate cells 0
       → (engine : Engine C) → Begins content cells None 0 words ia ib la lb engine → IsBegunFresh content file leaves files cells engine left
   fresh_begun laws begins files left kept ia ib la lb read closed cells some few words zeros engine b =
@@ -58,7 +58,7 @@ module _ {C D : Type 0} (content : C → Content) (file : D → List ℕ) (leave
               ap (λ (k : ImageProgress). k.cells) begun.images,
               start_follows content file leaves false laws cells None 0 (replicate cells 0) engine left begun some few (omega arith) s.image_a s.image_b s.log_a s.log_b
                   (NoneYet (record { round = None })) (refl, refl, here.image_a_closed, here.image_b_closed) ClosedSegment ClosedSegment here.log_a_closed here.log_b_closed
-                  [] 0 (begins cells (content engine.store) some begun.store) refl refl,
+                  [] 0 (begins.fresh cells (content engine.store) some begun.store) refl refl,
             ));
       }
     where

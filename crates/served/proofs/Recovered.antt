@@ -20,8 +20,8 @@ use Rattle.image_files.specs.Files.{HoldsNewest}
 use Rattle.action_log.specs.Spellings.{ReadsOnce}
 use Rattle.recovery.specs.Recovery.{Recovery, Recovers}
 use Rattle.recovery.specs.Sound.{IsSoundReading}
-use Rattle.recovery.specs.Restart.{AnswersAreBuilt, SoundRestarts, Restarts, recovered_images}
-use Rattle.restart.specs.InStep.{RecoveryBegins}
+use Rattle.recovery.specs.Restart.{CrashRestarts, Restarts, recovered_images}
+use Rattle.restart.specs.InStep.{WorldsGoOn}
 use Rattle.served.specs.declared.engine.Engine.{Engine}
 use Rattle.served.specs.Engine.{Follows}
 use Rattle.served.specs.Steps.{Begins, IsRead}
@@ -41,9 +41,9 @@ by_other A ia ib = refl
 by_other B ia ib = refl
 
 -- the image that recovery chose is there, and has as many words as the recovered world
-pub holds_newest : AnswersAreBuilt → (cells : ℕ) (r : Recovery) (ia ib la lb : List ℕ) → length r.words ≡ cells → Recovers ia ib la lb (Ok r) → HoldsNewest cells (Some (r.slot, r.from)) ia ib
-holds_newest built cells r ia ib la lb all e =
-    let b = built (image_of ia) (image_of ib) e.a e.b r e.holds in
+pub holds_newest : CrashRestarts → (cells : ℕ) (r : Recovery) (ia ib la lb : List ℕ) → length r.words ≡ cells → Recovers ia ib la lb (Ok r) → HoldsNewest cells (Some (r.slot, r.from)) ia ib
+holds_newest restarts cells r ia ib la lb all e =
+    let b = restarts.built (image_of ia) (image_of ib) e.a e.b r e.holds in
     (b.words, sym b.cells ∙ all, by_slot r.slot ia ib ∙ b.image)
 
 -- the same of other names of the bytes
@@ -66,7 +66,7 @@ module _ {C D : Type 0} (content : C → Content) (file : D → List ℕ) (leave
   sound_on files left kept cells ticks acknowledged s a b la lb ha hb hla hlb = s a b la lb (kept.image_a.crash a ha) (kept.image_b.crash b hb) (kept.log_a.crash la hla) (kept.log_b.crash lb hlb)
 
   -- what stands in sound files begins a start in step with the recovered ticks
-  pub recovered_follows : StartLaws content file leaves false → ReadsOnce → SoundRestarts → RecoveryBegins → ((disk : D) → leaves disk (file disk))
+  pub recovered_follows : StartLaws content file leaves false → ReadsOnce → CrashRestarts → WorldsGoOn → ((disk : D) → leaves disk (file disk))
       → (r : Recovery) (engine : Engine C) (files : FourFiles D) → IsWorld r.words → r.tick ≤ TICK_MAX
       → Recovers (file files.image_a) (file files.image_b) (file files.log_a) (file files.log_b) (Ok r)
       → Begins content (length r.words) (Some (r.slot, r.from)) r.tick r.words (file files.image_a) (file files.image_b) (file files.log_a) (file files.log_b) engine
@@ -81,11 +81,11 @@ module _ {C D : Type 0} (content : C → Content) (file : D → List ℕ) (leave
       let holds : IsSoundReading (image_of ia) (image_of ib) e.a e.b cells ticks acknowledged =
       subst (λ x. IsSoundReading (image_of ia) (image_of ib) x e.b cells ticks acknowledged) (once la read.a e.a read.reads_a e.reads_a)
       (subst (λ x. IsSoundReading (image_of ia) (image_of ib) read.a x cells ticks acknowledged) (once lb read.b e.b read.reads_b e.reads_b) read.holds) in
-      let s : Restarts cells ticks acknowledged r (image_of ia) (image_of ib) e.a e.b = restarts cells ticks acknowledged (image_of ia) (image_of ib) e.a e.b r holds e.holds in
+      let s : Restarts cells ticks acknowledged r (image_of ia) (image_of ib) e.a e.b = restarts.sound cells ticks acknowledged (image_of ia) (image_of ib) e.a e.b r holds e.holds in
       let some : 1 ≤ cells = omega (arith, s.whole, world.some) in
       let few : cells ≤ CELLS = omega (arith, s.whole, world.most) in
       let here = subst (λ n. Begins content n (Some (r.slot, r.from)) r.tick r.words ia ib la lb engine) s.whole b in
-      let step = begins cells ticks acknowledged r (image_of ia) (image_of ib) e.a e.b (content engine.store) some s b.store in
+      let step = begins.recovery cells ticks acknowledged r (image_of ia) (image_of ib) e.a e.b (content engine.store) some s b.store in
       let count : length (take r.tick ticks) ≡ r.tick = length-take-le r.tick ticks s.world.ended in (
         ap (λ (k : ImageProgress). k.cells) here.images ∙ started_cells (nat_lt r.from r.tick) r.tick _,
         start_follows content file leaves false laws cells (Some (r.slot, r.from)) r.tick r.words engine files here some few most synced.image_a synced.image_b synced.log_a synced.log_b
@@ -94,7 +94,7 @@ module _ {C D : Type 0} (content : C → Content) (file : D → List ℕ) (leave
       )
 
   -- what was read, recovered and begun
-  pub is_read : StartLaws content file leaves false → ReadsOnce → SoundRestarts → RecoveryBegins → ((disk : D) → leaves disk (file disk))
+  pub is_read : StartLaws content file leaves false → ReadsOnce → CrashRestarts → WorldsGoOn → ((disk : D) → leaves disk (file disk))
       → (files left : FourFiles D) → EachFile files left (KeepsFile file leaves) → (ia ib la lb : List ℕ) → AreRead file files ia ib la lb
       → (r : Recovery) (n from : ℕ) (words : List ℕ) (engine : Engine C) → IsWorld r.words → r.tick ≤ TICK_MAX → words ≡ r.words → n ≡ length r.words → from ≡ r.from
       → Recovers ia ib la lb (Ok r) → Begins content n (Some (r.slot, r.from)) r.tick words ia ib la lb engine → IsRead content file leaves files engine from left

@@ -14,7 +14,7 @@ use Rattle.image_files.specs.Progress.{Progress, cells_taken, left_of, moves_lef
 use Rattle.image_files.specs.Steps.{IfOpened, OnWorking}
 use Rattle.image_files.specs.Files.{Stands}
 use Rattle.recovery.specs.Events.{acknowledged_opened}
-use Rattle.restart.specs.InStep.{InStep, ImageStepGoesOn}
+use Rattle.restart.specs.InStep.{InStep, WorldsGoOn}
 use Rattle.served.specs.Running.{CellsLeft, RoundTick, RoundGoes}
 
 none_long : {A : Type 0} (l : List A) → length l ≡ 0 → l ≡ []
@@ -49,14 +49,14 @@ module _ {S : Type 0} (content : S → Content) (took : S → Option Taken → S
   steps_content cells images answer.Down next old new s = (s.0, s.1, s.2, ap content s.3)
 
   module _ {D : Type 0} (file : D → List ℕ) (leaves : D → List ℕ → Type 0) where
-    pub round_steps : ImageStepGoesOn → (keeper next_keeper : Progress) (old new : S) (a next_a b next_b : D) (given : ImageAnswer)
+    pub round_steps : WorldsGoOn → (keeper next_keeper : Progress) (old new : S) (a next_a b next_b : D) (given : ImageAnswer)
         → next_keeper.cells ≡ keeper.cells
         → ((images : ImageFiles) → Stands keeper images (file a) (file b) (leaves a) (leaves b)
         → (next : ImageFiles) × Stands next_keeper next (file next_a) (file next_b) (leaves next_a) (leaves next_b) × StepsImages took keeper.cells images given next old new)
         → RoundGoes content file leaves keeper next_keeper old new a next_a b next_b
     round_steps goes_on keeper next_keeper old new a next_a b next_b given same stands ticks acknowledged journal queue r =
         let next = stands r.images r.stands in
-        let on = goes_on keeper.cells ticks r.count r.images journal queue given next.0 (content old) (content new) (steps_content keeper.cells r.images given next.0 old new next.2) r.in_step in
+        let on = goes_on.image_step keeper.cells ticks r.count r.images journal queue given next.0 (content old) (content new) (steps_content keeper.cells r.images given next.0 old new next.2) r.in_step in
         record {
           images = next.0;
           stands = next.1;

@@ -73,7 +73,6 @@ pub record IsOpened {C D : Type 0} (content : C → Content) (file : D → List 
   pub recovered : s.recovered ≡ (recovery.tick, recovery.from)
   pub words : words_of content file leaves honest s ≡ recovery.words
   pub ended : s.engine.ended ≡ recovery.tick
-  pub since : s.engine.since ≡ 0
   pub acked : s.acked ≡ recovery.tick
   pub serves : (cells : ℕ) (ticks : List (List Action)) (acknowledged : ℕ) → AreSynced file leaves files → AreSound file leaves files cells ticks acknowledged
       → (s.engine.images.cells ≡ cells) × Serves content file leaves honest s (take recovery.tick ticks)

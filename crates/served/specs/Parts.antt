@@ -9,7 +9,6 @@ use Rattle.image_files.specs.Files.{FitsFiles as ImagesFit, Stands as ImagesStan
 use Rattle.action_log.specs.declared.phase.Phase.TheVariants.{Ready}
 use Rattle.action_log.specs.declared.progress.Progress.{Progress as LogProgress}
 use Rattle.action_log.specs.Files.{FitsFiles as LogFits}
-use Rattle.action_log.specs.Progress.{QueueFollows}
 use Rattle.action_log.specs.Logs.{Logs, Writing}
 use Rattle.action_log.specs.Stands.{Stands as LogStands}
 use Rattle.restart.specs.InStep.{IsSettled}
@@ -18,7 +17,6 @@ use Rattle.served.specs.declared.parts.Parts.{Parts}
 -- the log keeper may take ticks from the ended ones on
 pub record LogIsReady (log : LogProgress) (ended since : ℕ) : Type 0 where
   pub ready : log.phase ≡ Ready
-  pub follows : QueueFollows log []
   pub count : log.count ≡ since
   pub all : log.base + since ≡ ended
 

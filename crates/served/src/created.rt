@@ -1,4 +1,4 @@
-ghost use Rattle.std.specs.Prelude.{◌≤◌, IsTrue, IfOk};
+ghost use Rattle.std.specs.Prelude.{◌≡◌, ◌≤◌, IsTrue, IfOk};
 ghost use Rattle.world_actions.specs.declared.world.TheConstants.{CELLS};
 ghost use Rattle.served.specs.Opening.{AreSynced};
 ghost use Rattle.served.specs.Fresh.{IsServedFresh};
@@ -19,8 +19,9 @@ pub fn create_and_open<C: Capture, D: Disk>(
     every: u32,
 ) -> Result<Served<C, D>, (FourFiles<D>, Refusal)>
     requires { (1 ≤ cells) × (cells ≤ CELLS) }
-    ensures { IsTrue D.honest → AreSynced D.content D.may_leave files
+    ensures served { IsTrue D.honest → AreSynced D.content D.may_leave files
         → IfOk result (IsServedFresh C.content D.content D.may_leave D.honest cells) }
+    ensures every { IfOk result (λ served. served.every ≡ every) }
 {
     let files = fresh_files(alloc, cells, files)?;
     Served::open(alloc, files, every)

@@ -32,6 +32,7 @@ pub fn fresh_files<D: Disk>(
         AreNotMade D.content D.may_leave files cells refused.1 refused.0) }
     ensures device { IfErr result (λ refused. refused.1 ≡ Refusal.Device
         → SomeGrew (fault_counts D.faults files) (fault_counts D.faults refused.0)) }
+    ensures no_fault { IfOk result (λ made. fault_counts D.faults made ≡ fault_counts D.faults files) }
 {
     let mut files = files;
     match make_fresh::<PlainCopy, D>(alloc, cells, &mut files) {
@@ -53,6 +54,7 @@ fn make_fresh<C: Capture, D: Disk>(
         AreNotMade D.content D.may_leave files.old cells refusal files.new) }
     ensures device { IfErr result (λ refusal. refusal ≡ Refusal.Device
         → SomeGrew (fault_counts D.faults files.old) (fault_counts D.faults files.new)) }
+    ensures no_fault { OnOk result (fault_counts D.faults files.new ≡ fault_counts D.faults files.old) }
 {
     images_stay::<D>();
     log_outcomes::<D>();

@@ -4,7 +4,7 @@ ghost use Rattle.disk_model.specs.FourFiles.{fault_counts};
 ghost use Rattle.served.specs.Serving.{Runs, Serves};
 ghost use Rattle.image_files.specs.declared.phase.Phase.TheVariants.{Idle};
 ghost use Rattle.served.specs.Parts.{AreAtRest, AreSettled};
-ghost use Rattle.served.specs.Opening.{SomeGrew, IsOpened, IsRecovered, IsRefused, IsNotOpened};
+ghost use Rattle.served.specs.Opening.{SomeGrew, AreSynced, IsOpened, IsRecovered, IsRefused, IsNotOpened};
 
 use crate::engine::Engine;
 use crate::parts::{Parts, words_of};
@@ -125,10 +125,15 @@ impl<C: Capture, D: Disk> Served<C, D> {
         }
     }
 
-    /// Gives the files back.
+    /// Gives the files back. Nothing of them is unsynced, unless a keeper is down.
     pub fn into_files(self) -> FourFiles<D>
-        ensures { result ≡ self.files }
+        ensures files { result ≡ self.files }
+        ensures synced { IsTrue D.honest → self.engine.log.down ≡ false → self.engine.images.phase ≡ Idle
+            → (ticks : List (List Action)) → Serves C.content D.content D.may_leave D.honest self ticks
+            → AreSynced D.content D.may_leave result }
     {
+        images_stay::<D>();
+        log_outcomes::<D>();
         let Served { serving } = self;
         let Serving {
             engine: _,

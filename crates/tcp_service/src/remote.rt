@@ -36,8 +36,7 @@ impl<R: Wait + Copy> Model for Remote<R> {
 }
 
 impl<R: Wait + Copy> Remote<R> {
-    ghost use Rattle.std.specs.Prelude.{◌≡◌, ◌⊎◌, None, IfOk, OnOk, OnErr};
-    ghost use Rattle.tcp_service.specs.Remote.{asked_more, next_ask};
+    ghost use Rattle.std.specs.Prelude.{◌≡◌, ◌⊎◌, ◌+◌, None, IfOk, OnOk, OnErr};
 
     /// The world of the session of this number, whose batches go to the mutator by this channel.
     pub fn new(rt: R, alloc: Global, session: u64, requests: Sender<Ask>) -> Self
@@ -55,8 +54,9 @@ impl<R: Wait + Copy> Remote<R> {
 
     // What asks for a batch. Its answer has a channel of its own, so that one that can't come any more is known.
     fn asking(&mut self, b: &Batch) -> Result<(Ask, Receiver<Reply>), Refusal>
-        ensures asks { IfOk result (λ asking. asking.0 ≡ next_ask self.old b.now.list) }
-        ensures counts { OnOk result (self.new ≡ asked_more self.old) }
+        ensures asks { IfOk result (λ asking. asking.0
+            ≡ record { session = self.old.session; ask = self.old.asked + 1; requests = b.now.list }) }
+        ensures counts { OnOk result (self.new ≡ record self.old { asked = self.old.asked + 1 }) }
         ensures unchanged { OnErr result (self.new ≡ self.old) }
     {
         let batch = b.try_copy(self.alloc)?;
@@ -67,8 +67,9 @@ impl<R: Wait + Copy> Remote<R> {
 
     // Sends a batch, and waits for its post.
     fn ask(&mut self, b: &Batch) -> Result<Post, Refusal>
-        ensures ok { OnOk result (self.new ≡ asked_more self.old) }
-        ensures err { OnErr result ((self.new ≡ self.old) ⊎ (self.new ≡ asked_more self.old)) }
+        ensures ok { OnOk result (self.new ≡ record self.old { asked = self.old.asked + 1 }) }
+        ensures err { OnErr result ((self.new ≡ self.old)
+            ⊎ (self.new ≡ record self.old { asked = self.old.asked + 1 })) }
     {
         let (ask, from) = self.asking(b)?;
         match self.requests.send(&self.rt, ask) {

@@ -4,18 +4,13 @@ use Rattle.world_actions.specs.declared.action.Action.{Action}
 use Rattle.world_ticks.specs.After.{and_then, after_actions, after_ticks}
 use Rattle.sessions.specs.declared.batch.Request.{Request}
 use Rattle.sessions.specs.Answer.{accepted_of, words_after}
-use Rattle.recovery.specs.Events.{TickEnds, MarkIsMade, CoverKeeps, RoundIsTaken, RoundIsOpened, TickIsWritten, SwitchIsTaken, SwitchIsDone}
+use Rattle.capture_core.specs.Content.{Takes}
+use Rattle.recovery.specs.Events.{EventsKeep, WholeEventsKeep}
 
 -- what each event keeps, and what a batch's tick leads to
 pub record Laws : Type 0 where
-  pub tick_ends : TickEnds
-  pub mark : MarkIsMade
-  pub cover : CoverKeeps
-  pub taken : RoundIsTaken
-  pub opened : RoundIsOpened
-  pub written : TickIsWritten
-  pub switch : SwitchIsTaken
-  pub switched : SwitchIsDone
+  pub events : EventsKeep Takes
+  pub whole : WholeEventsKeep
   pub accepted : (requests : List Request) (words : List ℕ) → after_actions words (accepted_of requests words) ≡ Ok (words_after requests words)
   pub append : (world : List ℕ) (before after : List Action) → after_actions world (before ++ after) ≡ and_then (after_actions world before) (λ next. after_actions next after)
   pub cells : (cells : ℕ) (after : List ℕ) (ticks : List (List Action)) → after_ticks cells ticks ≡ Ok after → length after ≡ cells

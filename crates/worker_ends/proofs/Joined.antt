@@ -30,7 +30,7 @@ use Rattle.workers.specs.Covering.{LeavesOut}
 use Rattle.workers.specs.Logging.{told_in, Writes}
 use Rattle.workers.specs.Imaging as imaging
 use Rattle.workers.specs.Imaging.{images_after, AreInStep, ImagesStand, StandAfter}
-use Rattle.workers.specs.Publishing.{newest_tick}
+use Rattle.image_files.specs.Progress.{newest_tick}
 use Rattle.workers.proofs.Numbers.{go_snoc}
 use Rattle.workers.proofs.Loggings.{records_append}
 use Rattle.worker_ends.specs.Ends.{BeginAt}

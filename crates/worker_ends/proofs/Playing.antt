@@ -20,6 +20,7 @@ use Rattle.action_log.specs.declared.record.Record.{Record}
 use Rattle.action_log.specs.declared.record.Record.TheVariants as records
 use Rattle.recovery.specs.Sound.{IsWorldAt}
 use Rattle.recovery.specs.Events.{ticks_in, IsKept}
+use Rattle.sessions.specs.declared.batch.Request.{Request}
 use Rattle.shared_capture.specs.declared.view.Round.{Round}
 use Rattle.shared_capture.specs.declared.view.Snapshot.{Snapshot}
 use Rattle.shared_capture.specs.Rounds.{round, IsTakenOf, Agree}
@@ -27,7 +28,7 @@ use Rattle.workers.specs.declared.item.Item.{Item}
 use Rattle.workers.specs.declared.item.Ended.{Ended}
 use Rattle.workers.specs.declared.item.Item.TheVariants.{Start, Tick, Switch, End}
 use Rattle.workers.specs.Items.{records_of, end_after, GoAll}
-use Rattle.workers.specs.Worlds.{World, Ran, Leads, IsUnchanged, AreUnchanged}
+use Rattle.workers.specs.Worlds.{World, RanBatch, Leads, IsUnchanged, AreUnchanged}
 use Rattle.worker_ends.proofs.Below.{Laws}
 use Rattle.worker_ends.proofs.Parts.{one_or_none, images_with}
 use Rattle.worker_ends.proofs.Images.{filled_is_marked}
@@ -91,7 +92,7 @@ module _ (laws : Laws) (cells : ℕ) (logs : Logs) where
       ∙ done
 
   -- a batch was run
-  ran : (ticks : List (List Action)) (queue : List Record) (images : Images) (w v : World) (ended : Ended) → Keeps ticks w.words images queue → Ran w ended v
+  ran : (ticks : List (List Action)) (queue : List Record) (images : Images) (w v : World) (ended : Ended) → Keeps ticks w.words images queue → (requests : List Request) × RanBatch requests w ended v
       → Keeps (ticks ++ ended.tick.list ∷ []) v.words images (queue ++ records.Tick ended.tick ∷ [])
   ran ticks queue images w v ended k is =
       let done : after_actions w.words ended.tick.list ≡ Ok v.words =
@@ -99,7 +100,7 @@ module _ (laws : Laws) (cells : ℕ) (logs : Logs) where
       let same : Ok k.1.last ≡ Ok w.words = sym k.1.accepted ∙ k.2 in
       let last : k.1.last ≡ w.words = cc in (
         k.0,
-        laws.tick_ends cells ticks k.0 images logs queue k.1 ended.tick v.words (ap (λ l. after_actions l ended.tick.list) last ∙ done),
+        laws.events.tick_ends cells ticks k.0 images logs queue k.1 ended.tick v.words (ap (λ l. after_actions l ended.tick.list) last ∙ done),
         world_more ticks ended.tick.list w.words v.words k.2 done,
       )
 
@@ -155,14 +156,14 @@ module _ (laws : Laws) (cells : ℕ) (logs : Logs) where
       let all : length ticks ≡ s.tick = omega (arith, rest.count, is, tick) in
       let empty : ImageRound = record { tick = s.tick; taken = [] } in
       let more : IsKept cells ticks k.0 (record images { round = Some (record { tick = length ticks; taken = [] }) }) logs (queue ++ records.Switch (length ticks) ∷ []) =
-      laws.mark cells ticks k.0 images (record images { round = Some (record { tick = length ticks; taken = [] }) }) logs queue k.1 rest.none (omega (arith, rest.tick, rest.count, some)) refl in
+      laws.events.mark cells ticks k.0 images (record images { round = Some (record { tick = length ticks; taken = [] }) }) logs queue k.1 rest.none (omega (arith, rest.tick, rest.count, some)) refl in
       let begun : IsKept cells ticks k.0 (record images { round = Some empty }) logs (queue ++ records.Switch s.tick ∷ []) =
       subst (λ n. IsKept cells ticks k.0 (record images { round = Some (record { tick = n; taken = [] }) }) logs (queue ++ records.Switch n ∷ [])) all more in
       let filled : List ℕ = filled_words s.taken images.words in
       let whole : length filled ≡ cells → IsWorldAt cells ticks s.tick filled =
       λ long. subst (IsWorldAt cells ticks s.tick) (sym (words (sym (length_filled s.taken images.words) ∙ long))) (world_now ticks s.tick w.words (sym all) k.2) in
       let taken : IsKept cells ticks k.0 (begun_by s images) logs (queue ++ records.Switch s.tick ∷ []) =
-      laws.taken cells ticks k.0 (record images { round = Some empty }) logs (queue ++ records.Switch s.tick ∷ []) empty filled begun refl whole in
+      laws.whole.taken cells ticks k.0 (record images { round = Some empty }) logs (queue ++ records.Switch s.tick ∷ []) empty filled begun refl whole in
       (k.0, subst (λ n. IsKept cells ticks k.0 (begun_by s images) logs (queue ++ records.Switch n ∷ [])) tick taken, k.2)
 
   -- and its image is opened
@@ -170,7 +171,7 @@ module _ (laws : Laws) (cells : ℕ) (logs : Logs) where
       → Keeps ticks words (begun_by s images) queue → length s.taken ≡ cells → Keeps ticks words (opened_by s images) queue
   opens ticks words queue images s k whole =
       let taken : ImageRound = record { tick = s.tick; taken = filled_words s.taken images.words } in
-      (max k.0 s.tick, laws.opened cells ticks k.0 (begun_by s images) (opened_by s images) logs queue taken k.1 refl (length_filled s.taken images.words ∙ whole) refl, k.2)
+      (max k.0 s.tick, laws.whole.opened cells ticks k.0 (begun_by s images) (opened_by s images) logs queue taken k.1 refl (length_filled s.taken images.words ∙ whole) refl, k.2)
 
   -- what is taken of a round, all of it, is its words
   taken_words : (ticks : List (List Action)) (queue : List Record) (before : List ℕ) (images : Images) (w : World) (r : Round) (s : Snapshot)

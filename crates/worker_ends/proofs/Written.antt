@@ -51,10 +51,10 @@ module _ (laws : Laws) (cells : ℕ) (ticks : List (List Action)) (images : Imag
       → KeepsLog logs (run ++ records.Switch tick ∷ behind) → KeepsLog logs (records.Switch tick ∷ behind)
   covered_by logs run tick behind false has le idle k =
       let covers_it : Covers logs (run ++ records.Switch tick ∷ behind) tick run (records.Switch tick ∷ behind) = record { idle = idle; in_front = refl; behind = behind; next = refl } in
-      (k.0, laws.cover cells ticks k.0 images logs (run ++ records.Switch tick ∷ behind) tick answer.Working (records.Switch tick ∷ behind) k.1 le (run, covers_it, has))
+      (k.0, laws.events.cover cells ticks k.0 images logs (run ++ records.Switch tick ∷ behind) tick answer.Working (records.Switch tick ∷ behind) k.1 le (run, covers_it, has))
   covered_by logs run tick behind true has le idle k =
       let covers_it : Covers logs (run ++ records.Switch tick ∷ behind) tick run (records.Switch tick ∷ behind) = record { idle = idle; in_front = refl; behind = behind; next = refl } in
-      (max k.0 tick, laws.cover cells ticks k.0 images logs (run ++ records.Switch tick ∷ behind) tick (answer.Acked tick) (records.Switch tick ∷ behind) k.1 le (run, covers_it, has, refl))
+      (max k.0 tick, laws.events.cover cells ticks k.0 images logs (run ++ records.Switch tick ∷ behind) tick (answer.Acked tick) (records.Switch tick ∷ behind) k.1 le (run, covers_it, has, refl))
 
   covered : (logs : Logs) (run : List Record) (first : Record) (logged behind : List Record) → is_idle logs → (run ≡ []) ⊎ BeginsAt covers (first ∷ logged)
       → KeepsLog logs (run ++ first ∷ behind) → KeepsLog logs (first ∷ behind)
@@ -84,7 +84,7 @@ module _ (laws : Laws) (cells : ℕ) (ticks : List (List Action)) (images : Imag
       let n = next_of covers all (records.Tick tick) (given ++ more) leaves in
       let first = brought logs all rest (records.Tick tick) (given ++ more) idle n k in
       let after : Logs = record logs { kept = logs.kept ++ tick.list ∷ [] } in
-      let on = written given n.behind more rest after (first.0, laws.written cells ticks first.0 images logs tick (n.behind ++ rest) first.1 idle) idle n.left in
+      let on = written given n.behind more rest after (first.0, laws.whole.written cells ticks first.0 images logs tick (n.behind ++ rest) first.1 idle) idle n.left in
       record { next = on.next; left = on.left; keeps = on.keeps; idle = on.idle; leaves = on.leaves; told = on.told }
   written (records.Switch tick ∷ given) all more rest logs k idle leaves =
       let n = next_of covers all (records.Switch tick) (given ++ more) leaves in
@@ -92,7 +92,7 @@ module _ (laws : Laws) (cells : ℕ) (ticks : List (List Action)) (images : Imag
       let begun : Logs = record logs { switch = Some tick } in
       let after : Logs = switched_to begun tick in
       let on = written given n.behind more rest after
-      (first.0, laws.switched cells ticks first.0 images begun tick (n.behind ++ rest) (laws.switch cells ticks first.0 images logs tick (n.behind ++ rest) first.1 idle) refl) (refl, refl) n.left in
+      (first.0, laws.whole.switched cells ticks first.0 images begun tick (n.behind ++ rest) (laws.whole.switch cells ticks first.0 images logs tick (n.behind ++ rest) first.1 idle) refl) (refl, refl) n.left in
       record { next = on.next; left = on.left; keeps = on.keeps; idle = on.idle; leaves = on.leaves; told = on.told }
 
   -- the same with the switch in work taken
@@ -115,7 +115,7 @@ module _ (laws : Laws) (cells : ℕ) (ticks : List (List Action)) (images : Imag
       record {
         next = record on.next { switch = Some tick };
         queue = n.behind ++ rest;
-        keeps = (first.0, laws.switch cells ticks first.0 images on.next tick (n.behind ++ rest) first.1 on.idle);
+        keeps = (first.0, laws.whole.switch cells ticks first.0 images on.next tick (n.behind ++ rest) first.1 on.idle);
         none = on.idle.0;
         switch_is = refl;
         told = on.told;

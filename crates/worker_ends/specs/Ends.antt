@@ -13,7 +13,7 @@ use Rattle.workers.specs.declared.log_writer.Log.{Log}
 use Rattle.workers.specs.Items.{records_of}
 use Rattle.workers.specs.Mutating.{Playing, IsMutator}
 use Rattle.workers.specs.Logging.{Logging, IsLogging, LogStands}
-use Rattle.workers.specs.Publishing.{newest_tick}
+use Rattle.image_files.specs.Progress.{newest_tick}
 use Rattle.workers.specs.Imaging.{Imaging, IsCheckpointer, ImagesStand}
 use Rattle.workers.specs.Meeting.{HaveMet}
 

@@ -9,7 +9,7 @@ use Rattle.image_files.specs.declared.phase.Phase.TheVariants.{Idle, Closing, He
 use Rattle.image_files.specs.declared.answer.ImageAnswer.{ImageAnswer}
 use Rattle.image_files.specs.declared.answer.ImageAnswer.TheVariants as answer
 use Rattle.image_files.specs.Images.{Round, ImageFiles, NoneYet, Newest, StepsImages, round_in, with_cell, with_round, with_taken, with_opened}
-use Rattle.image_files.specs.Progress.{Progress, target_of, cells_taken, left_of, moves_left, begun_keeper, opened_keeper}
+use Rattle.image_files.specs.Progress.{Progress, target_of, cells_taken, left_of, moves_left, begun_keeper, opened_keeper, newest_tick}
 use Rattle.file_format.specs.Slot.{of_slot}
 use Rattle.image_files.specs.Files.{FitsFiles}
 use Rattle.image_files.specs.Keeper.{Fits}
@@ -18,8 +18,8 @@ use Rattle.image_files.specs.Taken.{filled_words, word_of}
 use Rattle.shared_capture.specs.declared.view.Snapshot.{Snapshot}
 use Rattle.shared_capture.specs.States.{BackState, TookBack, SameDone, FoundRound}
 use Rattle.workers.specs.declared.checkpointer.round.ImageWriter.{ImageWriter}
-use Rattle.workers.specs.Imaging.{round_of, with_work, images_after, newest_after, HasRound, AreInStep, SamePair, IsInWork, RoundRuns, IsDone, ImagesStand, FollowsRounds, WriterFits, TellsFaults, Imaging, IsCheckpointer, Turned}
-use Rattle.workers.specs.Publishing.{IsNoneDue, newest_tick, ArePublished}
+use Rattle.workers.specs.Imaging.{round_of, with_work, images_after, newest_after, HasRound, AreInStep, IsInWork, RoundRuns, IsDone, ImagesStand, FollowsRounds, WriterFits, TellsFaults, Imaging, IsCheckpointer, Turned}
+use Rattle.workers.specs.Publishing.{IsNoneDue, ArePublished}
 
 -- ---- the words of a round
 
@@ -101,7 +101,7 @@ stays_busy answer.Down keeper next not idle down on busy = λ is. (let e : Down 
 
 -- the back but for the cells taken
 pub record SameBack (old new : BackState) : Type 0 where
-  pub same : SamePair old new
+  pub same : (new.pair ≡ old.pair) × (new.cells ≡ old.cells) × (new.loads ≡ old.loads)
   pub done : new.done ≡ old.done
   pub working : new.working ≡ old.working
   pub tick : new.now.tick ≡ old.now.tick

@@ -5,13 +5,13 @@ use Rattle.std.proofs.lemmas.List.{map-append}
 use Rattle.std.proofs.lemmas.List.Elements.{All-push, All-weaker}
 use Rattle.file_format.specs.declared.slot.Slot.{Slot}
 use Rattle.image_files.specs.declared.phase.Phase.TheVariants.{Idle}
-use Rattle.image_files.specs.Progress.{Progress}
+use Rattle.image_files.specs.Progress.{Progress, newest_tick}
 use Rattle.shared_capture.specs.declared.view.Snapshot.{Snapshot}
 use Rattle.shared_capture.specs.CoverWord.{CoverState}
 use Rattle.shared_capture.specs.States.{BackState}
 use Rattle.workers.specs.declared.checkpointer.round.ImageWriter.{ImageWriter}
 use Rattle.workers.specs.Imaging.{newest_after, HasRound, RoundRuns, Publishes, AreInStep, FollowsRounds, WriterFits, Imaging, IsCheckpointer}
-use Rattle.workers.specs.Publishing.{newest_tick, told, ArePublished}
+use Rattle.workers.specs.Publishing.{told, ArePublished}
 use Rattle.workers.proofs.Imagings.{newest_more, is_idle, checkpointer_goes_on}
 
 -- the same rounds are done

@@ -1,5 +1,5 @@
 -- A round goes on from step to step.
-use Rattle.std.proofs.Common.{◌≡◌, ◌⊎◌, inl, inr, ℕ, ◌<◌, true, false, List, [], ◌∷◌, ◌++◌, refl, sym, ap, ◌∙◌, subst}
+use Rattle.std.proofs.Common.{◌≡◌, ◌≢◌, ◌⊎◌, inl, inr, ℕ, ◌<◌, true, false, List, [], ◌∷◌, ◌++◌, refl, sym, ap, ◌∙◌, subst}
 use Rattle.disk_model.specs.Disk.{FaultsBy}
 use Rattle.image_files.specs.declared.phase.Phase.{Phase}
 use Rattle.image_files.specs.declared.phase.Phase.TheVariants.{Idle, Closing, ClosingSync, Header, Taking, Reading, Writing, BodySync, Opening, OpeningSync, Down}
@@ -11,7 +11,7 @@ use Rattle.workers.specs.declared.gate.Place.TheVariants.{Device}
 use Rattle.workers.specs.declared.gate.Pass.{Pass}
 use Rattle.workers.specs.Gates.{MayGo}
 use Rattle.workers.specs.declared.checkpointer.round.ImageWriter.{ImageWriter}
-use Rattle.workers.specs.Imaging.{place_of, HasRound, IsUp, RoundRuns, TellsFaults, Imaging, GoesOn, KeepsBack}
+use Rattle.workers.specs.Imaging.{place_of, HasRound, RoundRuns, TellsFaults, Imaging, GoesOn, KeepsBack}
 use Rattle.workers.proofs.Imagings.{is_busy}
 
 runs_then : (keeper next : Progress) (old mid new : BackState) → HasRound keeper → RoundRuns old keeper mid → RoundRuns mid next new → RoundRuns old next new
@@ -24,7 +24,7 @@ runs_then keeper next old mid new busy first then =
     }
 
 module _ {D : Type 0} (faults : D → ℕ) where
-  told_then : (old mid new : ImageWriter D) → IsUp mid.keeper → TellsFaults faults old mid → TellsFaults faults mid new → TellsFaults faults old new
+  told_then : (old mid new : ImageWriter D) → mid.keeper.phase ≢ Down → TellsFaults faults old mid → TellsFaults faults mid new → TellsFaults faults old new
   told_then old mid new up first then =
       let same = first.up up in
       record {
@@ -34,7 +34,7 @@ module _ {D : Type 0} (faults : D → ℕ) where
 
   module _ (go stuck : Type 0) where
     -- no step is made yet
-    pub goes_none : (old : Imaging D) → HasRound old.images.keeper → IsUp old.images.keeper → old.back.working ≡ true → old.over ≡ false → GoesOn go stuck faults old old
+    pub goes_none : (old : Imaging D) → HasRound old.images.keeper → old.images.keeper.phase ≢ Down → old.back.working ≡ true → old.over ≡ false → GoesOn go stuck faults old old
     goes_none old busy up working goes = record {
       runs = record {
         same = (refl, refl, refl);

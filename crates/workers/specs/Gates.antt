@@ -1,5 +1,4 @@
 -- What a gate may answer.
-use Rattle.std.specs.Prelude.{◌≡◌, ◌<◌, ◌+◌, ℕ}
 use Rattle.workers.specs.declared.gate.Place.{Place}
 use Rattle.workers.specs.declared.gate.Pass.{Pass}
 use Rattle.workers.specs.declared.gate.Pass.TheVariants.{Go, Stuck}
@@ -11,7 +10,3 @@ MayGo {G = G} told place = (old new : G) × told old place Go new
 -- in some state it answers that the step is never made
 abbrev pub MayStick : {G : Type 0} → (told : G → Place → Pass → G → Type 0) → Place → Type 0
 MayStick {G = G} told place = (old new : G) × told old place Stuck new
-
--- with so many steps left it lets the next one be made, and has one less left; with none left it holds its worker for good
-abbrev pub CutsAt : (left : ℕ) → Pass → (after : ℕ) → Type 0
-CutsAt left pass after = (left ≡ 0 → (pass ≡ Stuck) × (after ≡ 0)) × (0 < left → (pass ≡ Go) × (after + 1 ≡ left))

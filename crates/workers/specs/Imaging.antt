@@ -6,7 +6,7 @@ use Rattle.image_files.specs.declared.phase.Phase.{Phase}
 use Rattle.image_files.specs.declared.phase.Phase.TheVariants.{Idle, Taking, Down}
 use Rattle.image_files.specs.Images.{Round, ImageFiles, NoneYet, Newest, with_opened}
 use Rattle.image_files.specs.Files.{FitsFiles, Stands}
-use Rattle.image_files.specs.Progress.{Progress, target_of, cells_taken, begun_keeper}
+use Rattle.image_files.specs.Progress.{Progress, target_of, cells_taken, begun_keeper, newest_tick}
 use Rattle.image_files.specs.Taken.{filled_words}
 use Rattle.restart.specs.Rounds.{words_of}
 use Rattle.shared_capture.specs.declared.view.Snapshot.{Snapshot}
@@ -15,7 +15,7 @@ use Rattle.shared_capture.specs.CoverWord.{CoverState}
 use Rattle.workers.specs.declared.gate.Place.{Place}
 use Rattle.workers.specs.declared.gate.Place.TheVariants.{Take, Device}
 use Rattle.workers.specs.declared.checkpointer.round.ImageWriter.{ImageWriter}
-use Rattle.workers.specs.Publishing.{IsNoneDue, newest_tick, told, ArePublished}
+use Rattle.workers.specs.Publishing.{IsNoneDue, told, ArePublished}
 
 -- ---- the images of rounds
 
@@ -55,10 +55,6 @@ pub record AreInStep (keeper : Progress) (back : BackState) : Type 0 where
   pub cells : keeper.cells ≡ back.cells
   pub round : HasRound keeper → IsAtRound keeper back
 
--- the pair, the number of cells and what is known of the phase stay
-abbrev pub SamePair : BackState → BackState → Type 0
-SamePair old new = (new.pair ≡ old.pair) × (new.cells ≡ old.cells) × (new.loads ≡ old.loads)
-
 -- one more round is done, of this tick and with each cell taken
 abbrev pub IsDone : BackState → (tick : ℕ) → BackState → Type 0
 IsDone old tick new =
@@ -73,9 +69,10 @@ pub record Publishes (tick : ℕ) (keeper : Progress) (old new : CoverState) : T
   pub in_work : HasRound keeper → new ≡ old
   pub done : keeper.phase ≡ Idle → new ≡ told old tick
 
--- a round goes on as long as the keeper has one, and is done once the keeper has none
+-- A round goes on as long as the keeper has one, and is done once the keeper has none. The pair, the number of cells and what is
+-- known of the phase stay.
 pub record RoundRuns (old : BackState) (keeper : Progress) (new : BackState) : Type 0 where
-  pub same : SamePair old new
+  pub same : (new.pair ≡ old.pair) × (new.cells ≡ old.cells) × (new.loads ≡ old.loads)
   pub in_work : HasRound keeper → IsInWork old old.now.tick new
   pub done : keeper.phase ≡ Idle → IsDone old old.now.tick new
 
@@ -133,11 +130,6 @@ pub record IsCheckpointer {D : Type 0} (honest : Bool) (file : D → List ℕ) (
   pub fresh : c.images.keeper.phase ≡ Idle → c.back.working ≡ true → c.back.now.taken ≡ []
   pub newer : HasRound c.images.keeper → newest_tick c.images.keeper.newest < c.back.now.tick
 
--- the phase was loaded and no round was open: nothing else changed
-abbrev pub Waited : {D : Type 0} → Imaging D → Imaging D → Type 0
-Waited old new =
-    (new.images ≡ old.images) × SameDone old.back new.back × (new.back.working ≡ false) × (new.back.loads ≡ old.back.loads ++ 0 ∷ [])
-
 -- The open round of this tick was found. It is done, or it stays open and nothing more is done: no image is made of this
 -- tick, or its image was begun, and a call of a device failed or the gate lets no other be made.
 abbrev pub Found : {D : Type 0} → (stuck : Type 0) → Imaging D → (tick : ℕ) → Imaging D → Type 0
@@ -147,9 +139,11 @@ Found stuck old tick new =
     ⊎ ((new.over ≡ true) × IsInWork old.back tick new.back
     × (IsNoneDue old.images.keeper.newest tick ⊎ (HasRound new.images.keeper × ((new.images.keeper.phase ≡ Down) ⊎ stuck)))))
 
--- what a turn did
+-- what a turn did: it loaded the phase and found no round open, and nothing else changed; or it found one
 abbrev pub Turned : {D : Type 0} → (stuck : Type 0) → Imaging D → Imaging D → Type 0
-Turned stuck old new = Waited old new ⊎ ((tick : ℕ) × Found stuck old tick new)
+Turned stuck old new =
+    ((new.images ≡ old.images) × SameDone old.back new.back × (new.back.working ≡ false) × (new.back.loads ≡ old.back.loads ++ 0 ∷ []))
+    ⊎ ((tick : ℕ) × Found stuck old tick new)
 
 -- the checkpointer stays at its back and at its word, and knows the keeper and the files that it began with
 pub record KeepsBack {D : Type 0} (old new : Imaging D) : Type 0 where
@@ -164,10 +158,6 @@ pub record KeepsBack {D : Type 0} (old new : Imaging D) : Type 0 where
 abbrev pub place_of : Phase → Place
 place_of Taking = Take
 place_of phase = Device
-
--- no call of a device failed
-abbrev pub IsUp : Progress → Type 0
-IsUp keeper = keeper.phase ≡ Down → ⊥
 
 -- a look found no round
 abbrev pub FindsNone : {D : Type 0} → Imaging D → Imaging D → Type 0
@@ -190,4 +180,4 @@ pub record GoesOn {D : Type 0} (go stuck : Type 0) (faults : D → ℕ) (old new
   pub failures : TellsFaults faults old.images new.images
   pub asks : (new.images ≡ old.images) ⊎ go
   pub over : new.over ≡ true → HasRound new.images.keeper × ((new.images.keeper.phase ≡ Down) ⊎ stuck)
-  pub up : new.over ≡ false → IsUp new.images.keeper
+  pub up : new.over ≡ false → new.images.keeper.phase ≢ Down

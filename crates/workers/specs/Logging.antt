@@ -196,13 +196,11 @@ refused answers = record answers { waiting = []; answered = answers.answered + l
 
 -- ---- a step
 
--- it falls: it tells that the log is down, and refuses each answer that waits
-abbrev pub Falls : {D : Type 0} → Logging D → Logging D → Type 0
-Falls old new = new ≡ record old { down = true; told_down = with_told old.told_down 1; answers = refused old.answers }
-
--- With nothing left to do, an answer that still waits has no receipt. So it falls; if none waits, nothing changes.
+-- With nothing left to do, an answer that still waits has no receipt. So it falls: it tells that the log is down, and refuses
+-- each answer that waits. If none waits, nothing changes.
 abbrev pub Settles : {D : Type 0} → Logging D → Logging D → Type 0
-Settles old new = ((old.answers.waiting ≡ []) × (new ≡ old)) ⊎ ((new.answers.posted < new.answers.answered) × Falls old new)
+Settles old new = ((old.answers.waiting ≡ []) × (new ≡ old))
+    ⊎ ((new.answers.posted < new.answers.answered) × (new ≡ record old { down = true; told_down = with_told old.told_down 1; answers = refused old.answers }))
 
 -- this item was popped, and its answer refused
 pub record Loses {D : Type 0} (old : Logging D) (item : Item) (new : Logging D) : Type 0 where

@@ -1,14 +1,10 @@
 -- What the checkpointer tells the log writer: the tick of each image, once the image is open.
-use Rattle.std.specs.Prelude.{◌≡◌, ◌⊎◌, ℕ, ◌<◌, ◌≤◌, All, List, [], ◌∷◌, ◌++◌, map, Option, Some, None, slice_get}
+use Rattle.std.specs.Prelude.{◌≡◌, ◌⊎◌, ℕ, ◌<◌, ◌≤◌, All, List, [], ◌∷◌, ◌++◌, map, Option, Some, slice_get}
 use Rattle.world_ticks.specs.declared.tick.TheConstants.{TICK_MAX}
 use Rattle.file_format.specs.declared.slot.Slot.{Slot}
+use Rattle.image_files.specs.Progress.{newest_tick}
 use Rattle.shared_capture.specs.CoverWord.{CoverState}
 use Rattle.shared_capture.specs.declared.view.Snapshot.{Snapshot}
-
--- the tick of the newest image, or 0 where there is none
-abbrev pub newest_tick : Option (Slot × ℕ) → ℕ
-newest_tick None = 0
-newest_tick (Some newest) = newest.1
 
 -- no image is made of this tick: there is no such tick, or the newest image isn't older
 abbrev pub IsNoneDue : Option (Slot × ℕ) → ℕ → Type 0

@@ -31,14 +31,10 @@ abbrev pub IsRefusedTick : (down : Bool) → (ended since : ℕ) → Refusal →
 IsRefusedTick down ended since reason =
     ((tick_refusal down ended since ≡ None) × (reason ≡ NoMemory)) ⊎ (tick_refusal down ended since ≡ Some reason)
 
--- some batch was run
-abbrev pub Ran : World → Ended → World → Type 0
-Ran w ended v = (requests : List Request) × RanBatch requests w ended v
-
 -- a tick's item is its batch's; a switch's is a round of the words as they were
 abbrev pub after_item : World → Item → World → Type 0
 after_item w (Start number) v = v ≡ w
-after_item w (Tick ended) v = Ran w ended v
+after_item w (Tick ended) v = (requests : List Request) × RanBatch requests w ended v
 after_item w (Switch number) v = (v.words ≡ w.words) × ((touched : List Bool) × (v.rounds ≡ w.rounds ++ round number w.words touched ∷ []))
 after_item w End v = v ≡ w
 

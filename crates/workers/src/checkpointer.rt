@@ -1,14 +1,14 @@
 //! The worker that writes the images.
-ghost use Rattle.std.specs.Prelude.{◌≡◌, ◌⊎◌, ◌↔◌, ◌<◌, ◌≤◌, true, false, [], IsTrue, MatchOption};
+ghost use Rattle.std.specs.Prelude.{◌≡◌, ◌≢◌, ◌⊎◌, ◌↔◌, ◌<◌, ◌≤◌, true, false, [], IsTrue, MatchOption};
 ghost use Rattle.world_ticks.specs.declared.tick.TheConstants.{TICK_MAX};
 ghost use Rattle.disk_model.specs.Disk.{OneCalledAtMostOnce};
 ghost use Rattle.image_files.specs.declared.phase.Phase.TheVariants.{Down, Idle, Taking};
-ghost use Rattle.image_files.specs.Progress.{left_of};
+ghost use Rattle.image_files.specs.Progress.{left_of, newest_tick};
 ghost use Rattle.workers.specs.declared.gate.Place.{Place as Asked};
 ghost use Rattle.workers.specs.declared.gate.Place.TheVariants.{Device};
 ghost use Rattle.workers.specs.Gates.{MayGo, MayStick};
-ghost use Rattle.workers.specs.Imaging.{place_of, HasRound, IsUp, FindsNone, FindsRound, GoesOn, IsAtRest, IsDone, KeepsBack, TellsFaults, Turned, WriterFits};
-ghost use Rattle.workers.specs.Publishing.{newest_tick, IsNoneDue};
+ghost use Rattle.workers.specs.Imaging.{place_of, HasRound, FindsNone, FindsRound, GoesOn, IsAtRest, IsDone, KeepsBack, TellsFaults, Turned, WriterFits};
+ghost use Rattle.workers.specs.Publishing.{IsNoneDue};
 
 use crate::checkpointer::publisher::Publisher;
 use crate::checkpointer::round::step;
@@ -172,7 +172,7 @@ impl<M: Method, D: Disk + Drop, G: Gate + Drop> Checkpointer<M, D, G> {
     // Steps the round in work to its end, or until it is over.
     fn run_round<R: Wait>(&mut self, rt: &R)
         requires goes_on { self.old.over ≡ false }
-        requires round { HasRound self.old.images.keeper × IsUp self.old.images.keeper × (self.old.back.working ≡ true) }
+        requires round { HasRound self.old.images.keeper × (self.old.images.keeper.phase ≢ Down) × (self.old.back.working ≡ true) }
         ensures keeps { KeepsBack self.old self.new }
         ensures goes { GoesOn ((place : Asked) × MayGo G.told place) ((place : Asked) × MayStick G.told place)
             D.faults self.old self.new }

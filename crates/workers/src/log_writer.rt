@@ -17,7 +17,8 @@ ghost use Rattle.workers.specs.declared.item.Item.TheVariants.{Start};
 ghost use Rattle.workers.specs.Answering.{AreLater};
 ghost use Rattle.workers.specs.Covering.{loaded, LoadsOn};
 ghost use Rattle.workers.specs.Gates.{MayGo, MayStick};
-ghost use Rattle.workers.specs.Logging.{is_end, has_end, is_over, writer_at, Took, Loses, Pops, Falls, Settles, IsReady, IsAtRest, LogTellsFaults, FallsBy, IsPosted, IsLogging};
+ghost use Rattle.workers.specs.Publishing.{told as with_told};
+ghost use Rattle.workers.specs.Logging.{is_end, has_end, is_over, writer_at, Took, Loses, Pops, refused, Settles, IsReady, IsAtRest, LogTellsFaults, FallsBy, IsPosted, IsLogging};
 
 use crate::ends::ItemReceiver;
 use crate::gate::{Gate, Place, passes};
@@ -145,7 +146,11 @@ impl<D: Disk + Drop, G: Gate + Drop> LogWriter<D, G> {
     // The log is down: tells it, and refuses each answer that waits.
     fn fall<R: Wait>(&mut self, rt: &R)
         requires up { self.old.down ≡ false }
-        ensures { Falls self.old self.new }
+        ensures { self.new ≡ record self.old {
+          down = true;
+          told_down = with_told self.old.told_down 1;
+          answers = refused self.old.answers;
+        } }
     {
         self.down = true;
         self.told_down.publish(1);

@@ -20,10 +20,10 @@ use Rattle.world_core.specs.declared.moves.Answer.{Answer}
 use Rattle.world_core.specs.declared.moves.Answer.TheVariants as answer
 use Rattle.world_core.specs.Standing.{cover_refusal, cover_refusal_at, is_starting, queued_of, unless_refused}
 use Rattle.world_core.specs.Past.{Past, past_after}
-use Rattle.world_core.specs.State.{State, HasLog, newest_tick}
-use Rattle.world_core.specs.Laws.{EventLaws, KeeperLaws}
+use Rattle.image_files.specs.Progress.{newest_tick}
+use Rattle.world_core.specs.State.{State, HasLog}
+use Rattle.world_core.specs.Laws.{EventLaws, KeeperLaws, CoversBy}
 use Rattle.world_core.specs.Exact.{IsCoverAnswer, Progresses}
-use Rattle.world_core.specs.Moving.{CoversQueue}
 use Rattle.world_core.specs.Facts.{IsCoreAt}
 use Rattle.world_core.proofs.Exact.{starting_is}
 use Rattle.world_core.proofs.Logging.{counts}
@@ -81,19 +81,19 @@ covers_in laws keepers past old tick given left images (InStart start) waits sta
 covers_in laws keepers past old tick given left (NoneYet images) (Writing logs) waits stands started opened step w = absurd w.phase
 covers_in laws keepers past old tick given left (Newest images) (Writing logs) waits stands started opened step w =
     let s = step logs (λ ready. keepers.ready old.log old.log_a old.log_b logs waits stands ready) in
-    let kept = laws.cover old.cells past.history.ticks past.acknowledged old.content images logs old.queue tick given left opened s w in
+    let kept = laws.goes_on.cover old.cells past.history.ticks past.acknowledged old.content images logs old.queue tick given left opened s w in
     record {
       in_step = subst (λ a. InStep old.cells past.history.ticks a old.content (Newest images) (Writing logs) left) (sym (counts past.acknowledged given)) kept;
-      receipt = λ number is. receipt_of past.history.ticks given left number is (laws.cover_receipt old.cells past.history.ticks past.acknowledged images logs old.queue tick given left w.phase s);
+      receipt = λ number is. receipt_of past.history.ticks given left number is (laws.keeps.cover_receipt old.cells past.history.ticks past.acknowledged images logs old.queue tick given left w.phase s);
     }
 
-covered_from : EventLaws → KeeperLaws → (past : Past) (old new : State) (tick : ℕ) (given : LogAnswer) (c : IsCoreAt past old) → None ≡ refusal_in old tick → CoversQueue tick old given new
+covered_from : EventLaws → KeeperLaws → (past : Past) (old new : State) (tick : ℕ) (given : LogAnswer) (c : IsCoreAt past old) → None ≡ refusal_in old tick → CoversBy tick old given new
     → IsCovered old.cells past.history.ticks (past_after past (move.Cover tick) (answer.Log given)).acknowledged old c.images c.place.journal given new.queue
 covered_from laws keepers past old new tick given c e d =
     let may = may_cover old tick e in
     covers_in laws keepers past old tick given new.queue c.images c.place.journal c.place.left c.has_log may.has_started (subst (λ n. tick ≤ n) (newest_is keepers past old c) may.opened) d.step c.in_step
 
-pub cover_keeps : EventLaws → KeeperLaws → (past : Past) (old new : State) (tick : ℕ) (given : LogAnswer) → IsCoreAt past old → None ≡ refusal_in old tick → CoversQueue tick old given new
+pub cover_keeps : EventLaws → KeeperLaws → (past : Past) (old new : State) (tick : ℕ) (given : LogAnswer) → IsCoreAt past old → None ≡ refusal_in old tick → CoversBy tick old given new
     → IsCoreAt (past_after past (move.Cover tick) (answer.Log given)) new
 cover_keeps laws keepers past old new tick given c e d =
     let after = past_after past (move.Cover tick) (answer.Log given) in
@@ -129,7 +129,7 @@ cover_keeps laws keepers past old new tick given c e d =
       round = c.round;
       newest = c.newest;
     } in
-    subst (IsCoreAt after) (sym d.rest) is
+    subst (IsCoreAt after) (sym d.covers.rest) is
 
 -- ---- the answer
 
@@ -140,23 +140,23 @@ acked_by false has tick number [] is e = absurd (let g = e in cc)
 acked_by false true tick number (first ∷ taken) is e = (let g : given_.Acked tick ≡ given_.Acked number = sym (ap (λ b. if b then given_.Acked tick else given_.Working) is) ∙ e in (let h : tick ≡ number = cc in sym h))
 acked_by false false tick number (first ∷ taken) is e = absurd (let g : given_.Working ≡ given_.Acked number = sym (ap (λ b. if b then given_.Acked tick else given_.Working) is) ∙ e in cc)
 
-acked_tick : (old : State) (tick : ℕ) (given : LogAnswer) (number : ℕ) → given ≡ given_.Acked number → (new : State) → CoversQueue tick old given new → number ≡ tick
-acked_tick old tick given number is new d = acked_by old.log.down (has_tick (covered old.log tick old.queue)) tick number (covered old.log tick old.queue) refl (sym d.answer ∙ is)
+acked_tick : (old : State) (tick : ℕ) (given : LogAnswer) (number : ℕ) → given ≡ given_.Acked number → (new : State) → CoversBy tick old given new → number ≡ tick
+acked_tick old tick given number is new d = acked_by old.log.down (has_tick (covered old.log tick old.queue)) tick number (covered old.log tick old.queue) refl (sym d.covers.answer ∙ is)
 
 log_of : Answer → LogAnswer
 log_of (answer.Log given) = given
 log_of given = given_.Idle
 
-pub cover_exact : EventLaws → KeeperLaws → (past : Past) (old new : State) (tick : ℕ) (given : LogAnswer) → IsCoreAt past old → None ≡ refusal_in old tick → CoversQueue tick old given new
+pub cover_exact : EventLaws → KeeperLaws → (past : Past) (old new : State) (tick : ℕ) (given : LogAnswer) → IsCoreAt past old → None ≡ refusal_in old tick → CoversBy tick old given new
     → IsCoverAnswer past old tick (answer.Log given)
 unfolding log_of
 cover_exact laws keepers past old new tick given c e d =
     let none : None ≡ cover_refusal_at past.standing tick = e ∙ cover_refusal_is keepers past old tick c in
     record {
-      is = ap answer.Log d.answer ∙ ap (λ r. unless_refused r (answer.Log (cover_answer old.log tick old.queue))) none;
+      is = ap answer.Log d.covers.answer ∙ ap (λ r. unless_refused r (answer.Log (cover_answer old.log tick old.queue))) none;
       receipt = λ number is. (
         acked_tick old tick given number (ap log_of is) new d,
-        subst (λ (q : List Record). number + length (ticks_in q) ≡ length past.history.ticks) d.left ((covered_from laws keepers past old new tick given c e d).receipt number (ap log_of is)),
+        subst (λ (q : List Record). number + length (ticks_in q) ≡ length past.history.ticks) d.covers.left ((covered_from laws keepers past old new tick given c e d).receipt number (ap log_of is)),
       );
     }
 
@@ -166,7 +166,7 @@ cover_refused keepers past state tick refusal c e = record {
   receipt = λ number is. absurd (let g = is in cc);
 }
 
-pub cover_progress : (old new : State) (tick : ℕ) (given : LogAnswer) → CoversQueue tick old given new → Progresses (move.Cover tick) (answer.Log given) old new
+pub cover_progress : (old new : State) (tick : ℕ) (given : LogAnswer) → CoversBy tick old given new → Progresses (move.Cover tick) (answer.Log given) old new
 cover_progress old new tick given_.Idle d = tt
 cover_progress old new tick given_.Working d = elim d.lowers [
   | inl idle ↦ absurd (let g = idle in cc)

@@ -10,7 +10,7 @@ use Rattle.capture_core.specs.Content.{Content}
 use Rattle.image_files.specs.declared.phase.Phase.TheVariants.{Idle, Closing, Header}
 use Rattle.image_files.specs.Images.{Round, ImageFiles, NoneYet, Newest, round_in, newest_in}
 use Rattle.image_files.specs.Files.{TellsShut, IsTold}
-use Rattle.image_files.specs.Progress.{Progress, made_keeper}
+use Rattle.image_files.specs.Progress.{Progress, made_keeper, newest_tick}
 use Rattle.action_log.specs.Segment.{Segment, IsSegment}
 use Rattle.action_log.specs.declared.progress.Progress.{Progress as LogProgress}
 use Rattle.action_log.specs.Progress.{begun, QueueFollows, end_of}
@@ -19,7 +19,7 @@ use Rattle.world_core.specs.Standing.{Standing, standing_at, start_round, queued
 use Rattle.world_core.specs.Past.{Past}
 use Rattle.restart.specs.Start.{IsBuilt, started_keeper, images_begun, is_shut}
 use Rattle.restart.specs.InStep.{InStep}
-use Rattle.world_core.specs.State.{File, State, ImagesIn, LogIn, HasImages, HasLog, newest_tick, is_down}
+use Rattle.world_core.specs.State.{File, State, ImagesIn, LogIn, HasImages, HasLog, is_down}
 use Rattle.world_core.specs.Laws.{QueueLaws, KeeperLaws}
 use Rattle.world_core.specs.Starting.{HasOnly, Begins}
 use Rattle.world_core.specs.Facts.{IsCoreAt, is_known}

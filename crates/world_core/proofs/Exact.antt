@@ -7,7 +7,8 @@ use Rattle.image_files.specs.declared.phase.Phase.TheVariants.{Idle, Closing, Cl
 use Rattle.image_files.specs.Images.{Round, round_in}
 use Rattle.world_core.specs.Standing.{tick_refusal, mark_refusal, is_starting, is_round_open, is_log_waiting, mark_refusal_at, queue_most}
 use Rattle.world_core.specs.Past.{Past}
-use Rattle.world_core.specs.State.{State, is_down, is_in_round, newest_tick}
+use Rattle.image_files.specs.Progress.{newest_tick}
+use Rattle.world_core.specs.State.{State, is_down, is_in_round}
 use Rattle.world_core.specs.Laws.{KeeperLaws}
 use Rattle.world_core.specs.Facts.{IsCoreAt}
 

@@ -14,11 +14,11 @@ use Rattle.world_core.specs.declared.moves.Answer.TheVariants as answer
 use Rattle.world_core.specs.History.{opens}
 use Rattle.world_core.specs.Standing.{Standing, standing_after}
 use Rattle.world_core.specs.Past.{Past, past_after}
-use Rattle.world_core.specs.State.{State, newest_tick, is_down}
+use Rattle.world_core.specs.State.{State, is_down}
 use Rattle.world_core.specs.Laws.{EventLaws, KeeperLaws}
 use Rattle.world_core.specs.Exact.{Progresses, IsImageAnswer}
 use Rattle.capture_core.specs.Taken.{taken_of}
-use Rattle.image_files.specs.Progress.{Progress, cells_taken, moves_left, left_of, opened_keeper}
+use Rattle.image_files.specs.Progress.{Progress, cells_taken, moves_left, left_of, opened_keeper, newest_tick}
 use Rattle.std.specs.Prelude.{slice_get}
 use Rattle.world_core.specs.Moving.{StepsImageKeeper}
 use Rattle.world_core.specs.Facts.{IsCoreAt, is_known}
@@ -156,7 +156,7 @@ image_keeps laws past old new fate given c d =
       place = c.place;
       has_images = s.1;
       has_log = c.has_log;
-      in_step = laws.image_step old.cells past.history.ticks past.acknowledged c.images c.place.journal old.queue given s.0 old.content new.content steps c.in_step;
+      in_step = laws.goes_on.image_step old.cells past.history.ticks past.acknowledged c.images c.place.journal old.queue given s.0 old.content new.content steps c.in_step;
       at_rest = c.at_rest;
       is_image_known = known_after old.cells old.content new.content past.has_image c.images given s.0 steps c.is_image_known;
       start_left = st.start_left ∙ c.start_left;
@@ -177,7 +177,7 @@ gave_none (entry ∷ left) e = absurd (let g = e in cc)
 no_empty_take : EventLaws → KeeperLaws → (past : Past) (old new : State) (c : IsCoreAt past old) (round : Round) → round_in c.images ≡ Some round → cells_taken old.images < old.images.cells → Takes old.content None new.content → ⊥
 no_empty_take laws keepers past old new c round is fewer t =
     let r = keepers.round old.images c.images old.image_a old.image_b c.has_images (λ e. (let g : None ≡ Some round = sym (keepers.idle old.images c.images old.image_a old.image_b c.has_images e) ∙ is in absurd (let h = g in cc))) in
-    let full : length r.0.taken ≡ old.cells = laws.all_taken old.cells past.history.ticks old.content c.images r.0 r.1 (gave_none old.content.left t.gives) c.in_step.store in
+    let full : length r.0.taken ≡ old.cells = laws.goes_on.all_taken old.cells past.history.ticks old.content c.images r.0 r.1 (gave_none old.content.left t.gives) c.in_step.store in
     omega (arith, fewer, full, r.3, c.keeper_cells)
 
 -- a keeper in a round that isn't down has moves left

@@ -78,7 +78,7 @@ receipt_in laws past old new tick images (InStart start) left next stands phase 
 receipt_in laws past old new tick (NoneYet images) (Writing logs) left next stands phase s = absurd phase
 receipt_in laws past old new tick (Newest images) (Writing logs) left next stands phase s = (
   stands.1,
-  ap (λ q. tick + length (ticks_in q)) (sym s.2.queue_is) ∙ laws.receipt old.cells past.history.ticks past.acknowledged images logs old.queue (given_.Acked tick) s.0 new.queue phase s.2,
+  ap (λ q. tick + length (ticks_in q)) (sym s.2.queue_is) ∙ laws.keeps.receipt old.cells past.history.ticks past.acknowledged images logs old.queue (given_.Acked tick) s.0 new.queue phase s.2,
 )
 
 pub log_exact : EventLaws → (past : Past) (old new : State) (fate : Fate) (given : LogAnswer) → IsCoreAt past old → is_log_waiting past.standing ≡ false → StepsLogKeeper fate old given new → IsLogAnswer past old given

@@ -127,7 +127,7 @@ log_keeps laws past old new fate given c waits d =
       has_images = c.has_images;
       has_log = s.1;
       in_step = subst (λ a. InStep old.cells past.history.ticks a old.content c.images s.0.journal new.queue) (sym (counts past.acknowledged given))
-          (laws.log_step old.cells past.history.ticks past.acknowledged old.content c.images c.place old.queue given s.0 new.queue c.some_cells
+          (laws.goes_on.log_step old.cells past.history.ticks past.acknowledged old.content c.images c.place old.queue given s.0 new.queue c.some_cells
           (none_waited old c.images c.place.journal c.place.left c.has_log waits) s.2 c.in_step);
       at_rest = log_rests old.running c.place.journal c.place.left old.queue given s.0 new.queue s.2 c.at_rest;
       is_image_known = c.is_image_known;

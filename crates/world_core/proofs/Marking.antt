@@ -8,7 +8,8 @@ use Rattle.world_core.specs.declared.moves.Move.TheVariants as move
 use Rattle.world_core.specs.declared.moves.Answer.TheVariants as answer
 use Rattle.world_core.specs.Standing.{mark_refusal}
 use Rattle.world_core.specs.Past.{Past, past_after}
-use Rattle.world_core.specs.State.{State, newest_tick, is_down, is_in_round}
+use Rattle.image_files.specs.Progress.{newest_tick}
+use Rattle.world_core.specs.State.{State, is_down, is_in_round}
 use Rattle.restart.specs.Rounds.{StoreFollows, words_of}
 use Rattle.world_core.specs.Laws.{EventLaws, QueueLaws, KeeperLaws}
 use Rattle.world_core.specs.Moving.{BeginsRound}

@@ -11,7 +11,7 @@ use Rattle.world_ticks.specs.declared.tick.TheConstants.{TICK_MAX, TICK_ACTIONS}
 use Rattle.world_ticks.specs.After.{and_then, after_actions, after_ticks}
 use Rattle.capture_core.specs.Content.{Content}
 use Rattle.image_files.specs.declared.phase.Phase.TheVariants.{Idle, Closing, Header}
-use Rattle.image_files.specs.Progress.{begun_keeper}
+use Rattle.image_files.specs.Progress.{begun_keeper, newest_tick}
 use Rattle.image_files.specs.Images.{Images, ImageFiles, NoneYet, Newest, newest_in, with_round}
 use Rattle.action_log.specs.declared.format.TheConstants.{SEGMENT_TICKS}
 use Rattle.action_log.specs.declared.record.Record.TheVariants as records
@@ -23,7 +23,7 @@ use Rattle.world_core.specs.declared.moves.Move.TheVariants as move
 use Rattle.world_core.specs.declared.moves.Answer.TheVariants as answer
 use Rattle.world_core.specs.Standing.{QueuedTick, QueuedSwitch, queued_of}
 use Rattle.world_core.specs.Past.{Past, past_after}
-use Rattle.world_core.specs.State.{State, HasImages, HasLog, newest_tick, is_down}
+use Rattle.world_core.specs.State.{State, HasImages, HasLog, is_down}
 use Rattle.restart.specs.InStep.{InStep}
 use Rattle.world_core.specs.Laws.{EventLaws, QueueLaws, KeeperLaws}
 use Rattle.world_core.specs.Moving.{DoesAction, EndsTick, BeginsRound}
@@ -83,7 +83,7 @@ action_keeps laws past old new action c none d =
       place = c.place;
       has_images = c.has_images;
       has_log = c.has_log;
-      in_step = record { store = laws.writes old.cells past.history.ticks old.content new.content c.images (ap (λ (n : Content). n.left) d.content) d.covers c.in_step.store; phase = c.in_step.phase };
+      in_step = record { store = laws.goes_on.writes old.cells past.history.ticks old.content new.content c.images (ap (λ (n : Content). n.left) d.content) d.covers c.in_step.store; phase = c.in_step.phase };
       at_rest = subst (λ j. IsAtRest j (old.running ++ action ∷ [])) (sym s.is_writing) tt;
       is_image_known = c.is_image_known;
       start_left = c.start_left;
@@ -116,9 +116,9 @@ end_keeps laws queues past old new number c none numbered few d =
     let lasts : kept.last ≡ c.live.last = ok_injective kept.last c.live.last (sym kept.accepted ∙ c.live.after_ended) in
     let goes : after_actions kept.last tick.list ≡ Ok old.content.live = ap (λ w. after_actions w tick.list) lasts ∙ ap (after_actions c.live.last) same ∙ c.live.live in
     let in_step : InStep old.cells (ticks ++ past.history.running ∷ []) past.acknowledged old.content (Newest s.newest) (Writing s.logs) (old.queue ++ records.Tick tick ∷ []) = record {
-      store = laws.ticks old.cells ticks (past.history.running ∷ []) old.content (Newest s.newest) s.in_step.store;
+      store = laws.goes_on.ticks old.cells ticks (past.history.running ∷ []) old.content (Newest s.newest) s.in_step.store;
       phase = subst (λ t. IsKept old.cells (ticks ++ t ∷ []) past.acknowledged s.newest s.logs (old.queue ++ records.Tick tick ∷ [])) same
-          (laws.tick_ends old.cells ticks past.acknowledged s.newest s.logs old.queue kept tick old.content.live goes);
+          (laws.keeps.tick_ends old.cells ticks past.acknowledged s.newest s.logs old.queue kept tick old.content.live goes);
     } in
     let count : (end_of old.log old.queue).count ≡ old.since = ap (λ (e : QueueEnd). e.count) k.queue_end in
     let base : (end_of old.log old.queue).base ≡ old.ended - old.since = ap (λ (e : QueueEnd). e.base) k.queue_end in
@@ -191,7 +191,7 @@ mark_keeps laws queues keepers past old new number c none idle at_rest news is_n
     let q = queues.switch old.log old.queue old.ended k.queue_follows (omega (arith, count, base, k.within)) k.numbered in
     let in_step : InStep old.cells ticks past.acknowledged new.content (with_round old.ended (Newest s.newest)) (Writing s.logs) (old.queue ++ records.Switch old.ended ∷ []) =
     subst (λ n. InStep old.cells ticks past.acknowledged new.content (with_round n (Newest s.newest)) (Writing s.logs) (old.queue ++ records.Switch n ∷ [])) (sym k.ended)
-    (laws.mark old.cells ticks past.acknowledged s.newest s.logs old.queue old.content new.content no_round above (c.live.after_ended ∙ ap (λ w. Ok w) same) c.live.all d.0 s.in_step) in
+    (laws.goes_on.mark old.cells ticks past.acknowledged s.newest s.logs old.queue old.content new.content no_round above (c.live.after_ended ∙ ap (λ w. Ok w) same) c.live.all d.0 s.in_step) in
     let is : IsCoreAt after next = record {
       some_cells = c.some_cells;
       few_cells = c.few_cells;

@@ -56,13 +56,13 @@ module _ (safety : SafetyLaws) (cells : ℕ) (ticks : List (List Action)) (ackno
   -- the answer of recovery on files that are safe
   restarts : (image_a image_b log_a log_b : List ℕ → Type 0) (has_image : Bool) → AreSafeFor has_image image_a image_b log_a log_b cells ticks acknowledged → image_a ia → image_b ib → log_a la → log_b lb
       → (r : Recovery) → recovery_of (image_of ia) (image_of ib) a b ≡ Ok r → Restarts cells ticks acknowledged r (image_of ia) (image_of ib) a b
-  restarts image_a image_b log_a log_b true safe ha hb hla hlb r e = safety.sound cells ticks acknowledged (image_of ia) (image_of ib) a b r (is_sound image_a image_b log_a log_b safe ha hb hla hlb) e
+  restarts image_a image_b log_a log_b true safe ha hb hla hlb r e = safety.restarts.sound cells ticks acknowledged (image_of ia) (image_of ib) a b r (is_sound image_a image_b log_a log_b safe ha hb hla hlb) e
   restarts image_a image_b log_a log_b false safe ha hb hla hlb r e =
-      elim (safety.fresh cells (image_of ia) (image_of ib) a b (is_fresh image_a image_b log_a log_b safe.0 ha hb hla hlb)) [
+      elim (safety.restarts.fresh cells (image_of ia) (image_of ib) a b (is_fresh image_a image_b log_a log_b safe.0 ha hb hla hlb)) [
         | inl none ↦ absurd (ok_not_err r NoImage (sym e ∙ none.2))
         | inr f ↦ subst (λ t. Restarts cells t acknowledged r (image_of ia) (image_of ib) a b) (sym safe.1)
             (subst (λ n. Restarts cells [] n r (image_of ia) (image_of ib) a b) (sym safe.2)
-            (safety.sound cells [] 0 (image_of ia) (image_of ib) a b r f.3 e))
+            (safety.restarts.sound cells [] 0 (image_of ia) (image_of ib) a b r f.3 e))
       ]
 
   -- with no image both are closed, and so are the segments
@@ -79,7 +79,7 @@ module _ (safety : SafetyLaws) (cells : ℕ) (ticks : List (List Action)) (ackno
   blank image_a image_b log_a log_b true safe ha hb hla hlb e = (let s = is_sound image_a image_b log_a log_b safe ha hb hla hlb in absurd (ok_not_err s.recovery NoImage (sym s.stands ∙ e)))
   blank image_a image_b log_a log_b false safe ha hb hla hlb e =
       let f = is_fresh image_a image_b log_a log_b safe.0 ha hb hla hlb in
-      elim (safety.fresh cells (image_of ia) (image_of ib) a b f) [
+      elim (safety.restarts.fresh cells (image_of ia) (image_of ib) a b f) [
         | inl none ↦ record { image_a_closed = none.0; image_b_closed = none.1; log_a_closed = f.log_a_closed; log_b_closed = f.log_b_closed; unknown = refl; none_acknowledged = safe.2 }
         | inr s ↦ absurd (ok_not_err s.0 NoImage (sym s.1 ∙ e))
       ]
@@ -89,7 +89,7 @@ module _ (safety : SafetyLaws) (cells : ℕ) (ticks : List (List Action)) (ackno
       → (refusal : Refusal) → recovery_of (image_of ia) (image_of ib) a b ≡ Err refusal → refusal ≡ NoImage
   only_none image_a image_b log_a log_b true safe ha hb hla hlb refusal e = (let s = is_sound image_a image_b log_a log_b safe ha hb hla hlb in absurd (ok_not_err s.recovery refusal (sym s.stands ∙ e)))
   only_none image_a image_b log_a log_b false safe ha hb hla hlb refusal e =
-      elim (safety.fresh cells (image_of ia) (image_of ib) a b (is_fresh image_a image_b log_a log_b safe.0 ha hb hla hlb)) [
+      elim (safety.restarts.fresh cells (image_of ia) (image_of ib) a b (is_fresh image_a image_b log_a log_b safe.0 ha hb hla hlb)) [
         | inl none ↦ err_same refusal NoImage (sym e ∙ none.2)
         | inr s ↦ absurd (ok_not_err s.0 refusal (sym s.1 ∙ e))
       ]
@@ -123,7 +123,7 @@ recovered_keeps events queues keepers safety past old new c r ia ib la lb oa ob 
     begins_core queues keepers old.cells (Some (r.slot, r.from)) r.tick r.words (nat_lt r.from r.tick) ia ib la lb (recovered_past past r la lb) new b c.some_cells c.few_cells numbered
     (Newest (recovered_images r (image_of ia) (image_of ib))) (refl, refl, s.newest_whole, by_slot r.slot ia ib ∙ s.chosen, by_other r.slot ia ib) refl e.a e.b e.reads_a e.reads_b
     (length-take-le r.tick ticks s.world.ended) refl s.whole s.world.words_are refl refl refl
-    (events.recovery old.cells ticks past.acknowledged r (image_of ia) (image_of ib) e.a e.b new.content c.some_cells s b.store)
+    (events.goes_on.recovery old.cells ticks past.acknowledged r (image_of ia) (image_of ib) e.a e.b new.content c.some_cells s b.store)
 
 -- ---- no image
 
@@ -138,7 +138,7 @@ begins_blank events queues keepers cells past new ia ib la lb some few unknown u
     (NoneYet (record { round = None })) (refl, refl, closed_a, closed_b) refl ClosedSegment ClosedSegment reads_a reads_b
     refl refl (length-replicate cells 0) refl refl unknown refl
     (subst (λ n. InStep cells [] n new.content (images_begun true 0 (NoneYet (record { round = None }))) (InStart (start_at 0 ClosedSegment ClosedSegment)) []) (sym unacknowledged)
-    (events.fresh cells new.content some begins.store))
+    (events.goes_on.fresh cells new.content some begins.store))
 
 pub blank_keeps : EventLaws → QueueLaws → KeeperLaws → SafetyLaws → (past : Past) (old new : State) (c : IsCoreAt past old) (ia ib la lb : List ℕ)
     → IsCrashOutcome old.image_a.inner ia → IsCrashOutcome old.image_b.inner ib → IsCrashOutcome old.log_a.inner la → IsCrashOutcome old.log_b.inner lb → Recovers ia ib la lb (Err NoImage)

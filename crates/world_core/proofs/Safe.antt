@@ -65,7 +65,7 @@ fresh_words cells image_a image_b log_a log_b r is none s =
 pub fresh_recovered : SafetyLaws → FreshAreRecovered
 fresh_recovered laws files cells ticks acknowledged safe ia ib la lb may =
     let read = safe.0 ia ib la lb may.0 may.1 may.2 may.3 in
-    elim (laws.fresh cells (image_of ia) (image_of ib) read.a read.b read.holds) [
+    elim (laws.restarts.fresh cells (image_of ia) (image_of ib) read.a read.b read.holds) [
       | inl none ↦ inl (record { a = read.a; b = read.b; reads_a = read.reads_a; reads_b = read.reads_b; holds = none.2 })
       | inr zeros ↦ inr (
         zeros.0,

@@ -20,13 +20,13 @@ use Rattle.action_log.specs.declared.answer.LogAnswer.{LogAnswer}
 use Rattle.action_log.specs.declared.answer.LogAnswer.TheVariants as log_answer
 use Rattle.action_log.specs.Progress.{work_of}
 use Rattle.action_log.specs.Cover.{uncovered, cover_answer}
-use Rattle.world_core.specs.Standing.{Standing, is_starting, is_round_open, is_log_waiting, unless_refused, action_answer, get_answer, end_answer, tick_refusal_at, mark_refusal_at, cover_refusal_at}
+use Rattle.world_core.specs.Standing.{Standing, is_starting, is_round_open, is_log_waiting, unless_refused, action_answer, get_answer, end_answer, tick_refusal, mark_refusal_at, cover_refusal_at}
 use Rattle.world_core.specs.Past.{Past}
 use Rattle.world_core.specs.State.{State, files_in}
 
 -- why no tick can be added to
 abbrev pub tick_refusal_in : Past → Option Refusal
-tick_refusal_in past = tick_refusal_at past.standing (length past.history.ticks)
+tick_refusal_in past = tick_refusal (is_starting past.standing) past.standing.is_log_down (length past.history.ticks) past.standing.since
 
 -- what is answered to an action, where these are the words; want of memory refuses only one that would be accepted
 abbrev pub IsActionAnswer : Past → (words : List ℕ) → Action → Answer → Type 0

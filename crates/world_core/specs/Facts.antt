@@ -11,7 +11,8 @@ use Rattle.action_log.specs.Logs.{Journal, InStart, Writing, LogPlace}
 use Rattle.restart.specs.InStep.{InStep}
 use Rattle.world_core.specs.Standing.{Queued, queued_of}
 use Rattle.world_core.specs.Past.{Past}
-use Rattle.world_core.specs.State.{State, HasImages, HasLog, is_down, newest_tick}
+use Rattle.image_files.specs.Progress.{newest_tick}
+use Rattle.world_core.specs.State.{State, HasImages, HasLog, is_down}
 
 -- in the start the running tick is empty
 abbrev pub IsAtRest : Journal → (running : List Action) → Type 0

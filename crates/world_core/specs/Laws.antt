@@ -1,6 +1,6 @@
 -- Inside: for the proofs of this crate's private functions.
 -- What the crates below say of ticks, stores, keepers and recovery, over the files of a core.
-use Rattle.std.specs.Prelude.{◌≡◌, ◌<◌, ◌≤◌, ◌↔◌, ℕ, ◌+◌, List, [], ◌∷◌, ◌++◌, length, Bool, Option, Some, None, IsTrue}
+use Rattle.std.specs.Prelude.{◌≡◌, ◌<◌, ◌≤◌, ◌↔◌, ◌⊎◌, ℕ, ◌+◌, List, [], ◌∷◌, ◌++◌, length, Bool, Option, Some, None, IsTrue}
 use Rattle.world_actions.specs.declared.action.Action.{Action}
 use Rattle.world_actions.specs.declared.world.TheConstants.{CELLS}
 use Rattle.world_ticks.specs.declared.tick.TheConstants.{TICK_MAX}
@@ -19,31 +19,25 @@ use Rattle.action_log.specs.declared.progress.Progress.{Progress as LogProgress}
 use Rattle.action_log.specs.declared.format.TheConstants.{SEGMENT_TICKS}
 use Rattle.action_log.specs.Segment.{Segment, IsSegment}
 use Rattle.action_log.specs.Spellings.{ReadsOnce}
-use Rattle.action_log.specs.Progress.{begun as begun_log, QueueFollows, end_of}
+use Rattle.action_log.specs.declared.answer.LogAnswer.{LogAnswer}
+use Rattle.action_log.specs.declared.answer.LogAnswer.TheVariants as log_answer
+use Rattle.action_log.specs.Progress.{begun as begun_log, QueueFollows, end_of, work_of}
+use Rattle.action_log.specs.Cover.{covered, CoverStep}
 use Rattle.action_log.specs.Logs.{Logs, Writing, LogPlace, start_of, start_moves}
 use Rattle.action_log.specs.LogSteps.{is_idle}
 use Rattle.action_log.specs.declared.phase.Phase.TheVariants.{Ready}
-use Rattle.recovery.specs.Events.{TickEnds, ReceiptIsExact, CoverReceiptIsExact}
-use Rattle.recovery.specs.Restart.{SoundRestarts, FreshRestarts}
+use Rattle.capture_core.specs.Content.{Takes}
+use Rattle.recovery.specs.Events.{EventsKeep}
+use Rattle.recovery.specs.Restart.{CrashRestarts}
 use Rattle.restart.specs.Start.{is_shut}
-use Rattle.restart.specs.Rounds.{WritesFollow, TicksFollow, AllAreTaken}
-use Rattle.restart.specs.InStep.{InStep, RecoveryBegins, FreshBegins, ImageStepGoesOn, LogStepGoesOn, CoverGoesOn, MarkGoesOn, IsSafe}
+use Rattle.restart.specs.InStep.{InStep, WorldsGoOn, IsSafe}
 use Rattle.world_core.specs.State.{File, State, ImagesIn, LogIn, HasImages, HasLog}
+use Rattle.world_core.specs.Moving.{CoversQueue}
 
 pub record EventLaws : Type 0 where
   pub append : (world : List ℕ) (before after : List Action) → after_actions world (before ++ after) ≡ and_then (after_actions world before) (λ next. after_actions next after)
-  pub recovery : RecoveryBegins
-  pub fresh : FreshBegins
-  pub writes : WritesFollow
-  pub ticks : TicksFollow
-  pub tick_ends : TickEnds
-  pub mark : MarkGoesOn
-  pub image_step : ImageStepGoesOn
-  pub log_step : LogStepGoesOn
-  pub cover : CoverGoesOn
-  pub receipt : ReceiptIsExact
-  pub cover_receipt : CoverReceiptIsExact
-  pub all_taken : AllAreTaken
+  pub keeps : EventsKeep Takes
+  pub goes_on : WorldsGoOn
 
 pub record QueueLaws : Type 0 where
   pub begins : (tick : ℕ) (shut_a shut_b : Bool) → QueueFollows (begun_log tick shut_a shut_b) [] × (end_of (begun_log tick shut_a shut_b) [] ≡ record { base = tick; count = 0 })
@@ -76,6 +70,15 @@ pub record SafetyLaws : Type 0 where
   pub safe : (state : State) (ticks : List (List Action)) (acknowledged : ℕ) (images : ImageFiles) (place : LogPlace) → state.images.cells ≡ state.cells → HasImages state images → HasLog state place
       → InStep state.cells ticks acknowledged state.content images place.journal state.queue
       → IsSafe images (IsCrashOutcome state.image_a.inner) (IsCrashOutcome state.image_b.inner) (IsCrashOutcome state.log_a.inner) (IsCrashOutcome state.log_b.inner) state.cells ticks acknowledged
-  pub sound : SoundRestarts
-  pub fresh : FreshRestarts
+  pub restarts : CrashRestarts
   pub once : ReadsOnce
+
+-- a cover, with all that the log keeper says of it
+pub record CoversBy (tick : ℕ) (old : State) (given : LogAnswer) (new : State) : Type 0 where
+  pub covers : CoversQueue tick old given new
+  pub front : old.queue ≡ covered old.log tick old.queue ++ new.queue
+  pub follows : QueueFollows old.log new.queue
+  pub end : end_of old.log new.queue ≡ end_of old.log old.queue
+  pub step : (logs : Logs) → (old.log.phase ≡ Ready → is_idle logs) → CoverStep logs old.queue tick given new.queue
+  pub rests : (given ≡ log_answer.Idle) ⊎ (given ≡ log_answer.Down) → new.queue ≡ old.queue
+  pub lowers : (given ≡ log_answer.Idle) ⊎ ((given ≡ log_answer.Down) ⊎ (work_of new.log new.queue < work_of old.log old.queue))

@@ -21,9 +21,9 @@ use Rattle.action_log.specs.declared.answer.LogAnswer.TheVariants as log_answer
 use Rattle.action_log.specs.declared.record.Record.TheVariants as records
 use Rattle.action_log.specs.Progress.{QueueFollows, end_of, work_of, taken}
 use Rattle.action_log.specs.Calls.{CallsIn as LogCallsIn}
-use Rattle.action_log.specs.Logs.{Logs, LogPlace}
-use Rattle.action_log.specs.LogSteps.{is_idle, JournalStep}
-use Rattle.action_log.specs.Cover.{covered, uncovered, cover_answer, CoverStep}
+use Rattle.action_log.specs.Logs.{LogPlace}
+use Rattle.action_log.specs.LogSteps.{JournalStep}
+use Rattle.action_log.specs.Cover.{uncovered, cover_answer}
 use Rattle.world_core.specs.declared.moves.Fate.{Fate}
 use Rattle.world_core.specs.declared.moves.Fate.TheVariants as fate_
 use Rattle.world_core.specs.declared.moves.Move.{Move}
@@ -116,12 +116,6 @@ pub record CoversQueue (tick : ℕ) (old : State) (given : LogAnswer) (new : Sta
   pub answer : given ≡ cover_answer old.log tick old.queue
   pub rest : new ≡ record old { queue = new.queue }
   pub left : new.queue ≡ uncovered old.log tick old.queue
-  pub front : old.queue ≡ covered old.log tick old.queue ++ new.queue
-  pub follows : QueueFollows old.log new.queue
-  pub end : end_of old.log new.queue ≡ end_of old.log old.queue
-  pub step : (logs : Logs) → (old.log.phase ≡ Ready → is_idle logs) → CoverStep logs old.queue tick given new.queue
-  pub rests : (given ≡ log_answer.Idle) ⊎ (given ≡ log_answer.Down) → new.queue ≡ old.queue
-  pub lowers : (given ≡ log_answer.Idle) ⊎ ((given ≡ log_answer.Down) ⊎ (work_of new.log new.queue < work_of old.log old.queue))
 
 -- the log's part of a start waits for the image
 abbrev pub Waits : State → Type 0

@@ -128,9 +128,6 @@ abbrev pub end_answer : Option Refusal → (ended queued : ℕ) → Answer
 end_answer refusal ended queued = unless_refused refusal (if nat_le queue_most queued then answer.Refused QueueFull else answer.Ended (ended + 1))
 
 -- by where core and keepers stand
-abbrev pub tick_refusal_at : Standing → (ended : ℕ) → Option Refusal
-tick_refusal_at standing ended = tick_refusal (is_starting standing) standing.is_log_down ended standing.since
-
 abbrev pub mark_refusal_at : Standing → (ended queued : ℕ) → (running : List Action) → Option Refusal
 mark_refusal_at standing ended queued running =
     mark_refusal (is_starting standing) standing.is_log_down standing.is_image_down (is_round_open standing) ended standing.newest queued running

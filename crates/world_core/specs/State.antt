@@ -1,5 +1,5 @@
 -- What contracts see of a core's parts.
-use Rattle.std.specs.Prelude.{◌⊎◌, ℕ, List, Bool, true, false, Option, Some, None, min}
+use Rattle.std.specs.Prelude.{◌⊎◌, ℕ, List, Bool, true, false, min}
 use Rattle.world_actions.specs.declared.action.Action.{Action}
 use Rattle.capture_core.specs.Content.{Content}
 use Rattle.disk_model.specs.Disk.{last_count, Grew}
@@ -7,9 +7,8 @@ use Rattle.disk_model.specs.FileState.{FileState}
 use Rattle.disk_model.specs.Fused.{Fuse, fault_count}
 use Rattle.disk_model.specs.CrashOutcome.{IsCrashOutcome}
 use Rattle.disk_model.specs.declared.four_files.FourFiles.{FourFiles}
-use Rattle.file_format.specs.declared.slot.Slot.{Slot}
 use Rattle.image_files.specs.declared.phase.Phase.{Phase}
-use Rattle.image_files.specs.declared.phase.Phase.TheVariants.{Idle, Closing, ClosingSync, Header, Taking, Reading, Writing, BodySync, Opening, OpeningSync, Down}
+use Rattle.image_files.specs.declared.phase.Phase.TheVariants.{Idle, Down}
 use Rattle.image_files.specs.Images.{ImageFiles}
 use Rattle.image_files.specs.Files.{Stands as ImagesStand}
 use Rattle.image_files.specs.Progress.{Progress as ImageProgress}
@@ -44,36 +43,13 @@ files_in state = record { image_a = state.image_a.inner; image_b = state.image_b
 
 -- a call of the image keeper failed
 abbrev pub is_down : Phase → Bool
-is_down Idle = false
-is_down Closing = false
-is_down ClosingSync = false
-is_down Header = false
-is_down Taking = false
-is_down Reading = false
-is_down Writing = false
-is_down BodySync = false
-is_down Opening = false
-is_down OpeningSync = false
 is_down Down = true
+is_down phase = false
 
 -- a round is in work, or was when a call failed
 abbrev pub is_in_round : Phase → Bool
 is_in_round Idle = false
-is_in_round Closing = true
-is_in_round ClosingSync = true
-is_in_round Header = true
-is_in_round Taking = true
-is_in_round Reading = true
-is_in_round Writing = true
-is_in_round BodySync = true
-is_in_round Opening = true
-is_in_round OpeningSync = true
-is_in_round Down = true
-
--- the tick of the newest image, 0 before the first
-abbrev pub newest_tick : Option (Slot × ℕ) → ℕ
-newest_tick None = 0
-newest_tick (Some image) = image.1
+is_in_round phase = true
 
 -- how often a call of a file failed
 abbrev pub failures : File → ℕ

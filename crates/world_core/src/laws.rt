@@ -6,7 +6,7 @@ use capture_core::PlainCopy;
 use disk_model::{Fused, ModelFile};
 use image_files::images_stay;
 use recovery::{crash_restarts, events_keep};
-use restart::{gates_are_told, stores_follow, worlds_are_safe, worlds_go_on};
+use restart::{gates_are_told, worlds_are_safe, worlds_go_on};
 use world_ticks::actions_go_on;
 
 /// What happens to the files of a core.
@@ -19,7 +19,6 @@ pub fn event_laws()
 {
     actions_go_on();
     events_keep::<PlainCopy>();
-    stores_follow();
     worlds_go_on();
 }
 

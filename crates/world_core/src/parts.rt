@@ -2,7 +2,8 @@ ghost use Rattle.std.specs.Prelude.{◌≡◌, ◌&&◌, ◌<◌, false, nat_le,
 ghost use Rattle.world_ticks.specs.declared.tick.TheConstants.{TICK_MAX};
 ghost use Rattle.action_log.specs.declared.format.TheConstants.{SEGMENT_TICKS};
 ghost use Rattle.world_core.specs.Standing.{tick_refusal, mark_refusal, cover_refusal, queue_most};
-ghost use Rattle.world_core.specs.State.{is_down, is_in_round, newest_tick};
+ghost use Rattle.image_files.specs.Progress.{newest_tick};
+ghost use Rattle.world_core.specs.State.{is_down, is_in_round};
 
 use action_log::{LogKeeper, Record, tick_refusal};
 use capture_core::Capture;

@@ -7,31 +7,26 @@ use Rattle.world_actions.specs.declared.refusal.Refusal.TheVariants.{NoMemory}
 use Rattle.disk_model.specs.declared.four_files.FourFiles.{FourFiles}
 use Rattle.world_folder.specs.declared.ending.Ending.{Ending}
 use Rattle.world_folder.specs.declared.ending.ServerEnding.{ServerEnding}
-use Rattle.world_folder.specs.declared.ending.ServerEnding.TheVariants.{NoPort, NoThread, ListenerFailed, ImagesDown, LogDown}
-use Rattle.world_folder.specs.declared.ending.Ending.TheVariants.{Ran, Told, Mistaken, Fault, Unreadable, NoWorld, Occupied, Stream, Server}
+use Rattle.world_folder.specs.declared.ending.ServerEnding.TheVariants.{ListenerFailed, ImagesDown, LogDown}
+use Rattle.world_folder.specs.declared.ending.Ending.TheVariants.{Ran, Told, Mistaken, Fault, Unreadable, NoWorld, Server}
 use Rattle.world_folder.specs.Fault.{Files, AreRead, Explains}
 use Rattle.world_folder.specs.declared.world_file.Named.{Named}
 use Rattle.world_folder.specs.WorldFile.{name_of}
 
 -- the exit status for the end of a server
 abbrev pub status_of : ServerEnding → ℕ
-status_of (NoPort port) = 1
-status_of NoThread = 1
 status_of ListenerFailed = 10
 status_of ImagesDown = 11
 status_of LogDown = 12
+status_of other = 1
 
 -- it is printed as a fault, with status 1
 abbrev pub IsFault : Ending → Type 0
 IsFault Ran = ⊥
 IsFault Told = ⊥
 IsFault Mistaken = ⊥
-IsFault (Fault refusal) = Unit {0}
-IsFault (Unreadable file) = Unit {0}
-IsFault (NoWorld fault) = Unit {0}
-IsFault (Occupied file) = Unit {0}
-IsFault (Stream failure) = Unit {0}
 IsFault (Server ending) = status_of ending ≡ 1
+IsFault other = Unit {0}
 
 -- it tells this error of the file of this name in a folder, or that there was no memory for its path
 abbrev pub TellsOf : (folder name : List ℕ) → Error → Ending → Type 0

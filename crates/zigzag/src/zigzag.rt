@@ -25,24 +25,13 @@ pub struct Zigzag {
 
 impl Model for Zigzag {
     ghost use Rattle.zigzag.specs.Zigzag.{Arrays, IsInOrder};
+    ghost use Rattle.zigzag.specs.View.{arrays_of};
 
     ghost Value = { Arrays };
 
-    ghost view = { λ store. record {
-      array_zero = store.array_zero.items;
-      array_one = store.array_one.items;
-      read_marks = store.read_marks;
-      write_marks = store.write_marks;
-      taken = store.taken;
-    } };
+    ghost view = { arrays_of };
 
-    ghost invariant = { λ store. IsInOrder (record {
-      array_zero = store.array_zero.items;
-      array_one = store.array_one.items;
-      read_marks = store.read_marks;
-      write_marks = store.write_marks;
-      taken = store.taken;
-    }) };
+    ghost invariant = { λ store. IsInOrder (arrays_of store) };
 }
 
 impl Zigzag {
@@ -177,12 +166,7 @@ impl Capture for Zigzag {
 
     ghost after_take = { λ old new answer takes. takes };
 
-    fn build(alloc: Global, words: &[u64]) -> Result<Self, Refusal>
-        requires { All IsWord words.now }
-        ensures ok { IfOk result (λ store. content_of store ≡ all_touched words.now []) }
-        ensures err { IfErr result (λ refusal. refusal ≡ Refusal.NoMemory) }
-        ensures arrays { IfOk result (λ store. store ≡ built_arrays words.now) }
-    {
+    fn build(alloc: Global, words: &[u64]) -> Result<Self, Refusal> {
         Zigzag::new(alloc, words)
     }
 

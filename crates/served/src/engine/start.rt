@@ -83,6 +83,8 @@ impl<C: Capture> Engine<C> {
         ensures refused { IfErr result (λ refusal. refusal ≡ Refusal.Device) }
         ensures device { (self.old.images.phase ≡ Down → ⊥) → self.old.log.down ≡ false → OnErr result
             (SomeGrew (fault_counts D.faults files.old) (fault_counts D.faults files.new)) }
+        ensures no_fault { (self.old.images.phase ≡ Down → ⊥) → self.old.log.down ≡ false → OnOk result
+            (fault_counts D.faults files.new ≡ fault_counts D.faults files.old) }
     {
         worlds_go_on();
         log_outcomes::<D>();

@@ -3,7 +3,8 @@ ghost use Rattle.image_files.specs.Images.{ImageFiles};
 ghost use Rattle.action_log.specs.Logs.{LogPlace};
 ghost use Rattle.action_log.specs.Progress.{QueueFollows};
 ghost use Rattle.world_core.specs.State.{HasImages, HasLog};
-ghost use Rattle.world_core.specs.Moving.{calls_before_failure, StepsImageKeeper, StepsLogKeeper, CoversQueue};
+ghost use Rattle.world_core.specs.Moving.{calls_before_failure, StepsImageKeeper, StepsLogKeeper};
+ghost use Rattle.world_core.specs.Laws.{CoversBy};
 
 use crate::moves::Fate;
 use crate::parts::Parts;
@@ -31,7 +32,7 @@ impl<C: Capture> Parts<C> {
     /// Takes from the queue what the image of the tick has.
     pub fn cover(&mut self, tick: u64) -> LogAnswer
         requires { QueueFollows self.old.log self.old.queue }
-        ensures { CoversQueue tick self.old result self.new }
+        ensures { CoversBy tick self.old result self.new }
     {
         self.log.cover(&mut self.queue, tick)
     }

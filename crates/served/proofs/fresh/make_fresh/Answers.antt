@@ -1,5 +1,5 @@
 use Rattle.std.proofs.Common.{◌≡◌, ℕ, List, sym, subst, ◌∙◌, [], ◌⊎◌, false, arith}
-use Rattle.std.specs.Prelude.{OnErr}
+use Rattle.std.specs.Prelude.{OnOk, OnErr}
 use Rattle.world_actions.specs.declared.refusal.Refusal.TheVariants.{Device, NotEmpty}
 use Rattle.file_format.specs.declared.slot.Slot.TheVariants.{A}
 use Rattle.file_format.specs.Slot.{of_slot}
@@ -75,3 +75,9 @@ returns-clause-device g c =
     let up = c.in_ok-engine.ensures.up in
     refused_device c.start.result (SomeGrew (fault_counts faults c.args.files.now) (fault_counts faults c.start.new.files))
     (subst (λ (counts : List ℕ). OnErr c.start.result (SomeGrew counts (fault_counts faults c.start.new.files))) c.in_ok-engine.ensures.no_fault (c.start.ensures.device up.0 up.1))
+
+pub returns-clause-no_fault : goal.returns-clause-no_fault
+returns-clause-no_fault g c =
+    let faults = g.D.Disk.faults in
+    let up = c.in_ok-engine.ensures.up in
+    subst (λ (counts : List ℕ). OnOk c.start.result (fault_counts faults c.start.new.files ≡ counts)) c.in_ok-engine.ensures.no_fault (c.start.ensures.no_fault up.0 up.1)

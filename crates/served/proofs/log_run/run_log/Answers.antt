@@ -18,7 +18,7 @@ loop-keeper-preserved g c = record {
       (λ down. let r = c.step.ensures.rests (inr down) in (ap (λ (k : Progress). k.down) r.0 ∙ down, ap g.D.Disk.faults r.2, ap g.D.Disk.faults r.3));
   goes = λ honest. log_then g.D.Disk.content g.D.Disk.may_leave c.args.keeper.now c.loop-keeper.keeper c.step.new.self c.args.queue.now.items c.loop-keeper.queue.items c.step.new.queue.items
       c.args.log_a.now c.loop-keeper.log_a c.step.new.a c.args.log_b.now c.loop-keeper.log_b c.step.new.b c.loop-keeper.invariant.started (c.loop-keeper.invariant.goes honest)
-      (log_steps g.D.Disk.content g.D.Disk.may_leave c.worlds_go_on.ensures.log_step c.loop-keeper.keeper c.step.new.self c.loop-keeper.queue.items c.step.new.queue.items
+      (log_steps g.D.Disk.content g.D.Disk.may_leave c.worlds_go_on.ensures c.loop-keeper.keeper c.step.new.self c.loop-keeper.queue.items c.step.new.queue.items
       c.loop-keeper.log_a c.step.new.a c.loop-keeper.log_b c.step.new.b c.step.result (c.step.ensures.journal honest));
 }
 
@@ -34,5 +34,5 @@ returns-in-Down-clause-faults g c = log_faults c.step.result c.args.keeper.now.d
 pub returns-in-Down-clause-goes : goal.returns-in-Down-clause-goes
 returns-in-Down-clause-goes g c = λ honest. log_then g.D.Disk.content g.D.Disk.may_leave c.args.keeper.now c.loop-keeper.keeper c.step.new.self c.args.queue.now.items c.loop-keeper.queue.items c.step.new.queue.items
     c.args.log_a.now c.loop-keeper.log_a c.step.new.a c.args.log_b.now c.loop-keeper.log_b c.step.new.b c.loop-keeper.invariant.started (c.loop-keeper.invariant.goes honest)
-    (log_steps g.D.Disk.content g.D.Disk.may_leave c.worlds_go_on.ensures.log_step c.loop-keeper.keeper c.step.new.self c.loop-keeper.queue.items c.step.new.queue.items
+    (log_steps g.D.Disk.content g.D.Disk.may_leave c.worlds_go_on.ensures c.loop-keeper.keeper c.step.new.self c.loop-keeper.queue.items c.step.new.queue.items
     c.loop-keeper.log_a c.step.new.a c.loop-keeper.log_b c.step.new.b c.step.result (c.step.ensures.journal honest))

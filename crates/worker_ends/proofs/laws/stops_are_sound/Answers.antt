@@ -7,14 +7,8 @@ pub returns : goal.returns
 returns g c = λ m p w.
     let D = g.D.Disk in
     let laws : Laws = record {
-      tick_ends = c.events_keep.ensures.tick_ends;
-      mark = c.events_keep.ensures.mark;
-      cover = c.events_keep.ensures.cover;
-      taken = c.whole_events_keep.ensures.taken;
-      opened = c.whole_events_keep.ensures.opened;
-      written = c.whole_events_keep.ensures.tick;
-      switch = c.whole_events_keep.ensures.switch;
-      switched = c.whole_events_keep.ensures.switched;
+      events = c.events_keep.ensures;
+      whole = c.whole_events_keep.ensures;
       accepted = c.answers_are_ticks.ensures.accepted;
       append = c.actions_go_on.ensures.append;
       cells = c.actions_go_on.ensures.cells;

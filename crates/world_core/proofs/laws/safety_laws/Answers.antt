@@ -9,7 +9,6 @@ returns c = record {
       c.worlds_are_safe.ensures state.image_a state.image_b state.log_a state.log_b state.cells ticks acknowledged state.content images place.journal state.queue in_step
       (subst (λ n. ImageFilesAre n images (IsCrashOutcome state.image_a.inner) (IsCrashOutcome state.image_b.inner)) same (c.images_stay.ensures.left state.images images state.image_a state.image_b has_images))
       (c.log_outcomes.ensures.reads state.log state.log_a state.log_b place has_log);
-  sound = c.crash_restarts.ensures.sound;
-  fresh = c.crash_restarts.ensures.fresh;
+  restarts = c.crash_restarts.ensures;
   once = c.segments_read_once.ensures.once;
 }

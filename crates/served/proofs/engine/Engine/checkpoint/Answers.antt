@@ -12,7 +12,7 @@ returns-clause-follows g c = λ honest ticks acknowledged f.
     let old = c.args.self.now in
     let rest = c.requires.rest in
     let rests = no_work old.log old.queue.items rest.rests c.requires.up in
-    let marked = mark_follows g.C.Capture.content g.D.Disk.content g.D.Disk.may_leave c.worlds_go_on.ensures.mark c.log_outcomes.ensures.ready c.images_stay.ensures.idle c.images_stay.ensures.begun
+    let marked = mark_follows g.C.Capture.content g.D.Disk.content g.D.Disk.may_leave c.worlds_go_on.ensures c.log_outcomes.ensures.ready c.images_stay.ensures.idle c.images_stay.ensures.begun
     old c.begin_round.new.self c.args.files.now ticks acknowledged rest.started rests c.requires.idle rest.images.cells rest.log.end rest.log.within c.requires.some rest.log.most c.begin_round.ensures f in
     c.write_log.ensures.follows honest ticks acknowledged (c.write_image.ensures.follows honest ticks acknowledged marked)
 
@@ -24,7 +24,7 @@ returns-clause-image g c = λ honest ticks acknowledged f.
     let last : Engine g.row.C.Denot = c.write_log.new.self in
     let rest = c.requires.rest in
     let rests = no_work old.log old.queue.items rest.rests c.requires.up in
-    let marked = mark_follows g.C.Capture.content g.D.Disk.content g.D.Disk.may_leave c.worlds_go_on.ensures.mark c.log_outcomes.ensures.ready c.images_stay.ensures.idle c.images_stay.ensures.begun
+    let marked = mark_follows g.C.Capture.content g.D.Disk.content g.D.Disk.may_leave c.worlds_go_on.ensures c.log_outcomes.ensures.ready c.images_stay.ensures.idle c.images_stay.ensures.begun
     old begun c.args.files.now ticks acknowledged rest.started rests c.requires.idle rest.images.cells rest.log.end rest.log.within c.requires.some rest.log.most c.begin_round.ensures f in
     let follows = c.write_log.ensures.follows honest ticks acknowledged (c.write_image.ensures.follows honest ticks acknowledged marked) in
     let images : last.images ≡ written.images = ap (λ (e : Engine g.row.C.Denot). e.images) c.write_log.ensures.same in

@@ -31,7 +31,7 @@ returns-then-is_down-clause-refused g c =
         serves = λ honest ticks f. record {
           started = started;
           follows = c.write_log.ensures.follows honest (ticks ++ accepted_of requests (g.C.Capture.content old.engine.store).live ∷ []) old.acked
-              (tick_follows g.C.Capture.content g.D.Disk.content g.D.Disk.may_leave c.worlds_go_on.ensures.tick c.answers_are_ticks.ensures.accepted old.engine played old.files requests ticks old.acked c.requires.started p f.follows);
+              (tick_follows g.C.Capture.content g.D.Disk.content g.D.Disk.may_leave c.worlds_go_on.ensures c.answers_are_ticks.ensures.accepted old.engine played old.files requests ticks old.acked c.requires.started p f.follows);
         };
       };
       is = refl;
@@ -54,9 +54,9 @@ returns-clause-answered g c =
     let started = c.write_log.ensures.started (ap (λ (e : Engine g.row.C.Denot). e.log.starting) p.is ∙ c.requires.started) in
     let rests = no_work logged.log logged.queue.items c.write_log.ensures.rests (sym c.if-is_down.ensures) in
     let follows = λ (honest : IsTrue g.D.Disk.honest) (ticks : List (List Action)) (f : Serves g.C.Capture.content g.D.Disk.content g.D.Disk.may_leave g.D.Disk.honest old ticks).
-    all_follows g.C.Capture.content g.D.Disk.content g.D.Disk.may_leave c.worlds_go_on.ensures.all_acknowledged c.log_outcomes.ensures.ready logged c.write_log.new.files (ticks ++ accepted_of requests live ∷ []) old.acked started rests
+    all_follows g.C.Capture.content g.D.Disk.content g.D.Disk.may_leave c.worlds_go_on.ensures c.log_outcomes.ensures.ready logged c.write_log.new.files (ticks ++ accepted_of requests live ∷ []) old.acked started rests
     (c.write_log.ensures.follows honest (ticks ++ accepted_of requests live ∷ []) old.acked
-    (tick_follows g.C.Capture.content g.D.Disk.content g.D.Disk.may_leave c.worlds_go_on.ensures.tick c.answers_are_ticks.ensures.accepted old.engine played old.files requests ticks old.acked c.requires.started p f.follows)) in
+    (tick_follows g.C.Capture.content g.D.Disk.content g.D.Disk.may_leave c.worlds_go_on.ensures c.answers_are_ticks.ensures.accepted old.engine played old.files requests ticks old.acked c.requires.started p f.follows)) in
     record {
       plays = record {
         allowed = sym c.refusal.ensures.refusal ∙ c.in_default.is;

@@ -11,7 +11,6 @@ returns-in-Ok-clause-opened g c = λ honest.
       recovered = ap (λ n. (n, c.in-Ok.from)) s.ended ∙ ap (λ n. (s.recovery.tick, n)) s.is_from;
       words = s.words;
       ended = s.ended;
-      since = s.since;
       acked = s.ended;
       serves = λ cells ticks acknowledged synced sound.
           (let f = s.follows cells ticks acknowledged synced sound in

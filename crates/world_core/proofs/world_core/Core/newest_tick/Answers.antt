@@ -1,5 +1,6 @@
 use Rattle.std.proofs.Common.{ap, ◌∙◌}
-use Rattle.world_core.specs.State.{State, newest_tick}
+use Rattle.image_files.specs.Progress.{newest_tick}
+use Rattle.world_core.specs.State.{State}
 use Rattle.world_core.proofs.Covering.{newest_stands}
 use Rattle.world_core.proofs.world_core.Core.newest_tick.Goals as goal
 
