@@ -1,21 +1,29 @@
 #!/usr/bin/env python3
-"""Counts the allocations of calls: scripts/count_allocations.py crates/measures/out/measures
+"""Counts the allocations of calls, and of a served batch.
+
+    scripts/count_allocations.py crates/measures/out/measures crates/worldd/out/worldd
 
 `measures allocations` makes each of its calls in a stretch of its own, and prints its name with the most allocations that
 it is to make. A library that is loaded before the program counts those that it makes. A call that makes more fails the
-script. It needs a C compiler, as cc.
+script. A serving worldd has all its allocations counted: those of many batches, once a few were served. It needs a C
+compiler, as cc.
 """
 import argparse
 import os
 import pathlib
+import socket
 import subprocess
 import sys
 import tempfile
 
+from kill_trial import connect
 from memory_trial import built_watcher
 
 PATIENCE_SECONDS = 60
 MOST = ": at most "
+# The batches that are counted, how many lines each has, and how often it may allocate. The buffers have grown before.
+FEW, MANY, LINES = 200, 2200, 16
+MOST_SERVED = 3
 
 
 def counts_of(measures: str, library: pathlib.Path) -> tuple[list[str], list[int]]:
@@ -43,15 +51,50 @@ def tell(line: str, count: int) -> bool:
     return count <= int(most)
 
 
+def play(stream: socket.socket, numbers: range) -> None:
+    """Sends batches, each once the one before is answered."""
+    batch = "".join(f"add {cell} 1\n" for cell in range(LINES)) + "end\n"
+    with stream.makefile(encoding="ascii") as answers:
+        for number in numbers:
+            stream.sendall(batch.encode("ascii"))
+            if not answers.readline().startswith(f"tick {number}: +"):
+                raise RuntimeError(f"batch {number} wasn't answered")
+
+
+def count_served(worldd: str, library: pathlib.Path, room: pathlib.Path) -> bool:
+    """Prints how many allocations a served batch makes, and returns whether that is as few as it may."""
+    folder, counter = room / "world", room / "counter"
+    folder.mkdir()
+    counter.write_bytes(bytes(8))
+    subprocess.run([worldd, "create", "--dir", folder, "--cells", str(LINES)], check=True, stdout=subprocess.DEVNULL)
+    flags = ["--method", "zigzag", "--port", "0", "--clients", "1", "--every", str(MANY)]
+    watched = os.environ | {"LD_PRELOAD": str(library), "COUNTED_IN": str(counter)}
+    command = [worldd, "serve", "--dir", folder, *flags]
+    with subprocess.Popen(command, env=watched, stdout=subprocess.PIPE, stderr=subprocess.DEVNULL, text=True) as server:
+        server.stdout.readline()
+        with connect(server.stdout.readline().split()[1]) as stream:
+            play(stream, range(1, FEW))
+            before = int.from_bytes(counter.read_bytes(), sys.byteorder)
+            play(stream, range(FEW, MANY))
+            after = int.from_bytes(counter.read_bytes(), sys.byteorder)
+    count = (after - before) / (MANY - FEW)
+    print(f"a batch of {LINES} lines served by worldd: {count:g} of at most {MOST_SERVED} allocations")
+    return before > 0 and count <= MOST_SERVED
+
+
 def main() -> int:
-    """Counts the allocations of each call."""
+    """Counts the allocations of each call, and of a served batch."""
     parser = argparse.ArgumentParser(description=__doc__.splitlines()[0])
-    parser.add_argument("measures", type=os.path.abspath, help="the built program")
+    parser.add_argument("measures", type=os.path.abspath, help="the built program that makes the calls")
+    parser.add_argument("worldd", type=os.path.abspath, help="the built server")
     given = parser.parse_args()
-    with tempfile.TemporaryDirectory() as room:
-        lines, counts = counts_of(given.measures, built_watcher(pathlib.Path(room)))
-    held = [tell(line, count) for line, count in zip(lines, counts, strict=True)]
-    return 0 if held and all(held) else 1
+    with tempfile.TemporaryDirectory() as folder:
+        room = pathlib.Path(folder)
+        library = built_watcher(room)
+        lines, counts = counts_of(given.measures, library)
+        held = [tell(line, count) for line, count in zip(lines, counts, strict=True)]
+        held.append(count_served(given.worldd, library, room))
+    return 0 if len(held) > 1 and all(held) else 1
 
 
 if __name__ == "__main__":

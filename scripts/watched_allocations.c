@@ -2,12 +2,15 @@
  * REFUSED_ALLOCATION, the first one's 1; or, in each stretch that the program begins by a block of ONE_REFUSED bytes, that of
  * the number in REFUSED_IN_STRETCH, and in each that a block of EACH_REFUSED bytes begins, all. In a stretch that a block of
  * EACH_COUNTED bytes begins it counts them. A block of ENDED bytes ends one. For each refusal it writes a byte to the
- * descriptor in REFUSED_TO, and for each count a line to that in COUNTED_TO. */
+ * descriptor in REFUSED_TO, and for each count a line to that in COUNTED_TO. The file in COUNTED_IN, of eight bytes, has the
+ * number of all allocations up to now. */
 #include <errno.h>
+#include <fcntl.h>
 #include <stdatomic.h>
 #include <stddef.h>
 #include <stdio.h>
 #include <stdlib.h>
+#include <sys/mman.h>
 #include <unistd.h>
 
 enum { ONE_REFUSED = 777001, EACH_REFUSED, EACH_COUNTED, ENDED };
@@ -19,6 +22,7 @@ static atomic_long left;
 static atomic_int is_each_refused;
 static atomic_int is_each_counted;
 static atomic_long counted;
+static atomic_long *all_counted;
 
 static long number_in(const char *name)
 {
@@ -28,7 +32,14 @@ static long number_in(const char *name)
 
 __attribute__((constructor)) static void begin(void)
 {
+    const char *path = getenv("COUNTED_IN");
     atomic_store(&left, number_in("REFUSED_ALLOCATION"));
+    if (!path)
+        return;
+    void *page = mmap(NULL, sizeof *all_counted, PROT_READ | PROT_WRITE, MAP_SHARED, open(path, O_RDWR | O_CLOEXEC), 0);
+    if (page == MAP_FAILED)
+        abort();
+    all_counted = page;
 }
 
 /* Whether a block of this size begins or ends a stretch. */
@@ -55,6 +66,8 @@ static void follow(size_t size)
 
 static void count(void)
 {
+    if (all_counted)
+        atomic_fetch_add(all_counted, 1);
     if (atomic_load(&is_each_counted))
         atomic_fetch_add(&counted, 1);
 }

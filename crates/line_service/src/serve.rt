@@ -7,6 +7,7 @@ ghost use Rattle.line_service.specs.Session.{line_of, IsSession, IsCutOff};
 ghost use Rattle.line_service.specs.Progress.{Stands, Goes, EndsEarly, BreaksOff};
 
 use crate::world::World;
+use arrayvec::ArrayString;
 use byte_streams::{read_some, write_whole};
 use itoa::Buffer;
 use line_grammar::one_reading;
@@ -16,7 +17,10 @@ use std::io::{Read, Write};
 use world_actions::Refusal;
 
 /// How many bytes are read at once.
-const PIECE_BYTES: usize = 512;
+const PIECE_BYTES: usize = 4_096;
+
+/// More bytes than the line of a refused batch has.
+const FAULT_BYTES: usize = 16;
 
 /// Answers the batches that the reader gives, one line each, and nothing else. It ends with `BadLine`
 /// where a batch is too long, with `Device` after a fault of reader or writer, and with `NoMemory` before
@@ -44,12 +48,14 @@ pub fn serve_lines<R: Read, W: Write, X: World>(
         ⊎ ((refusal ≡ Refusal.BadLine) ⊎ (refusal ≡ Refusal.Device))) }
 {
     let mut reader = BatchReader::new(alloc)?;
-    serve_pieces(&mut reader, r, w, world)
+    let mut text = Vec::new(alloc);
+    serve_pieces(&mut reader, &mut text, r, w, world)
 }
 
 // Reads piece after piece.
 fn serve_pieces<R: Read, W: Write, X: World>(
     reader: &mut BatchReader,
+    text: &mut Vec<u8>,
     r: &mut R,
     w: &mut W,
     world: &mut X,
@@ -70,7 +76,7 @@ fn serve_pieces<R: Read, W: Write, X: World>(
         if n == 0 {
             return Ok(());
         }
-        serve_piece(reader, &piece[..n], w, world)?;
+        serve_piece(reader, text, &piece[..n], w, world)?;
     }
     Err(Refusal::Device)
 }
@@ -78,6 +84,7 @@ fn serve_pieces<R: Read, W: Write, X: World>(
 // Goes through the next bytes, and answers each batch that ends in them.
 fn serve_piece<W: Write, X: World>(
     reader: &mut BatchReader,
+    text: &mut Vec<u8>,
     piece: &[u8],
     w: &mut W,
     world: &mut X,
@@ -90,7 +97,7 @@ fn serve_piece<W: Write, X: World>(
 {
     let mut at = 0;
     while at < piece.len() {
-        at += serve_some(reader, &piece[at..], w, world)?;
+        at += serve_some(reader, text, &piece[at..], w, world)?;
     }
     Ok(())
 }
@@ -98,6 +105,7 @@ fn serve_piece<W: Write, X: World>(
 // Takes bytes up to the end of a batch, and answers it.
 fn serve_some<W: Write, X: World>(
     reader: &mut BatchReader,
+    text: &mut Vec<u8>,
     piece: &[u8],
     w: &mut W,
     world: &mut X,
@@ -115,7 +123,7 @@ fn serve_some<W: Write, X: World>(
     match fed {
         Fed::More => Ok(n),
         Fed::Whole => {
-            answer_batch(reader.batch(), w, world)?;
+            answer_batch(reader.batch(), text, w, world)?;
             reader.clear();
             Ok(n)
         }
@@ -127,27 +135,42 @@ fn serve_some<W: Write, X: World>(
 }
 
 // Writes the line that answers a batch.
-fn answer_batch<W: Write, X: World>(batch: &Batch, w: &mut W, world: &mut X) -> Result<(), Refusal>
+fn answer_batch<W: Write, X: World>(
+    batch: &Batch,
+    text: &mut Vec<u8>,
+    w: &mut W,
+    world: &mut X,
+) -> Result<(), Refusal>
     ensures done { OnOk result ((given : Result (List ℕ) Reason)
         × X.runs world.old batch.now.list given world.new × Appends (W.contents w.old) (W.contents w.new) (line_of given)) }
     ensures fault { IfErr result (λ refusal. (refusal ≡ Refusal.Device) × (given : Result (List ℕ) Reason)
         × X.runs world.old batch.now.list given world.new
         × (front : List ℕ) × IsFront front (line_of given) × Appends (W.contents w.old) (W.contents w.new) front) }
 {
-    match world.batch(batch) {
-        Ok(text) => write_whole(w, &text),
+    match world.batch(batch, text) {
+        Ok(()) => write_whole(w, text),
         Err(refusal) => write_fault(w, refusal),
     }
 }
 
-// Writes the line that tells a refused batch. It takes no memory.
+// Writes the line of a refused batch. It takes no memory.
 fn write_fault<W: Write>(w: &mut W, refusal: Refusal) -> Result<(), Refusal>
     ensures done { OnOk result (Appends (W.contents w.old) (W.contents w.new) (fault_text refusal)) }
     ensures fault { IfErr result (λ error. (error ≡ Refusal.Device)
         × (front : List ℕ) × IsFront front (fault_text refusal) × Appends (W.contents w.old) (W.contents w.new) front) }
 {
-    let mut buffer = Buffer::new();
-    write_whole(w, b"fault ")?;
-    write_whole(w, buffer.format(refusal.code()).as_bytes())?;
-    write_whole(w, b"\n")
+    let line = fault_line(refusal);
+    write_whole(w, line.as_bytes())
+}
+
+// The line of a refused batch.
+fn fault_line(refusal: Refusal) -> ArrayString<FAULT_BYTES>
+    ensures { result.bytes ≡ fault_text refusal }
+{
+    let mut digits = Buffer::new();
+    let mut line = ArrayString::new();
+    let _ = line.try_push_str("fault ");
+    let _ = line.try_push_str(digits.format(refusal.code()));
+    let _ = line.try_push_str("\n");
+    line
 }

@@ -93,8 +93,9 @@ fn serve_batch<R: Print + AllocGlobal>(
     served: &mut Served<Zigzag, File>,
     batch: &Batch,
 ) -> Result<(), Error> {
+    let mut text = Vec::new(rt.alloc());
     count_each(rt.alloc());
-    let answer = served.batch(batch);
+    let answer = served.batch(batch, &mut text);
     end_stretch(rt.alloc());
     answer?;
     tell_most(rt, "that batch served", 2)

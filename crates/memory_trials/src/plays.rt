@@ -108,7 +108,7 @@ impl Case for CopyBatch {
     }
 
     fn call(&mut self) -> Result<u64, Refusal> {
-        let copy = self.batch.try_copy(self.alloc)?;
+        let copy = self.batch.try_copy(Batch::empty(self.alloc))?;
         Ok(u64::from(copy.requests() == self.batch.requests()))
     }
 
@@ -174,7 +174,8 @@ impl Case for Play {
     }
 
     fn call(&mut self) -> Result<u64, Refusal> {
-        let (tick, text) = play(self.alloc, &mut self.front, &self.batch, false, 0, 0)?;
+        let buffer = Vec::new(self.alloc);
+        let (tick, text) = play(self.alloc, buffer, &mut self.front, &self.batch, false, 0, 0)?;
         Ok(folded(digest_of_bytes(&text), tick.actions().len() as u64))
     }
 

@@ -214,7 +214,7 @@ fn batch_of(alloc: Global) -> Result<Batch, Refusal> {
         reader.take(b"add 0 2\n");
     }
     match reader.take(b"get 0\nend\n") {
-        (_, Fed::Whole) => reader.batch().try_copy(alloc),
+        (_, Fed::Whole) => reader.batch().try_copy(Batch::empty(alloc)),
         _ => Err(Refusal::BadLine),
     }
 }
@@ -276,8 +276,9 @@ impl<R: Room> Case for Serve<R> {
 
     fn call(&mut self) -> Result<u64, Refusal> {
         let served = self.served.as_mut().ok_or(Refusal::Device)?;
-        match served.batch(&self.batch) {
-            Ok(text) => Ok(digest_of_bytes(&text)),
+        let mut text = Vec::new(self.alloc);
+        match served.batch(&self.batch, &mut text) {
+            Ok(()) => Ok(digest_of_bytes(&text)),
             Err(Refusal::LogDown) => {
                 self.open_again()?;
                 Err(Refusal::LogDown)

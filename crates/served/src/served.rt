@@ -149,7 +149,7 @@ impl<C: Capture, D: Disk> Served<C, D> {
 impl<C: Capture, D: Disk> World for Served<C, D> {
     ghost runs = { Runs C.content D.content D.may_leave D.honest };
 
-    fn batch(&mut self, b: &Batch) -> Result<Vec<u8>, Refusal> {
-        self.serving.batch(b)
+    fn batch(&mut self, b: &Batch, text: &mut Vec<u8>) -> Result<(), Refusal> {
+        self.serving.batch(b, text)
     }
 }

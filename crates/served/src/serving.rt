@@ -1,4 +1,4 @@
-ghost use Rattle.std.specs.Prelude.{◌≡◌, ◌⊎◌, ◌≤◌, ◌<◌, ℕ, List, Ok, Err, false, IsTrue, IfOk, IfErr};
+ghost use Rattle.std.specs.Prelude.{◌≡◌, ◌⊎◌, ◌≤◌, ◌<◌, ℕ, List, Ok, Err, false, IsTrue, IfOk, OnOk, IfErr};
 ghost use Rattle.world_actions.specs.declared.action.Action.{Action};
 ghost use Rattle.disk_model.specs.FourFiles.{fault_counts};
 ghost use Rattle.image_files.specs.declared.phase.Phase.TheVariants.{Idle, Down};
@@ -69,12 +69,12 @@ impl<C: Capture, D: Disk> Serving<C, D> {
         }
     }
 
-    /// Plays a batch as one tick, has it logged, and makes a checkpoint where one is due.
-    pub fn batch(&mut self, b: &Batch) -> Result<Vec<u8>, Refusal>
+    /// Plays a batch as one tick, has it logged, and makes a checkpoint if one is due. The answer is put into `text`.
+    pub fn batch(&mut self, b: &Batch, text: &mut Vec<u8>) -> Result<(), Refusal>
         requires { IsAtRest C.content D.content D.honest self.old.engine self.old.files }
         ensures rest { IsAtRest C.content D.content D.honest self.new.engine self.new.files }
-        ensures answered { IfOk result (λ text.
-            Runs C.content D.content D.may_leave D.honest self.old b.now.list (Ok text.items) self.new) }
+        ensures answered { OnOk result (
+            Runs C.content D.content D.may_leave D.honest self.old b.now.list (Ok text.new.items) self.new) }
         ensures refused { IfErr result (λ refusal.
             Runs C.content D.content D.may_leave D.honest self.old b.now.list (Err refusal) self.new) }
     {
@@ -85,14 +85,14 @@ impl<C: Capture, D: Disk> Serving<C, D> {
         if let Some(refusal) = self.engine.refusal() {
             return Err(refusal);
         }
-        let text = self.engine.play(b)?;
+        self.engine.play(b, text)?;
         self.engine.write_log(&mut self.files);
         if self.engine.log.is_down() {
             return Err(Refusal::LogDown);
         }
         self.acked = self.engine.ended;
         self.checkpoint_if_due();
-        Ok(text)
+        Ok(())
     }
 
     // A checkpoint, where so many ticks ended since the last mark or start, and images can be written.

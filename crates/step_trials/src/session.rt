@@ -60,8 +60,9 @@ impl Session {
 
     /// Asks for a batch.
     pub fn ask(&mut self, alloc: Global, batch: &Batch) -> Result<Ask, Refusal> {
-        let to = self.await_answer(alloc, batch.try_copy(alloc)?)?;
-        self.asker.ask(batch.try_copy(alloc)?, to)
+        let to = self.await_answer(alloc, batch.try_copy(Batch::empty(alloc))?)?;
+        let copy = batch.try_copy(Batch::empty(alloc))?;
+        self.asker.ask(copy, Vec::new(alloc), to)
     }
 
     // Waits for the answer of a batch, which is sent to this sender.
@@ -128,7 +129,7 @@ impl Session {
     fn judge_post(&self, pending: &Pending, post: Post, model: &PlainModel) -> Answer {
         let tick = post.tick();
         let is_own = post.is_for(&self.asker, &pending.batch);
-        let text = post.into_text();
+        let (text, _) = post.into_answer();
         match pending.run {
             Some((own, _)) if is_own && own == tick && model.is_answer(tick, &text) => {
                 Answer::Post(tick)

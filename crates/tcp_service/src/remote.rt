@@ -6,6 +6,7 @@ use line_service::World;
 use sessions::Batch;
 use std::alloc::Global;
 use std::marker::Model;
+use std::mem;
 use std::snapshot::Snapshot;
 use std::sync::Wait;
 use workers::{Ask, Asker, Post, Reply};
@@ -19,6 +20,8 @@ pub struct Remote<R: Wait + Copy> {
     alloc: Global,
     requests: Sender<Ask>,
     asker: Asker,
+    /// The memory for the next batch on its way: that of the last one that came back.
+    spare: Batch,
     last: Option<Snapshot<Post>>,
     /// The tick of the last post, or 0.
     tick: u64,
@@ -47,31 +50,37 @@ impl<R: Wait + Copy> Remote<R> {
             alloc,
             requests,
             asker: Asker::new(session),
+            spare: Batch::empty(alloc),
             last: None,
             tick: 0,
         }
     }
 
     // What asks for a batch. Its answer has a channel of its own, so that one that can't come any more is known.
-    fn asking(&mut self, b: &Batch) -> Result<(Ask, Receiver<Reply>), Refusal>
+    fn asking(
+        &mut self,
+        b: &Batch,
+        buffer: Vec<u8>,
+    ) -> Result<(Ask, Receiver<Reply>), Refusal>
         ensures asks { IfOk result (λ asking. asking.0
             ≡ record { session = self.old.session; ask = self.old.asked + 1; requests = b.now.list }) }
         ensures counts { OnOk result (self.new ≡ record self.old { asked = self.old.asked + 1 }) }
         ensures unchanged { OnErr result (self.new ≡ self.old) }
     {
-        let batch = b.try_copy(self.alloc)?;
+        let spare = mem::replace(&mut self.spare, Batch::empty(self.alloc));
+        let batch = b.try_copy(spare)?;
         let (to, from) = bounded(self.alloc, 1)?;
-        let ask = self.asker.ask(batch, to)?;
+        let ask = self.asker.ask(batch, buffer, to)?;
         Ok((ask, from))
     }
 
-    // Sends a batch, and waits for its post.
-    fn ask(&mut self, b: &Batch) -> Result<Post, Refusal>
+    // Sends a batch with a buffer for its answer, and waits for its post.
+    fn ask(&mut self, b: &Batch, buffer: Vec<u8>) -> Result<Post, Refusal>
         ensures ok { OnOk result (self.new ≡ record self.old { asked = self.old.asked + 1 }) }
         ensures err { OnErr result ((self.new ≡ self.old)
             ⊎ (self.new ≡ record self.old { asked = self.old.asked + 1 })) }
     {
-        let (ask, from) = self.asking(b)?;
+        let (ask, from) = self.asking(b, buffer)?;
         match self.requests.send(&self.rt, ask) {
             Ok(()) => {}
             Err(SendError::OutOfMemory(_)) => return Err(Refusal::NoMemory),
@@ -89,14 +98,18 @@ impl<R: Wait + Copy> World for Remote<R> {
 
     ghost runs = { IsPosted };
 
-    fn batch(&mut self, b: &Batch) -> Result<Vec<u8>, Refusal> {
-        let post = self.ask(b)?;
+    fn batch(&mut self, b: &Batch, text: &mut Vec<u8>) -> Result<(), Refusal> {
+        let buffer = mem::replace(text, Vec::new(self.alloc));
+        let post = self.ask(b, buffer)?;
         if post.tick() <= self.tick || !post.is_for(&self.asker, b) {
             return Err(Refusal::LogDown);
         }
         self.tick = post.tick();
         self.last = Some(Snapshot::of(&post));
-        Ok(post.into_text())
+        let (answer, batch) = post.into_answer();
+        *text = answer;
+        self.spare = batch;
+        Ok(())
     }
 }
 

@@ -95,7 +95,7 @@ fn one_more(alloc: Global) -> Result<Batch, Refusal> {
 // How many batches are answered by a tick where one is sent: it, or none.
 fn play_one<R: Wait + Copy>(alloc: Global, world: &mut Remote<R>) -> u64 {
     match one_more(alloc) {
-        Ok(batch) => u64::from(world.batch(&batch).is_ok()),
+        Ok(batch) => u64::from(world.batch(&batch, &mut Vec::new(alloc)).is_ok()),
         Err(_) => 0,
     }
 }

@@ -162,7 +162,7 @@ pub fn ask_for(rt: &impl Abort, alloc: Global, to: Sender<Reply>) -> Ask {
     batch.push_reserved(Request::Act(Action::Add { cell: 0, by: 1 }));
     batch.push_reserved(Request::Get(0));
     let mut asker = Asker::new(0);
-    asker.ask(batch, to).expect(rt, "an ask")
+    asker.ask(batch, Vec::new(alloc), to).expect(rt, "an ask")
 }
 
 /// Logs what was played.
@@ -193,7 +193,7 @@ fn answer<M: Method>(
 /// The answer is a post of this text.
 pub fn is_posted(rt: &(impl Wait + Abort), from: &Receiver<Reply>, text: &[u8]) {
     match from.recv(rt) {
-        Ok(Reply::Post(post)) => same(rt, "a post", post.into_text().as_slice(), text),
+        Ok(Reply::Post(post)) => same(rt, "a post", post.into_answer().0.as_slice(), text),
         _ => panic!(rt; "no post"),
     }
 }

@@ -150,8 +150,9 @@ fn run_batches<R: Wait + Copy>(
     let mut world = Remote::new(*rt, alloc, 0, requests);
     let batch = one_more(alloc, 0)?;
     let mut answered = 0;
+    let mut text = Vec::new(alloc);
     for _ in 0..BATCHES {
-        if let Ok(text) = world.batch(&batch) {
+        if world.batch(&batch, &mut text).is_ok() {
             answered = tick_in(&text).ok_or(Refusal::BadLine)?;
         }
     }

@@ -29,8 +29,9 @@ pub fn play<R: Wait + Copy>(
     let mut world = Remote::new(*rt, alloc, u64::from(cell), requests);
     let batch = one_more(alloc, cell)?;
     let mut answered = Vec::new(alloc);
+    let mut text = Vec::new(alloc);
     for _ in 0..batches {
-        let text = world.batch(&batch)?;
+        world.batch(&batch, &mut text)?;
         let moment = clock.fetch_add(1, Ordering::SeqCst);
         let tick = tick_in(&text).ok_or(Refusal::BadLine)?;
         answered.push(Answered { moment, tick, cell })?;

@@ -13,10 +13,12 @@ use std::alloc::Global;
 use world_actions::Refusal;
 use world_ticks::Tick;
 
-/// Runs a batch on the front as the next tick: its accepted actions, and the line that answers it. `down` tells
-/// whether the log is, `ended` how many ticks ended, and `since` how many of them since the last mark or start.
+/// Runs a batch on the front as the next tick: its accepted actions, and the line that answers it, in the memory of
+/// `buffer` if that suffices. `down` says if the log is, `ended` how many ticks ended, and `since` how many of them since the
+/// last mark or start.
 pub fn play<M: Method>(
     alloc: Global,
+    buffer: Vec<u8>,
     front: &mut Front<M>,
     b: &Batch,
     down: bool,
@@ -37,8 +39,9 @@ pub fn play<M: Method>(
         return Err(reason);
     }
     let mut tick = Tick::new(alloc);
-    match answer_text(alloc, front, &mut tick, b, ended + 1) {
-        Ok(text) => Ok((tick, text)),
+    let mut text = buffer;
+    match answer_text(&mut text, front, &mut tick, b, ended + 1) {
+        Ok(()) => Ok((tick, text)),
         Err(reason) => Err(reason),
     }
 }

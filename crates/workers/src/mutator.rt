@@ -160,9 +160,12 @@ impl<M: Method, G: Gate + Drop> Mutator<M, G> {
         if hears_down(&mut self.heard) {
             return refuse(rt, ask, Refusal::LogDown);
         }
+        let mut ask = ask;
+        let buffer = ask.take_buffer(self.alloc);
         let number = self.ended;
         let played = play(
             self.alloc,
+            buffer,
             &mut self.front,
             ask.batch(),
             false,

@@ -8,7 +8,9 @@ use action_log::Receipt;
 use crossbeam_channel::Sender;
 use disk_model::Disk;
 use sessions::{Batch, Request};
+use std::alloc::Global;
 use std::marker::Model;
+use std::mem;
 use std::sync::Wait;
 use world_actions::Refusal;
 
@@ -69,8 +71,9 @@ impl Asker {
         Asker { session, asked: 0 }
     }
 
-    /// Asks for the answer of this batch, which goes to this sender.
-    pub fn ask(&mut self, batch: Batch, to: Sender<Reply>) -> Result<Ask, Refusal>
+    /// Asks for the answer of this batch, which is made in this buffer and goes to this sender. Batch and buffer come back
+    /// with the post.
+    pub fn ask(&mut self, batch: Batch, buffer: Vec<u8>, to: Sender<Reply>) -> Result<Ask, Refusal>
         ensures asks { IfOk result (λ ask.
             ask ≡ record { session = self.old.session; ask = self.old.asked + 1; requests = batch.list }) }
         ensures counts { OnOk result (self.new ≡ record self.old { asked = self.old.asked + 1 }) }
@@ -86,7 +89,7 @@ impl Asker {
             ask,
             batch,
         };
-        Ok(Ask { asked, to })
+        Ok(Ask { asked, buffer, to })
     }
 }
 
@@ -94,6 +97,7 @@ impl Asker {
 #[derive(Drop)]
 pub struct Ask {
     asked: SessionBatch,
+    buffer: Vec<u8>,
     to: Sender<Reply>,
 }
 
@@ -113,12 +117,23 @@ impl Ask {
         self.asked.batch()
     }
 
+    /// The buffer for its answer, once; then there is none.
+    pub(crate) fn take_buffer(&mut self, alloc: Global) -> Vec<u8>
+        ensures { self.new ≡ self.old }
+    {
+        mem::replace(&mut self.buffer, Vec::new(alloc))
+    }
+
     /// Its answer, which waits for the tick of this number.
     pub(crate) fn wait(self, number: u64, text: Vec<u8>) -> Waiting
         requires answers { IsAnswer self text.items number }
         ensures { result ≡ record { number = number; asked = self; text = text.items } }
     {
-        let Ask { asked, to } = self;
+        let Ask {
+            asked,
+            buffer: _,
+            to,
+        } = self;
         Waiting {
             number,
             asked,
@@ -172,19 +187,20 @@ impl Post {
         self.asked.is_last_of(asker, batch)
     }
 
-    /// The line that answers the batch, with its newline.
-    pub fn into_text(self) -> Vec<u8>
-        ensures text { result.items ≡ self.text }
+    /// The line that answers the batch, with its newline, and the batch.
+    pub fn into_answer(self) -> (Vec<u8>, Batch)
+        ensures text { result.0.items ≡ self.text }
+        ensures batch { result.1.list ≡ self.asked.requests }
         ensures durable { self.tick ≤ self.receipt }
         ensures answers { IsAnswer self.asked self.text self.tick }
     {
         let Post {
             tick: _,
-            asked: _,
+            asked,
             text,
             receipt: _,
         } = self;
-        text
+        (text, asked.batch)
     }
 }
 

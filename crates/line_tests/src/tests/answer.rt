@@ -16,9 +16,10 @@ fn answered(
     reader: &BatchReader,
     number: u64,
 ) -> (Vec<u8>, usize) {
-    let mut tick = Tick::new(alloc);
-    let text = answer_text(alloc, words, &mut tick, reader.batch(), number);
-    (text.expect(rt, "memory"), tick.actions().len())
+    let (mut tick, mut text) = (Tick::new(alloc), Vec::new(alloc));
+    let answered = answer_text(&mut text, words, &mut tick, reader.batch(), number);
+    answered.expect(rt, "memory");
+    (text, tick.actions().len())
 }
 
 // Batches, one after another, by the numbers of their ticks, and their answers.

@@ -36,10 +36,12 @@ fn take_twice(rt: &impl Abort, reader: &mut BatchReader) {
     same(rt, reader.batch().requests(), REQUESTS.as_slice());
 }
 
-// A copy of the batch has its requests.
+// A copy of the batch has its requests, in new memory and in that of another batch.
 fn check_copy(rt: &impl Abort, alloc: Global, batch: &Batch) {
-    let copy = batch.try_copy(alloc).expect(rt, "memory");
+    let copy = batch.try_copy(Batch::empty(alloc)).expect(rt, "memory");
     same(rt, copy.requests(), REQUESTS.as_slice());
+    let again = batch.try_copy(copy).expect(rt, "memory");
+    same(rt, again.requests(), REQUESTS.as_slice());
 }
 
 #[test]

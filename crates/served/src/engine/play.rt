@@ -28,13 +28,13 @@ impl<C: Capture> Engine<C> {
         tick_refusal(self.log.is_down(), self.ended, self.since)
     }
 
-    /// Plays a batch on the store, and queues its tick. All growths are made first.
-    pub fn play(&mut self, b: &Batch) -> Result<Vec<u8>, Refusal>
+    /// Plays a batch on the store, queues its tick, and puts its answer into `text`. All growths are made first.
+    pub fn play(&mut self, b: &Batch, text: &mut Vec<u8>) -> Result<(), Refusal>
         requires ended { self.old.ended < TICK_MAX }
         requires since { self.old.since < SEGMENT_TICKS }
         requires none { self.old.queue.items ≡ [] }
         requires ring { 1 ≤ self.old.queue.capacity }
-        ensures text { IfOk result (λ text. text.items
+        ensures text { OnOk result (text.new.items
             ≡ answer b.now.list (C.content self.old.store).live (self.old.ended + 1)) }
         ensures plays { OnOk result (Plays C.content self.old self.new b.now.list) }
         ensures memory { IfErr result (λ refusal. refusal ≡ Refusal.NoMemory) }
@@ -43,11 +43,11 @@ impl<C: Capture> Engine<C> {
         accesses_write::<C>();
         let mut tick = Tick::new(self.alloc);
         let number = self.ended + 1;
-        let text = answer_text(self.alloc, &mut self.store, &mut tick, b, number)?;
+        answer_text(text, &mut self.store, &mut tick, b, number)?;
         let _ = self.queue.push_back(Record::Tick(tick));
         self.ended = number;
         self.since += 1;
-        Ok(text)
+        Ok(())
     }
 
     /// Marks the store, and writes the image of the ended ticks and its switch.

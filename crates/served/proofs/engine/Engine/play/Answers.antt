@@ -14,7 +14,7 @@ returns-clause-plays g c =
     let requests = c.args.b.now.list in
     let live = g.met.C.Capture.live_is_words s.store in
     let live_after = g.met.C.Capture.live_is_words c.answer_text.new.c in
-    let e = c.in_ok-text.ensures in
+    let e = c.in_ok-answer_text.ensures in
     record {
       is = refl;
       tick = c.answer_text.new.t;

@@ -16,7 +16,7 @@ pub returns-then-is_down-clause-refused : goal.returns-then-is_down-clause-refus
 returns-then-is_down-clause-refused g c =
     let old = c.args.self.now in
     let requests = c.args.b.now.list in
-    let p = c.in_ok-text.ensures.plays in
+    let p = c.in_ok-play.ensures.plays in
     let played : Engine g.row.C.Denot = c.play.new.self in
     let logged : Engine g.row.C.Denot = c.write_log.new.self in
     let store : logged.store ≡ played.store = ap (λ (e : Engine g.row.C.Denot). e.store) c.write_log.ensures.same in
@@ -45,7 +45,7 @@ returns-clause-answered g c =
     let old = c.args.self.now in
     let requests = c.args.b.now.list in
     let live = (g.C.Capture.content old.engine.store).live in
-    let p = c.in_ok-text.ensures.plays in
+    let p = c.in_ok-play.ensures.plays in
     let played : Engine g.row.C.Denot = c.play.new.self in
     let logged : Engine g.row.C.Denot = c.write_log.new.self in
     let last : Serving g.row.C.Denot g.row.D.Denot = c.checkpoint_if_due.new.self in
@@ -65,7 +65,7 @@ returns-clause-answered g c =
         same = (ap (λ (s : Serving g.row.C.Denot g.row.D.Denot). s.every) c.checkpoint_if_due.ensures.same, ap (λ (s : Serving g.row.C.Denot g.row.D.Denot). s.recovered) c.checkpoint_if_due.ensures.same, c.checkpoint_if_due.ensures.cells ∙ (ap (λ (e : Engine g.row.C.Denot). e.images.cells) c.write_log.ensures.same ∙ ap (λ (e : Engine g.row.C.Denot). e.images.cells) p.is));
         serves = λ honest ticks f. c.checkpoint_if_due.ensures.serves honest (ticks ++ accepted_of requests live ∷ []) (record { started = started; follows = follows honest ticks f });
       };
-      text_is = c.in_ok-text.ensures.text;
+      text_is = c.in_ok-play.ensures.text;
       acked = ap (λ (s : Serving g.row.C.Denot g.row.D.Denot). s.acked) c.checkpoint_if_due.ensures.same ∙ sym c.checkpoint_if_due.ensures.ended;
       since = elim c.checkpoint_if_due.ensures.since [
         | inl same ↦ inl (same ∙ since)

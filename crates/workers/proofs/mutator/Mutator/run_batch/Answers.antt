@@ -1,6 +1,6 @@
 use Rattle.std.proofs.Common.{rules, ◌≡◌, ℕ, ◌+◌, false, sym, ap, ◌∙◌}
 use Rattle.sessions.specs.Answer.{answer}
-use Rattle.workers.specs.Posts.{Unposted}
+use Rattle.workers.specs.Posts.{AskedBatch, Unposted}
 use Rattle.workers.proofs.Histories.{owes_tick, owes_nothing}
 use Rattle.workers.proofs.Turning.{runs_of, ran_tick}
 use Rattle.workers.proofs.mutator.Mutator.run_batch.Goals as goal
@@ -25,7 +25,7 @@ returns g c =
       c.passes.ensures.goes (search rules),
       (search rules),
       ran_tick _ c.args.self.now c.self.view_is c.play-played.new.front c.hears_down.new.heard c.args.ask (record { tick = c.in-Ok.played.0; answer = c.wait-answer.result })
-          (runs_of _ _ _ c.args.ask requests c.batch.ensures number (ap (λ (u : Unposted). u.asked) waits) c.play-played.ensures.rounds.0
+          (runs_of _ _ _ c.args.ask requests (c.batch.ensures ∙ ap (λ (a : AskedBatch). a.requests) c.take_buffer-buffer.ensures) number (ap (λ (u : Unposted). u.asked) waits ∙ c.take_buffer-buffer.ensures) c.play-played.ensures.rounds.0
           (record { tick = c.in-Ok.ensures.tick; text = text; words = c.in-Ok.ensures.words; rounds = c.play-played.ensures.rounds.1 })
           (c.play-played.ensures.untouched c.self.invariant.flags))
           (owes_nothing _ c.self.invariant up) (c.hears_down.ensures.up (search rules)),
