@@ -1,4 +1,4 @@
-# The commands of every day, as `make crate NAME=sessions`. docs/CONTRIBUTING.md says more about each.
+# The commands of every day, as `make crate NAME=batches`. docs/CONTRIBUTING.md says more about each.
 PORT = 7070
 WORLD = out/world
 WORLDD = crates/worldd/out/worldd

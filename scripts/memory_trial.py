@@ -3,7 +3,7 @@
 
     scripts/memory_trial.py crates/worldd/out/worldd
 
-First each call that takes memory, by the program memory_trials; then a script over each store, create, recover and
+First each call that takes memory, by the program trial_memory; then a script over each store, create, recover and
 inspect, and serve, by either method over a port and over a socket: each is run again and again, the Nth time with its Nth
 allocation refused, until it has none left to refuse. It needs a C compiler, as cc.
 """
@@ -88,7 +88,7 @@ BATCHES: tuple[Batch, ...] = (
 CLIENTS = 3
 EVERY = 2
 TOP = pathlib.Path(__file__).resolve().parent.parent
-CALLS = TOP / "crates" / "memory_trials" / "out" / "memory_trials"
+CALLS = TOP / "crates" / "trial_memory" / "out" / "trial_memory"
 CALL_REFUSED = re.compile(r"refused with (\d+), and answered then")
 CALL_ANSWERED, CALLS_MADE = "answered", "made"
 NO_MEMORY = "17"

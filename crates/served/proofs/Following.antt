@@ -27,8 +27,8 @@ use Rattle.action_log.specs.Stands.{Stands as LogStands}
 use Rattle.recovery.specs.Follow.{round_tick, base_in, coming}
 use Rattle.recovery.specs.Events.{IsKept}
 use Rattle.restart.specs.InStep.{HasPhase, InStep, IsSettled, WorldsGoOn}
-use Rattle.sessions.specs.declared.batch.Request.{Request}
-use Rattle.sessions.specs.Answer.{accepted_of, words_after}
+use Rattle.batches.specs.declared.batch.Request.{Request}
+use Rattle.batches.specs.Answer.{accepted_of, words_after}
 use Rattle.served.specs.declared.engine.Engine.{Engine}
 use Rattle.served.specs.Running.{RoundGoes, LogGoes}
 use Rattle.served.specs.Engine.{Follows, HasImageOf}

@@ -6,8 +6,8 @@ use Rattle.world_actions.specs.declared.refusal.Refusal.TheVariants.{LogDown, No
 use Rattle.capture_core.specs.Content.{Content}
 use Rattle.image_files.specs.declared.phase.Phase.TheVariants.{Down}
 use Rattle.action_log.specs.Refusals.{tick_refusal}
-use Rattle.sessions.specs.declared.batch.Request.{Request}
-use Rattle.sessions.specs.Answer.{answer, accepted_of, words_after}
+use Rattle.batches.specs.declared.batch.Request.{Request}
+use Rattle.batches.specs.Answer.{answer, accepted_of, words_after}
 use Rattle.served.specs.declared.serving.Serving.{Serving}
 use Rattle.served.specs.Engine.{Follows, HasImageOf}
 

@@ -14,8 +14,8 @@ use Rattle.recovery.specs.Recovery.{Recovery}
 use Rattle.restart.specs.Start.{has_round, started_keeper, IsBuilt, is_shut}
 use Rattle.served.specs.declared.engine.Engine.{Engine}
 use Rattle.served.specs.declared.engine.TheConstants.{QUEUE_RECORDS}
-use Rattle.sessions.specs.Answer.{accepted_of, words_after}
-use Rattle.sessions.specs.declared.batch.Request.{Request}
+use Rattle.batches.specs.Answer.{accepted_of, words_after}
+use Rattle.batches.specs.declared.batch.Request.{Request}
 use Rattle.world_actions.specs.declared.action.Action.{Action}
 use Rattle.world_ticks.specs.Tick.{Actions}
 use Rattle.world_ticks.specs.declared.tick.TheConstants.{TICK_MAX}

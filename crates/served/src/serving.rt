@@ -13,7 +13,7 @@ use action_log::{log_outcomes, log_queues};
 use capture_core::Capture;
 use disk_model::{Disk, FourFiles};
 use restart::worlds_go_on;
-use sessions::{Batch, answers_are_ticks};
+use batches::{Batch, answers_are_ticks};
 use std::alloc::Global;
 use world_actions::Refusal;
 

@@ -9,7 +9,7 @@ use Rattle.workers.specs.declared.log_writer.Log.{Log}
 use Rattle.workers.specs.Mutating.{Playing}
 use Rattle.workers.specs.Imaging.{Imaging}
 use Rattle.workers.specs.Logging.{Logging}
-use Rattle.worker_ends.specs.Ends.{WorldStands, LeaveSound}
+use Rattle.worker_steps.specs.Ends.{WorldStands, LeaveSound}
 
 -- these words, this tick and the tick of this image are what recovery answers on what the files hold
 pub record IsRecovered {D : Type 0} (file : D → List ℕ) (files : FourFiles D) (live : List ℕ) (ended from : ℕ) : Type 0 where

@@ -1,7 +1,7 @@
 -- What answers the batches of a session.
 use Rattle.std.specs.Prelude.{◌≡◌, ◌⊎◌, ◌+◌, ◌<◌, ℕ, List, Option, Some, None, IfSome, Result, Ok, Err, ⊤}
 use Rattle.world_actions.specs.declared.refusal.Refusal.{Refusal}
-use Rattle.sessions.specs.declared.batch.Request.{Request}
+use Rattle.batches.specs.declared.batch.Request.{Request}
 use Rattle.workers.specs.declared.post.Reply.{Reply}
 use Rattle.workers.specs.declared.post.Reply.TheVariants.{Post, Fault}
 use Rattle.workers.specs.Posts.{Posted, IsPost}

@@ -11,7 +11,7 @@ mod door;
 mod failure;
 mod opening;
 mod remote;
-mod serving;
+mod server;
 mod session;
 mod session_threads;
 
@@ -19,5 +19,5 @@ pub use accept::{Accepted, Admission, Closed, accept_sessions};
 pub use door::{Door, Unserved};
 pub use opening::{Seats, open_world};
 pub use remote::Remote;
-pub use serving::{FilesNotServed, NotServed, Stopped, serve_files, serve_tcp};
+pub use server::{FilesNotServed, NotServed, Stopped, serve_files, serve_tcp};
 pub use session::{Joined, Over, serve_batches, serve_session};

@@ -7,7 +7,7 @@ ghost use Rattle.served.specs.Parts.{AreAtRest, AreSettled};
 ghost use Rattle.served.specs.Opening.{IsRefused, SomeGrew};
 ghost use Rattle.shared_capture.specs.States.{IsStart};
 ghost use Rattle.worker_steps.specs.Begun.{IsWhole};
-ghost use Rattle.worker_ends.specs.Ends.{WorldStands};
+ghost use Rattle.worker_steps.specs.Ends.{WorldStands};
 ghost use Rattle.tcp_service.specs.Opening.{IsRecovered, StandsOpened};
 
 use capture_core::PlainCopy;

@@ -2,8 +2,8 @@ ghost use Rattle.std.specs.Prelude.{◌≡◌};
 ghost use Rattle.tcp_service.specs.Remote.{given_by};
 
 use crossbeam_channel::{Receiver, SendError, Sender, bounded};
-use line_service::World;
-use sessions::Batch;
+use sessions::World;
+use batches::Batch;
 use std::alloc::Global;
 use std::marker::Model;
 use std::mem;

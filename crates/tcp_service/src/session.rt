@@ -1,12 +1,12 @@
 ghost use Rattle.std.specs.Prelude.{◌≡◌, ◌⊎◌, ◌+◌, ◌<◌, ℕ, List, true, false, OnOk, IfErr, Err};
 ghost use Rattle.std.specs.Io.KnownBytes.{Appends, Consumes, IsAtEnd};
-ghost use Rattle.line_service.specs.Session.{IsSession, IsCutOff};
+ghost use Rattle.sessions.specs.Session.{IsSession, IsCutOff};
 ghost use Rattle.tcp_service.specs.Remote.{IsPosted};
 
 use crate::door::{Door, Unserved};
 use crate::remote::Remote;
 use crossbeam_channel::Sender;
-use line_service::serve_lines;
+use sessions::serve_lines;
 use std::alloc::Global;
 use std::io::{Read, Write};
 use std::sync::Wait;

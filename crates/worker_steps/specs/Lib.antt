@@ -1,3 +1,4 @@
+pub mod Ends
 pub mod Begun
 pub mod Kept
 pub mod Running

@@ -3,7 +3,7 @@ ghost use Rattle.std.specs.Prelude.{◌≡◌, ◌≤◌, IsTrue, IfOk};
 ghost use Rattle.workers.specs.Channel.{AreOneChannel};
 ghost use Rattle.workers.specs.Imaging.{KeepsBack, IsAtRest as IsResting};
 ghost use Rattle.workers.specs.Logging.{IsAtRest};
-ghost use Rattle.worker_ends.specs.Ends.{AreSound, StaysSound, acknowledged_by};
+ghost use Rattle.worker_steps.specs.Ends.{AreSound, StaysSound, acknowledged_by};
 ghost use Rattle.worker_steps.specs.Begun.{Started, IsWhole, IsBegun};
 ghost use Rattle.worker_steps.specs.Kept.{KeepsFront, KeepsLog};
 ghost use Rattle.worker_steps.specs.Running.{Makes, Meets};
@@ -16,7 +16,7 @@ use disk_model::Disk;
 use shared_capture::Method;
 use std::alloc::{AllocError, Global};
 use std::sync::Wait;
-use worker_ends::stops_are_sound;
+use crate::laws::stops_are_sound;
 use workers::{Checkpointer, Gate, LogWriter, Mutator, meet_workers, open};
 
 /// The workers of a world. A server gives each a thread; here they make their steps in one.

@@ -1,6 +1,6 @@
 //! Workers that are held for good, each after so many of its steps.
 ghost use Rattle.std.specs.Prelude.{IsTrue, IfOk};
-ghost use Rattle.worker_ends.specs.Ends.{StaysSound};
+ghost use Rattle.worker_steps.specs.Ends.{StaysSound};
 ghost use Rattle.worker_steps.specs.Begun.{IsWhole};
 
 use crate::meeting::ends_meet;

@@ -1,12 +1,12 @@
 ghost use Rattle.std.specs.Prelude.{◌≡◌, true, IsTrue};
 ghost use Rattle.shared_capture.specs.States.{MetBack};
 ghost use Rattle.workers.specs.Meeting.{HeardOnlyOfDown};
-ghost use Rattle.worker_ends.specs.Ends.{AreSound};
+ghost use Rattle.worker_steps.specs.Ends.{AreSound};
 
 use crate::threads::Ends;
 use disk_model::Disk;
 use shared_capture::Method;
-use worker_ends::stops_are_sound;
+use worker_steps::stops_are_sound;
 use workers::{Gate, meet_workers};
 
 /// Brings the ends of a world's workers together. Then, on disks that keep to the disk model, the four files are sound for

@@ -2,7 +2,7 @@
 ghost use Rattle.std.specs.Prelude.{◌≡◌, true, IfOk};
 ghost use Rattle.std.specs.Thread.{IsSend};
 ghost use Rattle.workers.specs.Channel.{AreOneChannel};
-ghost use Rattle.worker_ends.specs.Ends.{acknowledged_by};
+ghost use Rattle.worker_steps.specs.Ends.{acknowledged_by};
 ghost use Rattle.worker_steps.specs.Begun.{IsWhole, IsBegun};
 ghost use Rattle.worker_threads.specs.Kept.{MayTake, MayWrite, EndsFront, EndsBack, EndsLog};
 

@@ -5,8 +5,8 @@ use Rattle.std.proofs.lemmas.List.Elements.{All-nil, All-push, All-weaker}
 use Rattle.world_ticks.specs.declared.tick.TheConstants.{TICK_MAX}
 use Rattle.action_log.specs.declared.format.TheConstants.{SEGMENT_TICKS}
 use Rattle.action_log.specs.Queue.{QueueEnd}
-use Rattle.sessions.specs.declared.batch.Request.{Request}
-use Rattle.sessions.specs.Answer.{answer, accepted_of, words_after}
+use Rattle.batches.specs.declared.batch.Request.{Request}
+use Rattle.batches.specs.Answer.{answer, accepted_of, words_after}
 use Rattle.shared_capture.specs.declared.view.Round.{Round}
 use Rattle.shared_capture.specs.CoverWord.{CoverState}
 use Rattle.shared_capture.specs.Rounds.{round}

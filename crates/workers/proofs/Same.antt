@@ -7,9 +7,9 @@ use lib.Pointwise.{pointwise}
 use Rattle.world_actions.specs.declared.action.Action.{Action}
 use Rattle.world_actions.specs.declared.action.Action.TheVariants.{Set, Add, Transfer, Swap, Cap}
 use Rattle.world_actions.specs.contracts.action.ActionPartialEq.TheImpl as action
-use Rattle.sessions.specs.declared.batch.Request.{Request}
-use Rattle.sessions.specs.declared.batch.Request.TheVariants.{Act, Get, Bad}
-use Rattle.sessions.specs.contracts.batch.RequestPartialEq.TheImpl as request
+use Rattle.batches.specs.declared.batch.Request.{Request}
+use Rattle.batches.specs.declared.batch.Request.TheVariants.{Act, Get, Bad}
+use Rattle.batches.specs.contracts.batch.RequestPartialEq.TheImpl as request
 
 same_action : (a b : Action) → action.ghosts.eq a b ≡ true → a ≡ b
 same_action (Set x0 x1) (Set y0 y1) is = let p = and_parts (x0 == y0) (x1 == y1) is in ap₂ Set (eqb-true x0 y0 p.0) (eqb-true x1 y1 p.1)

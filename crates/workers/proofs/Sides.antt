@@ -5,8 +5,8 @@ use Rattle.crossbeam_channel.specs.Ends.{sends_on, receives_on}
 use Rattle.workers.specs.declared.item.Item.{Item}
 use Rattle.workers.specs.declared.item.View.{View}
 use Rattle.workers.specs.declared.item.View.TheVariants.{Pushes, Pops}
-use Rattle.workers.specs.declared.ends.SendEnd.{SendEnd}
-use Rattle.workers.specs.declared.ends.ReceiveEnd.{ReceiveEnd}
+use Rattle.workers.specs.declared.item_channel.SendEnd.{SendEnd}
+use Rattle.workers.specs.declared.item_channel.ReceiveEnd.{ReceiveEnd}
 use Rattle.workers.specs.Items.{AreNumbered, Goes, items_end}
 use Rattle.workers.specs.Order.{pushed_of, popped_of, pushed, popped}
 use Rattle.workers.specs.Channel.{IsBegun, IsSender, IsReceiver}

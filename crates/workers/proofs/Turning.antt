@@ -4,7 +4,7 @@ use Rattle.shared_capture.specs.CoverWord.{CoverState}
 use Rattle.shared_capture.specs.States.{FrontState, KeepsUntouched}
 use Rattle.workers.specs.declared.item.Ended.{Ended}
 use Rattle.workers.specs.declared.item.Item.TheVariants.{Tick}
-use Rattle.sessions.specs.declared.batch.Request.{Request}
+use Rattle.batches.specs.declared.batch.Request.{Request}
 use Rattle.workers.specs.Posts.{AskedBatch}
 use Rattle.workers.specs.Covering.{loaded}
 use Rattle.workers.specs.Worlds.{RanBatch, world_of}

@@ -4,8 +4,8 @@ use Rattle.world_actions.specs.declared.refusal.Refusal.{Refusal}
 use Rattle.world_actions.specs.declared.refusal.Refusal.TheVariants.{NoMemory}
 use Rattle.action_log.specs.Queue.{QueueEnd}
 use Rattle.action_log.specs.Refusals.{tick_refusal}
-use Rattle.sessions.specs.declared.batch.Request.{Request}
-use Rattle.sessions.specs.Answer.{answer, accepted_of, words_after}
+use Rattle.batches.specs.declared.batch.Request.{Request}
+use Rattle.batches.specs.Answer.{answer, accepted_of, words_after}
 use Rattle.shared_capture.specs.declared.view.Round.{Round}
 use Rattle.shared_capture.specs.States.{FrontState}
 use Rattle.shared_capture.specs.Rounds.{flag_at, round}

@@ -2,12 +2,12 @@
 ghost use Rattle.std.specs.Prelude.{◌≡◌, ◌+◌, ◌<◌, false, IfOk, IfErr, OnOk, OnErr};
 ghost use Rattle.world_ticks.specs.declared.tick.TheConstants.{TICK_MAX};
 ghost use Rattle.action_log.specs.declared.format.TheConstants.{SEGMENT_TICKS};
-ghost use Rattle.sessions.specs.Answer.{answer, accepted_of, words_after};
+ghost use Rattle.batches.specs.Answer.{answer, accepted_of, words_after};
 ghost use Rattle.shared_capture.specs.States.{HasFlags, KeepsUntouched, SameRounds};
 ghost use Rattle.workers.specs.Worlds.{IsRefusedTick};
 
 use action_log::tick_refusal;
-use sessions::{Batch, answer_text};
+use batches::{Batch, answer_text};
 use shared_capture::{Front, Method, accesses_keep};
 use std::alloc::Global;
 use world_actions::Refusal;

@@ -9,23 +9,23 @@
 mod batch_run;
 mod checkpointer;
 mod cut;
-mod ends;
+mod item_channel;
 mod gate;
 mod item;
 mod log_writer;
 mod meeting;
 mod mutator;
-mod plays;
+mod channel_rule;
 mod post;
 
 pub use batch_run::play;
 pub use checkpointer::{Checkpointer, ImageWriter};
 pub use cut::Cut;
-pub use ends::{ItemReceiver, ItemSender, ReceiveEnd, SendEnd, compare, open};
+pub use item_channel::{ItemReceiver, ItemSender, ReceiveEnd, SendEnd, compare, open};
 pub use gate::{Gate, Open, Pass, Place};
 pub use item::{Ended, Item, View};
 pub use log_writer::{Log, LogWriter};
 pub use meeting::meet_workers;
 pub use mutator::Mutator;
-pub use plays::InOrder;
+pub use channel_rule::InOrder;
 pub use post::{Ask, Asker, Post, Reply, SessionBatch, Waiting};

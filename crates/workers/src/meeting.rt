@@ -8,7 +8,7 @@ ghost use Rattle.workers.specs.Logging.{IsLogging};
 ghost use Rattle.workers.specs.Meeting.{HaveMet};
 
 use crate::checkpointer::Checkpointer;
-use crate::ends::compare;
+use crate::item_channel::compare;
 use crate::gate::Gate;
 use crate::log_writer::LogWriter;
 use crate::mutator::Mutator;

@@ -9,7 +9,7 @@ ghost use Rattle.workers.specs.Gates.{MayGo, MayStick};
 ghost use Rattle.workers.specs.Mutating.{IsLastRound, OpensNone, OwesSwitch, MarksIfDue, RunsBatch, AnswersBatch, Pays, Turns, EndsPlay};
 
 use crate::batch_run::play;
-use crate::ends::ItemSender;
+use crate::item_channel::ItemSender;
 use crate::gate::{Gate, Place, passes};
 use crate::item::{Ended, Item};
 use crate::post::Ask;

@@ -7,7 +7,7 @@ use crate::log_writer::Holding;
 use action_log::Receipt;
 use crossbeam_channel::Sender;
 use disk_model::Disk;
-use sessions::{Batch, Request};
+use batches::{Batch, Request};
 use std::alloc::Global;
 use std::marker::Model;
 use std::mem;

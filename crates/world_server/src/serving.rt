@@ -2,7 +2,7 @@ ghost use Rattle.std.specs.Prelude.{◌≡◌, ◌≢◌, true, false, IsTrue, I
 ghost use Rattle.std.specs.declared.io.Error.{Error};
 ghost use Rattle.image_files.specs.declared.phase.Phase.TheVariants.{Down};
 ghost use Rattle.world_folder.specs.Ending.{IsFault};
-ghost use Rattle.worker_ends.specs.Ends.{StaysSound};
+ghost use Rattle.worker_steps.specs.Ends.{StaysSound};
 ghost use Rattle.worker_steps.specs.Begun.{IsWhole};
 ghost use Rattle.world_server.specs.Serving.{EndsServing};
 

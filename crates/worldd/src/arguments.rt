@@ -1,5 +1,5 @@
 use crate::help::{CREATE_HELP, INSPECT_HELP, RECOVER_HELP, STEPS_HELP};
-use crate::service::serve_command;
+use crate::serve_arguments::serve_command;
 use clap::error::Error;
 use clap::{Arg, ArgAction, ArgMatches, Command, value_parser};
 use command_line::VERSION_WITH_FORMATS;

@@ -14,13 +14,13 @@ ghost use Rattle.world_actions.specs.declared.world.TheConstants.{CELLS as world
 
 mod arguments;
 mod help;
-mod service;
+mod serve_arguments;
 mod streams;
 
 use arguments::{CELLS, FOLDER, WORDS, matches_of};
 use clap::ArgMatches;
 use command_line::{NotRun, command_words, refused, take_standard_streams, unreadable};
-use service::service_of;
+use serve_arguments::service_of;
 use std::fs::{File, Files};
 use std::io;
 use streams::run_steps;

@@ -1,6 +1,6 @@
 use super::not_run;
 use crate::arguments::matches_of;
-use crate::service::service_of;
+use crate::serve_arguments::service_of;
 use clap::error::Error;
 use command_line::{refused, unreadable};
 use shared_capture::Kind;

@@ -4,7 +4,7 @@ ghost use Rattle.world_ticks.specs.declared.tick.TheConstants.{TICK_MAX};
 ghost use Rattle.image_files.specs.declared.phase.Phase.TheVariants.{Idle, Down};
 ghost use Rattle.action_log.specs.declared.format.TheConstants.{SEGMENT_TICKS};
 ghost use Rattle.action_log.specs.Refusals.{tick_refusal};
-ghost use Rattle.sessions.specs.Answer.{answer, accepted_of};
+ghost use Rattle.batches.specs.Answer.{answer, accepted_of};
 ghost use Rattle.served.specs.Engine.{Follows, HasImageOf};
 ghost use Rattle.served.specs.Steps.{ImagesInOrder, LogInOrder, IsAtRest, Plays, BeginsRound};
 
@@ -14,7 +14,7 @@ use capture_core::{Capture, accesses_write};
 use disk_model::{Disk, FourFiles};
 use image_files::images_stay;
 use restart::worlds_go_on;
-use sessions::{Batch, answer_text, answers_are_ticks};
+use batches::{Batch, answer_text, answers_are_ticks};
 use world_actions::Refusal;
 use world_ticks::Tick;
 

@@ -1,6 +1,6 @@
 //! What the log writer holds while it posts answers.
 use super::Log;
-use crate::ends::ItemReceiver;
+use crate::item_channel::ItemReceiver;
 use action_log::Record;
 use circular_buffer::HeapCircularBuffer;
 use disk_model::Disk;

@@ -1,7 +1,7 @@
 use Rattle.std.proofs.Common.{◌≡◌, ℕ, take, length, sym, ap, ◌∙◌, subst}
 use Rattle.image_files.specs.Progress.{Progress as ImageProgress}
 use Rattle.action_log.specs.declared.progress.Progress.{Progress as LogProgress}
-use Rattle.worker_ends.specs.Ends.{WorldStands}
+use Rattle.worker_steps.specs.Ends.{WorldStands}
 use Rattle.tcp_service.proofs.opening.open_world.Goals as goal
 
 pub returns-clause-stands : goal.returns-clause-stands

@@ -2,7 +2,7 @@ use Rattle.std.proofs.Common.{List, ◌++◌, ap, ◌∙◌}
 use Rattle.workers.specs.declared.item.Item.{Item}
 use Rattle.workers.specs.Imaging.{Imaging}
 use Rattle.workers.specs.Logging.{Logging}
-use Rattle.worker_ends.proofs.Staying.{stays_sound}
+use Rattle.worker_steps.proofs.Staying.{stays_sound}
 use Rattle.worker_steps.proofs.together.run_world.Goals as goal
 
 pub returns-clause-sound : goal.returns-clause-sound

@@ -3,7 +3,7 @@ use Rattle.workers.specs.declared.item.Item.{Item}
 use Rattle.workers.specs.Mutating.{Playing}
 use Rattle.workers.specs.Imaging.{Imaging}
 use Rattle.workers.specs.Logging.{Logging}
-use Rattle.worker_ends.proofs.Staying.{stays_sound}
+use Rattle.worker_steps.proofs.Staying.{stays_sound}
 use Rattle.worker_threads.proofs.cuts.stop_after.Goals as goal
 
 pub returns : goal.returns

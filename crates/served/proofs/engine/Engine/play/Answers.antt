@@ -4,7 +4,7 @@ use Rattle.circular_buffer.specs.Buffer.{Buffer}
 use Rattle.action_log.specs.declared.record.Record.{Record}
 use Rattle.action_log.specs.declared.record.Record.TheVariants as records
 use Rattle.capture_core.specs.Content.{Content}
-use Rattle.sessions.specs.Answer.{accepted_of, words_after}
+use Rattle.batches.specs.Answer.{accepted_of, words_after}
 use Rattle.served.proofs.Queues.{keep_all}
 use Rattle.served.proofs.engine.Engine.play.Goals as goal
 

@@ -1,6 +1,6 @@
 use Rattle.std.proofs.Common.{◌≡◌, IsTrue, ◌+◌, refl, sym, ap, ◌∙◌, arith, inl, inr, List, ◌++◌, ◌∷◌, []}
 use Rattle.world_actions.specs.declared.action.Action.{Action}
-use Rattle.sessions.specs.Answer.{accepted_of}
+use Rattle.batches.specs.Answer.{accepted_of}
 use Rattle.served.specs.declared.engine.Engine.{Engine}
 use Rattle.served.specs.declared.serving.Serving.{Serving}
 use Rattle.served.specs.Serving.{Serves}

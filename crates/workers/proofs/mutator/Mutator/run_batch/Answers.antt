@@ -1,5 +1,5 @@
 use Rattle.std.proofs.Common.{rules, ◌≡◌, ℕ, ◌+◌, false, sym, ap, ◌∙◌}
-use Rattle.sessions.specs.Answer.{answer}
+use Rattle.batches.specs.Answer.{answer}
 use Rattle.workers.specs.Posts.{AskedBatch, Unposted}
 use Rattle.workers.proofs.Histories.{owes_tick, owes_nothing}
 use Rattle.workers.proofs.Turning.{runs_of, ran_tick}

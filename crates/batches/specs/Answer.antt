@@ -1,0 +1,84 @@
+-- The text that answers a batch.
+use Rattle.std.specs.Prelude.{ℕ, List, [], ◌∷◌, ◌++◌, Result, Ok, Err, slice_index, decimal, codes, if◌then◌else◌}
+use Rattle.world_actions.specs.declared.action.Action.{Action}
+use Rattle.world_actions.specs.declared.refusal.Refusal.{Refusal}
+use Rattle.world_actions.specs.declared.refusal.Refusal.TheVariants.{BadCell, BadLine}
+use Rattle.world_actions.specs.Refusal.{code_of}
+use Rattle.world_actions.specs.Effect.{Write, is_outside, writes_of}
+use Rattle.world_ticks.specs.Tick.{decision}
+use Rattle.batches.specs.declared.batch.Request.{Request}
+use Rattle.batches.specs.declared.batch.Request.TheVariants.{Act, Get, Bad}
+
+-- the words as they are within a batch, and the actions that were accepted before
+pub record Play : Type 0 where
+  pub words : List ℕ
+  pub accepted : List Action
+
+-- before the first request
+abbrev pub begun : List ℕ → Play
+begun words = record { words = words; accepted = [] }
+
+-- ---- one request
+
+abbrev pub refusal_text : Refusal → List ℕ
+refusal_text refusal = 45 ∷ decimal (code_of refusal)
+
+-- `+`, or `-` and the code, by what is decided on an action: a full tick first
+abbrev pub action_reply : Result (List ℕ) Refusal → List ℕ
+action_reply (Ok words) = codes "+"
+action_reply (Err refusal) = refusal_text refusal
+
+-- for a read `=` and the word
+abbrev pub reply : Play → Request → List ℕ
+reply play (Act action) = action_reply (decision play.words play.accepted action)
+reply play (Get cell) = if is_outside play.words cell then refusal_text BadCell else 61 ∷ decimal (slice_index play.words cell)
+reply play Bad = refusal_text BadLine
+
+-- what comes of an action
+abbrev pub with_action : Play → Action → Result (List ℕ) Refusal → Play
+with_action play action (Ok words) = record { words = words; accepted = play.accepted ++ action ∷ [] }
+with_action play action (Err refusal) = play
+
+abbrev pub after_request : Play → Request → Play
+after_request play (Act action) = with_action play action (decision play.words play.accepted action)
+after_request play (Get cell) = play
+after_request play Bad = play
+
+-- what is written by an action that was decided so
+abbrev pub writes_if : Result (List ℕ) Refusal → List Write → List Write
+writes_if (Ok words) writes = writes
+writes_if (Err refusal) writes = []
+
+-- what a request writes
+abbrev pub writes_by : Play → Request → List Write
+writes_by play (Act action) = writes_if (decision play.words play.accepted action) (writes_of play.words action)
+writes_by play (Get cell) = []
+writes_by play Bad = []
+
+-- ---- all requests
+
+-- each sees what was accepted before it
+abbrev pub after_requests : Play → List Request → Play
+after_requests play [] = play
+after_requests play (request ∷ requests) = after_requests (after_request play request) requests
+
+-- a space and the reply to each
+abbrev pub replies : Play → List Request → List ℕ
+replies play [] = []
+replies play (request ∷ requests) = 32 ∷ (reply play request ++ replies (after_request play request) requests)
+
+-- the line that answers a batch in this world, as the tick of this number
+abbrev pub answer : List Request → List ℕ → ℕ → List ℕ
+answer requests words tick = codes "tick " ++ (decimal tick ++ (58 ∷ (replies (begun words) requests ++ 10 ∷ [])))
+
+-- the actions that are accepted, in order: they are the tick
+abbrev pub accepted_of : List Request → List ℕ → List Action
+accepted_of requests words = (after_requests (begun words) requests).accepted
+
+-- the world after them
+abbrev pub words_after : List Request → List ℕ → List ℕ
+words_after requests words = (after_requests (begun words) requests).words
+
+-- the line that tells a refused batch
+abbrev pub fault_text : Refusal → List ℕ
+fault_text refusal = codes "fault " ++ (decimal (code_of refusal) ++ 10 ∷ [])

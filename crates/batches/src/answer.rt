@@ -1,0 +1,91 @@
+ghost use Rattle.std.specs.Prelude.{◌≡◌, ◌≢◌, ◌+◌, ◌*◌, ◌≤◌, ◌<◌, ◌++◌, ◌∷◌, [], ℕ, List, length, min, vec_capacity, decimal, codes, Ok, Err, IsOk, OnOk, OnErr, IfOk, IfErr};
+ghost use Rattle.world_actions.specs.Effect.{Write};
+ghost use Rattle.world_ticks.specs.declared.tick.TheConstants.{TICK_ACTIONS};
+ghost use Rattle.world_ticks.specs.After.{after_actions, accepted_writes};
+ghost use Rattle.world_ticks.specs.Cells.{Performs};
+ghost use Rattle.batches.specs.declared.batch.Request.{Request as Asked};
+ghost use Rattle.batches.specs.Answer.{Play, begun, reply, replies, after_request, after_requests, writes_by, answer, accepted_of, words_after};
+
+use crate::batch::{Batch, Request};
+use crate::text::{put, put_number, put_refusal};
+use world_actions::Refusal;
+use world_ticks::{Cells, TICK_ACTIONS, Tick, act};
+
+/// The bytes of an answer without its replies, at most.
+const FRAME_BYTES: usize = 27;
+
+/// The bytes of a reply and the space before it, at most.
+const REPLY_BYTES: usize = 22;
+
+/// Runs a batch on a store as the tick of this number, into an empty tick, and puts the line that answers it into `text`, in
+/// the place of what that held. All growths are made first: if one is refused, store and tick stay.
+pub fn answer_text<C: Cells>(
+    text: &mut Vec<u8>,
+    c: &mut C,
+    t: &mut Tick,
+    b: &Batch,
+    number: u64,
+) -> Result<(), Refusal>
+    requires { t.old.list ≡ [] }
+    ensures text { OnOk result (text.new.items ≡ answer b.now.list (C.words c.old) number) }
+    ensures tick { OnOk result (t.new.list ≡ accepted_of b.now.list (C.words c.old)) }
+    ensures words { OnOk result (C.words c.new ≡ words_after b.now.list (C.words c.old)) }
+    ensures writes { OnOk result (Performs C.accessed c.old
+        (accepted_writes (C.words c.old) (accepted_of b.now.list (C.words c.old))) c.new) }
+    ensures memory { IfErr result (λ refusal. refusal ≡ Refusal.NoMemory) }
+    ensures unchanged { OnErr result ((c.new ≡ c.old) × (t.new ≡ t.old)) }
+{
+    let requests = b.requests();
+    text.clear();
+    text.reserve(FRAME_BYTES + REPLY_BYTES * requests.len())?;
+    t.reserve(requests.len().min(TICK_ACTIONS))?;
+    put(text, b"tick ");
+    put_number(text, number);
+    put(text, b":");
+    for request in requests {
+        put_reply(c, t, *request, text);
+    }
+    put(text, b"\n");
+    Ok(())
+}
+
+/// A law: what a batch's accepted actions are a tick, and lead to the world after the batch.
+pub fn answers_are_ticks()
+    ensures accepted { (requests : List Asked) (words : List ℕ)
+        → after_actions words (accepted_of requests words) ≡ Ok (words_after requests words) }
+    ensures few { (requests : List Asked) (words : List ℕ)
+        → length (accepted_of requests words) ≤ TICK_ACTIONS }
+{}
+
+// Does what a request asks for, and appends a space and the reply.
+fn put_reply<C: Cells>(c: &mut C, t: &mut Tick, request: Request, text: &mut Vec<u8>)
+    requires tick_room { t.old.room ≡ 0 → TICK_ACTIONS ≤ length t.old.list }
+    requires text_room { length text.old.items + REPLY_BYTES ≤ vec_capacity text.old }
+    ensures text { text.new.items ≡ text.old.items
+        ++ (32 ∷ reply (record { words = C.words c.old; accepted = t.old.list }) request) }
+    ensures few { length text.new.items ≤ length text.old.items + REPLY_BYTES }
+    ensures room { vec_capacity text.old ≤ vec_capacity text.new }
+    ensures after { record { words = C.words c.new; accepted = t.new.list }
+        ≡ after_request (record { words = C.words c.old; accepted = t.old.list }) request }
+    ensures writes { Performs C.accessed c.old
+        (writes_by (record { words = C.words c.old; accepted = t.old.list }) request) c.new }
+    ensures tick_room { t.old.room + length t.old.list ≤ t.new.room + length t.new.list }
+    ensures one { length t.new.list ≤ length t.old.list + 1 }
+{
+    put(text, b" ");
+    match request {
+        Request::Act(action) => match act(c, t, action) {
+            Ok(()) => put(text, b"+"),
+            Err(refusal) => put_refusal(text, refusal),
+        },
+        Request::Get(cell) => {
+            if (cell as usize) < c.len() {
+                put(text, b"=");
+                put_number(text, c.read(cell as usize));
+            } else {
+                put_refusal(text, Refusal::BadCell);
+            }
+        }
+        Request::Bad => put_refusal(text, Refusal::BadLine),
+    }
+}

@@ -1,9 +1,0 @@
-use Rattle.std.proofs.Common.{◌≡◌, ◌+◌, ◌^◌, ◌<◌}
-use Rattle.crash_trials.specs.declared.crash.TheConstants.{KINDS}
-use Rattle.crash_trials.specs.Tally.{outcomes}
-use Rattle.crash_trials.proofs.log_trial.LogTrial.check_beside.Given as goal
-
--- an outcome was read of each crash so far
-abbrev pub invariant-loop-crash_b : goal.invariant-loop-crash_b
-invariant-loop-crash_b l =
-    outcomes l.initial.tally + KINDS < 2 ^ 32 → outcomes l.tally ≡ outcomes l.initial.tally + l.crash_b-index

@@ -1,7 +1,0 @@
--- What was seen of answers.
-use Rattle.std.specs.Prelude.{ℕ, ◌+◌}
-use Rattle.damage_trials.specs.declared.tally.Tally.{Tally}
-
--- how many answers were judged
-abbrev pub judged : Tally → ℕ
-judged tally = tally.right + tally.wrong

@@ -1,5 +1,0 @@
-use Rattle.sessions.proofs.ReadingLemmas.{begun_fresh}
-use Rattle.sessions.proofs.reader.BatchReader.clear.Goals as goal
-
-pub returns-clause-begun : goal.returns-clause-begun
-returns-clause-begun c = rw (c.clear.ensures, c.clear-2.ensures.list) begun_fresh

@@ -1,0 +1,153 @@
+ghost use Rattle.std.specs.Prelude.{◌≡◌, ◌≢◌, ◌+◌, ◌≤◌, IsTrue, IfOk};
+ghost use Rattle.workers.specs.Meeting.{HeardOnlyOfDown};
+ghost use Rattle.worker_steps.specs.Ends.{StaysSound};
+ghost use Rattle.worker_steps.specs.Begun.{IsWhole};
+ghost use Rattle.tcp_service.specs.Opening.{GoesOnFrom};
+
+use crate::accept::{Accepted, Admission, Closed, accept_sessions};
+use crate::door::Door;
+use crate::opening::{Seats, open_world};
+use disk_model::{Disk, FourFiles};
+use shared_capture::Method;
+use std::alloc::{AllocError, Global};
+use std::sync::Wait;
+use std::thread::Threads;
+use std::time::Clock;
+use transports::Listener;
+use worker_steps::{Gates, Opened};
+use worker_threads::{Ends, NotStarted, Watch, ends_meet, start, stop};
+use workers::Gate;
+use world_actions::Refusal;
+
+/// What a server leaves once it has stopped.
+#[derive(Drop)]
+pub struct Stopped<M: Method, D: Disk + Drop, A: Gate + Drop, B: Gate + Drop, C: Gate + Drop> {
+    pub ends: Ends<M, D, A, B, C>,
+    pub accepted: Accepted,
+}
+
+/// Why a server doesn't run to its end.
+#[derive(Clone, Copy, Debug, PartialEq, Eq)]
+pub enum NotServed {
+    NoMemory,
+    /// The system gives no thread for a worker.
+    NoThread,
+    /// The door said that the server is to be left: its workers and sessions may run on, up to the program's end.
+    Left,
+}
+
+impl From<AllocError> for NotServed {
+    ghost use Rattle.std.specs.Prelude.{◌≡◌};
+    ghost use Rattle.tcp_service.specs.declared.server.NotServed.TheVariants.{NoMemory};
+
+    ghost from_gives = { λ _ reason. reason ≡ NoMemory };
+
+    fn from(_: AllocError) -> Self {
+        NotServed::NoMemory
+    }
+}
+
+impl From<NotStarted> for NotServed {
+    ghost use Rattle.tcp_service.specs.Accepting.{served_by};
+    ghost use Rattle.std.specs.Prelude.{◌≡◌};
+
+    ghost from_gives = { λ started served. served ≡ served_by started };
+
+    fn from(reason: NotStarted) -> Self {
+        match reason {
+            NotStarted::NoMemory => NotServed::NoMemory,
+            NotStarted::NoThread => NotServed::NoThread,
+        }
+    }
+}
+
+/// Serves the connections of a listener by the workers of a world, and stops the workers after the last one,
+/// also if the listener fails. A round is due after every `every` ticks. On disks that keep to the disk model the
+/// files are then sound for all ticks that were played. If the workers can't be started no thread is left running, and
+/// no connection is accepted. If the server is left, its threads run on.
+pub fn serve_tcp<
+    R: Threads + Wait + Clock + Copy + Send + 'static,
+    M: Method + Send + 'static,
+    D: Disk + Drop + Send + 'static,
+    A: Gate + Drop + Send + 'static,
+    B: Gate + Drop + Send + 'static,
+    C: Gate + Drop + Send + 'static,
+    W: Watch<D> + Door + Clone + Drop + Send + 'static,
+>(
+    rt: &R,
+    alloc: Global,
+    gates: Gates<A, B, C>,
+    watch: W,
+    opened: Opened<M, D>,
+    every: u32,
+    listener: Listener,
+    admission: Admission,
+) -> Result<Stopped<M, D, A, B, C>, NotServed>
+    requires { IsWhole D.honest D.content opened.front opened.back opened.images opened.log opened.ended }
+    ensures all { IfOk result (λ stopped. stopped.accepted.closed ≡ Closed.AllCame
+        → stopped.accepted.connections ≡ admission.clients) }
+    ensures some { IfOk result (λ stopped. stopped.accepted.connections ≤ admission.clients) }
+    ensures stays { IfOk result (λ stopped. stopped.accepted.closed ≢ Closed.Left) }
+    ensures joined { IfOk result (λ stopped. stopped.accepted.connections
+        ≡ stopped.accepted.sessions.count + stopped.accepted.unserved) }
+    ensures began { IfOk result (λ stopped. (stopped.ends.mutator.opening ≡ opened.front.live)
+        × (stopped.ends.checkpointer.opening ≡ opened.images) × (stopped.ends.log_writer.opening ≡ opened.log)) }
+    ensures sound { IsTrue D.honest → IfOk result (λ stopped.
+        StaysSound D.content D.may_leave opened.front.live opened.images opened.log opened.ended
+        stopped.ends.mutator stopped.ends.checkpointer stopped.ends.log_writer) }
+    ensures every { IfOk result (λ stopped. stopped.ends.mutator.every ≡ every) }
+    ensures heard { IfOk result (λ stopped.
+        HeardOnlyOfDown stopped.ends.mutator.heard.ticks stopped.ends.log_writer.down) }
+{
+    let door = watch.clone()?;
+    let (workers, requests) = start(rt, alloc, gates, watch, opened, every)?;
+    let accepted = accept_sessions(rt, alloc, listener, admission, requests, door);
+    if let Closed::Left = accepted.closed {
+        return Err(NotServed::Left);
+    }
+    let mut ends = stop(rt, workers);
+    ends_meet(&mut ends);
+    Ok(Stopped { ends, accepted })
+}
+
+/// Why the world in some files isn't served to the end.
+#[derive(Drop)]
+pub enum FilesNotServed<D: Disk + Drop> {
+    /// It isn't opened: its files, and why.
+    Unopened(FourFiles<D>, Refusal),
+    NotServed(NotServed),
+}
+
+/// Opens the world that stands in the files, and serves it to the connections of a listener. On disks that keep to the
+/// disk model files that are sound are left sound, for the recovered ticks and all that were played.
+pub fn serve_files<
+    R: Threads + Wait + Clock + Copy + Send + 'static,
+    M: Seats + Send + 'static,
+    D: Disk + Drop + Send + 'static,
+    A: Gate + Drop + Send + 'static,
+    B: Gate + Drop + Send + 'static,
+    C: Gate + Drop + Send + 'static,
+    W: Watch<D> + Door + Clone + Drop + Send + 'static,
+>(
+    rt: &R,
+    alloc: Global,
+    gates: Gates<A, B, C>,
+    watch: W,
+    files: FourFiles<D>,
+    every: u32,
+    listener: Listener,
+    admission: Admission,
+) -> Result<Stopped<M, D, A, B, C>, FilesNotServed<D>>
+    ensures sound { IsTrue D.honest → IfOk result (λ stopped. GoesOnFrom D.content D.may_leave files
+        stopped.ends.mutator stopped.ends.checkpointer stopped.ends.log_writer) }
+    ensures every { IfOk result (λ stopped. stopped.ends.mutator.every ≡ every) }
+{
+    let opened = match open_world::<M, D>(alloc, files) {
+        Ok((opened, _)) => opened,
+        Err((files, refusal)) => return Err(FilesNotServed::Unopened(files, refusal)),
+    };
+    match serve_tcp(rt, alloc, gates, watch, opened, every, listener, admission) {
+        Ok(stopped) => Ok(stopped),
+        Err(reason) => Err(FilesNotServed::NotServed(reason)),
+    }
+}

@@ -1,0 +1,257 @@
+//! Workers that take their turns in one thread.
+ghost use Rattle.std.specs.Prelude.{◌≡◌, ◌≤◌, ◌∷◌, [], false};
+ghost use Rattle.world_ticks.specs.declared.tick.TheConstants.{TICK_MAX};
+ghost use Rattle.workers.specs.declared.item.Item.TheVariants.{Start};
+ghost use Rattle.workers.specs.Logging.{IsAtRest};
+ghost use Rattle.worker_steps.specs.Begun.{IsWhole};
+ghost use Rattle.worker_threads.specs.Kept.{MayTake};
+
+use crate::held::Held;
+use crate::same::same;
+use crate::worlds::{new_files, open_files, stands_in};
+use crossbeam_channel::{Receiver, Sender, bounded};
+use disk_model::{Disk, ModelFile};
+use batches::{Batch, Request};
+use shared_capture::{CoverIn, CoverOut, Method, Pong, Zig, cover_pair};
+use std::alloc::Global;
+use std::process::Abort;
+use std::sync::atomic::{AtomicU64, Ordering};
+use std::sync::{Arc, Wait};
+use tcp_service::Seats;
+use worker_steps::Opened;
+use workers::{
+    Ask, Asker, Checkpointer, ItemReceiver, ItemSender, LogWriter, Mutator, Open, Reply, open,
+};
+use world_actions::Action;
+
+/// The workers of a world.
+#[derive(Drop)]
+pub struct Serial<M: Method, D: Disk + Drop> {
+    pub mutator: Mutator<M, Open>,
+    pub log_writer: LogWriter<D, Open>,
+    pub checkpointer: Checkpointer<M, D, Held>,
+}
+
+// What the workers tell one another beside the items: the bell, and that the log is down.
+#[derive(Drop)]
+struct Signals {
+    bell: Sender<()>,
+    rung: Receiver<()>,
+    told_down: CoverOut,
+    heard: CoverIn,
+}
+
+fn new_signals(rt: &impl Abort, alloc: Global) -> Signals
+    ensures { result.told_down.ticks ≡ [] }
+{
+    let (bell, rung) = bounded(alloc, 1).expect(rt, "a channel");
+    let (told_down, heard) = cover_pair(alloc).expect(rt, "a word");
+    Signals {
+        bell,
+        rung,
+        told_down,
+        heard,
+    }
+}
+
+// The ends of the items' channel and those of the word of open images.
+#[derive(Drop)]
+struct Channel {
+    to: ItemSender,
+    from: ItemReceiver,
+    out: CoverOut,
+    told: CoverIn,
+}
+
+fn new_channel(rt: &(impl Wait + Abort), alloc: Global, ended: u64) -> Channel
+    requires { ended ≤ TICK_MAX }
+    ensures to { result.to.items ≡ Start ended ∷ [] }
+    ensures pushes { result.to.refused ≡ false }
+    ensures from { result.from.items ≡ Start ended ∷ [] }
+    ensures out { result.out.ticks ≡ [] }
+{
+    let (out, told) = cover_pair(alloc).expect(rt, "a word");
+    let (to, from) = open(rt, alloc, ended).expect(rt, "a channel");
+    Channel {
+        to,
+        from,
+        out,
+        told,
+    }
+}
+
+/// The workers of this world, an image of which is due after each tick.
+pub fn begin<M: Method, D: Disk + Drop>(
+    rt: &(impl Wait + Abort),
+    alloc: Global,
+    opened: Opened<M, D>,
+    held: Held,
+) -> Serial<M, D>
+    requires { IsWhole D.honest D.content opened.front opened.back opened.images opened.log opened.ended }
+    ensures rest { IsAtRest result.log_writer }
+    ensures takes { MayTake result.checkpointer }
+{
+    let signals = new_signals(rt, alloc);
+    let channel = new_channel(rt, alloc, opened.ended);
+    joined(rt, alloc, opened, held, signals, channel)
+}
+
+fn joined<M: Method, D: Disk + Drop>(
+    rt: &impl Abort,
+    alloc: Global,
+    opened: Opened<M, D>,
+    held: Held,
+    signals: Signals,
+    channel: Channel,
+) -> Serial<M, D>
+    requires whole { IsWhole D.honest D.content opened.front opened.back opened.images opened.log opened.ended }
+    requires to { channel.to.items ≡ Start opened.ended ∷ [] }
+    requires pushes { channel.to.refused ≡ false }
+    requires from { channel.from.items ≡ Start opened.ended ∷ [] }
+    requires out { channel.out.ticks ≡ [] }
+    requires untold { signals.told_down.ticks ≡ [] }
+    ensures rest { IsAtRest result.log_writer }
+    ensures takes { MayTake result.checkpointer }
+{
+    let Opened {
+        front,
+        back,
+        images,
+        log,
+        ended,
+    } = opened;
+    let Signals {
+        bell,
+        rung,
+        told_down,
+        heard,
+    } = signals;
+    let Channel {
+        to,
+        from,
+        out,
+        told,
+    } = channel;
+    let mutator = Mutator::new(Open, alloc, front, to, ended, 1, bell, heard);
+    let checkpointer = Checkpointer::new(held, back, out, images, rung);
+    let log_writer = LogWriter::new(alloc, Open, from, told, log, told_down, ended).expect(
+        rt, "memory",
+    );
+    Serial {
+        mutator,
+        log_writer,
+        checkpointer,
+    }
+}
+
+/// Runs a batch, whose answer comes later.
+pub fn send<M: Method>(
+    rt: &(impl Wait + Abort),
+    alloc: Global,
+    mutator: &mut Mutator<M, Open>,
+) -> Receiver<Reply> {
+    let (to, from) = bounded(alloc, 1).expect(rt, "a channel");
+    let ask = ask_for(rt, alloc, to);
+    mutator.turn(rt, ask).expect(rt, "a batch that is run");
+    from
+}
+
+/// A batch that adds 1 to the first cell and reads it, and where its answer goes.
+pub fn ask_for(rt: &impl Abort, alloc: Global, to: Sender<Reply>) -> Ask {
+    let mut batch = Batch::new(alloc).expect(rt, "a batch");
+    batch.push_reserved(Request::Act(Action::Add { cell: 0, by: 1 }));
+    batch.push_reserved(Request::Get(0));
+    let mut asker = Asker::new(0);
+    asker.ask(batch, Vec::new(alloc), to).expect(rt, "an ask")
+}
+
+/// Logs what was played.
+pub fn log_on<D: Disk + Drop>(rt: &(impl Wait + Abort), log_writer: &mut LogWriter<D, Open>)
+    requires { IsAtRest log_writer.old }
+    ensures { IsAtRest log_writer.new }
+{
+    assert!(rt; !log_writer.is_over());
+    log_writer.turn(rt);
+}
+
+// Runs and logs a batch, whose answer is a post of this text.
+fn answer<M: Method>(
+    rt: &(impl Wait + Abort),
+    alloc: Global,
+    world: &mut Serial<M, ModelFile>,
+    text: &[u8],
+)
+    requires rest { IsAtRest world.old.log_writer }
+    ensures rest { IsAtRest world.new.log_writer }
+    ensures checkpointer { world.new.checkpointer ≡ world.old.checkpointer }
+{
+    let from = send(rt, alloc, &mut world.mutator);
+    log_on(rt, &mut world.log_writer);
+    is_posted(rt, &from, text);
+}
+
+/// The answer is a post of this text.
+pub fn is_posted(rt: &(impl Wait + Abort), from: &Receiver<Reply>, text: &[u8]) {
+    match from.recv(rt) {
+        Ok(Reply::Post(post)) => same(rt, "a post", post.into_answer().0.as_slice(), text),
+        _ => panic!(rt; "no post"),
+    }
+}
+
+// The round stays open, and play goes on.
+fn is_stuck<M: Method>(
+    rt: &(impl Wait + Abort),
+    checkpointer: &mut Checkpointer<M, ModelFile, Held>,
+)
+    requires { MayTake checkpointer.old }
+{
+    assert!(rt; !checkpointer.is_over());
+    same(rt, "an image that is opened", checkpointer.turn(rt), None);
+    let stops = (checkpointer.is_over(), checkpointer.is_down());
+    same(rt, "it is over, and down", stops, (true, false));
+}
+
+// Whose checkpointer is held.
+fn begin_held<M: Seats>(
+    rt: &(impl Wait + Abort),
+    alloc: Global,
+    answered: &Arc<AtomicU64, Global>,
+) -> Serial<M, ModelFile>
+    ensures rest { IsAtRest result.log_writer }
+    ensures takes { MayTake result.checkpointer }
+{
+    let held = Held::until(answered.clone().expect(rt, "a share"));
+    let opened = open_files::<M, ModelFile>(rt, alloc, new_files(rt, alloc, 2));
+    begin(rt, alloc, opened, held)
+}
+
+fn play_round<M: Method>(
+    rt: &(impl Wait + Abort),
+    alloc: Global,
+    world: &mut Serial<M, ModelFile>,
+    answered: &AtomicU64,
+)
+    requires rest { IsAtRest world.old.log_writer }
+    requires takes { MayTake world.old.checkpointer }
+{
+    answer(rt, alloc, world, b"tick 1: + =1\n");
+    answered.fetch_add(1, Ordering::SeqCst);
+    is_stuck(rt, &mut world.checkpointer);
+    answer(rt, alloc, world, b"tick 2: + =2\n");
+    let (images, log) = (world.checkpointer.images(), world.log_writer.log());
+    let found = stands_in(rt, alloc, images, log);
+    same(rt, "what stands", found, (2, 0, 2));
+}
+
+fn try_serial_round<M: Seats>(rt: &(impl Wait + Abort), alloc: Global) {
+    let answered = Arc::new(alloc, AtomicU64::new(0)).expect(rt, "a count");
+    let mut world = begin_held::<M>(rt, alloc, &answered);
+    play_round(rt, alloc, &mut world, &answered);
+    drop(world);
+}
+
+#[test]
+fn serial_rounds_are_stuck(rt: HostRuntime) {
+    try_serial_round::<Zig>(&rt, rt.alloc());
+    try_serial_round::<Pong>(&rt, rt.alloc());
+}

@@ -1,0 +1,126 @@
+//! The program `trial_memory`: makes each call that takes memory while one of its allocations may be refused, and once
+//! more where it was; and those that take none while each would be. It tells how each went, and fails where a refused call
+//! left its values otherwise, or answered otherwise then. Nothing is refused where nobody watches its allocations:
+//! `scripts/memory_trial.py` does, and refuses each.
+#![tactic(auto)]
+
+mod case;
+mod cores;
+mod files;
+mod free;
+mod keepers;
+mod plays;
+mod stores;
+mod worlds;
+
+use capture_core::PlainCopy;
+use case::{Case, Outcome, try_case};
+use cores::{Crash, Fresh, Run};
+use files::{GrowFile, NewFile, ReadImage, ReadLog, Recover, ReserveFile};
+use free::try_free_calls;
+use keepers::{CoverPair, Images, Log, PingPongPair, ZigzagPair};
+use ping_pong::PingPong;
+use plays::{Act, CopyBatch, NewReader, Play, ReserveTick};
+use shared_capture::{Joined, Pong, Zig};
+use std::io;
+use std::process::ExitCode;
+use stores::Build;
+use trial_kit::ended;
+use worlds::{Ample, NewWorld, Open, Scarce, Serve};
+use zigzag::Zigzag;
+
+fn main(rt: HostRuntime) -> ExitCode {
+    ended(&rt, try_all(&rt))
+}
+
+// Whether all went right.
+fn try_all<R: Print + AllocGlobal>(rt: &R) -> io::Result<bool> {
+    let are_right = try_values(rt)?
+        & try_stores(rt)?
+        & try_keepers(rt)?
+        & try_worlds(rt)?
+        & try_growth(rt)?;
+    match try_free_calls(rt.alloc()) {
+        Ok(are_same) => {
+            println!(rt; "calls that take none: {}", told(are_same))?;
+            Ok(are_right && are_same)
+        }
+        Err(refusal) => {
+            println!(rt; "calls that take none: refused with {}", refusal.code())?;
+            Ok(false)
+        }
+    }
+}
+
+fn told(are_same: bool) -> &'static str {
+    if are_same { "made" } else { "wrong" }
+}
+
+fn try_values<R: Print + AllocGlobal>(rt: &R) -> io::Result<bool> {
+    Ok(
+        tell::<R, Act>(rt)?
+            & tell::<R, ReserveTick>(rt)?
+            & tell::<R, CopyBatch>(rt)?
+            & tell::<R, NewReader>(rt)?
+            & tell::<R, Play>(rt)?
+            & tell::<R, NewFile>(rt)?
+            & tell::<R, ReserveFile>(rt)?
+            & tell::<R, GrowFile>(rt)?,
+    )
+}
+
+fn try_stores<R: Print + AllocGlobal>(rt: &R) -> io::Result<bool> {
+    Ok(
+        tell::<R, Build<PlainCopy>>(rt)?
+            & tell::<R, Build<Zigzag>>(rt)?
+            & tell::<R, Build<PingPong>>(rt)?
+            & tell::<R, Build<Joined<Zig>>>(rt)?
+            & tell::<R, Build<Joined<Pong>>>(rt)?,
+    )
+}
+
+fn try_keepers<R: Print + AllocGlobal>(rt: &R) -> io::Result<bool> {
+    Ok(
+        tell::<R, ZigzagPair>(rt)?
+            & tell::<R, PingPongPair>(rt)?
+            & tell::<R, CoverPair>(rt)?
+            & tell::<R, Images>(rt)?
+            & tell::<R, Log>(rt)?,
+    )
+}
+
+fn try_worlds<R: Print + AllocGlobal>(rt: &R) -> io::Result<bool> {
+    Ok(
+        tell::<R, ReadImage>(rt)?
+            & tell::<R, ReadLog>(rt)?
+            & tell::<R, Recover>(rt)?
+            & tell::<R, Fresh>(rt)?
+            & tell::<R, Crash>(rt)?
+            & tell::<R, Run>(rt)?
+            & tell::<R, NewWorld<Ample>>(rt)?
+            & tell::<R, Open<Ample>>(rt)?
+            & tell::<R, Serve<Ample>>(rt)?,
+    )
+}
+
+fn try_growth<R: Print + AllocGlobal>(rt: &R) -> io::Result<bool> {
+    Ok(
+        tell::<R, NewWorld<Scarce>>(rt)?
+            & tell::<R, Open<Scarce>>(rt)?
+            & tell::<R, Serve<Scarce>>(rt)?,
+    )
+}
+
+// Tells how a call went, and whether that is right.
+fn tell<R: Print + AllocGlobal, X: Case>(rt: &R) -> io::Result<bool> {
+    match try_case::<X>(rt.alloc()) {
+        Ok(outcome) => {
+            println!(rt; "{}: {outcome}", X::name())?;
+            Ok(outcome != Outcome::Wrong)
+        }
+        Err(refusal) => {
+            println!(rt; "{}: refused with {}", X::name(), refusal.code())?;
+            Ok(false)
+        }
+    }
+}

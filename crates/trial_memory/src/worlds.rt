@@ -1,0 +1,296 @@
+//! Worlds on files in memory that have room for all that they get, or that grow while an allocation may be refused.
+use crate::case::{Case, digest_of_bytes, folded};
+use crate::files::{IMAGE, LOG, file_of};
+use capture_core::PlainCopy;
+use disk_model::{FourFiles, ModelFile};
+use sessions::World;
+use served::{Served, fresh_files};
+use batches::{Batch, BatchReader, Fed};
+use std::alloc::Global;
+use std::marker::PhantomData;
+use world_actions::Refusal;
+use zigzag::Zigzag;
+
+/// The room that files have at first.
+pub trait Room {
+    /// Whether they grow. A growth that is refused is a device that failed, and files may have changed before it.
+    fn grows() -> bool;
+}
+
+/// Room for all that they get.
+pub struct Ample;
+
+impl Room for Ample {
+    fn grows() -> bool {
+        false
+    }
+}
+
+/// Room for what they have.
+pub struct Scarce;
+
+impl Room for Scarce {
+    fn grows() -> bool {
+        true
+    }
+}
+
+/// More bytes than a file has here.
+const FILE_BYTES: u64 = 2_000;
+
+/// More actions than a log file has room for once a start has written it.
+const ACTIONS: u32 = 40;
+
+/// Files, or the refusal with which they are given back.
+type Made = Result<FourFiles<ModelFile>, (FourFiles<ModelFile>, Refusal)>;
+
+fn files_of<R: Room>(
+    alloc: Global,
+    image_a: &[u8],
+    log_a: &[u8],
+) -> Result<FourFiles<ModelFile>, Refusal> {
+    Ok(FourFiles {
+        image_a: file_with::<R>(alloc, image_a)?,
+        image_b: file_with::<R>(alloc, &[])?,
+        log_a: file_with::<R>(alloc, log_a)?,
+        log_b: file_with::<R>(alloc, &[])?,
+    })
+}
+
+fn file_with<R: Room>(alloc: Global, bytes: &[u8]) -> Result<ModelFile, Refusal> {
+    let mut file = file_of(alloc, bytes)?;
+    if !R::grows() {
+        file.reserve(FILE_BYTES)?;
+    }
+    Ok(file)
+}
+
+// A number for what is durable in files that are there.
+fn number_of(files: &Option<FourFiles<ModelFile>>) -> u64 {
+    match files {
+        Some(files) => folded(
+            folded(
+                digest_of_bytes(files.image_a.durable()),
+                digest_of_bytes(files.image_b.durable()),
+            ),
+            folded(
+                digest_of_bytes(files.log_a.durable()),
+                digest_of_bytes(files.log_b.durable()),
+            ),
+        ),
+        None => 0,
+    }
+}
+
+// Whether the making or the opening of a world may be refused so.
+fn is_refused<R: Room>(refusal: Refusal, is_same: bool) -> bool {
+    (is_same && refusal == Refusal::NoMemory) || (R::grows() && refusal == Refusal::Device)
+}
+
+/// The files of a new world. Where a start that failed left its image, the world is opened.
+#[derive(Drop)]
+pub struct NewWorld<R: Room> {
+    alloc: Global,
+    files: Option<FourFiles<ModelFile>>,
+    room: PhantomData<R>,
+}
+
+impl<R: Room> NewWorld<R> {
+    fn keep(&mut self, made: Made) -> Result<u64, Refusal> {
+        match made {
+            Ok(files) => {
+                self.files = Some(files);
+                Ok(0)
+            }
+            Err((files, refusal)) => {
+                self.files = Some(files);
+                Err(refusal)
+            }
+        }
+    }
+
+    fn open(&self, files: FourFiles<ModelFile>) -> Made {
+        Ok(Served::<PlainCopy, ModelFile>::open(self.alloc, files, 1)?.into_files())
+    }
+}
+
+impl<R: Room> Case for NewWorld<R> {
+    fn name() -> &'static str {
+        if R::grows() {
+            "fresh_files of files that grow"
+        } else {
+            "fresh_files"
+        }
+    }
+
+    fn refusal() -> Refusal {
+        Refusal::NoMemory
+    }
+
+    fn is_refused(refusal: Refusal, is_same: bool) -> bool {
+        is_refused::<R>(refusal, is_same)
+    }
+
+    fn set_up(alloc: Global) -> Result<Self, Refusal> {
+        Ok(NewWorld {
+            alloc,
+            files: Some(files_of::<R>(alloc, &[], &[])?),
+            room: PhantomData,
+        })
+    }
+
+    fn call(&mut self) -> Result<u64, Refusal> {
+        let files = self.files.take().ok_or(Refusal::Device)?;
+        let made = match fresh_files(self.alloc, 2, files) {
+            Err((files, Refusal::NotEmpty)) => self.open(files),
+            made => made,
+        };
+        self.keep(made)
+    }
+
+    fn seen(&mut self) -> u64 {
+        number_of(&self.files)
+    }
+}
+
+/// A world opened.
+#[derive(Drop)]
+pub struct Open<R: Room> {
+    alloc: Global,
+    files: Option<FourFiles<ModelFile>>,
+    room: PhantomData<R>,
+}
+
+impl<R: Room> Case for Open<R> {
+    fn name() -> &'static str {
+        if R::grows() {
+            "Served::open of files that grow"
+        } else {
+            "Served::open"
+        }
+    }
+
+    fn refusal() -> Refusal {
+        Refusal::NoMemory
+    }
+
+    fn is_refused(refusal: Refusal, is_same: bool) -> bool {
+        is_refused::<R>(refusal, is_same)
+    }
+
+    fn set_up(alloc: Global) -> Result<Self, Refusal> {
+        Ok(Open {
+            alloc,
+            files: Some(files_of::<R>(alloc, &IMAGE, &LOG)?),
+            room: PhantomData,
+        })
+    }
+
+    /// Where a start may have failed before, its image may be another one.
+    fn call(&mut self) -> Result<u64, Refusal> {
+        let files = self.files.take().ok_or(Refusal::Device)?;
+        match Served::<Zigzag, ModelFile>::open(self.alloc, files, 1) {
+            Ok(served) => {
+                let (tick, from) = served.recovered();
+                self.files = Some(served.into_files());
+                Ok(if R::grows() { tick } else { folded(tick, from) })
+            }
+            Err((files, refusal)) => {
+                self.files = Some(files);
+                Err(refusal)
+            }
+        }
+    }
+
+    fn seen(&mut self) -> u64 {
+        number_of(&self.files)
+    }
+}
+
+// A batch of many actions and a look at their cell.
+fn batch_of(alloc: Global) -> Result<Batch, Refusal> {
+    let mut reader = BatchReader::new(alloc)?;
+    for _ in 0..ACTIONS {
+        reader.take(b"add 0 2\n");
+    }
+    match reader.take(b"get 0\nend\n") {
+        (_, Fed::Whole) => reader.batch().try_copy(Batch::empty(alloc)),
+        _ => Err(Refusal::BadLine),
+    }
+}
+
+/// A batch of a served world. Where the log went down, the world is opened again.
+#[derive(Drop)]
+pub struct Serve<R: Room> {
+    alloc: Global,
+    served: Option<Served<PlainCopy, ModelFile>>,
+    batch: Batch,
+    room: PhantomData<R>,
+}
+
+impl<R: Room> Serve<R> {
+    fn open(&mut self, files: FourFiles<ModelFile>) -> Result<(), Refusal> {
+        match Served::open(self.alloc, files, 1) {
+            Ok(served) => {
+                self.served = Some(served);
+                Ok(())
+            }
+            Err((_, refusal)) => Err(refusal),
+        }
+    }
+
+    fn open_again(&mut self) -> Result<(), Refusal> {
+        let served = self.served.take().ok_or(Refusal::Device)?;
+        self.open(served.into_files())
+    }
+}
+
+impl<R: Room> Case for Serve<R> {
+    fn name() -> &'static str {
+        if R::grows() {
+            "Served::batch of files that grow"
+        } else {
+            "Served::batch"
+        }
+    }
+
+    fn refusal() -> Refusal {
+        Refusal::NoMemory
+    }
+
+    fn is_refused(refusal: Refusal, is_same: bool) -> bool {
+        let may_be = refusal == Refusal::NoMemory || (R::grows() && refusal == Refusal::LogDown);
+        is_same && may_be
+    }
+
+    fn set_up(alloc: Global) -> Result<Self, Refusal> {
+        let mut case = Serve {
+            alloc,
+            served: None,
+            batch: batch_of(alloc)?,
+            room: PhantomData,
+        };
+        case.open(files_of::<R>(alloc, &IMAGE, &LOG)?)?;
+        Ok(case)
+    }
+
+    fn call(&mut self) -> Result<u64, Refusal> {
+        let served = self.served.as_mut().ok_or(Refusal::Device)?;
+        let mut text = Vec::new(self.alloc);
+        match served.batch(&self.batch, &mut text) {
+            Ok(()) => Ok(digest_of_bytes(&text)),
+            Err(Refusal::LogDown) => {
+                self.open_again()?;
+                Err(Refusal::LogDown)
+            }
+            Err(refusal) => Err(refusal),
+        }
+    }
+
+    fn seen(&mut self) -> u64 {
+        match &self.served {
+            Some(served) => served.acked(),
+            None => 0,
+        }
+    }
+}

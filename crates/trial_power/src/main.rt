@@ -1,0 +1,89 @@
+//! The program `trial_power`: lets workers in threads play worlds whose files fail, or whose power is cut.
+//!
+//! It makes a world in the files of the folder that it stands in, and lets workers play it while each call of a file is
+//! kept. Then it cuts the power at random moments: it makes the files again as the disk model lets a power cut leave them,
+//! and recovers. And over files in memory it lets each call of each file fail in turn. It tells on standard error what it
+//! saw, and fails where an answered tick is lost, where another world stands, or where something that can come never did.
+#![tactic(auto)]
+
+mod cuts;
+mod failing;
+mod player;
+mod power;
+mod quiet;
+mod recorded;
+mod replay;
+mod serving;
+mod ticks;
+
+use failing::fail_calls;
+use power::{CUTS, cut_power};
+use shared_capture::{Pong, Zig};
+use std::fs::{File, Files};
+use std::process::ExitCode;
+use std::sync::Wait;
+use std::thread::Threads;
+use tcp_service::Seats;
+use trial_kit::{CutTally, FailureTally, ended};
+use world_actions::Refusal;
+use world_folder::create;
+
+/// The folder that the program stands in.
+const FOLDER: &str = ".";
+
+/// More cells than there are players: an image has two chunks.
+const CELLS: u32 = 70;
+
+fn main(rt: HostRuntime) -> ExitCode {
+    ended(&rt, try_all(&rt))
+}
+
+// Whether nothing was lost: by one method, and then by the other one in the same files.
+fn try_all<
+    R: Threads + Wait + Files<File = File> + Print + Eprint + AllocGlobal + Copy + Send + 'static,
+>(rt: &R) -> Result<bool, Refusal> {
+    create(rt, FOLDER, CELLS).map_err(|_: _| Refusal::Device)?;
+    Ok(try_method::<R, Zig>(rt, "zigzag", 1)? & try_method::<R, Pong>(rt, "pingpong", 2)?)
+}
+
+fn try_method<
+    R: Threads + Wait + Files<File = File> + Print + Eprint + AllocGlobal + Copy + Send + 'static,
+    M: Seats + Send + 'static,
+>(rt: &R, method: &str, seed: u64) -> Result<bool, Refusal> {
+    let tally = cut_power::<R, M>(rt, FOLDER, seed)?;
+    let is_kept = tell_cuts(rt, method, tally)?;
+    let failures = fail_calls::<R, M>(rt, rt.alloc())?;
+    Ok(tell_failures(rt, method, failures)? && is_kept)
+}
+
+fn tell_cuts<R: Print + Eprint>(rt: &R, method: &str, tally: CutTally) -> Result<bool, Refusal> {
+    let _ = eprintln!(rt; "{method}: {tally}");
+    let passes = tally.passes(CUTS);
+    println!(rt; "{method}: {CUTS} power cuts, {}", text_of(passes)).map_err(
+        |_: _| Refusal::Device,
+    )?;
+    Ok(passes)
+}
+
+fn tell_failures<R: Print + Eprint>(
+    rt: &R,
+    method: &str,
+    failures: FailureTally,
+) -> Result<bool, Refusal> {
+    let _ = eprintln!(rt; "{method}: {failures}");
+    let passes = failures.passes();
+    println!(rt;
+        "{method}: each call of four files failed, {}",
+        text_of(passes)
+    )
+    .map_err(|_: _| Refusal::Device)?;
+    Ok(passes)
+}
+
+fn text_of(passes: bool) -> &'static str {
+    if passes {
+        "no answered tick lost"
+    } else {
+        "wrong"
+    }
+}

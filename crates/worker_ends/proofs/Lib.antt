@@ -1,9 +1,0 @@
-mod Parts
-mod Below
-mod Images
-mod Playing
-mod Written
-mod Meeting
-mod Joined
-mod Ended
-pub mod Staying

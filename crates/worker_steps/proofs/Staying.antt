@@ -1,0 +1,17 @@
+-- What workers leave sound is sound for what they began with.
+use Rattle.std.proofs.Common.{◌≡◌, ℕ, List, ◌∷◌, length, sym, ap, ◌∙◌, subst}
+use Rattle.workers.specs.declared.item.Item.{Item}
+use Rattle.workers.specs.declared.item.Item.TheVariants.{Start}
+use Rattle.workers.specs.declared.checkpointer.round.ImageWriter.{ImageWriter}
+use Rattle.workers.specs.declared.log_writer.Log.{Log}
+use Rattle.workers.specs.Mutating.{Playing}
+use Rattle.workers.specs.Imaging.{Imaging}
+use Rattle.workers.specs.Logging.{Logging}
+use Rattle.worker_steps.specs.Ends.{WorldStands, BeginAt, AreSound, StaysSound}
+
+pub stays_sound : {D : Type 0} (file : D → List ℕ) (leaves : D → List ℕ → Type 0) (words : List ℕ) (writer : ImageWriter D) (log : Log D) (ended : ℕ) (m : Playing) (c : Imaging D) (w : Logging D)
+    → m.opening ≡ words → c.opening ≡ writer → w.opening ≡ log → BeginAt ended m.to.items → AreSound file leaves m c w → StaysSound file leaves words writer log ended m c w
+stays_sound {D} file leaves words writer log ended m c w words_are writer_is log_is begin sound cells ticks stands all =
+    sound cells ticks
+    (subst (λ (x : List ℕ × ImageWriter D × Log D). WorldStands file leaves cells ticks x.0 x.1 x.2) (λ i. (sym words_are i, sym writer_is i, sym log_is i)) stands)
+    (begin.0, begin.1 ∙ ap (λ (n : ℕ). Start n ∷ begin.0) all)

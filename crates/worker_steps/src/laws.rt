@@ -1,0 +1,22 @@
+ghost use Rattle.worker_steps.specs.Ends.{StopsAreSound};
+
+use action_log::log_outcomes;
+use capture_core::PlainCopy;
+use disk_model::Disk;
+use image_files::images_stay;
+use recovery::{events_keep, law_of_recovery, whole_events_keep};
+use batches::answers_are_ticks;
+use world_ticks::actions_go_on;
+
+/// Law: the three workers of a world, their ends met, make its four files sound.
+pub fn stops_are_sound<D: Disk>()
+    ensures { StopsAreSound D.content D.may_leave D.honest }
+{
+    actions_go_on();
+    answers_are_ticks();
+    events_keep::<PlainCopy>();
+    whole_events_keep();
+    images_stay::<D>();
+    log_outcomes::<D>();
+    law_of_recovery::<D>();
+}
