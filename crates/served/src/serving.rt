@@ -10,10 +10,10 @@ ghost use Rattle.served.specs.Opening.{SomeGrew, IsOpened, IsRecovered, IsRefuse
 use crate::engine::Engine;
 use crate::opening::open_engine;
 use action_log::{log_outcomes, log_queues};
+use batches::{Batch, answers_are_ticks};
 use capture_core::Capture;
 use disk_model::{Disk, FourFiles};
 use restart::worlds_go_on;
-use batches::{Batch, answers_are_ticks};
 use std::alloc::Global;
 use world_actions::Refusal;
 

@@ -8,10 +8,10 @@ ghost use Rattle.sessions.specs.Progress.{Stands, Goes, EndsEarly, BreaksOff};
 
 use crate::world::World;
 use arrayvec::ArrayString;
+use batches::{Batch, BatchReader, Fed};
 use byte_streams::{read_some, write_whole};
 use itoa::Buffer;
 use line_grammar::one_reading;
-use batches::{Batch, BatchReader, Fed};
 use std::alloc::Global;
 use std::io::{Read, Write};
 use world_actions::Refusal;

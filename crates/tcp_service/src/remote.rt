@@ -1,9 +1,9 @@
 ghost use Rattle.std.specs.Prelude.{◌≡◌};
 ghost use Rattle.tcp_service.specs.Remote.{given_by};
 
+use batches::Batch;
 use crossbeam_channel::{Receiver, SendError, Sender, bounded};
 use sessions::World;
-use batches::Batch;
 use std::alloc::Global;
 use std::marker::Model;
 use std::mem;
@@ -57,11 +57,7 @@ impl<R: Wait + Copy> Remote<R> {
     }
 
     // What asks for a batch. Its answer has a channel of its own, so that one that can't come any more is known.
-    fn asking(
-        &mut self,
-        b: &Batch,
-        buffer: Vec<u8>,
-    ) -> Result<(Ask, Receiver<Reply>), Refusal>
+    fn asking(&mut self, b: &Batch, buffer: Vec<u8>) -> Result<(Ask, Receiver<Reply>), Refusal>
         ensures asks { IfOk result (λ asking. asking.0
             ≡ record { session = self.old.session; ask = self.old.asked + 1; requests = b.now.list }) }
         ensures counts { OnOk result (self.new ≡ record self.old { asked = self.old.asked + 1 }) }

@@ -2,10 +2,10 @@
 use crate::running::{begin, end};
 use crate::same::same;
 use crate::worlds::{found_in, new_files};
+use batches::{Batch, Request};
 use crossbeam_channel::{Sender, unbounded};
 use disk_model::{Leaving, ModelFile};
 use sessions::World;
-use batches::{Batch, Request};
 use shared_capture::{Method, Pong, Zig};
 use std::alloc::Global;
 use std::process::Abort;

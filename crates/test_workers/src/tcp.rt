@@ -1,7 +1,7 @@
 use crate::running::{is_page, play};
 use crate::same::same;
-use crossbeam_channel::{Receiver, Sender, unbounded};
 use batches::Request;
+use crossbeam_channel::{Receiver, Sender, unbounded};
 use std::alloc::Global;
 use std::io::{self, Read, Write};
 use std::net::{Net, Shutdown, SocketAddr, TcpListener, TcpStream};

@@ -1,11 +1,11 @@
 //! Worlds on files in memory that have room for all that they get, or that grow while an allocation may be refused.
 use crate::case::{Case, digest_of_bytes, folded};
 use crate::files::{IMAGE, LOG, file_of};
+use batches::{Batch, BatchReader, Fed};
 use capture_core::PlainCopy;
 use disk_model::{FourFiles, ModelFile};
-use sessions::World;
 use served::{Served, fresh_files};
-use batches::{Batch, BatchReader, Fed};
+use sessions::World;
 use std::alloc::Global;
 use std::marker::PhantomData;
 use world_actions::Refusal;

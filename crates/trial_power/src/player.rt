@@ -1,7 +1,7 @@
 use crate::recorded::Clock;
+use batches::{Batch, Request};
 use crossbeam_channel::Sender;
 use sessions::World;
-use batches::{Batch, Request};
 use std::alloc::Global;
 use std::sync::Wait;
 use std::sync::atomic::Ordering;

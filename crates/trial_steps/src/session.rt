@@ -1,6 +1,6 @@
 use crate::model::PlainModel;
-use crossbeam_channel::{Receiver, Sender, TryRecvError, bounded};
 use batches::Batch;
+use crossbeam_channel::{Receiver, Sender, TryRecvError, bounded};
 use std::alloc::Global;
 use std::sync::Wait;
 use workers::{Ask, Asker, Post, Reply};

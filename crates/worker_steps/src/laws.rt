@@ -1,11 +1,11 @@
 ghost use Rattle.worker_steps.specs.Ends.{StopsAreSound};
 
 use action_log::log_outcomes;
+use batches::answers_are_ticks;
 use capture_core::PlainCopy;
 use disk_model::Disk;
 use image_files::images_stay;
 use recovery::{events_keep, law_of_recovery, whole_events_keep};
-use batches::answers_are_ticks;
 use world_ticks::actions_go_on;
 
 /// Law: the three workers of a world, their ends met, make its four files sound.

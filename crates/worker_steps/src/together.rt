@@ -8,6 +8,7 @@ ghost use Rattle.worker_steps.specs.Begun.{Started, IsWhole, IsBegun};
 ghost use Rattle.worker_steps.specs.Kept.{KeepsFront, KeepsLog};
 ghost use Rattle.worker_steps.specs.Running.{Makes, Meets};
 
+use crate::laws::stops_are_sound;
 use crate::next::Next;
 use crate::opened::{Gates, Opened};
 use crate::signals::Signals;
@@ -16,7 +17,6 @@ use disk_model::Disk;
 use shared_capture::Method;
 use std::alloc::{AllocError, Global};
 use std::sync::Wait;
-use crate::laws::stops_are_sound;
 use workers::{Checkpointer, Gate, LogWriter, Mutator, meet_workers, open};
 
 /// The workers of a world. A server gives each a thread; here they make their steps in one.

@@ -7,25 +7,25 @@
 #![tactic(auto)]
 
 mod batch_run;
+mod channel_rule;
 mod checkpointer;
 mod cut;
-mod item_channel;
 mod gate;
 mod item;
+mod item_channel;
 mod log_writer;
 mod meeting;
 mod mutator;
-mod channel_rule;
 mod post;
 
 pub use batch_run::play;
+pub use channel_rule::InOrder;
 pub use checkpointer::{Checkpointer, ImageWriter};
 pub use cut::Cut;
-pub use item_channel::{ItemReceiver, ItemSender, ReceiveEnd, SendEnd, compare, open};
 pub use gate::{Gate, Open, Pass, Place};
 pub use item::{Ended, Item, View};
+pub use item_channel::{ItemReceiver, ItemSender, ReceiveEnd, SendEnd, compare, open};
 pub use log_writer::{Log, LogWriter};
 pub use meeting::meet_workers;
 pub use mutator::Mutator;
-pub use channel_rule::InOrder;
 pub use post::{Ask, Asker, Post, Reply, SessionBatch, Waiting};

@@ -20,8 +20,8 @@ ghost use Rattle.workers.specs.Gates.{MayGo, MayStick};
 ghost use Rattle.workers.specs.Publishing.{told as with_told};
 ghost use Rattle.workers.specs.Logging.{is_end, has_end, is_over, writer_at, Took, Loses, Pops, refused, Settles, IsReady, IsAtRest, LogTellsFaults, FallsBy, IsPosted, IsLogging};
 
-use crate::item_channel::ItemReceiver;
 use crate::gate::{Gate, Place, passes};
+use crate::item_channel::ItemReceiver;
 use action_log::{LogAnswer, LogKeeper, Record};
 use advance::advance;
 use answers::Answers;

@@ -8,8 +8,8 @@ ghost use Rattle.workers.specs.Logging.{IsLogging};
 ghost use Rattle.workers.specs.Meeting.{HaveMet};
 
 use crate::checkpointer::Checkpointer;
-use crate::item_channel::compare;
 use crate::gate::Gate;
+use crate::item_channel::compare;
 use crate::log_writer::LogWriter;
 use crate::mutator::Mutator;
 use disk_model::Disk;

@@ -9,9 +9,9 @@ ghost use Rattle.workers.specs.Gates.{MayGo, MayStick};
 ghost use Rattle.workers.specs.Mutating.{IsLastRound, OpensNone, OwesSwitch, MarksIfDue, RunsBatch, AnswersBatch, Pays, Turns, EndsPlay};
 
 use crate::batch_run::play;
-use crate::item_channel::ItemSender;
 use crate::gate::{Gate, Place, passes};
 use crate::item::{Ended, Item};
+use crate::item_channel::ItemSender;
 use crate::post::Ask;
 use crossbeam_channel::Sender;
 use shared_capture::{CoverIn, Front, Method};

@@ -5,9 +5,9 @@ ghost use Rattle.workers.specs.Logging.{IsDurable};
 
 use crate::log_writer::Holding;
 use action_log::Receipt;
+use batches::{Batch, Request};
 use crossbeam_channel::Sender;
 use disk_model::Disk;
-use batches::{Batch, Request};
 use std::alloc::Global;
 use std::marker::Model;
 use std::mem;

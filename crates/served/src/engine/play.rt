@@ -10,11 +10,11 @@ ghost use Rattle.served.specs.Steps.{ImagesInOrder, LogInOrder, IsAtRest, Plays,
 
 use crate::engine::Engine;
 use action_log::{Record, log_outcomes, log_queues, tick_refusal};
+use batches::{Batch, answer_text, answers_are_ticks};
 use capture_core::{Capture, accesses_write};
 use disk_model::{Disk, FourFiles};
 use image_files::images_stay;
 use restart::worlds_go_on;
-use batches::{Batch, answer_text, answers_are_ticks};
 use world_actions::Refusal;
 use world_ticks::Tick;
 

@@ -1,6 +1,6 @@
 use super::same::{same, same_for};
-use sessions::{World, serve_lines};
 use batches::{Batch, answer_text};
+use sessions::{World, serve_lines};
 use std::alloc::{AllocError, Global};
 use std::io::{self, ErrorKind, Read, Write};
 use std::process::Abort;
