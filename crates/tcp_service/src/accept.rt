@@ -1,7 +1,8 @@
-ghost use Rattle.std.specs.Prelude.{◌≡◌, ◌≢◌, ◌+◌, ◌<◌, ◌≤◌};
+ghost use Rattle.std.specs.Prelude.{◌≡◌, ◌≢◌, ◌+◌, ◌≤◌};
 
 use crate::door::Door;
-use crate::failure::{Failure, Shortage, failure_of};
+use crate::failure::{Failure, Shortage};
+use crate::incoming::Incoming;
 use crate::session::Joined;
 use crate::session_threads::{Sessions, Shared};
 use crossbeam_channel::Sender;
@@ -79,34 +80,35 @@ pub fn accept_sessions<
         requests,
         door,
     };
+    let mut incoming = Incoming::new(listener);
     shared.door.opened();
-    let (unserved, closed) = accept_all(
+    let closed = accept_all(
         rt,
-        &listener,
+        &mut incoming,
         admission.clients,
         &mut shared,
         &mut sessions,
     );
-    drop(listener);
+    let connections = incoming.close();
     shared.door.closed();
     let Shared { door, .. } = shared;
-    ended(rt, sessions, unserved, closed, &door)
+    ended(rt, sessions, connections, closed, &door)
 }
 
 // How accepting ended, once each session has been joined.
 fn ended<R: Threads + Wait + Clock, W: Door>(
     rt: &R,
     sessions: Sessions,
-    unserved: u32,
+    connections: u32,
     closed: Closed,
     door: &W,
 ) -> Accepted
-    requires { sessions.started + unserved < 4294967296 }
+    requires { sessions.started ≤ connections }
     ensures closed { result.closed ≢ Closed.Left → result.closed ≡ closed }
-    ensures connections { result.connections ≡ sessions.started + unserved }
+    ensures connections { result.connections ≡ connections }
     ensures joined { result.closed ≢ Closed.Left → result.connections ≡ result.sessions.count + result.unserved }
 {
-    let connections = sessions.started() + unserved;
+    let unserved = connections - sessions.started();
     match (closed, sessions.join_all(rt, door)) {
         (Closed::Left, _) | (_, None) => Accepted {
             connections,
@@ -123,48 +125,44 @@ fn ended<R: Threads + Wait + Clock, W: Door>(
     }
 }
 
-// Accepts so many connections, and starts a session for each. It returns how many have none, and why it ended.
+// Accepts so many connections, and starts a session for each that it can. It returns why it ended.
 fn accept_all<
     R: Threads + Wait + Clock + Copy + Send + 'static,
     W: Door + Clone + Drop + Send + 'static,
 >(
     rt: &R,
-    listener: &Listener,
+    incoming: &mut Incoming,
     clients: u32,
     shared: &mut Shared<W>,
     sessions: &mut Sessions,
-) -> (u32, Closed)
-    requires { sessions.old.started ≡ 0 }
-    ensures all { result.1 ≡ Closed.AllCame → sessions.new.started + result.0 ≡ clients }
-    ensures some { sessions.new.started + result.0 ≤ clients }
+) -> Closed
+    requires { (sessions.old.started ≡ 0) × (incoming.old.came ≡ 0) }
+    ensures all { result ≡ Closed.AllCame → incoming.new.came ≡ clients }
+    ensures some { incoming.new.came ≤ clients }
+    ensures started { sessions.new.started ≤ incoming.new.came }
 {
     let mut shortage = Shortage::none();
-    let mut unserved = 0;
     for _ in rt.forever() {
         sessions.join_ended(rt);
         if shared.door.is_left() {
-            return (unserved, Closed::Left);
+            return Closed::Left;
         }
-        if sessions.started() + unserved == clients {
-            return (unserved, Closed::AllCame);
+        if incoming.came() == clients {
+            return Closed::AllCame;
         }
-        match listener.accept() {
+        match incoming.next() {
             Ok(stream) => {
                 shortage.pass(&mut shared.door);
                 if let Err(why) = sessions.start(rt, stream, shared) {
                     shared.door.session_refused(why);
-                    unserved += 1;
                 }
             }
-            Err(error) => match failure_of(&error) {
-                Failure::Interrupted => {}
-                Failure::OneClient => unserved += 1,
-                Failure::Shortage => shortage.wait(rt, &mut shared.door, &error),
-                Failure::Listener => {
-                    shared.door.listener_failed(&error);
-                    return (unserved, Closed::Failed(error));
-                }
-            },
+            Err((Failure::Interrupted | Failure::OneClient, _)) => {}
+            Err((Failure::Shortage, error)) => shortage.wait(rt, &mut shared.door, &error),
+            Err((Failure::Listener, error)) => {
+                shared.door.listener_failed(&error);
+                return Closed::Failed(error);
+            }
         }
     }
     unreachable!()

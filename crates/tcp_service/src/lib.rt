@@ -9,6 +9,7 @@
 mod accept;
 mod door;
 mod failure;
+mod incoming;
 mod opening;
 mod remote;
 mod server;
