@@ -1,9 +1,16 @@
+ghost use Rattle.std.specs.Prelude.{◌≡◌};
+
 use std::alloc::Global;
 use std::marker::Model;
 use world_actions::{Action, Refusal};
 
 /// The greatest number of lines of a batch before its `end`.
 pub const BATCH_LINES: usize = 1_024;
+
+/// A law: how many lines a batch may have. Clients depend on the number.
+pub fn batch_numbers()
+    ensures { BATCH_LINES ≡ 1_024 }
+{}
 
 /// What one line of a batch asks for.
 #[derive(Clone, Copy, Debug, PartialEq, Eq)]

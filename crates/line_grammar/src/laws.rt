@@ -11,6 +11,11 @@ pub fn one_reading()
     ensures unique { (line : List ℕ) (a b : Option Command) → Means line a → Means line b → a ≡ b }
 {}
 
+/// A law: how long a line may be. Clients depend on the number.
+pub fn line_numbers()
+    ensures { LINE_BYTES ≡ 80 }
+{}
+
 /// A law: a longer line than `LINE_BYTES` means nothing.
 pub fn command_length()
     ensures { (command : Command) → IsInBounds command → length (spelling command) ≤ LINE_BYTES }

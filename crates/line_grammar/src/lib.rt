@@ -15,6 +15,6 @@ mod word;
 
 pub use command::{Command, LINE_BYTES, read_command};
 pub use kept::KeptLine;
-pub use laws::{command_length, kept_bytes, one_reading};
+pub use laws::{command_length, kept_bytes, line_numbers, one_reading};
 pub use number::{read_cell, read_difference, read_number};
 pub use word::after;
