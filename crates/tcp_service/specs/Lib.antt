@@ -1,3 +1,3 @@
 pub mod Accepting
-pub mod Opening
 pub mod Remote
+pub mod Serving

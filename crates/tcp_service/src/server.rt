@@ -2,11 +2,10 @@ ghost use Rattle.std.specs.Prelude.{◌≡◌, ◌≢◌, ◌+◌, ◌≤◌, Is
 ghost use Rattle.workers.specs.Meeting.{HeardOnlyOfDown};
 ghost use Rattle.worker_steps.specs.Ends.{StaysSound};
 ghost use Rattle.worker_steps.specs.Begun.{IsWhole};
-ghost use Rattle.tcp_service.specs.Opening.{GoesOnFrom};
+ghost use Rattle.tcp_service.specs.Serving.{GoesOnFrom};
 
 use crate::accept::{Accepted, Admission, Closed, accept_sessions};
 use crate::door::Door;
-use crate::opening::{Seats, open_world};
 use disk_model::{Disk, FourFiles};
 use shared_capture::Method;
 use std::alloc::{AllocError, Global};
@@ -15,7 +14,7 @@ use std::thread::Threads;
 use std::time::Clock;
 use transports::Listener;
 use worker_steps::{Gates, Opened};
-use worker_threads::{Ends, NotStarted, Watch, ends_meet, start, stop};
+use worker_threads::{Ends, NotStarted, Seats, Watch, ends_meet, open_world, start, stop};
 use workers::Gate;
 use world_actions::Refusal;
 

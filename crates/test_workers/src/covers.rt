@@ -14,7 +14,7 @@ use shared_capture::{Method, Pong, Zig};
 use std::alloc::Global;
 use std::process::Abort;
 use std::sync::Wait;
-use tcp_service::Seats;
+use worker_threads::Seats;
 use workers::{Checkpointer, Log, Reply};
 use world_actions::Refusal;
 

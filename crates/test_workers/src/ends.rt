@@ -11,9 +11,9 @@ use std::alloc::Global;
 use std::process::Abort;
 use std::sync::Wait;
 use std::thread::{self, JoinHandle, Threads};
-use tcp_service::{Remote, Seats};
+use tcp_service::Remote;
 use worker_steps::Gates;
-use worker_threads::Ends;
+use worker_threads::{Ends, Seats};
 use workers::{Ask, Cut};
 use world_actions::{Action, Refusal};
 

@@ -11,9 +11,8 @@ use std::alloc::Global;
 use std::process::Abort;
 use std::sync::Wait;
 use std::thread::Threads;
-use tcp_service::{Seats, open_world};
 use worker_steps::Gates;
-use worker_threads::Ends;
+use worker_threads::{Ends, Seats, open_world};
 use workers::Open;
 
 const BATCHES: &[u8] =

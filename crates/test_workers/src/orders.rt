@@ -10,8 +10,8 @@ use shared_capture::{Method, Pong, Zig};
 use std::alloc::Global;
 use std::process::Abort;
 use std::sync::Wait;
-use tcp_service::Seats;
 use worker_steps::{Gates, Next, Together};
+use worker_threads::Seats;
 use workers::Open;
 
 type World<M> = Together<M, ModelFile, Open, Open, Open>;

@@ -11,9 +11,10 @@ use std::process::Abort;
 use std::sync::Wait;
 use std::thread::{self, JoinHandle, Threads};
 use std::time::Clock;
-use tcp_service::{Admission, Seats, serve_files};
+use tcp_service::{Admission, serve_files};
 use transports::Listener;
 use worker_steps::Gates;
+use worker_threads::Seats;
 use workers::Open;
 
 const BATCHES: &[u8] = b"add 0 1\nget 0\nend\nadd 0 1\nget 0\nend\n";

@@ -12,7 +12,7 @@ use shared_capture::{Method, Pong, Zig, cover_pair};
 use std::alloc::Global;
 use std::process::Abort;
 use std::sync::Wait;
-use tcp_service::Seats;
+use worker_threads::Seats;
 use workers::{ItemReceiver, Mutator, Open, Reply, open};
 use world_actions::Refusal;
 use world_ticks::TICK_MAX;

@@ -11,9 +11,9 @@ use std::process::Abort;
 use std::sync::atomic::{AtomicU64, Ordering};
 use std::sync::{Arc, Wait};
 use std::thread::Threads;
-use tcp_service::{Remote, Seats, serve_batches};
+use tcp_service::{Remote, serve_batches};
 use worker_steps::Gates;
-use worker_threads::{Ends, stop};
+use worker_threads::{Ends, Seats, stop};
 use workers::Ask;
 use world_actions::Refusal;
 

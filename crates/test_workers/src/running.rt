@@ -8,9 +8,9 @@ use std::alloc::Global;
 use std::process::Abort;
 use std::sync::Wait;
 use std::thread::Threads;
-use tcp_service::{Remote, Seats, serve_batches};
+use tcp_service::{Remote, serve_batches};
 use worker_steps::Gates;
-use worker_threads::{Ends, Workers, ends_meet, start, stop};
+use worker_threads::{Ends, Seats, Workers, ends_meet, start, stop};
 use workers::{Ask, Gate};
 use world_actions::Refusal;
 

@@ -17,8 +17,8 @@ use std::alloc::Global;
 use std::process::Abort;
 use std::sync::atomic::{AtomicU64, Ordering};
 use std::sync::{Arc, Wait};
-use tcp_service::Seats;
 use worker_steps::Opened;
+use worker_threads::Seats;
 use workers::{
     Ask, Asker, Checkpointer, ItemReceiver, ItemSender, LogWriter, Mutator, Open, Reply, open,
 };

@@ -10,9 +10,9 @@ use std::alloc::{AllocError, Global};
 use std::io;
 use std::process::Abort;
 use std::sync::Wait;
-use tcp_service::{Door, Seats, Unserved, open_world};
+use tcp_service::{Door, Unserved};
 use worker_steps::Opened;
-use worker_threads::Watch;
+use worker_threads::{Seats, Watch, open_world};
 use workers::{ImageWriter, Log};
 
 /// What a running world tells.

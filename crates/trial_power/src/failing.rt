@@ -10,9 +10,9 @@ use sessions::World;
 use std::alloc::Global;
 use std::sync::Wait;
 use std::thread::Threads;
-use tcp_service::{Remote, Seats, open_world};
+use tcp_service::Remote;
 use trial_kit::{FAILING_FILES, FailureTally};
-use worker_threads::{Ends, Workers, ends_meet, stop};
+use worker_threads::{Ends, Seats, Workers, ends_meet, open_world, stop};
 use workers::{Ask, Open};
 use world_actions::Refusal;
 

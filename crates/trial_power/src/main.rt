@@ -23,8 +23,8 @@ use std::fs::{File, Files};
 use std::process::ExitCode;
 use std::sync::Wait;
 use std::thread::Threads;
-use tcp_service::Seats;
 use trial_kit::{CutTally, FailureTally, ended};
+use worker_threads::Seats;
 use world_actions::Refusal;
 use world_folder::create;
 

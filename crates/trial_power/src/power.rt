@@ -11,8 +11,8 @@ use std::fs::{File, Files};
 use std::sync::atomic::{AtomicU64, Ordering};
 use std::sync::{Arc, Wait};
 use std::thread::Threads;
-use tcp_service::Seats;
 use trial_kit::{CutTally, Random};
+use worker_threads::Seats;
 use world_actions::Refusal;
 use world_folder::open_existing;
 

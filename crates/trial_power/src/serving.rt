@@ -6,8 +6,7 @@ use disk_model::FourFiles;
 use std::alloc::Global;
 use std::sync::Wait;
 use std::thread::{self, JoinHandle, Threads};
-use tcp_service::{Seats, open_world};
-use worker_threads::{Ends, Workers, ends_meet, stop};
+use worker_threads::{Ends, Seats, Workers, ends_meet, open_world, stop};
 use workers::{Ask, Open};
 use world_actions::Refusal;
 

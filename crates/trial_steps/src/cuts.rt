@@ -8,9 +8,8 @@ use crossbeam_channel::Sender;
 use shared_capture::Method;
 use std::sync::Wait;
 use std::thread::Threads;
-use tcp_service::{Seats, open_world};
 use worker_steps::Gates;
-use worker_threads::{Ends, stop_after};
+use worker_threads::{Ends, Seats, open_world, stop_after};
 use workers::{Ask, Cut};
 use world_actions::Refusal;
 

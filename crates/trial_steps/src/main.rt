@@ -29,9 +29,9 @@ use shared_capture::{Pong, Zig};
 use std::process::ExitCode;
 use std::sync::Wait;
 use std::thread::Threads;
-use tcp_service::Seats;
 use trial::Trial;
 use trial_kit::ended;
+use worker_threads::Seats;
 use world_actions::Refusal;
 
 fn main(rt: HostRuntime) -> ExitCode {

@@ -9,7 +9,7 @@ use action_log::SEGMENT_TICKS;
 use disk_model::FourFiles;
 use shared_capture::Method;
 use std::sync::Wait;
-use tcp_service::Seats;
+use worker_threads::Seats;
 use world_actions::Refusal;
 use world_ticks::TICK_MAX;
 

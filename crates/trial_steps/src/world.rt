@@ -5,8 +5,8 @@ use disk_model::FourFiles;
 use shared_capture::Method;
 use std::alloc::Global;
 use std::sync::Wait;
-use tcp_service::{Seats, open_world};
 use worker_steps::{Gates, Next, Together};
+use worker_threads::{Seats, open_world};
 use workers::{Checkpointer, LogWriter};
 use world_actions::Refusal;
 

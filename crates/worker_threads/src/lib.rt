@@ -1,5 +1,5 @@
 //! The workers of a world, each in a thread of its own: how they start, what each does until it ends, and what
-//! they leave.
+//! they leave. `open_world` opens a world of four files for them.
 #![tactic(auto)]
 
 mod cuts;
@@ -9,8 +9,10 @@ mod running;
 mod threads;
 mod watch;
 mod work;
+mod world_opening;
 
 pub use cuts::stop_after;
 pub use meeting::ends_meet;
 pub use threads::{Ends, NotStarted, Workers, start, stop};
 pub use watch::Watch;
+pub use world_opening::{Seats, open_world};

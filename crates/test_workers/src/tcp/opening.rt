@@ -8,8 +8,8 @@ use sessions::serve_lines;
 use shared_capture::{Front, Method, Pong, Zig};
 use std::alloc::Global;
 use std::process::Abort;
-use tcp_service::{Seats, open_world};
 use worker_steps::Opened;
+use worker_threads::{Seats, open_world};
 use world_actions::Refusal;
 use world_ticks::Cells;
 

@@ -2,7 +2,7 @@ use Rattle.std.proofs.Common.{◌≡◌, ℕ, take, length, sym, ap, ◌∙◌, 
 use Rattle.image_files.specs.Progress.{Progress as ImageProgress}
 use Rattle.action_log.specs.declared.progress.Progress.{Progress as LogProgress}
 use Rattle.worker_steps.specs.Ends.{WorldStands}
-use Rattle.tcp_service.proofs.opening.open_world.Goals as goal
+use Rattle.worker_threads.proofs.world_opening.open_world.Goals as goal
 
 pub returns-clause-stands : goal.returns-clause-stands
 returns-clause-stands g c = λ honest cells ticks acknowledged synced sound.

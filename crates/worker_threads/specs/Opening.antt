@@ -6,10 +6,7 @@ use Rattle.recovery.specs.Recovery.{Recovery}
 use Rattle.served.specs.Opening.{AreSynced, AreSound, RecoversFiles}
 use Rattle.workers.specs.declared.checkpointer.round.ImageWriter.{ImageWriter}
 use Rattle.workers.specs.declared.log_writer.Log.{Log}
-use Rattle.workers.specs.Mutating.{Playing}
-use Rattle.workers.specs.Imaging.{Imaging}
-use Rattle.workers.specs.Logging.{Logging}
-use Rattle.worker_steps.specs.Ends.{WorldStands, LeaveSound}
+use Rattle.worker_steps.specs.Ends.{WorldStands}
 
 -- these words, this tick and the tick of this image are what recovery answers on what the files hold
 pub record IsRecovered {D : Type 0} (file : D → List ℕ) (files : FourFiles D) (live : List ℕ) (ended from : ℕ) : Type 0 where
@@ -25,11 +22,3 @@ abbrev pub StandsOpened : {D : Type 0} → (file : D → List ℕ) → (leaves :
 StandsOpened file leaves files words writer log ended =
     (cells : ℕ) (ticks : List (List Action)) (acknowledged : ℕ) → AreSynced file leaves files → AreSound file leaves files cells ticks acknowledged
     → WorldStands file leaves cells (take ended ticks) words writer log × (ended ≡ length (take ended ticks))
-
--- A server recovers what stands in these files at some tick. Where they were sound for some ticks, what it leaves is sound for
--- the recovered ones and all that were played.
-abbrev pub GoesOnFrom : {D : Type 0} → (file : D → List ℕ) → (leaves : D → List ℕ → Type 0) → FourFiles D → Playing → Imaging D → Logging D → Type 0
-GoesOnFrom file leaves files m c w =
-    (ended from : ℕ) × IsRecovered file files m.opening ended from
-    × ((cells : ℕ) (ticks : List (List Action)) (acknowledged : ℕ) → AreSynced file leaves files → AreSound file leaves files cells ticks acknowledged
-    → LeaveSound file leaves cells (take ended ticks) m c w)

@@ -8,7 +8,7 @@ ghost use Rattle.served.specs.Opening.{IsRefused, SomeGrew};
 ghost use Rattle.shared_capture.specs.States.{IsStart};
 ghost use Rattle.worker_steps.specs.Begun.{IsWhole};
 ghost use Rattle.worker_steps.specs.Ends.{WorldStands};
-ghost use Rattle.tcp_service.specs.Opening.{IsRecovered, StandsOpened};
+ghost use Rattle.worker_threads.specs.Opening.{IsRecovered, StandsOpened};
 
 use capture_core::PlainCopy;
 use disk_model::{Disk, FourFiles};

@@ -1,0 +1,18 @@
+-- What serving some files leaves in them.
+use Rattle.std.specs.Prelude.{ℕ, List, take}
+use Rattle.world_actions.specs.declared.action.Action.{Action}
+use Rattle.disk_model.specs.declared.four_files.FourFiles.{FourFiles}
+use Rattle.served.specs.Opening.{AreSynced, AreSound}
+use Rattle.workers.specs.Mutating.{Playing}
+use Rattle.workers.specs.Imaging.{Imaging}
+use Rattle.workers.specs.Logging.{Logging}
+use Rattle.worker_steps.specs.Ends.{LeaveSound}
+use Rattle.worker_threads.specs.Opening.{IsRecovered}
+
+-- A server recovers what stands in these files at some tick. Where they were sound for some ticks, what it leaves is sound for
+-- the recovered ones and all that were played.
+abbrev pub GoesOnFrom : {D : Type 0} → (file : D → List ℕ) → (leaves : D → List ℕ → Type 0) → FourFiles D → Playing → Imaging D → Logging D → Type 0
+GoesOnFrom file leaves files m c w =
+    (ended from : ℕ) × IsRecovered file files m.opening ended from
+    × ((cells : ℕ) (ticks : List (List Action)) (acknowledged : ℕ) → AreSynced file leaves files → AreSound file leaves files cells ticks acknowledged
+    → LeaveSound file leaves cells (take ended ticks) m c w)
