@@ -1,3 +1,4 @@
+//! The model that judges worlds: it does actions again, on purpose, by code of its own.
 use std::alloc::Global;
 use world_actions::{Action, LIMIT, Refusal};
 
