@@ -12,8 +12,8 @@ use Rattle.shared_capture.specs.declared.method.Method as method
 use Rattle.disk_model.specs.declared.disk.Disk as disk
 use Rattle.workers.specs.declared.gate.Gate as gate
 use Rattle.world_ticks.specs.contracts.tick.Tick as Tick
-use Rattle.workers.specs.contracts.ends.ItemSender as ItemSender
-use Rattle.workers.specs.contracts.ends.ItemReceiver as ItemReceiver
+use Rattle.workers.specs.contracts.item_channel.ItemSender as ItemSender
+use Rattle.workers.specs.contracts.item_channel.ItemReceiver as ItemReceiver
 use Rattle.workers.specs.contracts.mutator.Mutator as Mutator
 use Rattle.workers.specs.contracts.checkpointer.Checkpointer as Checkpointer
 use Rattle.workers.specs.contracts.checkpointer.publisher.Publisher as Publisher

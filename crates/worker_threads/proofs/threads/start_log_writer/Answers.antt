@@ -5,7 +5,7 @@ use Rattle.std.specs.contracts.impls.GlobalAllocator.TheImpl.{ghosts}
 use Rattle.circular_buffer.specs.contracts.heap.HeapCircularBuffer as Ring
 use Rattle.action_log.specs.contracts.record.Record as Record
 use Rattle.workers.specs.contracts.post.Waiting as Waiting
-use Rattle.workers.specs.contracts.ends.ItemReceiver as ItemReceiver
+use Rattle.workers.specs.contracts.item_channel.ItemReceiver as ItemReceiver
 use Rattle.shared_capture.specs.contracts.cover.CoverIn as CoverIn
 use Rattle.shared_capture.specs.contracts.cover.CoverOut as CoverOut
 use Rattle.worker_threads.proofs.Sends.{log_writer_sends}

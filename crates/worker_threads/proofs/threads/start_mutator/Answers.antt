@@ -4,7 +4,7 @@ use Rattle.shared_capture.specs.contracts.front.Front as Front
 use Rattle.shared_capture.specs.contracts.cover.CoverIn as CoverIn
 use Rattle.world_ticks.specs.contracts.tick.Tick as Tick
 use Rattle.workers.specs.contracts.post.Waiting as Waiting
-use Rattle.workers.specs.contracts.ends.ItemSender as ItemSender
+use Rattle.workers.specs.contracts.item_channel.ItemSender as ItemSender
 use Rattle.worker_threads.proofs.Sends.{mutator_sends}
 use Rattle.worker_threads.proofs.threads.start_mutator.Goals as goal
 
