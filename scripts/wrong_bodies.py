@@ -44,9 +44,10 @@ class Function:
     last: int
 
     def holds(self, path: str) -> bool:
-        """Whether a folder of proofs/ belongs to it."""
+        """Whether a folder of proofs/ belongs to it. A method's proofs stand in its type's module, which may be one above."""
         module = "" if self.file in ("lib.rt", "main.rt") else self.file.removesuffix(".rt") + "/"
-        return path.startswith(module) and self.name in path.removeprefix(module).split("/")
+        modules = [module] + [f"{above}/" for above in pathlib.PurePath(self.file).parents[:-1]]
+        return any(path.startswith(it) and self.name in path.removeprefix(it).split("/") for it in modules)
 
 
 def bodies_of(crate: pathlib.Path, folder: str = "wrong-bodies") -> list[pathlib.Path]:
