@@ -166,7 +166,12 @@ impl Capture for Zigzag {
 
     ghost after_take = { λ old new answer takes. takes };
 
-    fn build(alloc: Global, words: &[u64]) -> Result<Self, Refusal> {
+    fn build(alloc: Global, words: &[u64]) -> Result<Self, Refusal>
+        requires { All IsWord words.now }
+        ensures ok { IfOk result (λ store. content_of store ≡ all_touched words.now []) }
+        ensures err { IfErr result (λ refusal. refusal ≡ Refusal.NoMemory) }
+        ensures arrays { IfOk result (λ store. store ≡ built_arrays words.now) }
+    {
         Zigzag::new(alloc, words)
     }
 
