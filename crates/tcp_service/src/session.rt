@@ -61,7 +61,12 @@ pub fn serve_session<R: Wait + Copy, W: Door + Drop>(
     let mut door = door;
     let silence = idle.map(|seconds| Duration::from_secs(u64::from(seconds)));
     let _ = stream.set_up(silence);
+    let pulse = door.pulse();
+    if let Some(pulse) = &pulse {
+        pulse.session_began();
+    }
     let mut world = Remote::new(*rt, alloc, session, requests);
+    world.count_for(pulse);
     let served = serve_batches(alloc, &mut &stream, &mut &stream, &mut world);
     match served {
         Err(Refusal::NoMemory) => door.session_refused(Unserved::NoMemory),
@@ -69,6 +74,9 @@ pub fn serve_session<R: Wait + Copy, W: Door + Drop>(
             let _ = stream.drain();
         }
         _ => {}
+    }
+    if let Some(pulse) = door.pulse() {
+        pulse.session_ended();
     }
     Over(())
 }

@@ -96,7 +96,7 @@ pub const SERVE_HELP: &str = "\
 It recovers the world in the folder, and listens on port P of 127.0.0.1, or on a socket
 of the system at PATH, until K connections have come and gone, each in a thread of its
 own. It makes no other file. METHOD is zigzag or pingpong, E from 1 to 65536, P from 0 to
-65535, K from 1 to 100000, SECONDS from 1 to 86400, PATH of at most 101 bytes. After the
+65535, K from 1 to 100000, SECONDS up to 86400, PATH of at most 101 bytes. After the
 last connection the port or the socket is closed; the file at PATH is removed at the end.
 Any user of this machine may connect to a port, and to a socket those whom MODE lets
 write its file.
@@ -118,6 +118,8 @@ On standard error it prints, and drops lines that nobody reads:
   worldd: the port is closed: no more clients can come       or: the socket
   worldd: listener failed: REASON              no more clients can come
   worldd: standard output: REASON              a line couldn't be printed
+  worldd: acked A image I sessions S batches/s B waiting W   by --report: up to tick A
+      it answered, the newest image is of tick I, S clients play, W batches wait
   worldd: lines dropped: COUNT                 nobody read them
 Its status is 0; 12 if the log is down, else 11 if images are, else 10 if the listener
 failed; 2 for a wrong command line; else 1, and standard error has `fault CODE`:
