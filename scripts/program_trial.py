@@ -17,6 +17,7 @@ import struct
 import subprocess
 import sys
 import tempfile
+import time
 
 from kill_trial import SOCKET, TRANSPORTS, connect
 
@@ -142,6 +143,7 @@ def try_command_lines(trial: Trial) -> None:
         ("serve --port 65536", "invalid value '65536' for '--port <P>': 65536 is not in 0..=65535\n\n"),
         ("serve --idle 0", "invalid value '0' for '--idle <SECONDS>': 0 is not in 1..=86400\n\n"),
         ("serve --idle 86401", "invalid value '86401' for '--idle <SECONDS>': 86401 is not in 1..=86400\n\n"),
+        ("serve --report 86401", "invalid value '86401' for '--report <SECONDS>': 86401 is not in 0..=86400\n\n"),
         ("serve --clients 100001", "invalid value '100001' for '--clients <K>': 100001 is not in 1..=100000\n\n"),
     ):
         trial.ends(f"worldd {words}", trial.run(*words.split()), "", f"error: {text}{MORE}", 2)
@@ -565,12 +567,31 @@ def try_serving(trial: Trial) -> None:
             trial.check("an image", recovered.output in ("recovered 2 from 1\n", "recovered 2 from 2\n"), True)
 
 
+def try_reporting(trial: Trial) -> None:
+    """Figures that a server prints: the last answered tick, its newest image, its clients and what waits."""
+    with new_folder(NEW_IMAGE, b"", b"", b"") as folder, open(folder / "errors", "w+") as errors:
+        line = f"serve --dir {folder} --method zigzag --port 0 --clients 2 --report 1".split()
+        with subprocess.Popen([trial.program, *line], stdout=subprocess.PIPE, stderr=errors, text=True) as server:
+            address = [server.stdout.readline() for _ in range(2)][-1].split()[-1]
+            trial.check("a first client", answer_to(address, b"end\nend\nend\n"), "tick 1:\ntick 2:\ntick 3:\n")
+            with connect(address) as client, client.makefile() as reader:
+                client.sendall(b"end\n")
+                trial.check("a second client", reader.readline(), "tick 4:\n")
+                time.sleep(2.5)
+            server.communicate(timeout=SECONDS)
+        trial.runs += 1
+        trial.seen["served"] += 1
+        errors.seek(0)
+        reports = [line for line in errors.read().splitlines() if " acked " in line]
+        trial.check("reports", bool(reports) and reports[-1], "worldd: acked 4 image 0 sessions 1 batches/s 0 waiting 0")
+
+
 def main() -> int:
     """Runs all, and prints what was seen."""
     parser = argparse.ArgumentParser(description=__doc__.splitlines()[0])
     parser.add_argument("program", type=pathlib.Path, help="the built worldd")
     trial = Trial(str(parser.parse_args().program.resolve()))
-    for part in (try_command_lines, try_scripts, try_creating, try_not_creating, try_words, try_larger, try_found, try_figures, try_copies, try_missing, try_damaged, try_not_serving, try_serving):
+    for part in (try_command_lines, try_scripts, try_creating, try_not_creating, try_words, try_larger, try_found, try_figures, try_copies, try_missing, try_damaged, try_not_serving, try_serving, try_reporting):
         part(trial)
     wanted = ["status 0", "status 2", "served", *(f"status 1, fault {code}" for code in (13, 14, 15, 16, 18, 22))]
     never = [kind for kind in wanted if not trial.seen[kind]]

@@ -1,5 +1,5 @@
 -- A text that lists the words of a world.
-use Rattle.std.specs.Prelude.{◌≡◌, ◌≢◌, ◌⊎◌, ℕ, ◌+◌, ◌==◌, if◌then◌else◌, List, [], ◌∷◌, ◌++◌, All, decimal, length}
+use Rattle.std.specs.Prelude.{◌≡◌, ◌≢◌, ◌⊎◌, ℕ, ◌+◌, ◌==◌, if◌then◌else◌, List, [], ◌∷◌, ◌++◌, decimal, length}
 use Rattle.world_actions.specs.declared.world.TheConstants.{CELLS}
 use Rattle.world_actions.specs.World.{IsWord}
 
@@ -22,6 +22,11 @@ abbrev pub newlines : List ℕ → ℕ
 newlines [] = 0
 newlines (byte ∷ bytes) = (if byte == 10 then 1 else 0) + newlines bytes
 
+-- no byte is a separator
+abbrev pub HasNoSeparator : List ℕ → Type 0
+HasNoSeparator [] = Unit {0}
+HasNoSeparator (byte ∷ bytes) = ¬ IsSeparator byte × HasNoSeparator bytes
+
 -- nothing is left, or a separator comes
 abbrev pub EndsPart : List ℕ → Type 0
 EndsPart [] = Unit {0}
@@ -35,7 +40,7 @@ pub record IsUnreadAt (line : ℕ) (text : List ℕ) : Type 0 where
   pub rest : List ℕ
   pub is_text : text ≡ front ++ (part ++ rest)
   pub listed : ListsEach words front
-  pub whole : All (λ byte. ¬ IsSeparator byte) part
+  pub whole : HasNoSeparator part
   pub ends : EndsPart rest
   pub unread : (word : ℕ) → IsWord word → part ≢ decimal word
   pub line_is : line ≡ newlines front + 1

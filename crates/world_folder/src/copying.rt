@@ -1,7 +1,6 @@
 //! A copy of a world's files that is taken while a server writes them.
-ghost use Rattle.std.specs.Prelude.{◌≡◌, ◌⊎◌, [], IfOk, IfErr};
+ghost use Rattle.std.specs.Prelude.{◌≡◌, true, [], IfErr};
 ghost use Rattle.world_folder.specs.Ending.{IsFault};
-ghost use Rattle.world_folder.specs.Look.{look_of};
 
 use crate::ending::Ending;
 use crate::fault::Fault;
@@ -66,7 +65,7 @@ fn copy_from<R: Clock + AllocGlobal>(rt: &R, source: &mut Source<'_>) -> Result<
     let mut blanks = 0;
     for number in 1..=TRIES {
         match try_copy(rt.alloc(), source)? {
-            Tried::Copied(files) => return copied(rt.alloc(), source, files, number),
+            Tried::Copied(files) => return with_lengths(rt.alloc(), source, files, number),
             Tried::NoImage => blanks += 1,
             Tried::Unsteady => {}
         }
@@ -79,7 +78,7 @@ fn copy_from<R: Clock + AllocGlobal>(rt: &R, source: &mut Source<'_>) -> Result<
 }
 
 // The copy, with the lengths of the files.
-fn copied(
+fn with_lengths(
     alloc: Global,
     source: &Source<'_>,
     files: FourFiles<Vec<u8>>,

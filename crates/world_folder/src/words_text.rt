@@ -1,7 +1,7 @@
 //! A text that lists the words of a world.
-ghost use Rattle.std.specs.Prelude.{◌≡◌, ◌≢◌, ◌⊎◌, ◌↔◌, ◌≤◌, ◌<◌, ℕ, [], Err, decimal, length, slice_index, IsTrue, IfOk, IfSome, IfNone};
+ghost use Rattle.std.specs.Prelude.{◌≡◌, ◌≢◌, ◌↔◌, ◌≤◌, ◌<◌, ◌+◌, ◌∷◌, ℕ, [], Err, decimal, length, slice_index, take, drop, IsTrue, IfOk, OnOk, IfSome, IfNone};
 ghost use Rattle.world_actions.specs.World.{IsWord, IsWorld};
-ghost use Rattle.world_folder.specs.WordsText.{IsSeparator, newlines, Lists, IsUnreadAt, HasTooMany};
+ghost use Rattle.world_folder.specs.WordsText.{IsSeparator, HasNoSeparator, EndsPart, newlines, Lists, IsUnreadAt, HasTooMany};
 
 use line_grammar::read_number;
 use std::alloc::Global;
@@ -63,11 +63,26 @@ pub fn read_words(alloc: Global, text: &[u8]) -> Result<Vec<u64>, BadWords>
     ensures line { (line : ℕ) → result ≡ Err (BadWords.Line line) → IsUnreadAt line text.now }
 {
     let mut words = Vec::new(alloc);
+    match list_words(text, &mut words) {
+        Ok(()) => Ok(words),
+        Err(bad) => Err(bad),
+    }
+}
+
+// Adds the words that a text lists to none.
+fn list_words(text: &[u8], words: &mut Vec<u64>) -> Result<(), BadWords>
+    requires { words.old.items ≡ [] }
+    ensures listed { OnOk result (Lists words.new.items text.now) }
+    ensures world { OnOk result (IsWorld words.new.items) }
+    ensures empty { result ≡ Err BadWords.Empty → text.now ≡ [] }
+    ensures too_many { result ≡ Err BadWords.TooMany → HasTooMany text.now }
+    ensures line { (line : ℕ) → result ≡ Err (BadWords.Line line) → IsUnreadAt line text.now }
+{
     let mut line = 1;
-    let mut at = 0;
-    while at < text.len() {
-        let end = end_of_part(text, at);
-        let Some(word) = read_word(&text[at..end]) else {
+    let mut rest = text;
+    while !rest.is_empty() {
+        let end = end_of_part(rest);
+        let Some(word) = read_word(&rest[..end]) else {
             return Err(BadWords::Line(line));
         };
         if words.len() == CELLS as usize {
@@ -76,26 +91,25 @@ pub fn read_words(alloc: Global, text: &[u8]) -> Result<Vec<u64>, BadWords>
         if words.push(word).is_err() {
             return Err(BadWords::NoMemory);
         }
-        if is_newline(text, end) {
-            line += 1;
+        if end == rest.len() {
+            return Ok(());
         }
-        at = end + 1;
+        line += newlines_at(rest, end);
+        rest = behind(rest, end);
     }
     if words.is_empty() {
         return Err(BadWords::Empty);
     }
-    Ok(words)
+    Ok(())
 }
 
-// The place of the first separator from a place on, or the end of the text.
-fn end_of_part(text: &[u8], from: usize) -> usize
-    requires { from ≤ length text.now }
-    ensures from { from ≤ result }
+// The place of the first separator, or the end of the text.
+fn end_of_part(text: &[u8]) -> usize
     ensures inside { result ≤ length text.now }
-    ensures ends { result < length text.now → IsSeparator (slice_index text.now result) }
-    ensures part { (i : ℕ) → from ≤ i → i < result → ¬ IsSeparator (slice_index text.now i) }
+    ensures part { HasNoSeparator (take result text.now) }
+    ensures ends { EndsPart (drop result text.now) }
 {
-    for at in from..text.len() {
+    for at in 0..text.len() {
         if is_separator(text[at]) {
             return at;
         }
@@ -103,16 +117,27 @@ fn end_of_part(text: &[u8], from: usize) -> usize
     text.len()
 }
 
+// How many newlines stand at a place: one or none.
+fn newlines_at(text: &[u8], at: usize) -> u64
+    requires { at < length text.now }
+    ensures count { result ≡ newlines (slice_index text.now at ∷ []) }
+    ensures few { result ≤ 1 }
+{
+    if text[at] == b'\n' { 1 } else { 0 }
+}
+
+// What stands behind a place.
+fn behind(text: &[u8], at: usize) -> &[u8]
+    requires { at < length text.now }
+    ensures { result.now ≡ drop (at + 1) text.now }
+{
+    &text[at + 1..]
+}
+
 fn is_separator(byte: u8) -> bool
     ensures { IsTrue result ↔ IsSeparator byte }
 {
     byte == b' ' || byte == b'\n'
-}
-
-fn is_newline(text: &[u8], at: usize) -> bool
-    ensures { IsTrue result ↔ ((at < length text.now) × (slice_index text.now at ≡ 10)) }
-{
-    at < text.len() && text[at] == b'\n'
 }
 
 // The word that a part of a text is, if it is one.
