@@ -98,8 +98,20 @@ impl<R: Wait + Copy> Remote<R> {
         Ok((ask, from))
     }
 
-    // Sends a batch with a buffer for its answer, and waits for its post.
+    // The same as `send`, and counts it.
     fn ask(&mut self, b: &Batch, buffer: Vec<u8>) -> Result<Post, Refusal>
+        ensures ok { OnOk result (self.new ≡ record self.old { asked = self.old.asked + 1 }) }
+        ensures err { OnErr result ((self.new ≡ self.old)
+            ⊎ (self.new ≡ record self.old { asked = self.old.asked + 1 })) }
+    {
+        self.count_asked();
+        let answer = self.send(b, buffer);
+        self.count_answered(&answer);
+        answer
+    }
+
+    // Sends a batch with a buffer for its answer, and waits for its post.
+    fn send(&mut self, b: &Batch, buffer: Vec<u8>) -> Result<Post, Refusal>
         ensures ok { OnOk result (self.new ≡ record self.old { asked = self.old.asked + 1 }) }
         ensures err { OnErr result ((self.new ≡ self.old)
             ⊎ (self.new ≡ record self.old { asked = self.old.asked + 1 })) }
@@ -124,10 +136,7 @@ impl<R: Wait + Copy> World for Remote<R> {
 
     fn batch(&mut self, b: &Batch, text: &mut Vec<u8>) -> Result<(), Refusal> {
         let buffer = mem::replace(text, Vec::new(self.alloc));
-        self.count_asked();
-        let answer = self.ask(b, buffer);
-        self.count_answered(&answer);
-        let post = answer?;
+        let post = self.ask(b, buffer)?;
         if post.tick() <= self.tick || !post.is_for(&self.asker, b) {
             return Err(Refusal::LogDown);
         }

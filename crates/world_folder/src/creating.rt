@@ -47,7 +47,7 @@ pub fn create_of_words<R: Files<File = File> + Print + AllocGlobal>(
     let files = open_to_write(rt, folder)?;
     let made = match make_of_words(rt.alloc(), folder, &words, files) {
         Ok((_, made)) => made,
-        Err((files, ending)) => return Err(not_made(rt.alloc(), folder, files, ending)),
+        Err((files, why)) => return Err(not_made(rt.alloc(), folder, files, why)),
     };
     println!(rt; "created {}", made.cells())?;
     Ok(made)
