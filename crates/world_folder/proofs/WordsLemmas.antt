@@ -9,10 +9,13 @@ pub each_more : (words front : List ℕ) (word separator : ℕ) → IsSeparator 
     → ListsEach (words ++ word ∷ []) (front ++ (decimal word ++ separator ∷ []))
 each_more [] front word separator is listed = (separator, [], is, ap (λ (l : List ℕ). l ++ (decimal word ++ separator ∷ [])) listed, refl)
 each_more (first ∷ words) front word separator is listed =
-    let more = decimal word ++ separator ∷ [] in
-    (listed.0, listed.1 ++ more, listed.2,
-    ap (λ (l : List ℕ). l ++ more) listed.3 ∙ append_assoc (decimal first) (listed.0 ∷ listed.1) more,
-    each_more words listed.1 word separator is listed.4)
+    let more = decimal word ++ separator ∷ [] in (
+      listed.0,
+      listed.1 ++ more,
+      listed.2,
+      ap (λ (l : List ℕ). l ++ more) listed.3 ∙ append_assoc (decimal first) (listed.0 ∷ listed.1) more,
+      each_more words listed.1 word separator is listed.4,
+    )
 
 -- the last word, with nothing behind it
 pub last_listed : (words front rest text : List ℕ) (word : ℕ) → text ≡ front ++ rest → take (length rest) rest ≡ decimal word
@@ -73,9 +76,12 @@ goes_on words front rest text word end is inside part none ends listed =
   where
     behind : (a b : List ℕ) (x : ℕ) (c : List ℕ) → a ++ (b ++ x ∷ c) ≡ (a ++ (b ++ x ∷ [])) ++ c
     behind a b x c = ap (λ (l : List ℕ). a ++ l) (sym (append_assoc b (x ∷ []) c)) ∙ sym (append_assoc a (b ++ x ∷ []) c)
+
     lines_of : (a b : List ℕ) (x : ℕ) → newlines b ≡ 0 → newlines (a ++ (b ++ x ∷ [])) ≡ newlines a + newlines (x ∷ [])
     lines_of a b x is_0 = omega (arith, newlines-append a (b ++ x ∷ []), newlines-append b (x ∷ []), is_0)
+
     long_of : (a b : List ℕ) (x n : ℕ) → length b ≡ n → length (a ++ (b ++ x ∷ [])) ≡ length a + n + 1
     long_of a b x n is_n = omega (arith, length-append a (b ++ x ∷ []), length-append b (x ∷ []), is_n)
+
     taken : (l : List ℕ) (n : ℕ) → n < length l → length (take n l) ≡ n
     taken l n is_in = omega (arith, length-take n l, is_in)

@@ -237,7 +237,10 @@ fn flags_of_serve_are_read(rt: HostRuntime) -> Result<(), Fail> {
     };
     assert!(rt; folder.as_str() == "world" && is_ping_pong && !exits);
     assert!(rt; address.as_str() == "Port(0)", "{address}");
-    assert_eq!(rt; (every, clients, idle, report), (Every(64), Clients(100_000), None, 0));
+    assert_eq!(rt;
+        (every, clients, idle, report),
+        (Every(64), Clients(100_000), None, 0)
+    );
     let Some((folder, is_ping_pong, every, address, clients, idle, report, exits)) = asked(
         rt.alloc(),
         &ALL,

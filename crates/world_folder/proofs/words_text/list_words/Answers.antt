@@ -23,8 +23,7 @@ loop-rest-preserved c =
     let inside : end < length rest = search rules in
     let part : take end rest ≡ decimal word = search rules in
     let on = goes_on c.loop-rest.words.items inv.0 rest c.args.text.now word end inv.1 inside part c.end_of_part-end.ensures.part c.end_of_part-end.ensures.ends inv.2 in
-    let pushed : c.push.new.self.items ≡ c.loop-rest.words.items ++ word ∷ [] = search rules in
-    (
+    let pushed : c.push.new.self.items ≡ c.loop-rest.words.items ++ word ∷ [] = search rules in (
       inv.0 ++ (decimal word ++ slice_index rest end ∷ []),
       on.is_text ∙ ap (λ (l : List ℕ). (inv.0 ++ (decimal word ++ slice_index rest end ∷ [])) ++ l) (sym c.behind-rest.ensures),
       subst (λ (words : List ℕ). ListsEach words (inv.0 ++ (decimal word ++ slice_index rest end ∷ []))) (sym pushed) on.listed,
