@@ -17,6 +17,7 @@ import struct
 import subprocess
 import sys
 import tempfile
+import time
 
 from kill_trial import SOCKET, TRANSPORTS, connect
 
@@ -114,18 +115,22 @@ def fault_of(folder: pathlib.Path, code: int, name: str, why: str) -> str:
 def try_command_lines(trial: Trial) -> None:
     """Wrong command lines, help, the version, and words that aren't text."""
     serve = "Usage: worldd serve --dir <FOLDER> --method <METHOD> --clients <K> <--port <P>|--socket <PATH>>"
+    make = "Usage: worldd create --dir <FOLDER> <--cells <N>|--words <FILE>>"
     lacking = "the following required arguments were not provided:\n  "
     whole = "serve --dir world --method zigzag --clients 1"
     for words, text in (
-        ("", "'worldd' requires a subcommand but one was not provided\n  [subcommands: steps, create, recover, inspect, serve, help]\n\nUsage: worldd <COMMAND>\n\n"),
+        ("", "'worldd' requires a subcommand but one was not provided\n  [subcommands: steps, create, recover, inspect, status, backup, serve, help]\n\nUsage: worldd <COMMAND>\n\n"),
         ("stepz", "unrecognized subcommand 'stepz'\n\n  tip: a similar subcommand exists: 'steps'\n\nUsage: worldd <COMMAND>\n\n"),
         ("steps extra", "unexpected argument 'extra' found\n\nUsage: worldd steps\n\n"),
-        ("create --cells 1", f"{lacking}--dir <FOLDER>\n\nUsage: worldd create --dir <FOLDER> --cells <N>\n\n"),
-        ("create --dir world", f"{lacking}--cells <N>\n\nUsage: worldd create --dir <FOLDER> --cells <N>\n\n"),
+        ("create --cells 1", f"{lacking}--dir <FOLDER>\n\n{make}\n\n"),
+        ("create --dir world", f"{lacking}<--cells <N>|--words <FILE>>\n\n{make}\n\n"),
+        ("create --dir world --cells 2 --words w", f"the argument '--cells <N>' cannot be used with '--words <FILE>'\n\n{make}\n\n"),
         ("create --dir world --cells 0", "invalid value '0' for '--cells <N>': 0 is not in 1..=1048576\n\n"),
         ("create --dir world --cells 1048577", "invalid value '1048577' for '--cells <N>': 1048577 is not in 1..=1048576\n\n"),
         ("create --dir world --cells two", "invalid value 'two' for '--cells <N>': invalid digit found in string\n\n"),
         ("recover", f"{lacking}--dir <FOLDER>\n\nUsage: worldd recover --dir <FOLDER>\n\n"),
+        ("status", f"{lacking}--dir <FOLDER>\n\nUsage: worldd status --dir <FOLDER>\n\n"),
+        ("backup --dir world", f"{lacking}--to <FOLDER>\n\nUsage: worldd backup --dir <FOLDER> --to <FOLDER>\n\n"),
         ("inspect --words", f"{lacking}--dir <FOLDER>\n\nUsage: worldd inspect --dir <FOLDER> --words\n\n"),
         ("serve --dir world", f"{lacking}--method <METHOD>\n  --clients <K>\n  <--port <P>|--socket <PATH>>\n\n{serve}\n\n"),
         (f"{whole}", f"{lacking}<--port <P>|--socket <PATH>>\n\n{serve}\n\n"),
@@ -138,6 +143,7 @@ def try_command_lines(trial: Trial) -> None:
         ("serve --port 65536", "invalid value '65536' for '--port <P>': 65536 is not in 0..=65535\n\n"),
         ("serve --idle 0", "invalid value '0' for '--idle <SECONDS>': 0 is not in 1..=86400\n\n"),
         ("serve --idle 86401", "invalid value '86401' for '--idle <SECONDS>': 86401 is not in 1..=86400\n\n"),
+        ("serve --report 86401", "invalid value '86401' for '--report <SECONDS>': 86401 is not in 0..=86400\n\n"),
         ("serve --clients 100001", "invalid value '100001' for '--clients <K>': 100001 is not in 1..=100000\n\n"),
     ):
         trial.ends(f"worldd {words}", trial.run(*words.split()), "", f"error: {text}{MORE}", 2)
@@ -149,7 +155,7 @@ def try_command_lines(trial: Trial) -> None:
         ("steps", "Runs the script on standard input, over a world in memory\n\nUsage: worldd steps\n", "21 no tick numbers are left\n"),
         (
             "create",
-            "Makes the files of a new world in a folder\n\nUsage: worldd create --dir <FOLDER> --cells <N>\n",
+            f"Makes the files of a new world in a folder\n\n{make}\n",
             "\n  its own, or another program writes this world, 22 a file already holds data: nothing\n  was written\n",
         ),
         (
@@ -161,6 +167,16 @@ def try_command_lines(trial: Trial) -> None:
             "inspect",
             "Prints what each file of a folder holds, and which world they hold together\n\nUsage: worldd inspect [OPTIONS] --dir <FOLDER>\n",
             "\nfrom the image of tick T. If they hold no world it ends as `recover` does.\n",
+        ),
+        (
+            "status",
+            "Prints figures of the world in a folder, also while it is served\n\nUsage: worldd status --dir <FOLDER>\n",
+            "\nthe files hold no world it ends as `recover` does, and as `backup` if no copy can be taken.\n",
+        ),
+        (
+            "backup",
+            "Copies the world in a folder, also while it is served\n\nUsage: worldd backup --dir <FOLDER> --to <FOLDER>\n",
+            "\n  began a new image under each of 1000 tries, 22 the folder of the copy isn't empty\n",
         ),
         (
             "serve",
@@ -257,6 +273,130 @@ def try_not_creating(trial: Trial) -> None:
             got = trial.run(*line, *more)
             trial.check(f"create {more}", (got.output, got.status), ("", 2))
         trial.check("a wrong number of cells", list(folder.iterdir()), [])
+
+
+def try_words(trial: Trial) -> None:
+    """Worlds that are made of the words in a file, and files that list none: the line is named, and nothing is made."""
+    most = 999_999_999_999_999_999
+    for text, words in (("5\n7\n", (5, 7)), ("5 7", (5, 7)), (f"0\n{most}\n", (0, most)), ("1 2\n3\n4 5\n6", (1, 2, 3, 4, 5, 6))):
+        with new_folder() as folder:
+            listed = folder / "words"
+            listed.write_text(text)
+            made = trial.run("create", "--dir", str(folder), "--words", str(listed))
+            trial.ends(f"the words {text!r}", made, f"created {len(words)}\n", "", 0)
+            image = b"\1" + struct.pack(f"<QQ{len(words)}Q", len(words) + (0x20 << 56), 0, *words)
+            trial.check(f"the words {text!r}", files_of(folder), (image, b"", b"", b""))
+            found = trial.run("inspect", "--words", "--dir", str(folder)).output.splitlines()
+            trial.check(f"the words {text!r}", found[-2:], ["recovered 0 from 0 in image.a", " ".join(map(str, words))])
+    bad = f"has something other than numbers from 0 to {most} with one space between them"
+    for text, why in (
+        ("", "it has no word"),
+        ("foo\n", f"line 1 {bad}"),
+        ("1\n\n2\n", f"line 2 {bad}"),
+        ("1\n2\n 3\n", f"line 3 {bad}"),
+        ("1\n2  3\n", f"line 2 {bad}"),
+        ("1\n02\n", f"line 2 {bad}"),
+        ("1\n-2\n", f"line 2 {bad}"),
+        ("1\r\n", f"line 1 {bad}"),
+        (f"{most + 1}\n", f"line 1 {bad}"),
+        (f"1\n2\n{1 << 64}", f"line 3 {bad}"),
+        ("0\n" * 1_048_577, "it has more than 1048576 words"),
+    ):
+        with new_folder() as folder:
+            listed = folder / "words"
+            listed.write_text(text)
+            got = trial.run("create", "--dir", str(folder), "--words", str(listed))
+            trial.ends(f"the words {text[:20]!r}", got, "", f"fault 16\nworldd: {listed}: {why}\n", 1)
+            trial.check(f"the words {text[:20]!r}", list(folder.iterdir()), [listed])
+    with new_folder(b"", NEW_IMAGE, b"", b"") as folder, new_folder(b"7\n") as other:
+        line = "create", "--dir", str(folder), "--words"
+        occupied = trial.run(*line, str(other / "image.a"))
+        trial.ends("words over a world", occupied, "", fault_of(folder, 22, "image.b", HOLDS_A_WORLD), 1)
+        trial.check("words over a world", files_of(folder), (b"", NEW_IMAGE, b"", b""))
+        trial.ends("no words", trial.run(*line, str(other / "none")), "", fault_of(other, 18, "none", NO_FILE), 1)
+
+
+def try_larger(trial: Trial) -> None:
+    """A world is made larger: its words are printed, more are appended, and a new one is made."""
+    with new_folder(IMAGE_OF_3, IMAGE_OF_2, LOG_OF_3, LOG_OF_4) as folder, new_folder() as larger:
+        printed = trial.run("inspect", "--words", "--dir", str(folder)).output.splitlines()[-1]
+        (larger / "words").write_text(f"{printed}\n0\n11\n")
+        made = trial.run("create", "--dir", str(larger), "--words", str(larger / "words"))
+        trial.ends("a larger world", made, "created 4\n", "", 0)
+        found = trial.run("inspect", "--words", "--dir", str(larger)).output.splitlines()
+        trial.check("a larger world", found[-2:], ["recovered 0 from 0 in image.a", "3 9 0 11"])
+
+
+def try_figures(trial: Trial) -> None:
+    """Figures of worlds, and of folders with none."""
+    for files, lines in (
+        (
+            (IMAGE_OF_3, IMAGE_OF_2, LOG_OF_3, LOG_OF_4),
+            "recovered 4 from 3 in image.a\nlog: 1 tick behind the image, log.b has 1 of 65536\n"
+            "bytes: image.a 33, image.b 33, log.a 28, log.b 32, together 126\n",
+        ),
+        (
+            (b"", NEW_IMAGE, b"", b"\0"),
+            "recovered 0 from 0 in image.b\nlog: 0 ticks behind the image, no segment is open\n"
+            "bytes: image.a 0, image.b 33, log.a 0, log.b 1, together 34\n",
+        ),
+        (
+            (NEW_IMAGE, b"", LOG_OF_GROUPS, NEW_LOG_OF_3),
+            "recovered 3 from 0 in image.a\nlog: 3 ticks behind the image, log.b has 0 of 65536\n"
+            "bytes: image.a 33, image.b 0, log.a 22, log.b 10, together 65\n",
+        ),
+        (
+            (NEW_IMAGE, GARBAGE[:16], LOG_OF_GROUPS, b""),
+            "recovered 3 from 0 in image.a\nlog: 3 ticks behind the image, log.a has 3 of 65536\n"
+            "bytes: image.a 33, image.b 16, log.a 22, log.b 0, together 71\n",
+        ),
+    ):
+        with new_folder(*files) as folder:
+            trial.ends(f"figures {lines[:20]}", trial.run("status", "--dir", str(folder)), lines, "", 0)
+            trial.check("figures write nothing", files_of(folder), files)
+    for what, files, fault in NO_WORLDS:
+        with new_folder(*files) as folder:
+            trial.ends(f"figures of {what}", trial.run("status", "--dir", str(folder)), "", f"fault {fault}\n", 1)
+    with new_folder(NEW_IMAGE, b"", b"") as folder:
+        trial.ends("figures of three files", trial.run("status", "--dir", str(folder)), "", fault_of(folder, 18, "log.b", NO_FILE), 1)
+
+
+# Folders that hold no world.
+NO_WORLDS = (
+    ("closed files", (b"", b"", b"", b""), "13\nworldd: there is no image to recover from"),
+    ("a damaged image", (b"\1" + struct.pack("<QQ", 2, 9), IMAGE_OF_3, b"", b""), "14\nworldd: an image file is damaged: image.a"),
+    ("a damaged log", (NEW_IMAGE, b"", b"", GARBAGE), "15\nworldd: a log file is damaged: log.b"),
+)
+
+
+def try_copies(trial: Trial) -> None:
+    """Copies of worlds, and copies that aren't made: nothing is written then."""
+    files = IMAGE_OF_2, IMAGE_OF_3, LOG_OF_3, LOG_OF_4
+    with new_folder(*files) as folder, new_folder() as to:
+        line = "backup", "--dir", str(folder), "--to", str(to)
+        trial.ends("a copy", trial.run(*line), "backed up 4 from 3\n", "", 0)
+        trial.check("a copy", files_of(to), (b"", IMAGE_OF_3, LOG_OF_3, LOG_OF_4))
+        trial.check("a copy's modes", {(to / name).stat().st_mode & 0o777 for name in NAMES}, {0o600})
+        trial.check("a copied world", files_of(folder), files)
+        filled = f"fault 22\nworldd: {to}: the folder isn't empty: choose an empty one\n"
+        trial.ends("a copy over a copy", trial.run(*line), "", filled, 1)
+    with new_folder(*files) as folder:
+        here = f"fault 22\nworldd: {folder}: the folder isn't empty: choose an empty one\n"
+        trial.ends("a copy over its world", trial.run("backup", "--dir", str(folder), "--to", str(folder)), "", here, 1)
+        none = f"fault 18\nworldd: {folder}/none: {NO_FILE}\n"
+        trial.ends("a copy to no folder", trial.run("backup", "--dir", str(folder), "--to", str(folder / "none")), "", none, 1)
+        trial.check("a copied world", files_of(folder), files)
+    for what, files, fault in NO_WORLDS:
+        with new_folder(*files) as folder, new_folder() as to:
+            got = trial.run("backup", "--dir", str(folder), "--to", str(to))
+            trial.ends(f"a copy of {what}", got, "", f"fault {fault}\n", 1)
+            trial.check(f"a copy of {what}", list(to.iterdir()), [])
+    with new_folder(*files) as folder, new_folder() as to, open(folder / "image.a", "r+b") as held:
+        put(folder, NEW_IMAGE, b"", NEW_LOG, b"\0")
+        fcntl.flock(held, fcntl.LOCK_EX | fcntl.LOCK_NB)
+        got = trial.run("backup", "--dir", str(folder), "--to", str(to), full=True)
+        trial.ends("a copy of a held world, and a full output", got, "", FULL, 1)
+        trial.check("a copy of a held world", files_of(to), (NEW_IMAGE, b"", NEW_LOG, b"\0"))
 
 
 def both(trial: Trial, folder: pathlib.Path, full: bool = False) -> tuple[Outcome, Outcome]:
@@ -427,14 +567,33 @@ def try_serving(trial: Trial) -> None:
             trial.check("an image", recovered.output in ("recovered 2 from 1\n", "recovered 2 from 2\n"), True)
 
 
+def try_reporting(trial: Trial) -> None:
+    """Figures that a server prints: the last answered tick, its newest image, its clients and what waits."""
+    with new_folder(NEW_IMAGE, b"", b"", b"") as folder, open(folder / "errors", "w+") as errors:
+        line = f"serve --dir {folder} --method zigzag --port 0 --clients 2 --report 1".split()
+        with subprocess.Popen([trial.program, *line], stdout=subprocess.PIPE, stderr=errors, text=True) as server:
+            address = [server.stdout.readline() for _ in range(2)][-1].split()[-1]
+            trial.check("a first client", answer_to(address, b"end\nend\nend\n"), "tick 1:\ntick 2:\ntick 3:\n")
+            with connect(address) as client, client.makefile() as reader:
+                client.sendall(b"end\n")
+                trial.check("a second client", reader.readline(), "tick 4:\n")
+                time.sleep(2.5)
+            server.communicate(timeout=SECONDS)
+        trial.runs += 1
+        trial.seen["served"] += 1
+        errors.seek(0)
+        reports = [line for line in errors.read().splitlines() if " acked " in line]
+        trial.check("reports", bool(reports) and reports[-1], "worldd: acked 4 image 0 sessions 1 batches/s 0 waiting 0")
+
+
 def main() -> int:
     """Runs all, and prints what was seen."""
     parser = argparse.ArgumentParser(description=__doc__.splitlines()[0])
     parser.add_argument("program", type=pathlib.Path, help="the built worldd")
     trial = Trial(str(parser.parse_args().program.resolve()))
-    for part in (try_command_lines, try_scripts, try_creating, try_not_creating, try_found, try_missing, try_damaged, try_not_serving, try_serving):
+    for part in (try_command_lines, try_scripts, try_creating, try_not_creating, try_words, try_larger, try_found, try_figures, try_copies, try_missing, try_damaged, try_not_serving, try_serving, try_reporting):
         part(trial)
-    wanted = ["status 0", "status 2", "served", *(f"status 1, fault {code}" for code in (13, 14, 15, 18, 22))]
+    wanted = ["status 0", "status 2", "served", *(f"status 1, fault {code}" for code in (13, 14, 15, 16, 18, 22))]
     never = [kind for kind in wanted if not trial.seen[kind]]
     for kind, count in sorted(trial.seen.items()):
         print(f"  {kind}: {count}")

@@ -39,6 +39,8 @@ FOREIGN = (b"recovered", b"listening", b"worldd", b"created", b"stopped")
 EXIT = ("--exit-when-log-down",)
 SMALL_PIPE = 4096
 LINES_WAITING = 256
+# How many clients send batches that are too long, and lines behind them.
+LONG_BATCHES, SENT_BEHIND = 45, 100_000
 # A limit on a file's size that no write ends at.
 FILE_LIMIT = 20_011
 SHORT = "the disk is full, or the file has reached a limit on its size"
@@ -48,7 +50,7 @@ CASES = (
     "output full", "output broken", "port closed", "socket closed", "silent client ended", "link refused", "mode of a new file",
     "short write named", "ended by its log", "no thread named",
     "socket with its mode", "socket removed", "old socket replaced", "socket in use kept", "socket's place taken",
-    "other file kept", "next server's socket kept",
+    "other file kept", "next server's socket kept", "fault 16 not reset",
 )
 CASES_OF_ROOT = ("user let in", "user refused", "socket never open to others")
 # Users and groups, which the system need not know. The server's own are the first ones.
@@ -486,6 +488,17 @@ class Trial:
         second.kill()
         self.met["next server's socket kept"] += 1
 
+    def too_long(self, transport: str) -> None:
+        """Clients that send on behind a batch that is too long read why it is refused. No connection is reset."""
+        server = self.server(transport=transport, clients=LONG_BATCHES)
+        for number in range(LONG_BATCHES):
+            client = server.client()
+            client.socket.sendall(b"get 0\n" * (1_025 + number % 3 * SENT_BEHIND))
+            want(client.answers.read() == b"fault 16\n", f"no `fault 16` by a {transport}")
+            self.met["fault 16 not reset"] += 1
+            client.leave()
+        want(server.end()[0] == 0, "the end after batches that were too long")
+
     def longest_path(self) -> None:
         """A path of as many bytes as a socket may have."""
         folder = self.scratch / ("x" * (101 - len(f"{self.scratch}/.socket")))
@@ -555,6 +568,8 @@ class Trial:
         self.socket_in_use()
         self.next_server()
         self.longest_path()
+        for transport in TRANSPORTS:
+            self.too_long(transport)
         if is_root():
             self.users()
 

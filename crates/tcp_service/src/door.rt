@@ -1,4 +1,7 @@
+use crate::pulse::Pulse;
+use std::alloc::Global;
 use std::io;
+use std::sync::Arc;
 
 /// Why a connection is closed unanswered.
 #[derive(Clone, Copy, Debug, PartialEq, Eq)]
@@ -32,4 +35,9 @@ pub trait Door {
     /// Whether the server is to be left at once, with its workers and sessions as they are. It is asked after each
     /// connection, and ten times a second once no more are accepted.
     fn is_left(&self) -> bool;
+
+    /// Where a session counts, if anybody asks for counts.
+    fn pulse(&self) -> Option<Arc<Pulse, Global>> {
+        None
+    }
 }

@@ -9,6 +9,7 @@ mod accept;
 mod door;
 mod failure;
 mod incoming;
+mod pulse;
 mod remote;
 mod server;
 mod session;
@@ -16,6 +17,7 @@ mod session_threads;
 
 pub use accept::{Accepted, Admission, Closed, accept_sessions};
 pub use door::{Door, Unserved};
+pub use pulse::{Counts, Pulse};
 pub use remote::Remote;
 pub use server::{FilesNotServed, NotServed, Stopped, serve_files, serve_tcp};
 pub use session::{Joined, Over, serve_batches, serve_session};

@@ -1,6 +1,7 @@
 ghost use Rattle.std.specs.Prelude.{◌≡◌};
 ghost use Rattle.tcp_service.specs.Remote.{given_by};
 
+use crate::pulse::Pulse;
 use batches::Batch;
 use crossbeam_channel::{Receiver, SendError, Sender, bounded};
 use sessions::World;
@@ -8,7 +9,7 @@ use std::alloc::Global;
 use std::marker::Model;
 use std::mem;
 use std::snapshot::Snapshot;
-use std::sync::Wait;
+use std::sync::{Arc, Wait};
 use workers::{Ask, Asker, Post, Reply};
 use world_actions::Refusal;
 
@@ -25,6 +26,8 @@ pub struct Remote<R: Wait + Copy> {
     last: Option<Snapshot<Post>>,
     /// The tick of the last post, or 0.
     tick: u64,
+    /// Where it counts, if anywhere.
+    pulse: Option<Arc<Pulse, Global>>,
 }
 
 impl<R: Wait + Copy> Model for Remote<R> {
@@ -53,6 +56,31 @@ impl<R: Wait + Copy> Remote<R> {
             spare: Batch::empty(alloc),
             last: None,
             tick: 0,
+            pulse: None,
+        }
+    }
+
+    /// Counts its batches from now on.
+    pub fn count_for(&mut self, pulse: Option<Arc<Pulse, Global>>)
+        ensures { self.new ≡ self.old }
+    {
+        self.pulse = pulse;
+    }
+
+    // Counts a batch that is sent.
+    fn count_asked(&self) {
+        if let Some(pulse) = &self.pulse {
+            pulse.asked();
+        }
+    }
+
+    // Counts what came of it.
+    fn count_answered(&self, answer: &Result<Post, Refusal>) {
+        if let Some(pulse) = &self.pulse {
+            match answer {
+                Ok(post) => pulse.answered(Some(post.tick())),
+                Err(_) => pulse.answered(None),
+            }
         }
     }
 
@@ -70,8 +98,20 @@ impl<R: Wait + Copy> Remote<R> {
         Ok((ask, from))
     }
 
-    // Sends a batch with a buffer for its answer, and waits for its post.
+    // The same as `send`, and counts it.
     fn ask(&mut self, b: &Batch, buffer: Vec<u8>) -> Result<Post, Refusal>
+        ensures ok { OnOk result (self.new ≡ record self.old { asked = self.old.asked + 1 }) }
+        ensures err { OnErr result ((self.new ≡ self.old)
+            ⊎ (self.new ≡ record self.old { asked = self.old.asked + 1 })) }
+    {
+        self.count_asked();
+        let answer = self.send(b, buffer);
+        self.count_answered(&answer);
+        answer
+    }
+
+    // Sends a batch with a buffer for its answer, and waits for its post.
+    fn send(&mut self, b: &Batch, buffer: Vec<u8>) -> Result<Post, Refusal>
         ensures ok { OnOk result (self.new ≡ record self.old { asked = self.old.asked + 1 }) }
         ensures err { OnErr result ((self.new ≡ self.old)
             ⊎ (self.new ≡ record self.old { asked = self.old.asked + 1 })) }

@@ -47,7 +47,8 @@ pub fn serve_batches<R: Wait + Copy, B: Read, W: Write>(
 }
 
 /// Serves a connection as the session of this number, until its client leaves, or neither sends nor takes a byte for so
-/// many seconds, or until a fault, which ends no other session. The door hears of a session that has no memory.
+/// many seconds, or until a fault, which ends no other session. What follows a batch that is too long is read and
+/// forgotten, so that its answer arrives. The door hears of a session that has no memory.
 pub fn serve_session<R: Wait + Copy, W: Door + Drop>(
     rt: &R,
     alloc: Global,
@@ -60,10 +61,22 @@ pub fn serve_session<R: Wait + Copy, W: Door + Drop>(
     let mut door = door;
     let silence = idle.map(|seconds| Duration::from_secs(u64::from(seconds)));
     let _ = stream.set_up(silence);
+    let pulse = door.pulse();
+    if let Some(pulse) = &pulse {
+        pulse.session_began();
+    }
     let mut world = Remote::new(*rt, alloc, session, requests);
+    world.count_for(pulse);
     let served = serve_batches(alloc, &mut &stream, &mut &stream, &mut world);
-    if served == Err(Refusal::NoMemory) {
-        door.session_refused(Unserved::NoMemory);
+    match served {
+        Err(Refusal::NoMemory) => door.session_refused(Unserved::NoMemory),
+        Err(Refusal::BadLine) => {
+            let _ = stream.drain();
+        }
+        _ => {}
+    }
+    if let Some(pulse) = door.pulse() {
+        pulse.session_ended();
     }
     Over(())
 }

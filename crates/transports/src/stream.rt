@@ -1,9 +1,17 @@
 ghost use Rattle.std.specs.Io.{ReadsAtMost, WritesAtMost};
 
 use std::io::{self, Read, Write};
-use std::net::TcpStream;
+use std::net::{Shutdown, TcpStream};
 use std::os::unix::net::UnixStream;
 use std::time::Duration;
+
+/// How many bytes of a client that isn't heard any more are read at once, and how often.
+const DRAINED_BYTES: usize = 4_096;
+
+const DRAINED_PIECES: usize = 4_096;
+
+/// For how many seconds each of these reads waits.
+const DRAIN_PATIENCE_SECONDS: u64 = 1;
 
 /// A connection. It is closed where it is dropped.
 #[derive(Drop)]
@@ -25,6 +33,33 @@ impl Stream {
             Stream::Unix(stream) => {
                 stream.set_read_timeout(silence)?;
                 stream.set_write_timeout(silence)
+            }
+        }
+    }
+
+    /// Sends nothing more, and reads what the client still sends: up to its end, to a pause of a second or to 16 MiB. A
+    /// connection that is closed over unread bytes is reset, and its client may lose what was sent last.
+    pub fn drain(&self) -> io::Result<()> {
+        self.end_sending()?;
+        let mut piece = [0; DRAINED_BYTES];
+        for _ in 0..DRAINED_PIECES {
+            if self.receive(&mut piece)? == 0 {
+                break;
+            }
+        }
+        Ok(())
+    }
+
+    fn end_sending(&self) -> io::Result<()> {
+        let patience = Some(Duration::from_secs(DRAIN_PATIENCE_SECONDS));
+        match self {
+            Stream::Tcp(stream) => {
+                stream.set_read_timeout(patience)?;
+                stream.shutdown(Shutdown::Write)
+            }
+            Stream::Unix(stream) => {
+                stream.set_read_timeout(patience)?;
+                stream.shutdown(Shutdown::Write)
             }
         }
     }

@@ -1,2 +1,3 @@
 pub mod FormatLemmas
 pub mod MakingLemmas
+pub mod WordsLemmas

@@ -4,3 +4,6 @@ pub mod OwnFile
 pub mod Told
 pub mod Ending
 pub mod Making
+pub mod WordsText
+pub mod Look
+pub mod Figures

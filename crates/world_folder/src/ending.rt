@@ -5,6 +5,7 @@ ghost use Rattle.world_folder.specs.Ending.{status_of};
 use crate::fault::Fault;
 use crate::folder::Unreadable;
 use crate::system_error::refusal_of;
+use crate::words_text::BadWords;
 use std::alloc::AllocError;
 use std::fmt::{self, Display};
 use std::io;
@@ -29,6 +30,10 @@ pub enum Ending {
     NoWorld(Fault),
     /// A world can't be made over this file.
     Occupied(Occupied),
+    /// A copy can't be made in this folder.
+    Filled(Filled),
+    /// A world can't be made of the words in this file.
+    Unlisted(Unlisted),
     /// A standard stream can't be read or written.
     Stream(StreamFailure),
     /// A server couldn't begin, or has stopped.
@@ -59,6 +64,35 @@ pub struct Occupied {
 impl fmt::Display for Occupied {
     fn fmt<W: fmt::Write>(&self, f: &mut fmt::Formatter<W>) -> fmt::Result {
         write!(f, "{}: {}", self.path.as_str(), Refusal::NotEmpty)
+    }
+}
+
+/// A folder that isn't empty.
+#[derive(Debug, Drop)]
+pub struct Filled {
+    pub path: PathBuf,
+}
+
+impl fmt::Display for Filled {
+    fn fmt<W: fmt::Write>(&self, f: &mut fmt::Formatter<W>) -> fmt::Result {
+        write!(
+            f,
+            "{}: the folder isn't empty: choose an empty one",
+            self.path.as_str()
+        )
+    }
+}
+
+/// A file that doesn't list the words of a world, and why.
+#[derive(Debug, Drop)]
+pub struct Unlisted {
+    pub path: PathBuf,
+    pub why: BadWords,
+}
+
+impl fmt::Display for Unlisted {
+    fn fmt<W: fmt::Write>(&self, f: &mut fmt::Formatter<W>) -> fmt::Result {
+        write!(f, "{}: {}", self.path.as_str(), self.why)
     }
 }
 
@@ -158,6 +192,8 @@ impl Termination for Ending {
     ghost use Rattle.std.specs.Process.{exit_status};
     ghost use Rattle.world_folder.specs.declared.folder.Unreadable.{Unreadable as File};
     ghost use Rattle.world_folder.specs.declared.ending.Occupied.{Occupied as Open};
+    ghost use Rattle.world_folder.specs.declared.ending.Filled.{Filled as Full};
+    ghost use Rattle.world_folder.specs.declared.ending.Unlisted.{Unlisted as List};
     ghost use Rattle.world_folder.specs.declared.ending.StreamFailure.{StreamFailure as OneStream};
     ghost use Rattle.world_folder.specs.declared.ending.ServerEnding.{ServerEnding as OfServer};
     ghost use Rattle.world_folder.specs.Ending.{status_of};
@@ -169,6 +205,8 @@ impl Termination for Ending {
         ensures unreadable { (file : File) → self ≡ Ending.Unreadable file → exit_status result ≡ 1 }
         ensures no_world { (fault : Fault) → self ≡ Ending.NoWorld fault → exit_status result ≡ 1 }
         ensures occupied { (file : Open) → self ≡ Ending.Occupied file → exit_status result ≡ 1 }
+        ensures filled { (folder : Full) → self ≡ Ending.Filled folder → exit_status result ≡ 1 }
+        ensures unlisted { (file : List) → self ≡ Ending.Unlisted file → exit_status result ≡ 1 }
         ensures stream { (failure : OneStream) → self ≡ Ending.Stream failure → exit_status result ≡ 1 }
         ensures mistaken { self ≡ Ending.Mistaken → exit_status result ≡ 2 }
         ensures server { (ending : OfServer) → self ≡ Ending.Server ending → exit_status result ≡ status_of ending }
@@ -180,6 +218,8 @@ impl Termination for Ending {
             Ending::Unreadable(file) => report_fault(rt, refusal_of(&file.error), file),
             Ending::NoWorld(fault) => report_fault(rt, fault.refusal(), fault),
             Ending::Occupied(file) => report_fault(rt, Refusal::NotEmpty, file),
+            Ending::Filled(folder) => report_fault(rt, Refusal::NotEmpty, folder),
+            Ending::Unlisted(file) => report_fault(rt, file.why.refusal(), file),
             Ending::Stream(failure) => report_fault(rt, refusal_of(&failure.error), failure),
             Ending::Server(ending) => report_server(rt, ending),
         }

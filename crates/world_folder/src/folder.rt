@@ -69,18 +69,27 @@ fn read_file<R: Files<File = File> + AllocGlobal>(
     read_all(rt.alloc(), &mut disk).map_err(error_of)
 }
 
-// A file of another kind isn't opened: to open a pipe waits for its writer.
 fn open_to_read<R: Files<File = File> + AllocGlobal>(
     rt: &R,
     folder: &str,
     name: &str,
 ) -> io::Result<FileDisk> {
+    let file = open_plain(rt, folder, name)?;
+    FileDisk::open(file).map_err(error_of)
+}
+
+/// Opens a file of a folder for reading alone, and syncs nothing. A file of another kind isn't opened: to open a pipe
+/// waits for its writer.
+pub fn open_plain<R: Files<File = File> + AllocGlobal>(
+    rt: &R,
+    folder: &str,
+    name: &str,
+) -> io::Result<File> {
     let path = Path::new(folder).join(rt.alloc(), name)?;
     if !fs::metadata(rt, path.as_path())?.is_file() {
         return Err(io::Error::other(NOT_REGULAR));
     }
-    let file = above_streams(File::open(rt, path.as_path())?)?;
-    FileDisk::open(file).map_err(error_of)
+    above_streams(File::open(rt, path.as_path())?)
 }
 
 /// Opens the four files of a folder to make a world in them. It makes those that are absent, for their owner alone, and
@@ -95,6 +104,14 @@ pub fn open_to_write<R: Files<File = File> + AllocGlobal>(
     let files = open_files(rt, folder, Absent::Make)?;
     opened(rt.alloc(), folder, ABOVE, sync_above(rt, folder))?;
     Ok(files)
+}
+
+/// Makes the names of a folder's files durable, and its own.
+pub fn sync_names<R: Files<File = File> + AllocGlobal>(rt: &R, folder: &str) -> Result<(), Ending>
+    ensures { IfErr result IsFault }
+{
+    opened(rt.alloc(), folder, "", sync_folder(rt, Path::new(folder)))?;
+    opened(rt.alloc(), folder, ABOVE, sync_above(rt, folder))
 }
 
 /// Opens the four files of a folder to serve the world in them, with the same refusals and the same lock. It makes none,

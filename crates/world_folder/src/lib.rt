@@ -1,29 +1,41 @@
 //! A world in the files of a folder: the commands that make one and tell what stands there, and how a program over one
 //! ends.
 //!
-//! `create` makes the files of a new world. `recover` and `inspect` tell what four files hold, and write nothing.
-//! `open_existing` locks the files to serve their world. An `Ending` says what went wrong, and names the file.
+//! `create` makes the files of a new world, and `create_of_words` those of one with given words. `recover` and `inspect`
+//! tell what four files hold, and `status` gives figures of it; they write nothing. `back_up` copies a world that may be
+//! served. `open_existing` locks the files to serve their world. An `Ending` says what went wrong, and names the file.
 #![tactic(auto)]
 
+mod backing_up;
+mod copying;
 mod counted;
 mod creating;
 mod ending;
 mod fault;
+mod figures;
 mod folder;
+mod forward;
 mod inspecting;
+mod look;
 mod making;
 mod own_file;
 mod recovering;
 mod system_error;
 mod told;
+mod words_image;
+mod words_text;
 mod world_file;
 
-pub use creating::create;
-pub use ending::{Ending, NoPort, Occupied, ServerEnding, Stream, StreamFailure};
+pub use backing_up::back_up;
+pub use creating::{create, create_of_words};
+pub use ending::{Ending, Filled, NoPort, Occupied, ServerEnding, Stream, StreamFailure, Unlisted};
 pub use fault::{Damaged, Fault, stands_in};
+pub use figures::{Figures, figures_of, status};
 pub use folder::{Unreadable, failure_of, open_existing, opened, path_of};
 pub use inspecting::inspect;
-pub use making::{Made, make_in};
+pub use look::{Look, look_at};
+pub use making::{Made, make_in, make_of_words};
 pub use recovering::recover;
 pub use system_error::Reason;
+pub use words_text::{BadWords, read_words};
 pub use world_file::{IMAGE_A, IMAGE_B, LOG_A, LOG_B, WorldFile};

@@ -1,4 +1,4 @@
-ghost use Rattle.std.specs.Prelude.{◌≡◌, ◌≢◌, ◌⊎◌, ◌↔◌, ◌≤◌, IsTrue, IfOk, IfErr};
+ghost use Rattle.std.specs.Prelude.{◌≡◌, ◌≢◌, ◌⊎◌, ◌↔◌, ◌≤◌, length, IsTrue, IfOk, IfErr};
 ghost use Rattle.std.specs.Path.{path_buf_bytes, path_join};
 ghost use Rattle.world_actions.specs.declared.world.TheConstants.{CELLS};
 ghost use Rattle.disk_model.specs.FourFiles.{EachFile, KeepsFile, fault_counts};
@@ -8,10 +8,12 @@ ghost use Rattle.served.specs.Opening.{SomeGrew};
 ghost use Rattle.served.specs.Fresh.{AreClosed, AreMade, FilesAreClosed};
 ghost use Rattle.world_folder.specs.declared.ending.Occupied.{Occupied as Open};
 ghost use Rattle.world_folder.specs.Ending.{IsFault};
-ghost use Rattle.world_folder.specs.Making.{IsFirstOpen, TellsUnmade, IsUnmade};
+ghost use Rattle.world_actions.specs.World.{IsWorld};
+ghost use Rattle.world_folder.specs.Making.{IsFirstOpen, TellsUnmade, IsUnmade, HoldsWords, HoldsNoOther};
 
 use crate::ending::{Ending, Occupied};
 use crate::folder::path_of;
+use crate::words_image::write_words;
 use crate::world_file::{IMAGE_A, IMAGE_B, LOG_A, LOG_B};
 use action_log::{LogState, read_log, segments_read_once};
 use disk_model::{Disk, FourFiles};
@@ -20,7 +22,7 @@ use served::fresh_files;
 use std::alloc::Global;
 use world_actions::Refusal;
 
-/// Shows that the files of a world were made, of so many cells: only `make_in` gives one.
+/// Shows that the files of a world were made, of so many cells: only `make_in` and `make_of_words` give one.
 #[derive(Clone, Copy, Debug, PartialEq, Eq)]
 pub struct Made {
     cells: u32,
@@ -62,6 +64,53 @@ pub fn make_in<D: Disk>(
         }
         Err((files, refusal)) => Err((files, Ending::Fault(refusal))),
     }
+}
+
+/// Makes the files of a world of these words at tick 0, of the four files of a folder, as `make_in` makes one of zeros.
+/// The log stays closed: a server begins it.
+pub fn make_of_words<D: Disk>(
+    alloc: Global,
+    folder: &str,
+    words: &[u64],
+    files: FourFiles<D>,
+) -> Result<(FourFiles<D>, Made), (FourFiles<D>, Ending)>
+    requires { IsWorld words.now }
+    ensures made { IsTrue D.honest → IfOk result (λ made.
+        HoldsWords D.content D.may_leave files words.now made.0) }
+    ensures cells { IfOk result (λ made. made.1.cells ≡ length words.now) }
+    ensures unmade { IsTrue D.honest → IfErr result (λ unmade.
+        HoldsNoOther D.content D.may_leave folder.now files words.now unmade.1 unmade.0) }
+    ensures fault { IfErr result (λ unmade. IsFault unmade.1) }
+{
+    let mut files = files;
+    let bytes = match files.read_all(alloc) {
+        Ok(bytes) => bytes,
+        Err(refusal) => return Err((files, Ending::Fault(refusal))),
+    };
+    if !are_closed(alloc, &bytes) {
+        let ending = occupied_by(alloc, folder, first_open(alloc, &bytes));
+        return Err((files, ending));
+    }
+    match write_words(alloc, words, &mut files.image_a) {
+        Ok(()) => Ok((
+            files,
+            Made {
+                cells: words.len() as u32,
+            },
+        )),
+        Err(refusal) => Err((files, Ending::Fault(refusal))),
+    }
+}
+
+// Whether none of four files holds an image or a segment.
+fn are_closed(alloc: Global, bytes: &FourFiles<Vec<u8>>) -> bool
+    ensures { IsTrue result ↔ AreClosed bytes.now.image_a.items bytes.now.image_b.items
+        bytes.now.log_a.items bytes.now.log_b.items }
+{
+    is_closed_image(alloc, &bytes.image_a)
+        && is_closed_image(alloc, &bytes.image_b)
+        && is_closed_segment(alloc, &bytes.log_a)
+        && is_closed_segment(alloc, &bytes.log_b)
 }
 
 // How the program ends where one of the files isn't closed. They are read once more, to find the first such file.

@@ -80,6 +80,18 @@ pub fn open_file<R: Files<File = File> + AllocGlobal>(
     above_streams(file)
 }
 
+/// Makes a file of a folder that its owner alone may read and write. One that is there is an error.
+pub fn make_file<R: Files<File = File> + AllocGlobal>(
+    rt: &R,
+    folder: &str,
+    name: &str,
+) -> io::Result<File>
+    ensures { IfOk result (λ file. pos 2 <ℤ file_raw_fd file) }
+{
+    let path = Path::new(folder).join(rt.alloc(), name)?;
+    above_streams(make(rt, path.as_path())?)
+}
+
 // Makes a file that its owner alone may read and write. It follows no symbolic link.
 fn make<R: Files<File = File>>(rt: &R, path: Path<'_>) -> io::Result<File> {
     OpenOptions::new()

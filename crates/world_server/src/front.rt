@@ -5,6 +5,7 @@ ghost use Rattle.world_folder.specs.Ending.{IsFault};
 use crate::line::Line;
 use crate::lines::Lines;
 use crate::place::Place;
+use crate::reporter::start_reporter;
 use crate::service::{Address, Service};
 use crate::socket::listen_at;
 use crate::streams::Streams;
@@ -16,6 +17,7 @@ use std::sync::atomic::AtomicBool;
 use std::sync::{Arc, Wait};
 use std::thread::Threads;
 use std::time::Clock;
+use tcp_service::Pulse;
 use transports::Listener;
 use worker_threads::NotStarted;
 use world_actions::Refusal;
@@ -56,7 +58,7 @@ impl<
             Ok(listening) => listening,
             Err(ending) => return Err(streams.finish(rt, ending)),
         };
-        match lines_of(rt, service, &streams, &place) {
+        match lines_of(rt, service, &streams, &place, Pulse::new(ended, from)) {
             Ok(lines) => Ok(Front {
                 streams,
                 listener,
@@ -72,11 +74,12 @@ impl<
 }
 
 // The lines that leave by these streams.
-fn lines_of<R: Wait + Net + AllocGlobal + Copy>(
+fn lines_of<R: Threads + Wait + Clock + Net + AllocGlobal + Copy + Send + 'static>(
     rt: &R,
     service: &Service<'_>,
     streams: &Streams,
     place: &Arc<Place, Global>,
+    pulse: Pulse,
 ) -> Result<Lines<R>, Ending>
     ensures { IfErr result IsFault }
 {
@@ -90,7 +93,29 @@ fn lines_of<R: Wait + Net + AllocGlobal + Copy>(
         errors: streams.errors.clone()?,
         exits_when_log_down: service.exits_when_log_down,
         is_left,
+        pulse: reported(rt, service.report, streams, pulse)?,
     })
+}
+
+// Where the server counts, if its figures are printed. Their thread is started.
+fn reported<R: Threads + Wait + Clock + AllocGlobal + Copy + Send + 'static>(
+    rt: &R,
+    seconds: u32,
+    streams: &Streams,
+    pulse: Pulse,
+) -> Result<Option<Arc<Pulse, Global>>, Ending>
+    ensures { IfErr result IsFault }
+{
+    if seconds == 0 {
+        return Ok(None);
+    }
+    let Ok(pulse) = Arc::new(rt.alloc(), pulse) else {
+        return Err(Ending::Fault(Refusal::NoMemory));
+    };
+    match start_reporter(rt, seconds, pulse.clone()?, streams.errors.clone()?) {
+        Ok(()) => Ok(Some(pulse)),
+        Err(reason) => Err(not_started(reason)),
+    }
 }
 
 // How the program ends if the threads of its streams can't be started.

@@ -9,6 +9,7 @@ mod line;
 mod lines;
 mod place;
 mod printer;
+mod reporter;
 mod service;
 mod serving;
 mod socket;

@@ -1,9 +1,10 @@
 //! The lines that a server prints.
 
+use crate::reporter::Report;
 use disk_model::FourFiles;
 use std::path::PathBuf;
 use std::{fmt, io};
-use tcp_service::Unserved;
+use tcp_service::{Counts, Unserved};
 use world_folder::{Reason, WorldFile};
 
 /// A file whose call failed, and why.
@@ -39,6 +40,7 @@ pub enum Line {
     PortClosed,
     SocketClosed,
     OutputFailed(io::Error),
+    Report(Report),
     /// So many lines found no room.
     Dropped(u64),
     /// None follows.
@@ -88,10 +90,27 @@ impl fmt::Display for Printed<'_> {
             Line::PortClosed => f.write_str("the port is closed: no more clients can come"),
             Line::SocketClosed => f.write_str("the socket is closed: no more clients can come"),
             Line::OutputFailed(error) => write!(f, "standard output: {error}"),
+            Line::Report(report) => write_report(f, report),
             Line::Dropped(count) => write!(f, "lines dropped: {count}"),
             Line::Last => Ok(()),
         }
     }
+}
+
+// The figures of a server.
+fn write_report<W: fmt::Write>(f: &mut fmt::Formatter<W>, report: Report) -> fmt::Result {
+    let Counts {
+        sessions,
+        waiting,
+        acked,
+        image,
+        ..
+    } = report.counts;
+    let rate = report.rate;
+    write!(
+        f,
+        "acked {acked} image {image} sessions {sessions} batches/s {rate} waiting {waiting}"
+    )
 }
 
 // Adds the file that failed, and why.

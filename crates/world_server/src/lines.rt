@@ -9,7 +9,7 @@ use std::io;
 use std::net::Net;
 use std::sync::atomic::{AtomicBool, Ordering};
 use std::sync::{Arc, Wait};
-use tcp_service::{Door, Unserved};
+use tcp_service::{Door, Pulse, Unserved};
 use worker_threads::Watch;
 use workers::{ImageWriter, Log};
 use world_folder::WorldFile;
@@ -25,6 +25,8 @@ pub struct Lines<R: Wait + Net + Copy> {
     pub exits_when_log_down: bool,
     /// Whether the server is to be left, since its log is down.
     pub is_left: Arc<AtomicBool, Global>,
+    /// Where the server counts, if its figures are printed.
+    pub pulse: Option<Arc<Pulse, Global>>,
 }
 
 impl<R: Wait + Net + Copy> Clone for Lines<R> {
@@ -36,6 +38,10 @@ impl<R: Wait + Net + Copy> Clone for Lines<R> {
             errors: self.errors.clone()?,
             exits_when_log_down: self.exits_when_log_down,
             is_left: self.is_left.clone()?,
+            pulse: match &self.pulse {
+                Some(pulse) => Some(pulse.clone()?),
+                None => None,
+            },
         })
     }
 }
@@ -67,6 +73,9 @@ impl<R: Wait + Net + Copy> Announce for Lines<R> {
 
 impl<R: Wait + Net + Copy> Watch<FileDisk> for Lines<R> {
     fn image_opened(&mut self, tick: u64) {
+        if let Some(pulse) = &self.pulse {
+            pulse.image_opened(tick);
+        }
         self.note(Line::ImageOpened(tick));
     }
 
@@ -114,6 +123,13 @@ impl<R: Wait + Net + Copy> Door for Lines<R> {
 
     fn is_left(&self) -> bool {
         self.is_left.load(Ordering::SeqCst)
+    }
+
+    fn pulse(&self) -> Option<Arc<Pulse, Global>> {
+        match &self.pulse {
+            Some(pulse) => pulse.clone().ok(),
+            None => None,
+        }
     }
 }
 

@@ -31,6 +31,8 @@ pub struct Service<'a> {
     pub clients: Clients,
     /// After how many seconds of silence a session ends; without a number never.
     pub idle: Option<u32>,
+    /// After how many seconds its figures are printed, again and again; 0 for never.
+    pub report: u32,
     /// Whether the program ends as soon as its log is down.
     pub exits_when_log_down: bool,
 }

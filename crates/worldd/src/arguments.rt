@@ -1,7 +1,7 @@
-use crate::help::{CREATE_HELP, INSPECT_HELP, RECOVER_HELP, STEPS_HELP};
+use crate::help::{BACKUP_HELP, CREATE_HELP, INSPECT_HELP, RECOVER_HELP, STATUS_HELP, STEPS_HELP};
 use crate::serve_arguments::serve_command;
 use clap::error::Error;
-use clap::{Arg, ArgAction, ArgMatches, Command, value_parser};
+use clap::{Arg, ArgAction, ArgGroup, ArgMatches, Command, value_parser};
 use command_line::VERSION_WITH_FORMATS;
 use std::alloc::{AllocError, Global};
 
@@ -11,8 +11,14 @@ pub const FOLDER: &str = "dir";
 /// The name of the argument for a number of cells.
 pub const CELLS: &str = "cells";
 
-/// The name of the flag for words.
+/// The name of the argument for words: a flag of `inspect`, a file of `create`.
 pub const WORDS: &str = "words";
+
+/// The name of the argument for the folder of a copy.
+pub const TO: &str = "to";
+
+/// The name of the group of the number of cells and the words.
+const CONTENT: &str = "content";
 
 /// What the words ask for; the error has clap's text.
 pub fn matches_of<'a>(alloc: Global, words: &'a [String]) -> Result<ArgMatches<'a>, Error> {
@@ -28,6 +34,8 @@ fn commands<'a>(alloc: Global) -> Result<Command<'a>, AllocError> {
         .subcommand(create_command(alloc)?)?
         .subcommand(recover_command(alloc)?)?
         .subcommand(inspect_command(alloc)?)?
+        .subcommand(status_command(alloc)?)?
+        .subcommand(backup_command(alloc)?)?
         .subcommand(serve_command(alloc)?)
 }
 
@@ -42,7 +50,15 @@ fn create_command<'a>(alloc: Global) -> Result<Command<'a>, AllocError> {
         .about("Makes the files of a new world in a folder")
         .after_help(CREATE_HELP)
         .arg(folder_argument(alloc))?
-        .arg(cells_argument(alloc))
+        .arg(cells_argument(alloc))?
+        .arg(list_argument(alloc))?
+        .group(content_group(alloc)?)
+}
+
+// Exactly one of the number of cells and the words is wanted.
+fn content_group<'a>(alloc: Global) -> Result<ArgGroup<'a>, AllocError> {
+    let group = ArgGroup::new(alloc, CONTENT).arg(CELLS)?.arg(WORDS)?;
+    Ok(group.required(true))
 }
 
 fn recover_command<'a>(alloc: Global) -> Result<Command<'a>, AllocError> {
@@ -60,6 +76,21 @@ fn inspect_command<'a>(alloc: Global) -> Result<Command<'a>, AllocError> {
         .arg(words_argument(alloc))
 }
 
+fn status_command<'a>(alloc: Global) -> Result<Command<'a>, AllocError> {
+    Command::new(alloc, "status")
+        .about("Prints figures of the world in a folder, also while it is served")
+        .after_help(STATUS_HELP)
+        .arg(folder_argument(alloc))
+}
+
+fn backup_command<'a>(alloc: Global) -> Result<Command<'a>, AllocError> {
+    Command::new(alloc, "backup")
+        .about("Copies the world in a folder, also while it is served")
+        .after_help(BACKUP_HELP)
+        .arg(folder_argument(alloc))?
+        .arg(to_argument(alloc))
+}
+
 /// The argument that names a folder.
 pub fn folder_argument<'a>(alloc: Global) -> Arg<'a> {
     Arg::new(alloc, FOLDER)
@@ -74,9 +105,25 @@ fn cells_argument<'a>(alloc: Global) -> Arg<'a> {
     Arg::new(alloc, CELLS)
         .long(CELLS)
         .value_name("N")
-        .required(true)
         .value_parser(value_parser!(u32).range(1..=i64::from(world_actions::CELLS)))
-        .help("The number of cells")
+        .help("The number of cells, all 0")
+}
+
+fn list_argument<'a>(alloc: Global) -> Arg<'a> {
+    Arg::new(alloc, WORDS)
+        .long(WORDS)
+        .value_name("FILE")
+        .action(ArgAction::Set)
+        .help("A file with the words of the cells, in the place of their number")
+}
+
+fn to_argument<'a>(alloc: Global) -> Arg<'a> {
+    Arg::new(alloc, TO)
+        .long(TO)
+        .value_name("FOLDER")
+        .required(true)
+        .action(ArgAction::Set)
+        .help("The folder of the copy, which has to be empty")
 }
 
 fn words_argument<'a>(alloc: Global) -> Arg<'a> {

@@ -39,8 +39,11 @@ A line that is refused gets `- CODE`, and changes nothing:
 pub const CREATE_HELP: &str = "\
 It creates the missing ones of image.a, image.b, log.a and log.b, writes a world of N
 cells, all 0, into them, and prints `created N`. A file that is closed, by its first
-byte, is overwritten: use a folder for this world alone. After a fault the status is 1,
-and the first line on standard error is `fault CODE`:
+byte, is overwritten: use a folder for this world alone. With --words the cells have the
+words that FILE lists: numbers from 0 to 999999999999999999, with a space or a newline
+between them, as `inspect --words` prints them. After a fault the status is 1, and the
+first line on standard error is `fault CODE`:
+  16 FILE lists no world: the line is named, and nothing was made,
   17 there is no memory, 18 a file can't be opened or written, is no ordinary file of
   its own, or another program writes this world, 22 a file already holds data: nothing
   was written";
@@ -67,12 +70,33 @@ It reads format 1, of an earlier release, and format 2, which this release write
 Then it prints `recovered N from T in NAME`: the files hold the world after tick N, built
 from the image of tick T. If they hold no world it ends as `recover` does.";
 
+/// The end of `worldd status --help`.
+pub const STATUS_HELP: &str = "\
+It reads image.a, image.b, log.a and log.b, writes nothing and locks nothing, and prints
+three lines, also while a server writes the world:
+  recovered N from T in NAME         as `inspect`
+  log: 9 ticks behind the image, log.a has 9 of 65536
+  bytes: image.a 33, image.b 33, log.a 145, log.b 10, together 221
+At 65536 ticks in a segment batches are refused with 6: its server writes no images. If
+the files hold no world it ends as `recover` does, and as `backup` if no copy can be taken.";
+
+/// The end of `worldd backup --help`.
+pub const BACKUP_HELP: &str = "\
+It copies the newest image and the log of a world, also while a server writes them, and
+locks nothing. It recovers the copy, makes it durable, and prints `backed up N from T`:
+the copy holds the world after tick N, built from the image of tick T. It has every tick
+that was answered before it began. It makes no folder. After a fault the status is 1, and
+the first line on standard error is `fault CODE`:
+  13 no image is open, 14 an image is damaged, 15 the log is damaged,
+  17 there is no memory, 18 a file is missing, can't be read or written, or a server
+  began a new image under each of 1000 tries, 22 the folder of the copy isn't empty";
+
 /// The end of `worldd serve --help`.
 pub const SERVE_HELP: &str = "\
 It recovers the world in the folder, and listens on port P of 127.0.0.1, or on a socket
 of the system at PATH, until K connections have come and gone, each in a thread of its
 own. It makes no other file. METHOD is zigzag or pingpong, E from 1 to 65536, P from 0 to
-65535, K from 1 to 100000, SECONDS from 1 to 86400, PATH of at most 101 bytes. After the
+65535, K from 1 to 100000, SECONDS up to 86400, PATH of at most 101 bytes. After the
 last connection the port or the socket is closed; the file at PATH is removed at the end.
 Any user of this machine may connect to a port, and to a socket those whom MODE lets
 write its file.
@@ -94,6 +118,8 @@ On standard error it prints, and drops lines that nobody reads:
   worldd: the port is closed: no more clients can come       or: the socket
   worldd: listener failed: REASON              no more clients can come
   worldd: standard output: REASON              a line couldn't be printed
+  worldd: acked A image I sessions S batches/s B waiting W   by --report: up to tick A
+      it answered, the newest image is of tick I, S clients play, W batches wait
   worldd: lines dropped: COUNT                 nobody read them
 Its status is 0; 12 if the log is down, else 11 if images are, else 10 if the listener
 failed; 2 for a wrong command line; else 1, and standard error has `fault CODE`:

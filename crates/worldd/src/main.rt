@@ -1,8 +1,8 @@
 //! The program `worldd`: its command line, its exit statuses, and what it says of a fault.
 //!
-//! `steps` runs a script over a world in memory. `create` makes the files of a new world in a folder. `recover` and
-//! `inspect` print which world the files of a folder hold, and write nothing into it. `serve` serves the world of a
-//! folder to clients of a port or of a socket.
+//! `steps` runs a script over a world in memory. `create` makes the files of a new world in a folder. `recover`,
+//! `inspect` and `status` print which world the files of a folder hold, and write nothing into it. `backup` copies it,
+//! also while it is served. `serve` serves the world of a folder to clients of a port or of a socket.
 //!
 //! The status is 0 if the run ended well, and 2 for a wrong command line. It is 1 after a fault: standard error then has
 //! `fault CODE`, and the reason on the next line. A server ends with 12 if its log is down, with 11 if its images are,
@@ -17,15 +17,16 @@ mod help;
 mod serve_arguments;
 mod streams;
 
-use arguments::{CELLS, FOLDER, WORDS, matches_of};
+use arguments::{CELLS, FOLDER, TO, WORDS, matches_of};
 use clap::ArgMatches;
 use command_line::{NotRun, command_words, refused, take_standard_streams, unreadable};
 use serve_arguments::service_of;
 use std::fs::{File, Files};
 use std::io;
+use std::time::Clock;
 use streams::run_steps;
 use world_actions::Refusal;
-use world_folder::{Ending, create, inspect, opened, recover};
+use world_folder::{Ending, back_up, create, create_of_words, inspect, opened, recover, status};
 use world_server::serve;
 
 fn main(rt: HostRuntime) -> Ending {
@@ -49,7 +50,7 @@ fn main(rt: HostRuntime) -> Ending {
 }
 
 // Does what the words ask for, except `serve`, which needs more of the system.
-fn run<R: Input + Print + Files<File = File> + AllocGlobal>(
+fn run<R: Input + Print + Eprint + Clock + Files<File = File> + AllocGlobal + Clone + Drop>(
     rt: &R,
     matches: &ArgMatches<'_>,
 ) -> Ending {
@@ -58,15 +59,30 @@ fn run<R: Input + Print + Files<File = File> + AllocGlobal>(
     };
     match (name, given.get_str(FOLDER)) {
         ("steps", _) => run_steps(rt.alloc(), rt.reader(), io::writer(rt)),
-        ("create", Some(folder)) => match cells_of(given) {
-            Some(cells) => Ending::of_command(create(rt, folder, cells)),
-            None => Ending::Mistaken,
-        },
+        ("create", Some(folder)) => create_asked(rt, folder, given),
         ("recover", Some(folder)) => Ending::of_command(recover(rt, folder)),
         ("inspect", Some(folder)) => {
             Ending::of_command(inspect(rt, folder, given.get_flag(WORDS)))
         }
+        ("status", Some(folder)) => Ending::of_command(status(rt, folder)),
+        ("backup", Some(folder)) => match given.get_str(TO) {
+            Some(to) => Ending::of_command(back_up(rt, folder, to)),
+            None => Ending::Mistaken,
+        },
         _ => Ending::Mistaken,
+    }
+}
+
+// Makes the world that is asked for: of a file's words, or of so many cells.
+fn create_asked<R: Print + Files<File = File> + AllocGlobal>(
+    rt: &R,
+    folder: &str,
+    given: &ArgMatches<'_>,
+) -> Ending {
+    match (given.get_str(WORDS), cells_of(given)) {
+        (Some(list), _) => Ending::of_command(create_of_words(rt, folder, list)),
+        (None, Some(cells)) => Ending::of_command(create(rt, folder, cells)),
+        (None, None) => Ending::Mistaken,
     }
 }
 

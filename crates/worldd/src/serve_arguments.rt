@@ -28,6 +28,8 @@ const CLIENTS: &str = "clients";
 
 const IDLE: &str = "idle";
 
+const REPORT: &str = "report";
+
 const EXIT_WHEN_LOG_DOWN: &str = "exit-when-log-down";
 
 /// The name of the group of the port and the socket.
@@ -46,6 +48,7 @@ pub fn serve_command<'a>(alloc: Global) -> Result<Command<'a>, AllocError> {
         .arg(socket_mode_argument(alloc)?)?
         .arg(clients_argument(alloc))?
         .arg(idle_argument(alloc))?
+        .arg(report_argument(alloc))?
         .arg(exit_argument(alloc))?
         .group(address_group(alloc)?)
 }
@@ -147,6 +150,15 @@ fn idle_argument<'a>(alloc: Global) -> Arg<'a> {
         .help("After how many seconds of silence a client's session ends; never by default")
 }
 
+fn report_argument<'a>(alloc: Global) -> Arg<'a> {
+    Arg::new(alloc, REPORT)
+        .long(REPORT)
+        .value_name("SECONDS")
+        .default_value("0")
+        .value_parser(value_parser!(u32).range(0..=86_400))
+        .help("After how many seconds figures are printed, again and again; 0 for never")
+}
+
 fn exit_argument<'a>(alloc: Global) -> Arg<'a> {
     Arg::new(alloc, EXIT_WHEN_LOG_DOWN)
         .long(EXIT_WHEN_LOG_DOWN)
@@ -167,6 +179,7 @@ pub fn service_of<'a>(matches: &ArgMatches<'a>) -> Option<Service<'a>> {
         address: address_of(given)?,
         clients: clients_of(given)?,
         idle: given.get_one(IDLE),
+        report: given.get_one(REPORT)?,
         exits_when_log_down: given.get_flag(EXIT_WHEN_LOG_DOWN),
     })
 }

@@ -167,7 +167,8 @@ fn words(alloc: Global, line: &[&str]) -> Result<Vec<String>, Fail> {
 }
 
 // The parts of the service that a command line asks for: the folder, whether the method is Ping-Pong, the number of ticks
-// and the address as text. Then the number of clients, their seconds of silence, and whether it ends when the log is down.
+// and the address as text. Then the number of clients, their seconds of silence, those between two reports, and whether it
+// ends when the log is down.
 fn asked(alloc: Global, line: &[&str]) -> Result<Option<Asked>, Fail> {
     let words = words(alloc, line)?;
     let matches = matches_of(alloc, &words)?;
@@ -183,11 +184,12 @@ fn asked(alloc: Global, line: &[&str]) -> Result<Option<Asked>, Fail> {
         format!(in alloc; "{:?}", service.address)?,
         service.clients,
         service.idle,
+        service.report,
         service.exits_when_log_down,
     )))
 }
 
-type Asked = (String, bool, Every, String, Clients, Option<u32>, bool);
+type Asked = (String, bool, Every, String, Clients, Option<u32>, u32, bool);
 
 const LEAST: [&str; 10] = [
     "worldd",
@@ -202,7 +204,7 @@ const LEAST: [&str; 10] = [
     "100000",
 ];
 
-const ALL: [&str; 17] = [
+const ALL: [&str; 19] = [
     "worldd",
     "serve",
     "--method",
@@ -217,6 +219,8 @@ const ALL: [&str; 17] = [
     "1",
     "--idle",
     "86400",
+    "--report",
+    "60",
     "--exit-when-log-down",
     "--dir",
     "other",
@@ -224,7 +228,7 @@ const ALL: [&str; 17] = [
 
 #[test]
 fn flags_of_serve_are_read(rt: HostRuntime) -> Result<(), Fail> {
-    let Some((folder, is_ping_pong, every, address, clients, idle, exits)) = asked(
+    let Some((folder, is_ping_pong, every, address, clients, idle, report, exits)) = asked(
         rt.alloc(),
         &LEAST,
     )?
@@ -233,8 +237,11 @@ fn flags_of_serve_are_read(rt: HostRuntime) -> Result<(), Fail> {
     };
     assert!(rt; folder.as_str() == "world" && is_ping_pong && !exits);
     assert!(rt; address.as_str() == "Port(0)", "{address}");
-    assert_eq!(rt; (every, clients, idle), (Every(64), Clients(100_000), None));
-    let Some((folder, is_ping_pong, every, address, clients, idle, exits)) = asked(
+    assert_eq!(rt;
+        (every, clients, idle, report),
+        (Every(64), Clients(100_000), None, 0)
+    );
+    let Some((folder, is_ping_pong, every, address, clients, idle, report, exits)) = asked(
         rt.alloc(),
         &ALL,
     )?
@@ -244,8 +251,8 @@ fn flags_of_serve_are_read(rt: HostRuntime) -> Result<(), Fail> {
     assert!(rt; folder.as_str() == "other" && !is_ping_pong && exits);
     assert!(rt; address.as_str() == SOCKET_OF_A_GROUP, "{address}");
     assert_eq!(rt;
-        (every, clients, idle),
-        (Every(65_536), Clients(1), Some(86_400))
+        (every, clients, idle, report),
+        (Every(65_536), Clients(1), Some(86_400), 60)
     );
     Ok(())
 }

@@ -1,0 +1,34 @@
+use Rattle.std.proofs.Common.{◌≡◌, ◌<◌, ◌≤◌, ◌+◌, ℕ, List, [], ◌∷◌, ◌++◌, length, take, drop, slice_index, decimal, All, subst, sym, ap, ◌∙◌, arith, rules}
+use Rattle.world_actions.specs.World.{IsWord}
+use Rattle.world_folder.specs.WordsText.{ListsEach, Lists, newlines}
+use Rattle.world_folder.proofs.WordsLemmas.{last_listed, goes_on}
+use Rattle.world_folder.proofs.words_text.list_words.Goals as goal
+
+pub returns-then-end-rest-clause-listed : goal.returns-then-end-rest-clause-listed
+returns-then-end-rest-clause-listed c =
+    let inv = c.loop-rest.invariant in
+    let rest = c.loop-rest.rest.now in
+    let word = c.in-Some.word in
+    let part : take (length rest) rest ≡ decimal word = search rules in
+    let all = last_listed c.loop-rest.words.items inv.0 rest c.args.text.now word inv.1 part inv.2 in
+    let pushed : c.push.new.self.items ≡ c.loop-rest.words.items ++ word ∷ [] = search rules in
+    subst (λ (words : List ℕ). Lists words c.args.text.now) (sym pushed) all
+
+pub loop-rest-preserved : goal.loop-rest-preserved
+loop-rest-preserved c =
+    let inv = c.loop-rest.invariant in
+    let rest = c.loop-rest.rest.now in
+    let word = c.in-Some.word in
+    let end = c.end_of_part-end.result in
+    let inside : end < length rest = search rules in
+    let part : take end rest ≡ decimal word = search rules in
+    let on = goes_on c.loop-rest.words.items inv.0 rest c.args.text.now word end inv.1 inside part c.end_of_part-end.ensures.part c.end_of_part-end.ensures.ends inv.2 in
+    let pushed : c.push.new.self.items ≡ c.loop-rest.words.items ++ word ∷ [] = search rules in (
+      inv.0 ++ (decimal word ++ slice_index rest end ∷ []),
+      on.is_text ∙ ap (λ (l : List ℕ). (inv.0 ++ (decimal word ++ slice_index rest end ∷ [])) ++ l) (sym c.behind-rest.ensures),
+      subst (λ (words : List ℕ). ListsEach words (inv.0 ++ (decimal word ++ slice_index rest end ∷ []))) (sym pushed) on.listed,
+      omega (arith, inv.3, on.lines, c.newlines_at-line.ensures.count),
+      omega (arith, inv.4, on.lines, on.longer, c.newlines_at-line.ensures.count, c.newlines_at-line.ensures.few),
+      search rules,
+      search rules,
+    )

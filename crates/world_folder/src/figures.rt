@@ -1,0 +1,133 @@
+//! Figures of a world, from its files alone.
+ghost use Rattle.std.specs.Prelude.{◌≡◌, IfOk, IfErr};
+ghost use Rattle.world_folder.specs.Ending.{IsFault};
+ghost use Rattle.world_folder.specs.Told.{IsLogTold};
+ghost use Rattle.world_folder.specs.Figures.{AreFigures, current_segment, told_segment};
+
+use crate::copying::copy_world;
+use crate::counted::Counted;
+use crate::ending::Ending;
+use crate::fault::{Fault, stands_in};
+use crate::told::{LogTold, tell_log};
+use crate::world_file::{IMAGE_A, IMAGE_B, LOG_A, LOG_B};
+use action_log::SEGMENT_TICKS;
+use disk_model::FourFiles;
+use recovery::Slot;
+use std::alloc::Global;
+use std::fmt;
+use std::fs::{File, Files};
+use std::time::Clock;
+use world_actions::Refusal;
+
+/// Figures of a world.
+#[derive(Clone, Copy, Debug, PartialEq, Eq)]
+pub struct Figures {
+    /// The tick up to which the files hold it.
+    pub tick: u64,
+    /// The tick of its newest image, and that one's file.
+    pub image: u64,
+    pub slot: Slot,
+    /// The segment that the next ticks are written to, and how many it has.
+    pub segment: Option<(Slot, usize)>,
+}
+
+/// The figures of a world whose files have these bytes.
+pub fn figures_of(alloc: Global, files: &FourFiles<Vec<u8>>) -> Result<Figures, Fault>
+    ensures { IfOk result (AreFigures files.now) }
+{
+    let (Ok(log_a), Ok(log_b)) = (tell_log(alloc, &files.log_a), tell_log(alloc, &files.log_b))
+    else {
+        return Err(Fault::NoMemory);
+    };
+    match stands_in(alloc, files) {
+        Ok(found) => Ok(Figures {
+            tick: found.tick,
+            image: found.from,
+            slot: found.slot,
+            segment: current_segment(log_a, log_b),
+        }),
+        Err(fault) => Err(fault),
+    }
+}
+
+// The open segment with the greater base, log.b where both have it, and how many ticks it has.
+fn current_segment(log_a: LogTold, log_b: LogTold) -> Option<(Slot, usize)>
+    ensures { result ≡ current_segment (told_segment log_a) (told_segment log_b) }
+{
+    match (opened_segment(log_a), opened_segment(log_b)) {
+        (Some((first, ticks)), Some((second, _))) if second < first => Some((Slot::A, ticks)),
+        (_, Some((_, ticks))) => Some((Slot::B, ticks)),
+        (Some((_, ticks)), None) => Some((Slot::A, ticks)),
+        (None, None) => None,
+    }
+}
+
+// The base of an open segment, and how many ticks it has.
+fn opened_segment(log: LogTold) -> Option<(u64, usize)>
+    ensures { result ≡ told_segment log }
+{
+    match log {
+        LogTold::Open { base, ticks, .. } => Some((base, ticks)),
+        LogTold::Closed | LogTold::Damaged => None,
+    }
+}
+
+/// Prints the figures of the world in a folder, which a server may write meanwhile.
+pub fn status<R: Files<File = File> + Clock + Print + AllocGlobal>(
+    rt: &R,
+    folder: &str,
+) -> Result<(), Ending>
+    ensures { IfErr result IsFault }
+{
+    let copied = copy_world(rt, folder)?;
+    let figures = match figures_of(rt.alloc(), &copied.files) {
+        Ok(figures) => figures,
+        Err(fault) => return Err(Ending::NoWorld(fault)),
+    };
+    println!(rt; "{figures}")?;
+    println!(rt; "{}", Lengths(copied.lengths))?;
+    Ok(())
+}
+
+impl fmt::Display for Figures {
+    fn fmt<W: fmt::Write>(&self, f: &mut fmt::Formatter<W>) -> fmt::Result {
+        let image = match self.slot {
+            Slot::A => IMAGE_A,
+            Slot::B => IMAGE_B,
+        };
+        let behind = Counted {
+            count: self.tick.saturating_sub(self.image) as usize,
+            noun: "tick",
+        };
+        writeln!(f, "recovered {} from {} in {image}", self.tick, self.image)?;
+        write!(f, "log: {behind} behind the image, ")?;
+        match self.segment {
+            Some((Slot::A, ticks)) => write!(f, "{LOG_A} has {ticks} of {SEGMENT_TICKS}"),
+            Some((Slot::B, ticks)) => write!(f, "{LOG_B} has {ticks} of {SEGMENT_TICKS}"),
+            None => f.write_str("no segment is open"),
+        }
+    }
+}
+
+// How many bytes each file has, and all together.
+#[derive(Drop)]
+struct Lengths(FourFiles<u64>);
+
+impl fmt::Display for Lengths {
+    fn fmt<W: fmt::Write>(&self, f: &mut fmt::Formatter<W>) -> fmt::Result {
+        let FourFiles {
+            image_a,
+            image_b,
+            log_a,
+            log_b,
+        } = &self.0;
+        let sum = image_a
+            .saturating_add(*image_b)
+            .saturating_add(*log_a)
+            .saturating_add(*log_b);
+        write!(
+            f,
+            "bytes: {IMAGE_A} {image_a}, {IMAGE_B} {image_b}, {LOG_A} {log_a}, {LOG_B} {log_b}, together {sum}"
+        )
+    }
+}

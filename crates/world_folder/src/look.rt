@@ -1,0 +1,68 @@
+//! What the heads of four files say: which image is the newest, and which segments the log has.
+ghost use Rattle.std.specs.Prelude.{◌≡◌, ◌≤◌, length};
+ghost use Rattle.world_folder.specs.Look.{opened_tick, opened_base, newest_tick, look_of};
+
+use disk_model::FourFiles;
+use file_format::{OPEN_GATE, Slot, u64_at};
+use image_files::TICK_PLACE;
+
+/// The bytes of an image's head: its gate, its number of cells and its tick.
+pub const IMAGE_HEAD: usize = image_files::HEADER_BYTES;
+
+/// The bytes of a segment's head: its gate, its base, and the gate of its first group, which isn't looked at.
+pub const SEGMENT_HEAD: usize = action_log::HEADER_BYTES;
+
+/// A look at the heads of four files. Two that are alike have the same newest image, and the same open segments.
+#[derive(Clone, Copy, Debug, PartialEq, Eq)]
+pub struct Look {
+    /// The open image with the greatest tick, and this tick.
+    pub newest: Option<(Slot, u64)>,
+    /// The base of log.a with the mark of its format, where it is open.
+    pub log_a: Option<u64>,
+    /// The same of log.b.
+    pub log_b: Option<u64>,
+}
+
+/// What four files say by their first bytes. Of each no more is looked at than its head.
+pub fn look_at(files: &FourFiles<Vec<u8>>) -> Look
+    ensures { result ≡ look_of files.now.image_a.items files.now.image_b.items
+        files.now.log_a.items files.now.log_b.items }
+{
+    Look {
+        newest: newest_of(opened_tick(&files.image_a), opened_tick(&files.image_b)),
+        log_a: opened_base(&files.log_a),
+        log_b: opened_base(&files.log_b),
+    }
+}
+
+// The greater of two ticks, and the file that has it; image.a where both are alike.
+fn newest_of(a: Option<u64>, b: Option<u64>) -> Option<(Slot, u64)>
+    ensures { result ≡ newest_tick a b }
+{
+    match (a, b) {
+        (Some(first), Some(second)) if first < second => Some((Slot::B, second)),
+        (Some(first), _) => Some((Slot::A, first)),
+        (None, Some(second)) => Some((Slot::B, second)),
+        (None, None) => None,
+    }
+}
+
+// The tick of an image, where it is open.
+fn opened_tick(bytes: &[u8]) -> Option<u64>
+    ensures { result ≡ opened_tick bytes.now }
+{
+    if bytes.len() < IMAGE_HEAD || bytes[0] != OPEN_GATE {
+        return None;
+    }
+    Some(u64_at(bytes, TICK_PLACE))
+}
+
+// The base of a segment with the mark of its format, where it is open.
+fn opened_base(bytes: &[u8]) -> Option<u64>
+    ensures { result ≡ opened_base bytes.now }
+{
+    if bytes.len() < SEGMENT_HEAD || bytes[0] != OPEN_GATE {
+        return None;
+    }
+    Some(u64_at(bytes, file_format::MARK_PLACE))
+}

@@ -1,0 +1,60 @@
+//! The figures of a running server, printed again and again.
+ghost use Rattle.std.specs.Prelude.{◌≡◌, ◌≤◌, ◌<◌, ◌-◌, ◌/◌};
+
+use crate::line::Line;
+use crate::printer::Printer;
+use std::alloc::Global;
+use std::sync::{Arc, Wait};
+use std::thread::{self, Threads};
+use std::time::{Clock, Duration};
+use tcp_service::{Counts, Pulse};
+use worker_threads::NotStarted;
+
+/// The figures of a server.
+#[derive(Clone, Copy, Debug, PartialEq, Eq)]
+pub struct Report {
+    pub counts: Counts,
+    /// How many batches were answered by a tick each second.
+    pub rate: u64,
+}
+
+/// Starts a thread that prints the figures each time so many seconds have passed. It runs on up to the program's end.
+pub fn start_reporter<R: Threads + Wait + Clock + Copy + Send + 'static>(
+    rt: &R,
+    seconds: u32,
+    pulse: Arc<Pulse, Global>,
+    errors: Printer,
+) -> Result<(), NotStarted>
+    requires { 0 < seconds }
+{
+    let here = *rt;
+    let run = move || report_on(&here, seconds, &pulse, &errors);
+    match thread::spawn(rt, run) {
+        Ok(_) => Ok(()),
+        Err(_) => Err(NotStarted::NoThread),
+    }
+}
+
+// Prints the figures for ever.
+fn report_on<R: Wait + Clock>(rt: &R, seconds: u32, pulse: &Pulse, errors: &Printer) {
+    let mut before = pulse.counts();
+    for _ in rt.forever() {
+        thread::sleep(rt, Duration::from_secs(u64::from(seconds)));
+        let counts = pulse.counts();
+        let report = report_of(before, counts, seconds);
+        errors.print(rt, Line::Report(report));
+        before = counts;
+    }
+}
+
+// The figures after so many seconds.
+fn report_of(before: Counts, now: Counts, seconds: u32) -> Report
+    ensures counts { result.counts ≡ now }
+    ensures rate { 0 < seconds → result.rate ≡ (now.answered - before.answered) / seconds }
+{
+    let answered = now.answered.saturating_sub(before.answered);
+    Report {
+        counts: now,
+        rate: answered / u64::from(seconds.max(1)),
+    }
+}
