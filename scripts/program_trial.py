@@ -583,7 +583,7 @@ def try_reporting(trial: Trial) -> None:
         trial.seen["served"] += 1
         errors.seek(0)
         reports = [line for line in errors.read().splitlines() if " acked " in line]
-        trial.check("reports", bool(reports) and reports[-1], "worldd: acked 4 image 0 sessions 1 batches/s 0 waiting 0")
+        trial.check("reports", bool(reports) and reports[-1], "worldd: tick 4 acked 4 image 0 sessions 1 batches/s 0 waiting 0")
 
 
 def main() -> int:

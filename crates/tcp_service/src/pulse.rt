@@ -8,6 +8,7 @@ pub struct Pulse {
     sessions: AtomicU64,
     waiting: AtomicU64,
     answered: AtomicU64,
+    tick: AtomicU64,
     acked: AtomicU64,
     image: AtomicU64,
 }
@@ -21,6 +22,8 @@ pub struct Counts {
     pub waiting: u64,
     /// How many batches were answered by a tick.
     pub answered: u64,
+    /// How many ticks have ended. The last ones may not be durable yet.
+    pub tick: u64,
     /// The greatest tick that was answered or recovered.
     pub acked: u64,
     /// The tick of the newest image.
@@ -34,6 +37,7 @@ impl Pulse {
             sessions: AtomicU64::new(0),
             waiting: AtomicU64::new(0),
             answered: AtomicU64::new(0),
+            tick: AtomicU64::new(acked),
             acked: AtomicU64::new(acked),
             image: AtomicU64::new(image),
         }
@@ -61,6 +65,11 @@ impl Pulse {
         }
     }
 
+    /// So many ticks have ended.
+    pub fn ticks_ended(&self, ticks: u64) {
+        self.tick.store(ticks, Ordering::SeqCst);
+    }
+
     /// The image of this tick is open.
     pub fn image_opened(&self, tick: u64) {
         raise(&self.image, tick);
@@ -71,6 +80,7 @@ impl Pulse {
             sessions: self.sessions.load(Ordering::SeqCst),
             waiting: self.waiting.load(Ordering::SeqCst),
             answered: self.answered.load(Ordering::SeqCst),
+            tick: self.tick.load(Ordering::SeqCst),
             acked: self.acked.load(Ordering::SeqCst),
             image: self.image.load(Ordering::SeqCst),
         }

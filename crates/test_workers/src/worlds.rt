@@ -12,7 +12,7 @@ use std::process::Abort;
 use std::sync::Wait;
 use tcp_service::{Door, Unserved};
 use worker_steps::Opened;
-use worker_threads::{Seats, Watch, open_world};
+use worker_threads::{Seats, TickWatch, Watch, open_world};
 use workers::{ImageWriter, Log};
 
 /// What a running world tells.
@@ -48,6 +48,10 @@ impl<R: Wait + Copy> Clone for Teller<R> {
             to: self.to.clone()?,
         })
     }
+}
+
+impl<R: Wait + Copy> TickWatch for Teller<R> {
+    fn ticks_ended(&mut self, _ticks: u64) {}
 }
 
 impl<R: Wait + Copy, D: Disk + Drop> Watch<D> for Teller<R> {

@@ -7,13 +7,17 @@ use std::alloc::Global;
 use std::sync::Wait;
 use std::thread::Threads;
 use worker_steps::{Gates, Opened};
-use worker_threads::{Watch, Workers, start};
+use worker_threads::{TickWatch, Watch, Workers, start};
 use workers::{Ask, ImageWriter, Log, Open};
 use world_actions::Refusal;
 
 /// Tells nothing: what went wrong is seen at the end.
 #[derive(Clone, Copy)]
 struct Quiet;
+
+impl TickWatch for Quiet {
+    fn ticks_ended(&mut self, _ticks: u64) {}
+}
 
 impl<D: Disk + Drop> Watch<D> for Quiet {
     fn image_opened(&mut self, _tick: u64) {}

@@ -1,10 +1,14 @@
 use disk_model::Disk;
-use worker_threads::Watch;
+use worker_threads::{TickWatch, Watch};
 use workers::{ImageWriter, Log};
 
 /// Reports nothing. The workers are looked at once they have ended.
 #[derive(Clone, Copy)]
 pub struct Quiet;
+
+impl TickWatch for Quiet {
+    fn ticks_ended(&mut self, _ticks: u64) {}
+}
 
 impl<D: Disk + Drop> Watch<D> for Quiet {
     fn image_opened(&mut self, _tick: u64) {}

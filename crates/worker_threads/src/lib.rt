@@ -14,5 +14,5 @@ mod world_opening;
 pub use cuts::stop_after;
 pub use meeting::ends_meet;
 pub use threads::{Ends, NotStarted, Workers, start, stop};
-pub use watch::Watch;
+pub use watch::{TickWatch, Watch};
 pub use world_opening::{Seats, open_world};

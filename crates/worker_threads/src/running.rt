@@ -2,7 +2,7 @@
 ghost use Rattle.std.specs.Prelude.{◌≡◌, false};
 ghost use Rattle.worker_threads.specs.Kept.{EndsFront, MayTake, EndsBack, MayWrite, EndsLog};
 
-use crate::watch::Watch;
+use crate::watch::{TickWatch, Watch};
 use crate::work::Work;
 use crossbeam_channel::Receiver;
 use disk_model::Disk;
@@ -12,8 +12,9 @@ use workers::{Ask, Checkpointer, Gate, LogWriter, Mutator};
 
 #[tactic(auto, using(crate::proofs::Keeping::begins))]
 // Runs the batches of the sessions until the last one is gone, and tells the others that no more comes.
-fn play_batches<R: Wait, M: Method, G: Gate + Drop>(
+fn play_batches<R: Wait, M: Method, G: Gate + Drop, W: TickWatch>(
     rt: &R,
+    watch: &mut W,
     asks: Receiver<Ask>,
     mut mutator: Mutator<M, G>,
 ) -> Mutator<M, G>
@@ -21,6 +22,7 @@ fn play_batches<R: Wait, M: Method, G: Gate + Drop>(
 {
     for ask in asks.iter(rt) {
         let _ = mutator.turn(rt, ask);
+        watch.ticks_ended(mutator.ended());
     }
     mutator.end(rt);
     mutator
@@ -71,7 +73,7 @@ fn write_log<R: Wait, D: Disk + Drop, G: Gate + Drop, W: Watch<D>>(
     log_writer
 }
 
-impl<M: Method, G: Gate + Drop> Work<Receiver<Ask>> for Mutator<M, G> {
+impl<M: Method, G: Gate + Drop, W: TickWatch + Drop> Work<(Receiver<Ask>, W)> for Mutator<M, G> {
     ghost use Rattle.std.specs.Prelude.{⊤};
     ghost use Rattle.worker_threads.specs.Kept.{EndsFront};
 
@@ -79,8 +81,9 @@ impl<M: Method, G: Gate + Drop> Work<Receiver<Ask>> for Mutator<M, G> {
 
     ghost ended = { EndsFront };
 
-    fn work<R: Wait>(self, rt: &R, asks: Receiver<Ask>) -> Self {
-        play_batches(rt, asks, self)
+    fn work<R: Wait>(self, rt: &R, with: (Receiver<Ask>, W)) -> Self {
+        let (asks, mut watch) = with;
+        play_batches(rt, &mut watch, asks, self)
     }
 }
 

@@ -7,7 +7,7 @@ ghost use Rattle.worker_steps.specs.Begun.{IsWhole, IsBegun};
 ghost use Rattle.worker_threads.specs.Kept.{MayTake, MayWrite, EndsFront, EndsBack, EndsLog};
 
 use crate::promises::{SameCheckpointer, SameLogWriter, SameMutator};
-use crate::watch::Watch;
+use crate::watch::{TickWatch, Watch};
 use crate::work::spawn;
 use action_log::Record;
 use circular_buffer::HeapCircularBuffer;
@@ -191,8 +191,9 @@ fn start_players<
     ensures mutator { IfOk result (λ players. players.0.promise.0.value ≡ mutator) }
     ensures checkpointer { IfOk result (λ players. players.1.promise.0.value ≡ checkpointer) }
 {
-    let checkpointer = start_checkpointer(rt, watch, checkpointer)?;
-    match start_mutator(rt, asked, mutator) {
+    let watch_too = watch.clone()?;
+    let checkpointer = start_checkpointer(rt, watch_too, checkpointer)?;
+    match start_mutator(rt, watch, asked, mutator) {
         Ok(mutator) => Ok((mutator, checkpointer)),
         Err(error) => {
             checkpointer.join(rt);
@@ -210,8 +211,10 @@ fn start_mutator<
     R: Threads + Wait + Copy + Send + 'static,
     M: Method + Send + 'static,
     G: Gate + Drop + Send + 'static,
+    W: TickWatch + Drop + Send + 'static,
 >(
     rt: &R,
+    watch: W,
     asked: Receiver<Ask>,
     mutator: Mutator<M, G>,
 ) -> Result<PromisedHandle<Mutator<M, G>, SameMutator<M, G>>, NotStarted>
@@ -223,7 +226,7 @@ fn start_mutator<
     crosses::<Tick>();
     crosses::<Waiting>();
     let same = SameMutator(Snapshot::of(&mutator));
-    spawn(rt, same, asked, mutator)
+    spawn(rt, same, (asked, watch), mutator)
 }
 
 fn start_checkpointer<

@@ -5,5 +5,6 @@ pub mod Told
 pub mod Ending
 pub mod Making
 pub mod WordsText
+pub mod WordsImage
 pub mod Look
 pub mod Figures

@@ -1,14 +1,16 @@
 -- What making a world in a folder gives.
-use Rattle.std.specs.Prelude.{◌≡◌, ◌≢◌, ◌⊎◌, ℕ, List, []}
+use Rattle.std.specs.Prelude.{◌≡◌, ◌≢◌, ◌⊎◌, ℕ, List, [], Ok, Err}
 use Rattle.std.specs.Path.{path_buf_bytes, path_join}
-use Rattle.world_actions.specs.declared.refusal.Refusal.TheVariants.{NoMemory, Device, NotEmpty}
+use Rattle.world_actions.specs.declared.refusal.Refusal.TheVariants.{NoMemory, Device, NotEmpty, NoImage}
+use Rattle.file_format.specs.declared.slot.Slot.TheVariants.{A}
 use Rattle.disk_model.specs.Disk.{Only}
 use Rattle.disk_model.specs.FourFiles.{EachFile, KeepsFile}
 use Rattle.disk_model.specs.declared.four_files.FourFiles.{FourFiles}
 use Rattle.image_files.specs.Image.{Closed, Open, image_of}
 use Rattle.action_log.specs.Segment.{ClosedSegment, IsSegment}
+use Rattle.recovery.specs.Recovery.{Recovery, Recovers}
 use Rattle.recovery.specs.Sound.{IsFresh}
-use Rattle.served.specs.Opening.{AreSynced, AreSound}
+use Rattle.served.specs.Opening.{AreSynced, AreSound, RecoversFiles}
 use Rattle.served.specs.Fresh.{FilesAreClosed}
 use Rattle.world_folder.specs.declared.ending.Ending.{Ending}
 use Rattle.world_folder.specs.declared.ending.Ending.TheVariants.{Fault, Occupied}
@@ -40,8 +42,13 @@ module _ {D : Type 0} (file : D → List ℕ) (leaves : D → List ℕ → Type 
     pub safe : AreSynced file leaves files → FilesAreClosed file files
         → IsFresh (leaves left.image_a) (leaves left.image_b) (leaves left.log_a) (leaves left.log_b) cells ⊎ AreSound file leaves left cells [] 0
 
+-- what recovery finds in a world that was made of these words
+abbrev pub recovery_of_words : List ℕ → Recovery
+recovery_of_words words = record { tick = 0; from = 0; slot = A; words = words }
+
 module _ {D : Type 0} (file : D → List ℕ) (leaves : D → List ℕ → Type 0) where
-  -- the files held no world, and hold the one of these words at tick 0: image.a has it, it is durable, and the others are as before
+  -- The files held no world, and recovery finds these words in them at tick 0. image.a has them, and is durable. The other
+  -- files were only read.
   pub record HoldsWords (files : FourFiles D) (words : List ℕ) (made : FourFiles D) : Type 0 where
     pub closed : FilesAreClosed file files
     pub image : image_of (file made.image_a) ≡ Open 0 words
@@ -49,11 +56,13 @@ module _ {D : Type 0} (file : D → List ℕ) (leaves : D → List ℕ → Type 
     pub image_b : KeepsFile file leaves files.image_b made.image_b
     pub log_a : KeepsFile file leaves files.log_a made.log_a
     pub log_b : KeepsFile file leaves files.log_b made.log_b
+    pub recovers : RecoversFiles file made (recovery_of_words words)
 
-  -- No world was made, and the program ends so. But for a device that failed the files were only read. Where image.a held no
-  -- image, a crash leaves none in it, or that of these words at tick 0.
+  -- No world was made, and the program ends so. But for a device that failed the files were only read. Where they held no
+  -- world, a crash leaves none in them, or that of these words at tick 0.
   pub record HoldsNoOther (folder : List ℕ) (files : FourFiles D) (words : List ℕ) (ending : Ending) (left : FourFiles D) : Type 0 where
     pub told : TellsUnmade file folder files ending
     pub kept : ending ≢ Fault Device → EachFile files left (KeepsFile file leaves)
     pub safe : AreSynced file leaves files → FilesAreClosed file files
-        → (bytes : List ℕ) → leaves left.image_a bytes → (image_of bytes ≡ Closed) ⊎ (image_of bytes ≡ Open 0 words)
+        → (a b la lb : List ℕ) → leaves left.image_a a → leaves left.image_b b → leaves left.log_a la → leaves left.log_b lb
+        → Recovers a b la lb (Err NoImage) ⊎ Recovers a b la lb (Ok (recovery_of_words words))

@@ -80,6 +80,8 @@ pub fn make_of_words<D: Disk>(
     ensures cells { IfOk result (λ made. made.1.cells ≡ length words.now) }
     ensures unmade { IsTrue D.honest → IfErr result (λ unmade.
         HoldsNoOther D.content D.may_leave folder.now files words.now unmade.1 unmade.0) }
+    ensures device { IfErr result (λ unmade. unmade.1 ≡ Ending.Fault Refusal.Device
+        → SomeGrew (fault_counts D.faults files) (fault_counts D.faults unmade.0)) }
     ensures fault { IfErr result (λ unmade. IsFault unmade.1) }
 {
     let mut files = files;
@@ -91,13 +93,11 @@ pub fn make_of_words<D: Disk>(
         let ending = occupied_by(alloc, folder, first_open(alloc, &bytes));
         return Err((files, ending));
     }
-    match write_words(alloc, words, &mut files.image_a) {
-        Ok(()) => Ok((
-            files,
-            Made {
-                cells: words.len() as u32,
-            },
-        )),
+    match write_words(alloc, words, &bytes.image_a, &mut files.image_a) {
+        Ok(()) => {
+            let cells = words.len() as u32;
+            Ok((files, Made { cells }))
+        }
         Err(refusal) => Err((files, Ending::Fault(refusal))),
     }
 }

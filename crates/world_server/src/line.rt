@@ -102,6 +102,7 @@ fn write_report<W: fmt::Write>(f: &mut fmt::Formatter<W>, report: Report) -> fmt
     let Counts {
         sessions,
         waiting,
+        tick,
         acked,
         image,
         ..
@@ -109,7 +110,7 @@ fn write_report<W: fmt::Write>(f: &mut fmt::Formatter<W>, report: Report) -> fmt
     let rate = report.rate;
     write!(
         f,
-        "acked {acked} image {image} sessions {sessions} batches/s {rate} waiting {waiting}"
+        "tick {tick} acked {acked} image {image} sessions {sessions} batches/s {rate} waiting {waiting}"
     )
 }
 

@@ -10,7 +10,7 @@ use std::net::Net;
 use std::sync::atomic::{AtomicBool, Ordering};
 use std::sync::{Arc, Wait};
 use tcp_service::{Door, Pulse, Unserved};
-use worker_threads::Watch;
+use worker_threads::{TickWatch, Watch};
 use workers::{ImageWriter, Log};
 use world_folder::WorldFile;
 
@@ -68,6 +68,14 @@ pub trait Announce {
 impl<R: Wait + Net + Copy> Announce for Lines<R> {
     fn stopped(&self, ended: u64, acked: u64) {
         self.output.print(&self.rt, Line::Stopped { ended, acked });
+    }
+}
+
+impl<R: Wait + Net + Copy> TickWatch for Lines<R> {
+    fn ticks_ended(&mut self, ticks: u64) {
+        if let Some(pulse) = &self.pulse {
+            pulse.ticks_ended(ticks);
+        }
     }
 }
 

@@ -118,8 +118,9 @@ On standard error it prints, and drops lines that nobody reads:
   worldd: the port is closed: no more clients can come       or: the socket
   worldd: listener failed: REASON              no more clients can come
   worldd: standard output: REASON              a line couldn't be printed
-  worldd: acked A image I sessions S batches/s B waiting W   by --report: up to tick A
-      it answered, the newest image is of tick I, S clients play, W batches wait
+  worldd: tick T acked A image I sessions S batches/s B waiting W     by --report: T
+      ticks have ended, those up to A were answered, the newest image is of tick I,
+      S clients play, W batches wait
   worldd: lines dropped: COUNT                 nobody read them
 Its status is 0; 12 if the log is down, else 11 if images are, else 10 if the listener
 failed; 2 for a wrong command line; else 1, and standard error has `fault CODE`:
