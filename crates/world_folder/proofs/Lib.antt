@@ -1,3 +1,4 @@
 pub mod FormatLemmas
 pub mod MakingLemmas
 pub mod WordsLemmas
+pub mod WordsImageLemmas

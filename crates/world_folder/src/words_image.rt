@@ -39,7 +39,6 @@ pub fn write_words<D: Disk>(
     ensures device { result ≡ Err Refusal.Device → Grew (D.faults image.old) (D.faults image.new) }
     ensures no_fault { OnOk result (D.faults image.new ≡ D.faults image.old) }
 {
-    images_read_back();
     let body = image_body(alloc, words)?;
     shut_gate(bytes, image)?;
     write_body(&body, image)?;

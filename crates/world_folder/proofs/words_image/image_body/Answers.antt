@@ -1,0 +1,42 @@
+use Rattle.std.proofs.Common.{length, take, ap, arith, length-append}
+use Rattle.std.specs.List.{flat_map}
+use Rattle.std.proofs.lemmas.List.{length-take}
+use Rattle.file_format.specs.Number.{number_bytes}
+use Rattle.file_format.proofs.NumberLemmas.{length-number_bytes}
+use Rattle.world_folder.proofs.WordsImageLemmas.{length_words}
+use Rattle.world_folder.proofs.words_image.image_body.Goals as goal
+
+pub put_u64-requires-2 : goal.put_u64-requires-2
+put_u64-requires-2 c =
+    omega (
+      arith,
+      ap length c.put_u64.ensures.put,
+      length-append c.in_ok-body.body.items (number_bytes 8 c.marked.result),
+      length-number_bytes 8 c.marked.result,
+      c.put_u64.ensures.capacity,
+      c.in_ok-body.ensures.capacity,
+      ap length c.in_ok-body.ensures.items,
+    )
+
+pub put_u64-requires-in-loop-word : goal.put_u64-requires-in-loop-word
+put_u64-requires-in-loop-word c =
+    let done = take c.loop-word.word-index c.args.words.now in
+    omega (
+      arith,
+      ap length c.loop-word.invariant.spelled,
+      length-append c.put_u64-2.new.bytes.items (flat_map (number_bytes 8) done),
+      length_words done,
+      length-take c.loop-word.word-index c.args.words.now,
+      c.loop-word.invariant.room,
+      c.loop-word-test.true,
+      ap length c.put_u64-2.ensures.put,
+      length-append c.put_u64.new.bytes.items (number_bytes 8 0),
+      length-number_bytes 8 0,
+      c.put_u64-2.ensures.capacity,
+      ap length c.put_u64.ensures.put,
+      length-append c.in_ok-body.body.items (number_bytes 8 c.marked.result),
+      length-number_bytes 8 c.marked.result,
+      c.put_u64.ensures.capacity,
+      c.in_ok-body.ensures.capacity,
+      ap length c.in_ok-body.ensures.items,
+    )
