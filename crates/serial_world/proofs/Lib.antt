@@ -1,0 +1,4 @@
+pub mod FreshlyServed
+pub mod Playing
+pub mod Queues
+pub mod Words
