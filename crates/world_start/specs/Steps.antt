@@ -11,7 +11,7 @@ use Rattle.image_files.specs.Progress.{made_keeper}
 use Rattle.image_files.specs.declared.phase.Phase.TheVariants.{Idle, Down}
 use Rattle.restart.specs.Start.{has_round, started_keeper, IsBuilt, is_shut}
 use Rattle.world_start.specs.declared.engine.Engine.{Engine}
-use Rattle.world_start.specs.declared.engine.TheConstants.{QUEUE_RECORDS}
+use Rattle.restart.specs.declared.start.TheConstants.{QUEUE_RECORDS}
 use Rattle.world_start.specs.declared.recovering.Start.{Start}
 use Rattle.world_actions.specs.World.{IsWord}
 use Rattle.world_ticks.specs.declared.tick.TheConstants.{TICK_MAX}

@@ -8,9 +8,6 @@ mod beginning;
 mod keepers;
 mod starting;
 
-/// How many records may wait for the log.
-pub const QUEUE_RECORDS: usize = 64;
-
 /// A world in memory, with the keepers of its files and the records that wait for the log.
 #[derive(Drop)]
 pub struct Engine<C: Capture> {

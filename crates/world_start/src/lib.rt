@@ -14,7 +14,7 @@ mod parts;
 mod recovering;
 mod round_run;
 
-pub use engine::{Engine, QUEUE_RECORDS};
+pub use engine::Engine;
 pub use fresh::fresh_files;
 pub use laws::followed_files_are_sound;
 pub use parts::Parts;

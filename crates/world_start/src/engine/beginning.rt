@@ -4,12 +4,12 @@ ghost use Rattle.world_actions.specs.World.{IsWord};
 ghost use Rattle.world_ticks.specs.declared.tick.TheConstants.{TICK_MAX};
 ghost use Rattle.world_start.specs.Steps.{Begins};
 
-use crate::engine::{Engine, QUEUE_RECORDS};
+use crate::engine::Engine;
 use capture_core::Capture;
 use circular_buffer::HeapCircularBuffer;
 use disk_model::FourFiles;
 use image_files::Slot;
-use restart::{has_round, images_of, log_of, store_of};
+use restart::{QUEUE_RECORDS, has_round, images_of, log_of, store_of};
 use std::alloc::Global;
 use world_actions::Refusal;
 
