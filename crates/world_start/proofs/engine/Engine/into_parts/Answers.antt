@@ -1,7 +1,7 @@
 use Rattle.std.proofs.Common.{◌≡◌, sym, ap, ◌∙◌, subst, length, arith}
 use Rattle.restart.specs.InStep.{IsSettled}
 use Rattle.world_start.proofs.Following.{none_waits, no_work, log_is_ready, none_left, settles}
-use Rattle.world_start.proofs.parts.Engine.into_parts.Goals as goal
+use Rattle.world_start.proofs.engine.Engine.into_parts.Goals as goal
 
 pub returns-clause-none_queued : goal.returns-clause-none_queued
 returns-clause-none_queued g c = λ up.
