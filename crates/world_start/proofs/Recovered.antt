@@ -24,8 +24,8 @@ use Rattle.recovery.specs.Restart.{CrashRestarts, Restarts, recovered_images}
 use Rattle.restart.specs.InStep.{WorldsGoOn}
 use Rattle.world_start.specs.declared.engine.Engine.{Engine}
 use Rattle.world_start.specs.Engine.{Follows}
-use Rattle.world_start.specs.Steps.{Begins, IsRead}
-use Rattle.world_start.specs.Opening.{AreSynced, AreSound, AreRead}
+use Rattle.world_start.specs.Steps.{Begins}
+use Rattle.world_start.specs.Opening.{AreSynced, AreSound, AreRead, IsRead}
 use Rattle.world_start.proofs.Beginning.{StartLaws, start_follows, built_live, started_cells, started_newest}
 
 pub if_err : {T : Type 0} (r : Result T Refusal) (refusal : Refusal) (P : Refusal → Type 0) → IsErrAnd r (λ e. e ≡ refusal) → P refusal → IfErr r P
