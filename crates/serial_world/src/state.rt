@@ -47,7 +47,7 @@ impl<C: Capture, D: Disk> SerialState<C, D> {
         ensures recovered { IfOk result (λ state. IsRecovered C.content D.content D.honest files
             state.engine state.recovered.0 state.recovered.1) }
         ensures up { IfOk result (λ state. state.engine.log.down ≡ false) }
-        ensures begun { IfOk result (λ state. (state.engine.since ≡ 0) × (serving.engine.images.phase ≡ Idle)) }
+        ensures begun { IfOk result (λ state. (state.engine.since ≡ 0) × (state.engine.images.phase ≡ Idle)) }
         ensures every { IfOk result (λ state. state.every ≡ every) }
         ensures acked { IfOk result (λ state. state.acked ≡ state.engine.ended) }
         ensures refused { IfErr result (λ refused. IsRefused D.content D.honest files refused.1) }

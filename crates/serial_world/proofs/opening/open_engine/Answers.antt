@@ -73,6 +73,6 @@ returns-in_err-start-clause-device g c =
     let faults = g.D.Disk.faults in
     let old = fault_counts faults c.args.files.now in
     let new = fault_counts faults c.start.new.files in
-    let up = c.in_ok-begun.ensures.up in
+    let up = c.in_ok-begun.ensures.ahead.up in
     if_err c.from_residual-in_err-start.result c.in_err-start.field-0.0 (λ refusal. refusal ≡ Device → SomeGrew old new) c.from_residual-in_err-start.ensures.1
     (λ device. subst (λ (counts : List ℕ). SomeGrew counts new) c.in_ok-begun.ensures.no_fault (c.in_err-start.ensures.device up.0 up.1))

@@ -1,6 +1,6 @@
 use Rattle.std.proofs.Common.{◌<◌, sym, ap, subst, ◌∙◌, arith, All, length}
 use Rattle.world_actions.specs.World.{IsWord}
-use Rattle.serial_world.proofs.Words.{one_more, whole}
+use Rattle.serial_world.proofs.CopiedWords.{one_more, whole}
 use Rattle.serial_world.proofs.words.words_of.Goals as goal
 
 pub read-requires : goal.read-requires
