@@ -96,8 +96,8 @@ NO_MEMORY = "17"
 GROWING = {
     "ModelFile::write_at": ("18",),
     "fresh_files of files that grow": (NO_MEMORY, "18"),
-    "Served::open of files that grow": (NO_MEMORY, "18"),
-    "Served::batch of files that grow": (NO_MEMORY, "12"),
+    "SerialWorld::open of files that grow": (NO_MEMORY, "18"),
+    "SerialWorld::batch of files that grow": (NO_MEMORY, "12"),
 }
 
 

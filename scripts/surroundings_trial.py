@@ -43,12 +43,14 @@ LINES_WAITING = 256
 LONG_BATCHES, SENT_BEHIND = 45, 100_000
 # A limit on a file's size that no write ends at.
 FILE_LIMIT = 20_011
+# One that the image of a start passes.
+START_LIMIT = 4_011
 SHORT = "the disk is full, or the file has reached a limit on its size"
 CASES = (
     *(f"{command} with closed streams" for command in ("create", "recover", "inspect", "steps", "serve")),
     "short connections", "descriptors exhausted", "descriptors freed", "errors unread", "lines dropped",
     "output full", "output broken", "port closed", "socket closed", "silent client ended", "link refused", "mode of a new file",
-    "short write named", "ended by its log", "no thread named",
+    "short write named", "ended by its log", "start that fails", "no thread named",
     "socket with its mode", "socket removed", "old socket replaced", "socket in use kept", "socket's place taken",
     "other file kept", "next server's socket kept", "fault 16 not reset",
 )
@@ -367,6 +369,18 @@ class Trial:
             self.met["short write named"] += 1
             server.holds(ticks)
 
+    def failed_start(self) -> None:
+        """A start can't write its image: the world that was recovered is printed, and the program ends with the fault."""
+        first = self.server()
+        first.client().play()
+        first.kill()
+        again = Server(self.worldd, first.folder, preexec_fn=limiting(resource.RLIMIT_FSIZE, START_LIMIT))
+        status, output, errors = again.end()
+        want((status, output) == (1, "recovered 1 from 0\n"), f"a start that fails: {status} {output}")
+        want(errors.startswith("fault 18\n") and SHORT in errors, f"no cause of the start: {errors}")
+        self.met["start that fails"] += 1
+        again.holds(1)
+
     def threads(self) -> None:
         """There is room for some threads, and not for all."""
         for megabytes in range(8, 80, 4):
@@ -561,6 +575,7 @@ class Trial:
         self.broken_output()
         self.links()
         self.full_file()
+        self.failed_start()
         self.threads()
         self.socket_modes()
         self.old_sockets()

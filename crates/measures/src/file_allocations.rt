@@ -12,11 +12,12 @@ use disk_model::FourFiles;
 use file_format::Format;
 use ping_pong::PingPong;
 use recovery::recover;
-use served::{Served, fresh_files};
+use serial_world::SerialWorld;
 use sessions::World;
 use std::alloc::Global;
 use trial_kit::{count_each, end_stretch};
 use world_actions::{CELLS as MOST_CELLS, Refusal};
+use world_start::fresh_files;
 use zigzag::Zigzag;
 
 /// The bytes of a batch of four lines.
@@ -90,7 +91,7 @@ fn read_batch<R: Print + AllocGlobal>(rt: &R, reader: &mut BatchReader) -> Resul
 
 fn serve_batch<R: Print + AllocGlobal>(
     rt: &R,
-    served: &mut Served<Zigzag, File>,
+    served: &mut SerialWorld<Zigzag, File>,
     batch: &Batch,
 ) -> Result<(), Error> {
     let mut text = Vec::new(rt.alloc());
@@ -102,7 +103,7 @@ fn serve_batch<R: Print + AllocGlobal>(
 }
 
 // A world of two cells on new files.
-fn new_world(alloc: Global) -> Result<Served<Zigzag, File>, Refusal> {
+fn new_world(alloc: Global) -> Result<SerialWorld<Zigzag, File>, Refusal> {
     let files = FourFiles {
         image_a: empty_file(alloc, FILE_BYTES)?,
         image_b: empty_file(alloc, FILE_BYTES)?,
@@ -115,8 +116,8 @@ fn new_world(alloc: Global) -> Result<Served<Zigzag, File>, Refusal> {
     }
 }
 
-fn opened(alloc: Global, files: FourFiles<File>) -> Result<Served<Zigzag, File>, Refusal> {
-    match Served::open(alloc, files, EVERY) {
+fn opened(alloc: Global, files: FourFiles<File>) -> Result<SerialWorld<Zigzag, File>, Refusal> {
+    match SerialWorld::open(alloc, files, EVERY) {
         Ok(served) => Ok(served),
         Err((_, refusal)) => Err(refusal),
     }

@@ -15,6 +15,9 @@ use image_files::{ImageKeeper, Slot, images_stay, is_shut};
 use std::alloc::Global;
 use world_actions::Refusal;
 
+/// How many records may wait for the log of a world, in the queue of its keeper and on the way there.
+pub const QUEUE_RECORDS: usize = 64;
+
 /// Whether a start at this tick has a round, where the newest image is of that file and tick.
 pub fn has_round(newest: Option<(Slot, u64)>, tick: u64) -> bool
     ensures { result ≡ has_round newest tick }

@@ -3,11 +3,11 @@ use disk_model::{FourFiles, ModelFile};
 use ping_pong::PingPong;
 use refused::{try_closed_files, try_damaged_files, try_made_files, try_open_files};
 use same::same;
-use served::Parts;
 use std::alloc::Global;
 use std::process::Abort;
 use streams::{FIRST_ANSWER, INPUT, TEXT, WHOLE, try_broken};
 use world_actions::Refusal;
+use world_start::Parts;
 use worlds::{
     Case, IMAGE, NONE, Session, created, files_of, fresh, long_batch, open, play, stands, told,
     try_case, try_new,

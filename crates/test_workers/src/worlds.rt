@@ -5,7 +5,6 @@ ghost use Rattle.worker_steps.specs.Begun.{IsWhole};
 use crossbeam_channel::Sender;
 use disk_model::{Disk, FourFiles, Fused, ModelFile};
 use recovery::recover;
-use served::fresh_files;
 use std::alloc::{AllocError, Global};
 use std::io;
 use std::process::Abort;
@@ -14,6 +13,7 @@ use tcp_service::{Door, Unserved};
 use worker_steps::Opened;
 use worker_threads::{Seats, TickWatch, Watch, open_world};
 use workers::{ImageWriter, Log};
+use world_start::fresh_files;
 
 /// What a running world tells.
 #[derive(Clone, Copy, Debug, PartialEq, Eq)]

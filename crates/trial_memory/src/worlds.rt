@@ -4,11 +4,12 @@ use crate::files::{IMAGE, LOG, file_of};
 use batches::{Batch, BatchReader, Fed};
 use capture_core::PlainCopy;
 use disk_model::{FourFiles, ModelFile};
-use served::{Served, fresh_files};
+use serial_world::SerialWorld;
 use sessions::World;
 use std::alloc::Global;
 use std::marker::PhantomData;
 use world_actions::Refusal;
+use world_start::fresh_files;
 use zigzag::Zigzag;
 
 /// The room that files have at first.
@@ -110,7 +111,7 @@ impl<R: Room> NewWorld<R> {
     }
 
     fn open(&self, files: FourFiles<ModelFile>) -> Made {
-        Ok(Served::<PlainCopy, ModelFile>::open(self.alloc, files, 1)?.into_files())
+        Ok(SerialWorld::<PlainCopy, ModelFile>::open(self.alloc, files, 1)?.into_files())
     }
 }
 
@@ -164,9 +165,9 @@ pub struct Open<R: Room> {
 impl<R: Room> Case for Open<R> {
     fn name() -> &'static str {
         if R::grows() {
-            "Served::open of files that grow"
+            "SerialWorld::open of files that grow"
         } else {
-            "Served::open"
+            "SerialWorld::open"
         }
     }
 
@@ -189,7 +190,7 @@ impl<R: Room> Case for Open<R> {
     /// Where a start may have failed before, its image may be another one.
     fn call(&mut self) -> Result<u64, Refusal> {
         let files = self.files.take().ok_or(Refusal::Device)?;
-        match Served::<Zigzag, ModelFile>::open(self.alloc, files, 1) {
+        match SerialWorld::<Zigzag, ModelFile>::open(self.alloc, files, 1) {
             Ok(served) => {
                 let (tick, from) = served.recovered();
                 self.files = Some(served.into_files());
@@ -223,14 +224,14 @@ fn batch_of(alloc: Global) -> Result<Batch, Refusal> {
 #[derive(Drop)]
 pub struct Serve<R: Room> {
     alloc: Global,
-    served: Option<Served<PlainCopy, ModelFile>>,
+    served: Option<SerialWorld<PlainCopy, ModelFile>>,
     batch: Batch,
     room: PhantomData<R>,
 }
 
 impl<R: Room> Serve<R> {
     fn open(&mut self, files: FourFiles<ModelFile>) -> Result<(), Refusal> {
-        match Served::open(self.alloc, files, 1) {
+        match SerialWorld::open(self.alloc, files, 1) {
             Ok(served) => {
                 self.served = Some(served);
                 Ok(())
@@ -248,9 +249,9 @@ impl<R: Room> Serve<R> {
 impl<R: Room> Case for Serve<R> {
     fn name() -> &'static str {
         if R::grows() {
-            "Served::batch of files that grow"
+            "SerialWorld::batch of files that grow"
         } else {
-            "Served::batch"
+            "SerialWorld::batch"
         }
     }
 

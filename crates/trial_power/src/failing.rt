@@ -5,7 +5,6 @@ use crate::quiet::start_quiet;
 use crossbeam_channel::Sender;
 use disk_model::{FourFiles, Fused, ModelFile};
 use recovery::recover;
-use served::fresh_files;
 use sessions::World;
 use std::alloc::Global;
 use std::sync::Wait;
@@ -15,6 +14,7 @@ use trial_kit::{FAILING_FILES, FailureTally};
 use worker_threads::{Ends, Seats, Workers, ends_meet, open_world, stop};
 use workers::{Ask, Open};
 use world_actions::Refusal;
+use world_start::fresh_files;
 
 /// How many batches are played, each of which adds one to the only cell.
 const BATCHES: u32 = 6;

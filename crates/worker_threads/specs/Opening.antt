@@ -3,7 +3,7 @@ use Rattle.std.specs.Prelude.{◌≡◌, ℕ, List, length, take}
 use Rattle.world_actions.specs.declared.action.Action.{Action}
 use Rattle.disk_model.specs.declared.four_files.FourFiles.{FourFiles}
 use Rattle.recovery.specs.Recovery.{Recovery}
-use Rattle.served.specs.Opening.{AreSynced, AreSound, RecoversFiles}
+use Rattle.world_start.specs.Opening.{AreSynced, AreSound, RecoversFiles}
 use Rattle.workers.specs.declared.checkpointer.round.ImageWriter.{ImageWriter}
 use Rattle.workers.specs.declared.log_writer.Log.{Log}
 use Rattle.worker_steps.specs.Ends.{WorldStands}

@@ -1,5 +1,5 @@
 //! The workers of a world, each in a thread of its own: how they start, what each does until it ends, and what
-//! they leave. `open_world` opens a world of four files for them.
+//! they leave. `open_world` opens a world of four files for them. `start_world` does so once the world was recovered.
 #![tactic(auto)]
 
 mod cuts;
@@ -15,4 +15,4 @@ pub use cuts::stop_after;
 pub use meeting::ends_meet;
 pub use threads::{Ends, NotStarted, Workers, start, stop};
 pub use watch::{TickWatch, Watch};
-pub use world_opening::{Seats, open_world};
+pub use world_opening::{Seats, open_world, start_world};

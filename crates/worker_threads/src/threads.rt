@@ -42,7 +42,8 @@ impl From<AllocError> for NotStarted {
     }
 }
 
-/// How many batches may wait for the mutator. A session has one at a time, and waits where there is no room.
+/// How many batches may wait for the mutator. A session has one at a time, and waits if there is no room. The queue of the
+/// log has as many records, for a reason of its own.
 pub const ASKS: usize = 64;
 
 /// The workers of a world, each in its thread. Contracts see them as they began. Dropped, they run on.

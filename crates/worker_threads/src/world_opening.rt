@@ -1,23 +1,25 @@
-ghost use Rattle.std.specs.Prelude.{◌≡◌, [], List, false, All, IsTrue, IfOk, IfErr};
+ghost use Rattle.std.specs.Prelude.{◌≡◌, ◌⊎◌, ℕ, List, false, length, All, IsTrue, IfOk, IfErr};
 ghost use Rattle.world_actions.specs.World.{IsWord};
 ghost use Rattle.world_actions.specs.declared.action.Action.{Action};
 ghost use Rattle.disk_model.specs.FourFiles.{fault_counts};
 ghost use Rattle.image_files.specs.declared.phase.Phase.TheVariants.{Idle};
-ghost use Rattle.served.specs.Parts.{AreAtRest, AreSettled};
-ghost use Rattle.served.specs.Opening.{IsRefused, SomeGrew};
+ghost use Rattle.world_start.specs.Engine.{Follows};
+ghost use Rattle.world_start.specs.Steps.{IsAhead};
+ghost use Rattle.world_start.specs.Parts.{AreAtRest, AreSettled};
+ghost use Rattle.world_start.specs.Opening.{IsRefused, SomeGrew};
 ghost use Rattle.shared_capture.specs.States.{IsStart};
 ghost use Rattle.worker_steps.specs.Begun.{IsWhole};
 ghost use Rattle.worker_steps.specs.Ends.{WorldStands};
 ghost use Rattle.worker_threads.specs.Opening.{IsRecovered, StandsOpened};
 
-use capture_core::PlainCopy;
+use capture_core::{Capture, PlainCopy};
 use disk_model::{Disk, FourFiles};
-use served::{Parts, Served};
 use shared_capture::{Back, Front, Method, Pong, Zig, ping_pong_pair, zigzag_pair};
 use std::alloc::Global;
 use worker_steps::Opened;
 use workers::{ImageWriter, Log};
 use world_actions::Refusal;
+use world_start::{Parts, Start, recover_world};
 
 /// A method whose two seats can be made.
 pub trait Seats: Method {
@@ -41,7 +43,7 @@ impl Seats for Pong {
 }
 
 /// Opens the world that stands in the files for its workers: recovers it, and runs the start to its end. It
-/// tells the tick of the image that the world was built from, too. Refused, it gives the files back.
+/// returns the tick of the image that the world was built from, too. Refused, it gives the files back.
 pub fn open_world<M: Seats, D: Disk + Drop>(
     alloc: Global,
     files: FourFiles<D>,
@@ -56,10 +58,47 @@ pub fn open_world<M: Seats, D: Disk + Drop>(
     ensures device { IfErr result (λ refused. refused.1 ≡ Refusal.Device
         → SomeGrew (fault_counts D.faults files) (fault_counts D.faults refused.0)) }
 {
-    let served = Served::<PlainCopy, D>::open(alloc, files, 1)?;
-    let (_, from) = served.recovered();
-    let opened = seated(alloc, served.into_parts()?)?;
-    Ok((opened, from))
+    let mut files = files;
+    match recover_world::<PlainCopy, D>(alloc, &mut files) {
+        Ok(begun) => {
+            let from = begun.from;
+            let opened = start_world(alloc, begun, files)?;
+            Ok((opened, from))
+        }
+        Err(refusal) => Err((files, refusal)),
+    }
+}
+
+/// Opens a world for its workers that was recovered from these files: runs its start to its end. It copies the words once,
+/// to the seats. Refused, it gives the files back.
+pub fn start_world<M: Seats, C: Capture, D: Disk + Drop>(
+    alloc: Global,
+    begun: Start<C>,
+    files: FourFiles<D>,
+) -> Result<Opened<M, D>, (FourFiles<D>, Refusal)>
+    requires { IsAhead C.content D.content D.honest begun files }
+    ensures whole { IfOk result (λ opened.
+        IsWhole D.honest D.content opened.front opened.back opened.images opened.log opened.ended) }
+    ensures words { IfOk result (λ opened. opened.front.live ≡ begun.words.items) }
+    ensures ended { IfOk result (λ opened. opened.ended ≡ begun.engine.ended) }
+    ensures stands { IsTrue D.honest → IfOk result (λ opened. (ticks : List (List Action)) (acknowledged : ℕ)
+        → Follows C.content D.content D.may_leave begun.engine files ticks acknowledged
+        → WorldStands D.content D.may_leave begun.engine.images.cells ticks opened.front.live opened.images opened.log
+        × (opened.ended ≡ length ticks)) }
+    ensures refused { IfErr result (λ refused. (refused.1 ≡ Refusal.NoMemory) ⊎ (refused.1 ≡ Refusal.Device)) }
+    ensures device { IfErr result (λ refused. refused.1 ≡ Refusal.Device
+        → SomeGrew (fault_counts D.faults files) (fault_counts D.faults refused.0)) }
+{
+    let mut files = files;
+    let Start {
+        mut engine,
+        words,
+        from: _,
+    } = begun;
+    match engine.start(&mut files) {
+        Ok(()) => seated(alloc, engine.into_parts(words, files)),
+        Err(refusal) => Err((files, refusal)),
+    }
 }
 
 // The parts of a world whose start has just ended, with two seats over its words.
@@ -76,7 +115,8 @@ fn seated<M: Seats, D: Disk + Drop>(
     ensures words { IfOk result (λ opened. opened.front.live ≡ parts.words.items) }
     ensures ended { IfOk result (λ opened. opened.ended ≡ parts.ended) }
     ensures settled { IfOk result (λ opened. (ticks : List (List Action)) → AreSettled D.content D.may_leave parts ticks
-        → WorldStands D.content D.may_leave parts.images.cells ticks opened.front.live opened.images opened.log) }
+        → WorldStands D.content D.may_leave parts.images.cells ticks opened.front.live opened.images opened.log
+        × (opened.ended ≡ length ticks)) }
     ensures refused { IfErr result (λ refused. (refused.0 ≡ parts.files) × (refused.1 ≡ Refusal.NoMemory)) }
 {
     let Parts {

@@ -17,7 +17,7 @@ use Rattle.shared_capture.specs.CoverWord.{CoverState}
 use Rattle.workers.specs.declared.item.Item.{Item}
 use Rattle.workers.specs.declared.item.Item.TheVariants as items
 use Rattle.workers.specs.declared.log_writer.Log.{Log}
-use Rattle.workers.specs.declared.log_writer.TheConstants.{RING_ITEMS}
+use Rattle.restart.specs.declared.start.TheConstants.{QUEUE_RECORDS}
 use Rattle.workers.specs.Items.{items_end, records_of}
 use Rattle.workers.specs.Channel.{Popping}
 use Rattle.workers.specs.Answering.{Answering, answers_of, all_answers_of}
@@ -98,8 +98,8 @@ writer_at from covers told_down log tick = record {
   covers = covers;
   told_down = told_down;
   log = log;
-  ring = record { items = []; capacity = RING_ITEMS };
-  answers = record { waiting = []; room = RING_ITEMS; answered = tick; posted = tick };
+  ring = record { items = []; capacity = QUEUE_RECORDS };
+  answers = record { waiting = []; room = QUEUE_RECORDS; answered = tick; posted = tick };
   opening = log;
   acked = tick;
   down = false;
@@ -157,8 +157,8 @@ module _ {D : Type 0} (file : D → List ℕ) (leaves : D → List ℕ → Type 
     pub fits : IsTrue honest → FitsFiles w.log.keeper (file w.log.a) (file w.log.b)
     pub follows : QueueFollows w.log.keeper w.ring.items
     pub end : w.down ≡ false → end_of w.log.keeper w.ring.items ≡ items_end w.from.items
-    pub ring : w.ring.capacity ≡ RING_ITEMS
-    pub room : w.answers.room ≡ RING_ITEMS
+    pub ring : w.ring.capacity ≡ QUEUE_RECORDS
+    pub room : w.answers.room ≡ QUEUE_RECORDS
     pub numbers : w.answers.answered + length w.answers.waiting ≡ (items_end w.from.items).base + (items_end w.from.items).count
     pub most : (items_end w.from.items).base + (items_end w.from.items).count ≤ TICK_MAX
     pub posted : w.down ≡ false → w.answers.posted ≡ w.answers.answered

@@ -12,6 +12,7 @@ ghost use Rattle.workers.specs.Channel.{IsBegun, AreOneChannel, with_item, with_
 use crate::channel_rule::{All, InOrder, Move, Part, Pop, Push, Whole};
 use crate::item::{Item, View};
 use crossbeam_channel::{Pass, RecvError, RuledReceiver, RuledSender, TryRecvError, bounded_with};
+use restart::QUEUE_RECORDS;
 use std::alloc::{AllocError, Global};
 use std::marker::Model;
 use std::sync::Wait;
@@ -77,7 +78,7 @@ pub fn open<R: Wait>(
     ensures pushes { IfOk result (λ e. e.0.refused ≡ false) }
     ensures room { IfOk result (λ e. ruled_capacity (sends_on e.0.end.end) ≡ 64) }
 {
-    let (to, from, mut pass) = bounded_with::<Item, View, InOrder, Global>(alloc, 64)?;
+    let (to, from, mut pass) = bounded_with::<Item, View, InOrder, Global>(alloc, QUEUE_RECORDS)?;
     let mut other = to.another::<Part>(&mut pass);
     if to
         .send_as::<Push, R>(rt, &mut pass, Item::Start(tick))

@@ -11,6 +11,7 @@ ghost use Rattle.action_log.specs.declared.answer.LogAnswer.TheVariants.{Idle};
 ghost use Rattle.action_log.specs.Cover.{uncovered, cover_answer};
 ghost use Rattle.action_log.specs.Files.{FitsFiles};
 ghost use Rattle.action_log.specs.Progress.{work_of};
+ghost use Rattle.restart.specs.declared.start.TheConstants.{QUEUE_RECORDS};
 ghost use Rattle.workers.specs.declared.gate.Place.TheVariants.{Device};
 ghost use Rattle.workers.specs.declared.item.Item.{Item as Popped};
 ghost use Rattle.workers.specs.declared.item.Item.TheVariants.{Start};
@@ -29,14 +30,12 @@ use circular_buffer::HeapCircularBuffer;
 use disk_model::Disk;
 pub(crate) use holding::Holding;
 use keep::{keep, lose};
+use restart::QUEUE_RECORDS;
 use shared_capture::{CoverIn, CoverOut};
 use std::alloc::{AllocError, Global};
 use std::marker::Model;
 use std::snapshot::Snapshot;
 use std::sync::Wait;
-
-/// How many records may wait for the log, and how many answers for their ticks.
-pub const RING_ITEMS: usize = 64;
 
 /// The keeper of the log, and its two files.
 #[derive(Drop)]
@@ -97,8 +96,8 @@ impl<D: Disk + Drop, G: Gate + Drop> LogWriter<D, G> {
         ensures begun { IfOk result (λ w. w ≡ writer_at from covers told_down log tick) }
         ensures rest { IfOk result (λ w. IsAtRest w) }
     {
-        let ring = HeapCircularBuffer::with_capacity(alloc, RING_ITEMS)?;
-        let answers = Answers::new(alloc, RING_ITEMS, tick)?;
+        let ring = HeapCircularBuffer::with_capacity(alloc, QUEUE_RECORDS)?;
+        let answers = Answers::new(alloc, QUEUE_RECORDS, tick)?;
         let opening = Snapshot::of(&log);
         Ok(LogWriter {
             gate,
@@ -161,7 +160,7 @@ impl<D: Disk + Drop, G: Gate + Drop> LogWriter<D, G> {
     fn take<R: Wait>(&mut self, rt: &R)
         requires up { self.old.down ≡ false }
         requires goes_on { self.old.over ≡ false }
-        requires room { (length self.old.ring.items < RING_ITEMS) × (length self.old.answers.waiting < RING_ITEMS) }
+        requires room { (length self.old.ring.items < QUEUE_RECORDS) × (length self.old.answers.waiting < QUEUE_RECORDS) }
         ensures { (more : List Popped) × Took self.old self.new more × (self.new.over ≡ is_over more) }
     {
         match self.from.pop(rt) {
@@ -174,7 +173,7 @@ impl<D: Disk + Drop, G: Gate + Drop> LogWriter<D, G> {
     fn try_take<R: Wait>(&mut self, rt: &R) -> bool
         requires up { self.old.down ≡ false }
         requires goes_on { self.old.over ≡ false }
-        requires room { (length self.old.ring.items < RING_ITEMS) × (length self.old.answers.waiting < RING_ITEMS) }
+        requires room { (length self.old.ring.items < QUEUE_RECORDS) × (length self.old.answers.waiting < QUEUE_RECORDS) }
         ensures took { result ≡ true → (item : Popped) × Took self.old self.new (item ∷ []) × (self.new.over ≡ is_end item) }
         ensures none { result ≡ false → self.new ≡ self.old }
         ensures queued { result ≡ true → self.new.over ≡ false → length self.new.ring.items ≡ length self.old.ring.items + 1 }
@@ -195,7 +194,7 @@ impl<D: Disk + Drop, G: Gate + Drop> LogWriter<D, G> {
         requires few { length self.old.answers.waiting ≤ length self.old.ring.items }
         ensures { (more : List Popped) × Took self.old self.new more × (self.new.over ≡ has_end more) }
     {
-        while !self.over && self.ring.len() < RING_ITEMS {
+        while !self.over && self.ring.len() < QUEUE_RECORDS {
             if !self.try_take(rt) {
                 return;
             }
@@ -311,7 +310,7 @@ impl<D: Disk + Drop, G: Gate + Drop> LogWriter<D, G> {
         if self.down {
             return self.answers.is_empty() && self.try_refuse(rt);
         }
-        if self.ring.len() >= RING_ITEMS || self.answers.len() >= RING_ITEMS {
+        if self.ring.len() >= QUEUE_RECORDS || self.answers.len() >= QUEUE_RECORDS {
             return false;
         }
         self.try_take(rt)

@@ -1,5 +1,5 @@
+use crate::kinds::{check_add, check_cap, check_set, check_swap, check_transfer};
 use crate::refusal::Refusal;
-use crate::world::LIMIT;
 
 /// A change that a client asks for. The numbers are as the client gave them, in range or not.
 #[derive(Clone, Copy, Debug, PartialEq, Eq)]
@@ -65,75 +65,12 @@ pub fn check(a: &Action, len: usize, first: u64, second: u64) -> Result<Change, 
     ensures limit { IfOk result (λ change. IsWord change.first × IfSome change.second IsWord) }
 {
     match *a {
-        Action::Set { cell, value } => {
-            if cell as usize >= len {
-                return Err(Refusal::BadCell);
-            }
-            if value > LIMIT {
-                return Err(Refusal::BadValue);
-            }
-            Ok(Change {
-                first: value,
-                second: None,
-            })
-        }
-        Action::Add { cell, by } => {
-            if cell as usize >= len {
-                return Err(Refusal::BadCell);
-            }
-            if by < -(LIMIT as i64) || by > LIMIT as i64 {
-                return Err(Refusal::BadValue);
-            }
-            let sum = first as i64 + by;
-            if sum < 0 || sum > LIMIT as i64 {
-                return Err(Refusal::OutOfRange);
-            }
-            Ok(Change {
-                first: sum as u64,
-                second: None,
-            })
-        }
+        Action::Set { cell, value } => check_set(cell, value, len),
+        Action::Add { cell, by } => check_add(cell, by, len, first),
         Action::Transfer { from, to, amount } => {
-            if from as usize >= len || to as usize >= len {
-                return Err(Refusal::BadCell);
-            }
-            if amount > LIMIT {
-                return Err(Refusal::BadValue);
-            }
-            if from == to {
-                return Err(Refusal::SameCell);
-            }
-            if first < amount || second + amount > LIMIT {
-                return Err(Refusal::OutOfRange);
-            }
-            Ok(Change {
-                first: first - amount,
-                second: Some(second + amount),
-            })
+            check_transfer(from, to, amount, len, first, second)
         }
-        Action::Swap { a, b } => {
-            if a as usize >= len || b as usize >= len {
-                return Err(Refusal::BadCell);
-            }
-            if a == b {
-                return Err(Refusal::SameCell);
-            }
-            Ok(Change {
-                first: second,
-                second: Some(first),
-            })
-        }
-        Action::Cap { cell, value } => {
-            if cell as usize >= len {
-                return Err(Refusal::BadCell);
-            }
-            if value > LIMIT {
-                return Err(Refusal::BadValue);
-            }
-            Ok(Change {
-                first: first.min(value),
-                second: None,
-            })
-        }
+        Action::Swap { a, b } => check_swap(a, b, len, first, second),
+        Action::Cap { cell, value } => check_cap(cell, value, len, first),
     }
 }

@@ -6,6 +6,7 @@
 #![tactic(auto)]
 
 mod action;
+mod kinds;
 mod refusal;
 mod world;
 

@@ -10,6 +10,7 @@ use capture_core::Capture;
 use circular_buffer::HeapCircularBuffer;
 use disk_model::{Fused, ModelFile};
 use image_files::ImageKeeper;
+use restart::QUEUE_RECORDS;
 use std::alloc::Global;
 use std::marker::Model;
 use world_actions::Refusal;
@@ -19,9 +20,6 @@ mod begin;
 mod files;
 mod keepers;
 mod play;
-
-/// How many records may wait for the log.
-pub const QUEUE_RECORDS: usize = 64;
 
 /// What a core is made of. Contracts see it as a `State`, whatever its store.
 #[derive(Drop)]

@@ -3,7 +3,7 @@ use Rattle.std.proofs.Common.{◌≡◌, ◌⊎◌, ℕ, List, refl, subst, ◌�
 use Rattle.world_actions.specs.declared.refusal.Refusal.TheVariants.{NoMemory, Device, NotEmpty}
 use Rattle.disk_model.specs.declared.four_files.FourFiles.{FourFiles}
 use Rattle.disk_model.specs.FourFiles.{EachFile, KeepsFile}
-use Rattle.served.specs.Fresh.{AreClosed, AreNotMade, FilesAreClosed}
+use Rattle.world_start.specs.Fresh.{AreClosed, AreNotMade, FilesAreClosed}
 use Rattle.world_folder.specs.declared.ending.Ending.{Ending}
 use Rattle.world_folder.specs.declared.ending.Ending.TheVariants.{Fault, Occupied}
 use Rattle.world_folder.specs.Making.{IsFirstOpen, TellsUnmade, IsUnmade}

@@ -10,8 +10,8 @@ use Rattle.image_files.specs.Image.{Closed, Open, image_of}
 use Rattle.action_log.specs.Segment.{ClosedSegment, IsSegment}
 use Rattle.recovery.specs.Recovery.{Recovery, Recovers}
 use Rattle.recovery.specs.Sound.{IsFresh}
-use Rattle.served.specs.Opening.{AreSynced, AreSound, RecoversFiles}
-use Rattle.served.specs.Fresh.{FilesAreClosed}
+use Rattle.world_start.specs.Opening.{AreSynced, AreSound, RecoversFiles}
+use Rattle.world_start.specs.Fresh.{FilesAreClosed}
 use Rattle.world_folder.specs.declared.ending.Ending.{Ending}
 use Rattle.world_folder.specs.declared.ending.Ending.TheVariants.{Fault, Occupied}
 use Rattle.world_folder.specs.declared.world_file.TheConstants.{IMAGE_A, IMAGE_B, LOG_A, LOG_B}

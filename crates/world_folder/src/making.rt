@@ -4,8 +4,8 @@ ghost use Rattle.world_actions.specs.declared.world.TheConstants.{CELLS};
 ghost use Rattle.disk_model.specs.FourFiles.{EachFile, KeepsFile, fault_counts};
 ghost use Rattle.image_files.specs.Image.{Closed, image_of};
 ghost use Rattle.action_log.specs.Segment.{ClosedSegment, IsSegment};
-ghost use Rattle.served.specs.Opening.{SomeGrew};
-ghost use Rattle.served.specs.Fresh.{AreClosed, AreMade, FilesAreClosed};
+ghost use Rattle.world_start.specs.Opening.{SomeGrew};
+ghost use Rattle.world_start.specs.Fresh.{AreClosed, AreMade, FilesAreClosed};
 ghost use Rattle.world_folder.specs.declared.ending.Occupied.{Occupied as Open};
 ghost use Rattle.world_folder.specs.Ending.{IsFault};
 ghost use Rattle.world_actions.specs.World.{IsWorld};
@@ -18,9 +18,9 @@ use crate::world_file::{IMAGE_A, IMAGE_B, LOG_A, LOG_B};
 use action_log::{LogState, read_log, segments_read_once};
 use disk_model::{Disk, FourFiles};
 use image_files::{ImageState, read_image};
-use served::fresh_files;
 use std::alloc::Global;
 use world_actions::Refusal;
+use world_start::fresh_files;
 
 /// Shows that the files of a world were made, of so many cells: only `make_in` and `make_of_words` give one.
 #[derive(Clone, Copy, Debug, PartialEq, Eq)]

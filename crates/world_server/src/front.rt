@@ -2,7 +2,6 @@
 ghost use Rattle.std.specs.Prelude.{◌≡◌, IfErr};
 ghost use Rattle.world_folder.specs.Ending.{IsFault};
 
-use crate::line::Line;
 use crate::lines::Lines;
 use crate::place::Place;
 use crate::reporter::start_reporter;
@@ -45,15 +44,10 @@ impl<
         + Send
         + 'static,
 > Front<R> {
-    /// Prints which world was recovered, and listens.
-    pub fn open(rt: &R, service: &Service<'_>, ended: u64, from: u64) -> Result<Self, Ending>
+    /// Listens, beside streams that have begun.
+    pub fn open(rt: &R, service: &Service<'_>, streams: Streams) -> Result<Self, Ending>
         ensures { IfErr result IsFault }
     {
-        let streams = match Streams::start(rt, service) {
-            Ok(streams) => streams,
-            Err(reason) => return Err(not_started(reason)),
-        };
-        streams.output.print(rt, Line::Recovered { ended, from });
         let (listener, place) = match listen(rt, service.address) {
             Ok(listening) => listening,
             Err(ending) => return Err(streams.finish(rt, ending)),
@@ -70,6 +64,19 @@ impl<
                 Err(streams.finish(rt, ending))
             }
         }
+    }
+}
+
+/// Starts the threads of the streams.
+pub fn start_streams<R: Threads + Wait + Print + Eprint + AllocGlobal + Copy + Send + 'static>(
+    rt: &R,
+    service: &Service<'_>,
+) -> Result<Streams, Ending>
+    ensures { IfErr result IsFault }
+{
+    match Streams::start(rt, service) {
+        Ok(streams) => Ok(streams),
+        Err(reason) => Err(not_started(reason)),
     }
 }
 

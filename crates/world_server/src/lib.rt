@@ -1,6 +1,6 @@
 //! A server of the world in a folder: what it needs of the system, what it prints, and how it ends.
 //!
-//! `serve` recovers the world, listens and serves. Lines leave by a thread for each standard
+//! `serve` recovers the world, prints which one it is, runs its start, listens and serves. Lines leave by a thread for each standard
 //! stream, so nobody waits for their readers.
 #![tactic(auto)]
 

@@ -4,11 +4,15 @@ ghost use Rattle.image_files.specs.declared.phase.Phase.TheVariants.{Down};
 ghost use Rattle.world_folder.specs.Ending.{IsFault};
 ghost use Rattle.worker_steps.specs.Ends.{StaysSound};
 ghost use Rattle.worker_steps.specs.Begun.{IsWhole};
+ghost use Rattle.world_start.specs.Steps.{IsAhead};
 ghost use Rattle.world_server.specs.Serving.{EndsServing};
 
-use crate::front::Front;
+use crate::front::{Front, start_streams};
+use crate::line::Line;
 use crate::lines::Announce;
 use crate::service::{Every, Service};
+use crate::streams::Streams;
+use capture_core::{Capture, PlainCopy};
 use disk_model::{Disk, FileDisk, FourFiles};
 use shared_capture::{Kind, Method, Pong, Zig};
 use std::alloc::Global;
@@ -20,10 +24,11 @@ use std::time::Clock;
 use tcp_service::{Admission, Closed, Door, NotServed, Stopped, serve_tcp};
 use transports::Listener;
 use worker_steps::{Gates, Opened};
-use worker_threads::{Seats, Watch, open_world};
+use worker_threads::{Seats, Watch, start_world};
 use workers::{Gate, Open};
 use world_actions::Refusal;
 use world_folder::{Ending, ServerEnding, failure_of, open_existing, stands_in};
+use world_start::{Start, recover_world};
 
 /// Serves the world in a folder to so many clients. It prints which world was recovered, where it listens, and how far
 /// play came.
@@ -72,19 +77,83 @@ fn serve_by<
     ensures err { IfErr result IsFault }
 {
     let alloc = rt.alloc();
-    let files = open_existing(rt, service.folder)?;
-    let (opened, from) = match open_world::<M, FileDisk>(alloc, files) {
-        Ok(opened) => opened,
-        Err((files, refusal)) => return Err(not_opened(alloc, service.folder, files, refusal)),
-    };
+    let mut files = open_existing(rt, service.folder)?;
+    match recover_world::<PlainCopy, FileDisk>(alloc, &mut files) {
+        Ok(begun) => serve_recovered::<R, M>(rt, service, begun, files),
+        Err(refusal) => Err(not_opened(alloc, service.folder, files, refusal)),
+    }
+}
+
+// Prints which world was recovered, runs its start to its end, and serves it.
+fn serve_recovered<
+    R: Threads
+        + Wait
+        + Clock
+        + Net<Listener = TcpListener, Stream = TcpStream>
+        + Files<File = File>
+        + Print
+        + Eprint
+        + AllocGlobal
+        + Copy
+        + Send
+        + 'static,
+    M: Seats + Send + 'static,
+>(
+    rt: &R,
+    service: &Service<'_>,
+    begun: Start<PlainCopy>,
+    files: FourFiles<FileDisk>,
+) -> Result<Ending, Ending>
+    requires { IsAhead ⟦<PlainCopy as Capture>⟧.content ⟦<FileDisk as Disk>⟧.content ⟦<FileDisk as Disk>⟧.honest begun files }
+    ensures ok { IfOk result EndsServing }
+    ensures err { IfErr result IsFault }
+{
+    let alloc = rt.alloc();
+    let streams = start_streams(rt, service)?;
+    let (ended, from) = (begun.engine.ended, begun.from);
+    streams.output.print(rt, Line::Recovered { ended, from });
+    match start_world::<M, PlainCopy, FileDisk>(alloc, begun, files) {
+        Ok(opened) => serve_started(rt, service, streams, opened),
+        Err((files, refusal)) => {
+            let ending = not_opened(alloc, service.folder, files, refusal);
+            Err(streams.finish(rt, ending))
+        }
+    }
+}
+
+// Serves a world whose start has ended.
+fn serve_started<
+    R: Threads
+        + Wait
+        + Clock
+        + Net<Listener = TcpListener, Stream = TcpStream>
+        + Files<File = File>
+        + Print
+        + Eprint
+        + AllocGlobal
+        + Copy
+        + Send
+        + 'static,
+    M: Seats + Send + 'static,
+>(
+    rt: &R,
+    service: &Service<'_>,
+    streams: Streams,
+    opened: Opened<M, FileDisk>,
+) -> Result<Ending, Ending>
+    requires { IsWhole ⟦<FileDisk as Disk>⟧.honest ⟦<FileDisk as Disk>⟧.content
+        opened.front opened.back opened.images opened.log opened.ended }
+    ensures ok { IfOk result EndsServing }
+    ensures err { IfErr result IsFault }
+{
     let Front {
         streams,
         listener,
         place,
         lines,
-    } = Front::open(rt, service, opened.ended, from)?;
+    } = Front::open(rt, service, streams)?;
     let (every, admission) = (service.every, service.admission());
-    let served = serve_opened(rt, alloc, lines, opened, every, listener, admission);
+    let served = serve_opened(rt, rt.alloc(), lines, opened, every, listener, admission);
     place.leave(rt);
     Ok(streams.finish(rt, ending_alone(served)))
 }

@@ -7,10 +7,11 @@ use capture_core::{Capture, PlainCopy};
 use disk_model::{Fused, Leaving, ModelFile};
 use ping_pong::PingPong;
 use recovery::Recovered;
-use served::{Served, fresh_files};
+use serial_world::SerialWorld;
 use std::alloc::Global;
 use std::process::Abort;
 use world_actions::Refusal;
+use world_start::fresh_files;
 use zigzag::Zigzag;
 
 // More calls than a file has in a trial.
@@ -65,7 +66,7 @@ fn text_of(acked: u64) -> &'static [u8] {
 fn serve_batches<C: Capture>(
     rt: &impl Abort,
     alloc: Global,
-    served: &mut Served<C, Fused<ModelFile>>,
+    served: &mut SerialWorld<C, Fused<ModelFile>>,
 ) -> u64 {
     same(rt, "what is recovered", served.recovered(), (0, 0));
     let (ends, text) = serve(alloc, served, INPUT, usize::MAX);
@@ -77,7 +78,7 @@ fn serve_batches<C: Capture>(
 
 // Opens a world and serves the batches. It gives the files, and what came of the batches.
 fn play<C: Capture>(rt: &impl Abort, alloc: Global, disks: Disks) -> (Disks, usize) {
-    match Served::<C, Fused<ModelFile>>::open(alloc, disks, 2) {
+    match SerialWorld::<C, Fused<ModelFile>>::open(alloc, disks, 2) {
         Ok(mut served) => {
             let acked = serve_batches(rt, alloc, &mut served);
             (served.into_files(), acked as usize)

@@ -4,12 +4,13 @@ use super::{BATCH, CUT_OFF, SET_TWICE};
 use capture_core::Capture;
 use disk_model::{FileDisk, FourFiles};
 use ping_pong::PingPong;
-use served::{Served, fresh_files};
+use serial_world::SerialWorld;
 use std::fs::OpenOptions;
 use std::path::PathBuf;
 use std::process::Abort;
 use std::{env, fs, process};
 use world_actions::Refusal;
+use world_start::fresh_files;
 use zigzag::Zigzag;
 
 // A new folder for a test of this name.
@@ -59,7 +60,7 @@ fn try_opening<C: Capture>(
     opening: &Opening<'_>,
 ) {
     let files = open_files(rt, abort, folder);
-    let opened = Served::<C, FileDisk>::open(rt.alloc(), files, opening.every);
+    let opened = SerialWorld::<C, FileDisk>::open(rt.alloc(), files, opening.every);
     let mut served = told(opened).expect(abort, "a world");
     play(
         abort,

@@ -3,10 +3,11 @@ use super::same::same;
 use super::worlds::{IMAGE, NONE, bytes_of, files_of, fresh, stands, told};
 use capture_core::PlainCopy;
 use disk_model::{FourFiles, ModelFile};
-use served::{Served, fresh_files};
+use serial_world::SerialWorld;
 use std::alloc::Global;
 use std::process::Abort;
 use world_actions::Refusal;
+use world_start::fresh_files;
 
 // An open image of too many cells.
 const BAD_IMAGE: &[u8] = &[1; 17];
@@ -89,7 +90,7 @@ static DAMAGED: [([&[u8]; 4], u8); 8] = [
 // No world is opened in these files, which are given back as they were.
 fn try_damaged(rt: &impl Abort, alloc: Global, bytes: [&[u8]; 4], code: u8) {
     let files = files_of(rt, alloc, bytes);
-    let answer = Served::<PlainCopy, ModelFile>::open(alloc, files, 64);
+    let answer = SerialWorld::<PlainCopy, ModelFile>::open(alloc, files, 64);
     same(rt, "a refusal", refused(answer, bytes), Some((code, true)));
 }
 

@@ -3,7 +3,7 @@ use super::same::same;
 use super::worlds::{fresh, open, stands};
 use capture_core::PlainCopy;
 use disk_model::ModelFile;
-use served::Served;
+use serial_world::SerialWorld;
 use sessions::serve_lines;
 use std::alloc::Global;
 use std::io::{self, ErrorKind, Read, Write};
@@ -67,7 +67,7 @@ impl Write for Page {
 fn serve_broken(
     rt: &impl Abort,
     alloc: Global,
-    served: &mut Served<PlainCopy, ModelFile>,
+    served: &mut SerialWorld<PlainCopy, ModelFile>,
     input: &[u8],
     room: usize,
 ) -> Vec<u8> {

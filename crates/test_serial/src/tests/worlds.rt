@@ -6,12 +6,13 @@ use super::same::same;
 use capture_core::Capture;
 use disk_model::{Disk, FourFiles, ModelFile};
 use recovery::{Recovered, recover};
-use served::{Served, create_and_open, fresh_files};
+use serial_world::{SerialWorld, create_and_open};
 use sessions::serve_lines;
 use std::alloc::Global;
 use std::io::{self, Read};
 use std::process::Abort;
 use world_actions::Refusal;
+use world_start::fresh_files;
 
 /// A file without bytes, or a session without answers.
 pub const NONE: &[u8] = &[];
@@ -87,8 +88,8 @@ pub fn open<C: Capture>(
     alloc: Global,
     files: FourFiles<ModelFile>,
     every: u32,
-) -> Served<C, ModelFile> {
-    told(Served::open(alloc, files, every)).expect(rt, "a world")
+) -> SerialWorld<C, ModelFile> {
+    told(SerialWorld::open(alloc, files, every)).expect(rt, "a world")
 }
 
 /// A new world, made and opened in one call.
@@ -97,7 +98,7 @@ pub fn created<C: Capture>(
     alloc: Global,
     cells: u32,
     every: u32,
-) -> Served<C, ModelFile>
+) -> SerialWorld<C, ModelFile>
     requires { (1 ≤ cells) × (cells ≤ CELLS) }
 {
     let files = files_of(rt, alloc, [NONE; 4]);
@@ -145,7 +146,7 @@ pub struct Session<'a> {
 /// What a session on this input ended with, and its text. The input comes in pieces of at most so many bytes.
 pub fn serve<C: Capture, D: Disk>(
     alloc: Global,
-    served: &mut Served<C, D>,
+    served: &mut SerialWorld<C, D>,
     input: &[u8],
     most: usize,
 ) -> (Result<(), Refusal>, Vec<u8>) {
@@ -159,7 +160,7 @@ pub fn serve<C: Capture, D: Disk>(
 pub fn play<C: Capture, D: Disk>(
     rt: &impl Abort,
     alloc: Global,
-    served: &mut Served<C, D>,
+    served: &mut SerialWorld<C, D>,
     session: &Session<'_>,
     most: usize,
 ) {

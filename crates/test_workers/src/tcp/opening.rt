@@ -3,7 +3,7 @@ use crate::worlds::{files_of, new_files};
 use capture_core::PlainCopy;
 use disk_model::{FourFiles, ModelFile};
 use recovery::{Recovered, recover};
-use served::Served;
+use serial_world::SerialWorld;
 use sessions::serve_lines;
 use shared_capture::{Front, Method, Pong, Zig};
 use std::alloc::Global;
@@ -15,7 +15,7 @@ use world_ticks::Cells;
 
 const BATCHES: &[u8] = b"set 0 5\nset 1 6\nend\nmove 0 1 2\nend\n";
 
-type World = Served<PlainCopy, ModelFile>;
+type World = SerialWorld<PlainCopy, ModelFile>;
 
 fn opened(rt: &impl Abort, alloc: Global, files: FourFiles<ModelFile>) -> World {
     match World::open(alloc, files, 64) {

@@ -8,13 +8,13 @@ ghost use Rattle.restart.specs.Start.{has_round};
 ghost use Rattle.world_core.specs.Starting.{HasOnly, Begins, StandsOn};
 
 use crate::moves::{Answer, Remains};
-use crate::parts::{Parts, QUEUE_RECORDS};
+use crate::parts::Parts;
 use capture_core::Capture;
 use circular_buffer::HeapCircularBuffer;
 use disk_model::{FourFiles, Fused, ModelFile};
 use image_files::Slot;
 use recovery::{Recovered, recover};
-use restart::{has_round, images_of, log_of, store_of, zeros};
+use restart::{QUEUE_RECORDS, has_round, images_of, log_of, store_of, zeros};
 use std::alloc::Global;
 use world_actions::Refusal;
 use world_ticks::Tick;

@@ -1,5 +1,5 @@
 use Rattle.std.proofs.Common.{subst}
-use Rattle.served.specs.Fresh.{AreNotMade}
+use Rattle.world_start.specs.Fresh.{AreNotMade}
 use Rattle.world_folder.proofs.MakingLemmas.{occupied_unmade}
 use Rattle.world_folder.proofs.making.make_in.Goals as goal
 

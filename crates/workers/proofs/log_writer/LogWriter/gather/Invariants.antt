@@ -1,5 +1,5 @@
 use Rattle.std.proofs.Common.{◌≡◌, ◌≤◌, ◌+◌, ◌-◌, false, List, length, if◌then◌else◌}
-use Rattle.workers.specs.declared.log_writer.TheConstants.{RING_ITEMS}
+use Rattle.restart.specs.declared.start.TheConstants.{QUEUE_RECORDS}
 use Rattle.workers.specs.declared.item.Item.{Item}
 use Rattle.workers.specs.Logging.{Took, has_end}
 use Rattle.workers.proofs.log_writer.LogWriter.gather.Given as goal
@@ -12,4 +12,4 @@ invariant-loop-self g l = record {
 }
 
 abbrev pub decreases-loop-self : goal.decreases-loop-self
-decreases-loop-self g l = (if l.self.over then 0 else 1) + (RING_ITEMS - length l.self.ring.items)
+decreases-loop-self g l = (if l.self.over then 0 else 1) + (QUEUE_RECORDS - length l.self.ring.items)

@@ -1,0 +1,34 @@
+-- What is made and opened at once is a world of zeros.
+use Rattle.std.proofs.Common.{◌≡◌, ℕ, zero, suc, Bool, List, [], take, replicate, Result, Ok, refl, sym, subst, ◌∙◌}
+use Rattle.world_actions.specs.declared.action.Action.{Action}
+use Rattle.world_actions.specs.declared.refusal.Refusal.{Refusal}
+use Rattle.world_ticks.specs.After.{after_ticks}
+use Rattle.capture_core.specs.Content.{Content}
+use Rattle.disk_model.specs.declared.four_files.FourFiles.{FourFiles}
+use Rattle.serial_world.specs.declared.state.SerialState.{SerialState}
+use Rattle.serial_world.specs.Runs.{words_of, Serves}
+use Rattle.world_start.specs.Opening.{AreSynced}
+use Rattle.world_start.specs.Fresh.{AreMade}
+use Rattle.serial_world.specs.Opened.{IsOpened, IsServedFresh}
+
+none_taken : (n : ℕ) (none : List (List Action)) → none ≡ [] → take n none ≡ []
+none_taken zero none e = subst (λ (l : List (List Action)). take 0 l ≡ []) (sym e) refl
+none_taken (suc n) none e = subst (λ (l : List (List Action)). take (suc n) l ≡ []) (sym e) refl
+
+same_words : (a b : List ℕ) → ◌≡◌ {A = Result (List ℕ) Refusal} (Ok a) (Ok b) → a ≡ b
+same_words a b e = cc
+
+module _ {C D : Type 0} (content : C → Content) (file : D → List ℕ) (leaves : D → List ℕ → Type 0) (honest : Bool) where
+  pub served_fresh : (files made : FourFiles D) (cells : ℕ) (s : SerialState C D) → AreMade file leaves files cells made → AreSynced file leaves files → IsOpened content file leaves honest made s
+      → IsServedFresh content file leaves honest cells s
+  served_fresh files made cells s m synced opened =
+      let on = opened.serves cells [] 0 (m.synced synced) (m.sound synced) in
+      let serves : Serves content file leaves honest s [] = subst (λ (ticks : List (List Action)). Serves content file leaves honest s ticks) (none_taken opened.recovery.tick [] refl) on.1 in
+      let words = words_of content file leaves honest s in
+      record {
+        cells_are = on.0;
+        words = sym (same_words (replicate cells 0) words (subst (λ (n : ℕ). after_ticks n [] ≡ Ok words) on.0 serves.follows.world));
+        ended = serves.follows.ended;
+        acked = opened.acked ∙ sym opened.ended ∙ serves.follows.ended;
+        serves = serves;
+      }

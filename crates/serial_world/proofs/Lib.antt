@@ -1,0 +1,4 @@
+pub mod CopiedWords
+pub mod FreshlyServed
+pub mod Playing
+pub mod Queues

@@ -1,0 +1,68 @@
+-- What a batch on a served world does and is answered.
+use Rattle.std.specs.Prelude.{◌≡◌, ◌≤◌, ◌⊎◌, ℕ, ◌+◌, Bool, true, false, IsTrue, List, [], ◌∷◌, ◌++◌, Some, None, Result, Ok, Err}
+use Rattle.world_actions.specs.declared.action.Action.{Action}
+use Rattle.world_actions.specs.declared.refusal.Refusal.{Refusal}
+use Rattle.world_actions.specs.declared.refusal.Refusal.TheVariants.{LogDown, NoMemory}
+use Rattle.capture_core.specs.Content.{Content}
+use Rattle.disk_model.specs.declared.four_files.FourFiles.{FourFiles}
+use Rattle.file_format.specs.declared.slot.Slot.{Slot}
+use Rattle.file_format.specs.Slot.{in_slot}
+use Rattle.image_files.specs.Image.{image_of, Open}
+use Rattle.image_files.specs.declared.phase.Phase.TheVariants.{Down}
+use Rattle.action_log.specs.Refusals.{tick_refusal}
+use Rattle.batches.specs.declared.batch.Request.{Request}
+use Rattle.batches.specs.Answer.{answer, accepted_of, words_after}
+use Rattle.serial_world.specs.declared.state.SerialState.{SerialState}
+use Rattle.world_start.specs.Engine.{Follows}
+
+-- whatever a crash leaves, one of the image files has an image of this tick
+abbrev pub HasImageOf : {D : Type 0} → (leaves : D → List ℕ → Type 0) → FourFiles D → (tick : ℕ) → Type 0
+HasImageOf leaves files tick =
+    (slot : Slot) × (words : List ℕ) × ((left : List ℕ) → in_slot slot (leaves files.image_a) (leaves files.image_b) left → image_of left ≡ Open tick words)
+
+module _ {C D : Type 0} (content : C → Content) (file : D → List ℕ) (leaves : D → List ℕ → Type 0) (honest : Bool) where
+  -- the words of the world
+  abbrev pub words_of : SerialState C D → List ℕ
+  words_of s = (content s.engine.store).live
+
+  -- the start is over, these ticks have ended, as many as are told are acknowledged, and the world and its files follow them
+  pub record Serves (s : SerialState C D) (ticks : List (List Action)) : Type 0 where
+    pub started : s.engine.log.starting ≡ false
+    pub follows : Follows content file leaves s.engine s.files ticks s.acked
+
+  -- the tick of a batch ended: it is one tick, also where nothing was accepted
+  pub record PlaysTick (old : SerialState C D) (requests : List Request) (new : SerialState C D) : Type 0 where
+    pub allowed : tick_refusal old.engine.log.down old.engine.ended old.engine.since ≡ None
+    pub ended : new.engine.ended ≡ old.engine.ended + 1
+    pub words : words_of new ≡ words_after requests (words_of old)
+    pub same : (new.every ≡ old.every) × (new.recovered ≡ old.recovered) × (new.engine.images.cells ≡ old.engine.images.cells)
+    pub serves : IsTrue honest → (ticks : List (List Action)) → Serves old ticks → Serves new (ticks ++ accepted_of requests (words_of old) ∷ [])
+
+  -- A batch was answered with this text, and its tick is acknowledged. Where so many ticks ended since the last mark or start
+  -- there is an image of it, or the image keeper is down; no mark is made before.
+  pub record Answered (old : SerialState C D) (requests : List Request) (text : List ℕ) (new : SerialState C D) : Type 0 where
+    pub plays : PlaysTick old requests new
+    pub text_is : text ≡ answer requests (words_of old) (old.engine.ended + 1)
+    pub acked : new.acked ≡ new.engine.ended
+    pub since : (new.engine.since ≡ old.engine.since + 1) ⊎ ((new.engine.since ≡ 0) × (old.every ≤ old.engine.since + 1))
+    pub image : IsTrue honest → (ticks : List (List Action)) → Serves old ticks → old.every ≤ old.engine.since + 1
+        → (new.engine.images.phase ≡ Down) ⊎ HasImageOf leaves new.files new.engine.ended
+
+  -- the log went down before the tick of a batch was acknowledged
+  pub record LosesLog (old : SerialState C D) (requests : List Request) (refusal : Refusal) (new : SerialState C D) : Type 0 where
+    pub plays : PlaysTick old requests new
+    pub is : refusal ≡ LogDown
+    pub down : new.engine.log.down ≡ true
+    pub acked : new.acked ≡ old.acked
+    pub since : new.engine.since ≡ old.engine.since + 1
+
+  -- a batch was refused, and nothing changed: by the first refusal that holds, or for want of memory where none holds
+  abbrev pub IsRefusedWith : (old : SerialState C D) → Refusal → Type 0
+  IsRefusedWith old refusal =
+      (tick_refusal old.engine.log.down old.engine.ended old.engine.since ≡ Some refusal)
+      ⊎ ((tick_refusal old.engine.log.down old.engine.ended old.engine.since ≡ None) × (refusal ≡ NoMemory))
+
+  -- a batch leads from the first state to the second with this answer
+  abbrev pub Runs : (old : SerialState C D) → List Request → Result (List ℕ) Refusal → (new : SerialState C D) → Type 0
+  Runs old requests (Ok text) new = Answered old requests text new
+  Runs old requests (Err refusal) new = ((new ≡ old) × IsRefusedWith old refusal) ⊎ LosesLog old requests refusal new

@@ -1,0 +1,20 @@
+ghost use Rattle.std.specs.Prelude.{List, IsTrue};
+ghost use Rattle.world_actions.specs.declared.action.Action.{Action};
+ghost use Rattle.world_start.specs.Opening.{AreSound};
+ghost use Rattle.serial_world.specs.declared.state.SerialState.{SerialState as State};
+ghost use Rattle.serial_world.specs.Runs.{Serves};
+
+use capture_core::Capture;
+use disk_model::Disk;
+use world_start::followed_files_are_sound;
+
+/// Law: the files of a served world are sound for its ticks and the acknowledged count: whatever a crash leaves of them,
+/// recovery gives the world after the first n ticks, for some n not below that count, and each open image is the world after
+/// its tick.
+pub fn served_worlds_are_safe<C: Capture, D: Disk>()
+    ensures { IsTrue D.honest → (s : State C D) (ticks : List (List Action))
+        → Serves C.content D.content D.may_leave D.honest s ticks
+        → AreSound D.content D.may_leave s.files s.engine.images.cells ticks s.acked }
+{
+    followed_files_are_sound::<C, D>();
+}

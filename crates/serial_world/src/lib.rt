@@ -1,0 +1,21 @@
+//! A world on four files in one thread: each batch is a tick, which is durable before it is answered.
+//!
+//! `SerialWorld::open` recovers what stands in the files, runs the start to its end, and then `batch` plays a
+//! batch on the store, has the log write its tick, and answers once the log keeper acknowledged it. If `every` ticks have
+//! ended since the last mark or start, the store is marked and an image is written. `into_parts` takes a world apart
+//! between two batches. Whatever a crash leaves of the files, recovery gives the world after the first n ended ticks, for
+//! some n not below `acked` (`served_worlds_are_safe`).
+#![tactic(auto)]
+
+mod created;
+mod laws;
+mod marks;
+mod opening;
+mod state;
+mod ticks;
+mod words;
+mod world;
+
+pub use created::create_and_open;
+pub use laws::served_worlds_are_safe;
+pub use world::SerialWorld;

@@ -1,0 +1,125 @@
+ghost use Rattle.std.specs.Prelude.{◌≡◌, ◌⊎◌, ◌≤◌, ◌<◌, ℕ, List, Ok, Err, false, IsTrue, IfOk, OnOk, IfErr};
+ghost use Rattle.world_actions.specs.declared.action.Action.{Action};
+ghost use Rattle.disk_model.specs.FourFiles.{fault_counts};
+ghost use Rattle.image_files.specs.declared.phase.Phase.TheVariants.{Idle, Down};
+ghost use Rattle.serial_world.specs.Runs.{HasImageOf};
+ghost use Rattle.world_start.specs.Steps.{IsAtRest};
+ghost use Rattle.serial_world.specs.Runs.{Serves, Runs};
+ghost use Rattle.world_start.specs.Opening.{SomeGrew, IsRecovered, IsRefused};
+ghost use Rattle.serial_world.specs.Opened.{IsOpened, IsNotOpened};
+
+use crate::marks::checkpoint;
+use crate::opening::open_engine;
+use crate::ticks::{batch_refusal, play};
+use action_log::{log_outcomes, log_queues};
+use batches::{Batch, answers_are_ticks};
+use capture_core::Capture;
+use disk_model::{Disk, FourFiles};
+use restart::worlds_go_on;
+use std::alloc::Global;
+use world_actions::Refusal;
+use world_start::Engine;
+
+/// An engine with its files, and what is told of the world.
+#[derive(Drop)]
+pub struct SerialState<C: Capture, D: Disk> {
+    pub engine: Engine<C>,
+    pub files: FourFiles<D>,
+    /// After how many ticks a checkpoint is made.
+    pub every: u32,
+    /// The number of the greatest receipt, before the first one the recovered tick.
+    pub acked: u64,
+    /// The recovered tick, and that of the image that it was built from.
+    pub recovered: (u64, u64),
+}
+
+impl<C: Capture, D: Disk> SerialState<C, D> {
+    /// Opens the world that stands in the files, or gives them back with the reason.
+    pub fn open(
+        alloc: Global,
+        files: FourFiles<D>,
+        every: u32,
+    ) -> Result<Self, (FourFiles<D>, Refusal)>
+        ensures rest { IfOk result (λ state.
+            IsAtRest C.content D.content D.honest state.engine state.files) }
+        ensures opened { IsTrue D.honest
+            → IfOk result (IsOpened C.content D.content D.may_leave D.honest files) }
+        ensures recovered { IfOk result (λ state. IsRecovered C.content D.content D.honest files
+            state.engine state.recovered.0 state.recovered.1) }
+        ensures up { IfOk result (λ state. state.engine.log.down ≡ false) }
+        ensures begun { IfOk result (λ state. (state.engine.since ≡ 0) × (state.engine.images.phase ≡ Idle)) }
+        ensures every { IfOk result (λ state. state.every ≡ every) }
+        ensures acked { IfOk result (λ state. state.acked ≡ state.engine.ended) }
+        ensures refused { IfErr result (λ refused. IsRefused D.content D.honest files refused.1) }
+        ensures left { IsTrue D.honest → IfErr result (λ refused.
+            IsNotOpened D.content D.may_leave files refused.1 refused.0) }
+        ensures device { IfErr result (λ refused. refused.1 ≡ Refusal.Device
+            → SomeGrew (fault_counts D.faults files) (fault_counts D.faults refused.0)) }
+    {
+        let mut files = files;
+        match open_engine(alloc, &mut files) {
+            Ok((engine, from)) => {
+                let tick = engine.ended;
+                Ok(SerialState {
+                    engine,
+                    files,
+                    every,
+                    acked: tick,
+                    recovered: (tick, from),
+                })
+            }
+            Err(refusal) => Err((files, refusal)),
+        }
+    }
+
+    /// Plays a batch as one tick, has it logged, and makes a checkpoint if one is due. The answer is put into `text`.
+    pub fn batch(&mut self, b: &Batch, text: &mut Vec<u8>) -> Result<(), Refusal>
+        requires { IsAtRest C.content D.content D.honest self.old.engine self.old.files }
+        ensures rest { IsAtRest C.content D.content D.honest self.new.engine self.new.files }
+        ensures answered { OnOk result (
+            Runs C.content D.content D.may_leave D.honest self.old b.now.list (Ok text.new.items) self.new) }
+        ensures refused { IfErr result (λ refusal.
+            Runs C.content D.content D.may_leave D.honest self.old b.now.list (Err refusal) self.new) }
+    {
+        worlds_go_on();
+        log_outcomes::<D>();
+        log_queues();
+        answers_are_ticks();
+        if let Some(refusal) = batch_refusal(&self.engine) {
+            return Err(refusal);
+        }
+        play(&mut self.engine, b, text)?;
+        self.engine.write_log(&mut self.files);
+        if self.engine.log.is_down() {
+            return Err(Refusal::LogDown);
+        }
+        self.acked = self.engine.ended;
+        self.checkpoint_if_due();
+        Ok(())
+    }
+
+    // A checkpoint, where so many ticks ended since the last mark or start, and images can be written.
+    fn checkpoint_if_due(&mut self)
+        requires rest { IsAtRest C.content D.content D.honest self.old.engine self.old.files }
+        requires up { self.old.engine.log.down ≡ false }
+        requires some { 0 < self.old.engine.since }
+        ensures rest { IsAtRest C.content D.content D.honest self.new.engine self.new.files }
+        ensures ended { self.new.engine.ended ≡ self.old.engine.ended }
+        ensures since { (self.new.engine.since ≡ self.old.engine.since)
+            ⊎ ((self.new.engine.since ≡ 0) × (self.old.every ≤ self.old.engine.since)) }
+        ensures cells { self.new.engine.images.cells ≡ self.old.engine.images.cells }
+        ensures live { (C.content self.new.engine.store).live ≡ (C.content self.old.engine.store).live }
+        ensures same { self.new ≡ record self.old { engine = self.new.engine; files = self.new.files } }
+        ensures serves { IsTrue D.honest → (ticks : List (List Action))
+            → Serves C.content D.content D.may_leave D.honest self.old ticks
+            → Serves C.content D.content D.may_leave D.honest self.new ticks }
+        ensures image { IsTrue D.honest → (ticks : List (List Action))
+            → Serves C.content D.content D.may_leave D.honest self.old ticks
+            → self.old.every ≤ self.old.engine.since
+            → (self.new.engine.images.phase ≡ Down) ⊎ HasImageOf D.may_leave self.new.files self.new.engine.ended }
+    {
+        if self.engine.since >= u64::from(self.every) && !self.engine.images.has_open_round() {
+            checkpoint(&mut self.engine, &mut self.files);
+        }
+    }
+}

@@ -1,0 +1,20 @@
+ghost use Rattle.std.specs.Prelude.{◌≡◌, All, IfOk, IfErr};
+ghost use Rattle.world_actions.specs.World.{IsWord};
+
+use capture_core::Capture;
+use std::alloc::Global;
+use world_actions::Refusal;
+
+/// The words of a store, in the order of their cells.
+pub fn words_of<C: Capture>(alloc: Global, store: &mut C) -> Result<Vec<u64>, Refusal>
+    ensures words { IfOk result (λ words. words.items ≡ (C.content store.old).live) }
+    ensures limit { IfOk result (λ words. All IsWord words.items) }
+    ensures memory { IfErr result (λ refusal. refusal ≡ Refusal.NoMemory) }
+{
+    let cells = store.len();
+    let mut words = Vec::with_capacity(alloc, cells)?;
+    for i in 0..cells {
+        words.push(store.read(i))?;
+    }
+    Ok(words)
+}

@@ -1,0 +1,156 @@
+ghost use Rattle.std.specs.Prelude.{◌≡◌, [], List, false, IsTrue, IfOk, IfErr};
+ghost use Rattle.world_actions.specs.declared.action.Action.{Action};
+ghost use Rattle.disk_model.specs.FourFiles.{fault_counts};
+ghost use Rattle.serial_world.specs.Runs.{Runs, Serves};
+ghost use Rattle.image_files.specs.declared.phase.Phase.TheVariants.{Idle};
+ghost use Rattle.world_start.specs.Parts.{AreAtRest, AreSettled};
+ghost use Rattle.world_start.specs.Opening.{SomeGrew, AreSynced, IsRecovered, IsRefused};
+ghost use Rattle.serial_world.specs.Opened.{IsOpened, IsNotOpened};
+
+use crate::state::SerialState;
+use crate::words::words_of;
+use action_log::log_outcomes;
+use batches::Batch;
+use capture_core::Capture;
+use disk_model::{Disk, FourFiles};
+use image_files::images_stay;
+use sessions::World;
+use std::alloc::Global;
+use std::marker::Model;
+use world_actions::Refusal;
+use world_start::{Engine, Parts};
+
+/// A world that is served from its four files, whatever its store and whatever disks they are on.
+#[derive(Drop)]
+pub struct SerialWorld<C: Capture, D: Disk> {
+    state: SerialState<C, D>,
+}
+
+impl<C: Capture, D: Disk> Model for SerialWorld<C, D> {
+    ghost use Rattle.serial_world.specs.declared.state.SerialState.{SerialState as State};
+    ghost use Rattle.world_start.specs.Steps.{IsAtRest};
+
+    ghost Value = { State C D };
+
+    ghost view = { λ world. world.state };
+
+    ghost invariant = { λ world. IsAtRest C.content D.content D.honest world.state.engine world.state.files };
+}
+
+impl<C: Capture, D: Disk> SerialWorld<C, D> {
+    /// Opens the world that stands in the files: recovers it, and runs the start to its end. A checkpoint
+    /// is made after every `every` ticks, 1 to 65,536. Refused, it gives the files back.
+    pub fn open(
+        alloc: Global,
+        files: FourFiles<D>,
+        every: u32,
+    ) -> Result<Self, (FourFiles<D>, Refusal)>
+        ensures opened { IsTrue D.honest
+            → IfOk result (IsOpened C.content D.content D.may_leave D.honest files) }
+        ensures recovered { IfOk result (λ served. IsRecovered C.content D.content D.honest files
+            served.engine served.recovered.0 served.recovered.1) }
+        ensures up { IfOk result (λ served. served.engine.log.down ≡ false) }
+        ensures begun { IfOk result (λ served. (served.engine.since ≡ 0) × (served.engine.images.phase ≡ Idle)) }
+        ensures every { IfOk result (λ served. served.every ≡ every) }
+        ensures acked { IfOk result (λ served. served.acked ≡ served.engine.ended) }
+        ensures refused { IfErr result (λ refused. IsRefused D.content D.honest files refused.1) }
+        ensures left { IsTrue D.honest → IfErr result (λ refused.
+            IsNotOpened D.content D.may_leave files refused.1 refused.0) }
+        ensures device { IfErr result (λ refused. refused.1 ≡ Refusal.Device
+            → SomeGrew (fault_counts D.faults files) (fault_counts D.faults refused.0)) }
+    {
+        Ok(SerialWorld {
+            state: SerialState::open(alloc, files, every)?,
+        })
+    }
+
+    /// The number of the greatest receipt, before the first one the recovered tick.
+    pub fn acked(&self) -> u64
+        ensures { result ≡ self.now.acked }
+    {
+        self.state.acked
+    }
+
+    /// The recovered tick, and that of the image that it was built from.
+    pub fn recovered(&self) -> (u64, u64)
+        ensures { result ≡ self.now.recovered }
+    {
+        self.state.recovered
+    }
+
+    /// Takes the world apart. Refused with `NoMemory`, it gives the files back.
+    pub fn into_parts(self) -> Result<Parts<D>, (FourFiles<D>, Refusal)>
+        ensures words { IfOk result (λ parts. parts.words.items ≡ (C.content self.engine.store).live) }
+        ensures images { IfOk result (λ parts. parts.images ≡ self.engine.images) }
+        ensures log { IfOk result (λ parts. parts.log ≡ self.engine.log) }
+        ensures files { IfOk result (λ parts. parts.files ≡ self.files) }
+        ensures ticks { IfOk result (λ parts. (parts.ended ≡ self.engine.ended) × (parts.since ≡ self.engine.since)) }
+        ensures none_queued { IfOk result (λ parts. parts.log.down ≡ false → self.engine.queue.items ≡ []) }
+        ensures rest { IfOk result (AreAtRest D.content D.honest) }
+        ensures settled { IfOk result (λ parts. parts.log.down ≡ false → parts.images.phase ≡ Idle → parts.since ≡ 0
+            → (ticks : List (List Action)) → Serves C.content D.content D.may_leave D.honest self ticks
+            → AreSettled D.content D.may_leave parts ticks) }
+        ensures refused { IfErr result (λ refused. (refused.0 ≡ self.files) × (refused.1 ≡ Refusal.NoMemory)) }
+    {
+        images_stay::<D>();
+        log_outcomes::<D>();
+        let SerialWorld { state } = self;
+        let SerialState {
+            mut engine,
+            files,
+            every: _,
+            acked: _,
+            recovered: _,
+        } = state;
+        match words_of(engine.alloc, &mut engine.store) {
+            Ok(words) => {
+                let Engine {
+                    alloc: _,
+                    store: _,
+                    images,
+                    log,
+                    queue: _,
+                    ended,
+                    since,
+                } = engine;
+                Ok(Parts {
+                    words,
+                    images,
+                    log,
+                    files,
+                    ended,
+                    since,
+                })
+            }
+            Err(refusal) => Err((files, refusal)),
+        }
+    }
+
+    /// Gives the files back. Nothing of them is unsynced, unless a keeper is down.
+    pub fn into_files(self) -> FourFiles<D>
+        ensures files { result ≡ self.files }
+        ensures synced { IsTrue D.honest → self.engine.log.down ≡ false → self.engine.images.phase ≡ Idle
+            → (ticks : List (List Action)) → Serves C.content D.content D.may_leave D.honest self ticks
+            → AreSynced D.content D.may_leave result }
+    {
+        images_stay::<D>();
+        log_outcomes::<D>();
+        let SerialWorld { state } = self;
+        let SerialState {
+            engine: _,
+            files,
+            every: _,
+            acked: _,
+            recovered: _,
+        } = state;
+        files
+    }
+}
+
+impl<C: Capture, D: Disk> World for SerialWorld<C, D> {
+    ghost runs = { Runs C.content D.content D.may_leave D.honest };
+
+    fn batch(&mut self, b: &Batch, text: &mut Vec<u8>) -> Result<(), Refusal> {
+        self.state.batch(b, text)
+    }
+}

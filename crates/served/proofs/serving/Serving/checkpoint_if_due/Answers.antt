@@ -1,4 +1,0 @@
-use Rattle.served.proofs.serving.Serving.checkpoint_if_due.Goals as goal
-
-pub returns-then-not-has_open_round-clause-image : goal.returns-then-not-has_open_round-clause-image
-returns-then-not-has_open_round-clause-image g c = λ honest ticks f due. c.checkpoint.ensures.image honest ticks c.args.self.now.acked f.follows

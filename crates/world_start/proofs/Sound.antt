@@ -1,0 +1,101 @@
+-- The files of a world that is followed are sound.
+use Rattle.std.proofs.Common.{◌≡◌, ◌≤◌, ℕ, false, List, take, Some, None, refl, sym, ap, subst, ◌∙◌, arith}
+use Rattle.std.proofs.lemmas.List.{length-take, take-take}
+use Rattle.world_actions.specs.declared.action.Action.{Action}
+use Rattle.world_ticks.specs.After.{after_ticks}
+use Rattle.capture_core.specs.Content.{Content}
+use Rattle.disk_model.specs.declared.four_files.FourFiles.{FourFiles}
+use Rattle.image_files.specs.Image.{Image, Closed, Bad, Open, image_of}
+use Rattle.image_files.specs.Images.{ImageFiles, NoneYet, Newest, ImageFilesAre, newest_in}
+use Rattle.image_files.specs.Progress.{Progress as ImageProgress}
+use Rattle.image_files.specs.Files.{Stands as ImagesStand}
+use Rattle.action_log.specs.declared.record.Record.{Record}
+use Rattle.action_log.specs.declared.progress.Progress.{Progress as LogProgress}
+use Rattle.action_log.specs.Logs.{Journal, JournalIs, LogPlace}
+use Rattle.action_log.specs.Stands.{Stands as LogStands}
+use Rattle.recovery.specs.Sound.{IsWorldAt, HoldsWorld, IsSound}
+use Rattle.restart.specs.InStep.{InStep, IsSafe}
+use Rattle.world_start.specs.declared.engine.Engine.{Engine}
+use Rattle.world_start.specs.Running.{HasNewest}
+use Rattle.world_start.specs.Engine.{Follows}
+use Rattle.world_start.specs.Opening.{AreSound}
+use Rattle.world_start.proofs.Following.{logs_of_place, newest_of}
+
+-- ---- of more ticks
+
+world_of_more : (cells : ℕ) (ticks : List (List Action)) (most tick : ℕ) (words : List ℕ) → IsWorldAt cells (take most ticks) tick words → IsWorldAt cells ticks tick words
+world_of_more cells ticks most tick words w =
+    let within : tick ≤ most = omega (arith, w.ended, length-take most ticks) in
+    record { ended = omega (arith, w.ended, length-take most ticks); words_are = ap (after_ticks cells) (sym (take-take tick most ticks within)) ∙ w.words_are }
+
+holds_of_more : (cells : ℕ) (ticks : List (List Action)) (most bound : ℕ) (image : Image) → HoldsWorld cells (take most ticks) bound image → HoldsWorld cells ticks bound image
+holds_of_more cells ticks most bound Closed h = h
+holds_of_more cells ticks most bound Bad h = h
+holds_of_more cells ticks most bound (Open tick words) h = (h.0, world_of_more cells ticks most tick words h.1)
+
+-- files that are sound for the first ticks, and acknowledge as many, are sound for all of them
+pub sound_of_more : (a b la lb : List ℕ → Type 0) (cells : ℕ) (ticks : List (List Action)) (most acknowledged count : ℕ) → acknowledged ≤ count → IsSound a b la lb cells (take most ticks) count → IsSound a b la lb cells ticks acknowledged
+sound_of_more a b la lb cells ticks most acknowledged count fewer s x y z w hx hy hz hw =
+    let r = s x y z w hx hy hz hw in
+    let k = r.holds in
+    record {
+      a = r.a;
+      b = r.b;
+      reads_a = r.reads_a;
+      reads_b = r.reads_b;
+      holds = record {
+        recovery = k.recovery;
+        stands = k.stands;
+        keeps = omega (arith, fewer, k.keeps);
+        world = world_of_more cells ticks most k.recovery.tick k.recovery.words k.world;
+        image_a_holds = holds_of_more cells ticks most k.recovery.tick (image_of x) k.image_a_holds;
+        image_b_holds = holds_of_more cells ticks most k.recovery.tick (image_of y) k.image_b_holds;
+      };
+    }
+
+-- ---- of a world that is followed
+
+safe_is_sound : (images : ImageFiles) (a b la lb : List ℕ → Type 0) (cells : ℕ) (ticks : List (List Action)) (acknowledged : ℕ) → (newest_in images ≡ None → ⊥) → IsSafe images a b la lb cells ticks acknowledged → IsSound a b la lb cells ticks acknowledged
+safe_is_sound (NoneYet images) a b la lb cells ticks acknowledged has s = absurd (has refl)
+safe_is_sound (Newest images) a b la lb cells ticks acknowledged has s = s
+
+pub fewer_sound : (a b la lb : List ℕ → Type 0) (cells : ℕ) (ticks : List (List Action)) (acknowledged count : ℕ) → acknowledged ≤ count → IsSound a b la lb cells ticks count → IsSound a b la lb cells ticks acknowledged
+fewer_sound a b la lb cells ticks acknowledged count fewer s x y z w hx hy hz hw =
+    let r = s x y z w hx hy hz hw in
+    let k = r.holds in
+    record {
+      a = r.a;
+      b = r.b;
+      reads_a = r.reads_a;
+      reads_b = r.reads_b;
+      holds = record { recovery = k.recovery; stands = k.stands; keeps = omega (arith, fewer, k.keeps); world = k.world; image_a_holds = k.image_a_holds; image_b_holds = k.image_b_holds };
+    }
+
+module _ {C D : Type 0} (content : C → Content) (file : D → List ℕ) (leaves : D → List ℕ → Type 0)
+    (newest : (keeper : ImageProgress) (images : ImageFiles) (a b : D) → ImagesStand keeper images (file a) (file b) (leaves a) (leaves b) → keeper.newest ≡ newest_in images)
+    (are : (keeper : ImageProgress) (images : ImageFiles) (a b : D) → ImagesStand keeper images (file a) (file b) (leaves a) (leaves b) → ImageFilesAre keeper.cells images (leaves a) (leaves b))
+    (reads : (keeper : LogProgress) (a b : D) (place : LogPlace) → LogStands keeper (file a) (file b) (leaves a) (leaves b) place → JournalIs place.journal (leaves a) (leaves b))
+    (safe : (image_a image_b log_a log_b : D) (cells : ℕ) (ticks : List (List Action)) (acknowledged : ℕ) (content : Content) (images : ImageFiles) (journal : Journal) (queue : List Record)
+    → InStep cells ticks acknowledged content images journal queue → ImageFilesAre cells images (leaves image_a) (leaves image_b) → JournalIs journal (leaves log_a) (leaves log_b)
+    → IsSafe images (leaves image_a) (leaves image_b) (leaves log_a) (leaves log_b) cells ticks acknowledged) where
+  -- what is true of a world's files
+  pub follows_safe : (engine : Engine C) (files : FourFiles D) (ticks : List (List Action)) (acknowledged : ℕ) (f : Follows content file leaves engine files ticks acknowledged)
+      → IsSafe f.images (leaves files.image_a) (leaves files.image_b) (leaves files.log_a) (leaves files.log_b) engine.images.cells ticks f.count
+  follows_safe engine files ticks acknowledged f =
+      safe files.image_a files.image_b files.log_a files.log_b engine.images.cells ticks f.count (content engine.store) f.images f.place.journal engine.queue.items f.in_step
+      (are engine.images f.images files.image_a files.image_b f.has_images) (reads engine.log files.log_a files.log_b f.place f.has_log)
+
+  pub follows_sound : (engine : Engine C) (files : FourFiles D) (ticks : List (List Action)) (acknowledged : ℕ) → HasNewest engine.images → Follows content file leaves engine files ticks acknowledged
+      → AreSound file leaves files engine.images.cells ticks acknowledged
+  follows_sound engine files ticks acknowledged has f =
+      fewer_sound (leaves files.image_a) (leaves files.image_b) (leaves files.log_a) (leaves files.log_b) engine.images.cells ticks acknowledged f.count f.at_least
+      (safe_is_sound f.images (leaves files.image_a) (leaves files.image_b) (leaves files.log_a) (leaves files.log_b) engine.images.cells ticks f.count
+      (λ none. has (newest engine.images f.images files.image_a files.image_b f.has_images ∙ none)) (follows_safe engine files ticks acknowledged f))
+
+  -- after the start there is an image
+  pub started_sound : (engine : Engine C) (files : FourFiles D) (ticks : List (List Action)) (acknowledged : ℕ) → engine.log.starting ≡ false → Follows content file leaves engine files ticks acknowledged
+      → AreSound file leaves files engine.images.cells ticks acknowledged
+  started_sound engine files ticks acknowledged over f =
+      let logs = logs_of_place engine.log (file files.log_a) (file files.log_b) (leaves files.log_a) (leaves files.log_b) f.place over f.has_log in
+      let images = newest_of engine.images.cells ticks f.count (content engine.store) f.images logs.0 engine.queue.items (subst (λ j. InStep engine.images.cells ticks f.count (content engine.store) f.images j engine.queue.items) logs.1 f.in_step) in
+      follows_sound engine files ticks acknowledged (λ none. (let e : Some (images.0.slot, images.0.tick) ≡ None = sym (newest engine.images f.images files.image_a files.image_b f.has_images ∙ ap newest_in images.1) ∙ none in absurd (let h = e in cc))) f

@@ -1,0 +1,36 @@
+-- What making the files of a new world gives.
+use Rattle.std.specs.Prelude.{◌≡◌, ◌≢◌, ◌⊎◌, ℕ, List, []}
+use Rattle.world_actions.specs.declared.refusal.Refusal.{Refusal}
+use Rattle.world_actions.specs.declared.refusal.Refusal.TheVariants.{Device, NotEmpty}
+use Rattle.disk_model.specs.FourFiles.{EachFile, KeepsFile}
+use Rattle.disk_model.specs.declared.four_files.FourFiles.{FourFiles}
+use Rattle.image_files.specs.Image.{Closed, image_of}
+use Rattle.action_log.specs.Segment.{ClosedSegment, OpenSegment, IsSegment}
+use Rattle.recovery.specs.Sound.{IsFresh}
+use Rattle.world_start.specs.Opening.{AreSynced, AreSound}
+
+-- four files that hold no world
+pub record AreClosed (image_a image_b log_a log_b : List ℕ) : Type 0 where
+  pub image_a_closed : image_of image_a ≡ Closed
+  pub image_b_closed : image_of image_b ≡ Closed
+  pub log_a_closed : IsSegment log_a ClosedSegment
+  pub log_b_closed : IsSegment log_b ClosedSegment
+
+abbrev pub FilesAreClosed : {D : Type 0} → (file : D → List ℕ) → FourFiles D → Type 0
+FilesAreClosed file files = AreClosed (file files.image_a) (file files.image_b) (file files.log_a) (file files.log_b)
+
+module _ {D : Type 0} (file : D → List ℕ) (leaves : D → List ℕ → Type 0) where
+  -- the files held no world, and hold one of zeros at tick 0: nothing of them is unsynced, and log.a is open
+  pub record AreMade (files : FourFiles D) (cells : ℕ) (made : FourFiles D) : Type 0 where
+    pub closed : FilesAreClosed file files
+    pub sound : AreSynced file leaves files → AreSound file leaves made cells [] 0
+    pub synced : AreSynced file leaves files → AreSynced file leaves made
+    pub log : IsSegment (file made.log_a) (OpenSegment 0 [])
+
+  -- No world was made: where the files hold one, for want of memory, or by a device. But for a device the files were only
+  -- read. Where they held none, whatever a crash leaves of them is of no world yet, or of one of zeros at tick 0.
+  pub record AreNotMade (files : FourFiles D) (cells : ℕ) (refusal : Refusal) (left : FourFiles D) : Type 0 where
+    pub not_empty : refusal ≡ NotEmpty → ¬ FilesAreClosed file files
+    pub kept : refusal ≢ Device → EachFile files left (KeepsFile file leaves)
+    pub safe : AreSynced file leaves files → FilesAreClosed file files
+        → IsFresh (leaves left.image_a) (leaves left.image_b) (leaves left.log_a) (leaves left.log_b) cells ⊎ AreSound file leaves left cells [] 0

@@ -1,0 +1,79 @@
+-- What recovering the files of a world gives, and what sound files are.
+use Rattle.std.specs.Prelude.{◌≡◌, ◌⊎◌, ◌<◌, ℕ, Bool, IsTrue, List, length, take, slice_index, Ok, Err}
+use Rattle.world_actions.specs.declared.action.Action.{Action}
+use Rattle.world_actions.specs.declared.refusal.Refusal.{Refusal}
+use Rattle.world_actions.specs.declared.refusal.Refusal.TheVariants.{Device, NoMemory}
+use Rattle.capture_core.specs.Content.{Content}
+use Rattle.disk_model.specs.Disk.{Only, Grew}
+use Rattle.disk_model.specs.declared.four_files.FourFiles.{FourFiles}
+use Rattle.recovery.specs.Recovery.{Recovery, Recovers}
+use Rattle.recovery.specs.Sound.{IsSound}
+use Rattle.world_start.specs.declared.engine.Engine.{Engine}
+use Rattle.world_start.specs.Running.{HasNewest}
+use Rattle.world_start.specs.Engine.{Follows}
+
+-- ---- the files
+
+module _ {D : Type 0} (file : D → List ℕ) (leaves : D → List ℕ → Type 0) where
+  -- nothing of the files is unsynced
+  pub record AreSynced (files : FourFiles D) : Type 0 where
+    pub image_a : Only (file files.image_a) (leaves files.image_a)
+    pub image_b : Only (file files.image_b) (leaves files.image_b)
+    pub log_a : Only (file files.log_a) (leaves files.log_a)
+    pub log_b : Only (file files.log_b) (leaves files.log_b)
+
+  -- Whatever a crash leaves of the files, recovery gives the world after the first n of these ticks, for some n not below
+  -- the acknowledged count, and each open image is the world after its tick.
+  abbrev pub AreSound : FourFiles D → (cells : ℕ) → List (List Action) → (acknowledged : ℕ) → Type 0
+  AreSound files cells ticks acknowledged = IsSound (leaves files.image_a) (leaves files.image_b) (leaves files.log_a) (leaves files.log_b) cells ticks acknowledged
+
+module _ {D : Type 0} (file : D → List ℕ) where
+  -- recovery answers so on what reads of the files give
+  abbrev pub RecoversFiles : FourFiles D → Recovery → Type 0
+  RecoversFiles files r = Recovers (file files.image_a) (file files.image_b) (file files.log_a) (file files.log_b) (Ok r)
+
+  -- these bytes are what reads of the files give
+  pub record AreRead (files : FourFiles D) (image_a image_b log_a log_b : List ℕ) : Type 0 where
+    pub image_a_is : image_a ≡ file files.image_a
+    pub image_b_is : image_b ≡ file files.image_b
+    pub log_a_is : log_a ≡ file files.log_a
+    pub log_b_is : log_b ≡ file files.log_b
+
+-- Why no world is recovered: for want of memory, by a device, or because recovery refuses what was read. That is what the files
+-- hold where they keep to the disk model.
+abbrev pub IsRefused : {D : Type 0} → (file : D → List ℕ) → (honest : Bool) → FourFiles D → Refusal → Type 0
+IsRefused file honest files refusal =
+    (refusal ≡ NoMemory) ⊎ ((refusal ≡ Device)
+    ⊎ ((image_a image_b log_a log_b : List ℕ) × Recovers image_a image_b log_a log_b (Err refusal) × (IsTrue honest → AreRead file files image_a image_b log_a log_b)))
+
+-- one of these counts of faults grew, except at its last value
+abbrev pub SomeGrew : List ℕ → List ℕ → Type 0
+SomeGrew old new = (place : ℕ) × (place < length old) × Grew (slice_index old place) (slice_index new place)
+
+-- What was recovered: what recovery answers on bytes, which are what the files hold where they keep to the disk model.
+pub record IsRecovered {C D : Type 0} (content : C → Content) (file : D → List ℕ) (honest : Bool) (files : FourFiles D) (engine : Engine C) (tick from : ℕ) : Type 0 where
+  pub image_a : List ℕ
+  pub image_b : List ℕ
+  pub log_a : List ℕ
+  pub log_b : List ℕ
+  pub recovery : Recovery
+  pub recovers : Recovers image_a image_b log_a log_b (Ok recovery)
+  pub tick_is : tick ≡ recovery.tick
+  pub from_is : from ≡ recovery.from
+  pub words : (content engine.store).live ≡ recovery.words
+  pub ended : engine.ended ≡ recovery.tick
+  pub read : IsTrue honest → AreRead file files image_a image_b log_a log_b
+
+module _ {C D : Type 0} (content : C → Content) (file : D → List ℕ) (leaves : D → List ℕ → Type 0) where
+  -- The engine begins the start of the recovered world. Where the files were sound for some ticks, it follows the recovered
+  -- ones among them.
+  pub record IsRead (files : FourFiles D) (engine : Engine C) (from : ℕ) (left : FourFiles D) : Type 0 where
+    pub recovery : Recovery
+    pub recovers : RecoversFiles file files recovery
+    pub is_from : from ≡ recovery.from
+    pub words : (content engine.store).live ≡ recovery.words
+    pub ended : engine.ended ≡ recovery.tick
+    pub since : engine.since ≡ 0
+    pub newest : HasNewest engine.images
+    pub follows : (cells : ℕ) (ticks : List (List Action)) (acknowledged : ℕ) → AreSynced file leaves files → AreSound file leaves files cells ticks acknowledged
+        → (engine.images.cells ≡ cells) × Follows content file leaves engine left (take recovery.tick ticks) acknowledged

@@ -1,0 +1,123 @@
+ghost use Rattle.std.specs.Prelude.{◌≡◌, ◌≢◌, ◌⊎◌, ◌↔◌, ◌≤◌, false, IsTrue, IfOk, IfErr, OnOk};
+ghost use Rattle.world_actions.specs.declared.world.TheConstants.{CELLS};
+ghost use Rattle.disk_model.specs.FourFiles.{EachFile, KeepsFile, fault_counts};
+ghost use Rattle.image_files.specs.declared.phase.Phase.TheVariants.{Down};
+ghost use Rattle.image_files.specs.Image.{Closed, image_of};
+ghost use Rattle.action_log.specs.Segment.{ClosedSegment, IsSegment};
+ghost use Rattle.world_start.specs.Steps.{ImagesInOrder, LogInOrder, IsBegunFresh};
+ghost use Rattle.world_start.specs.Opening.{SomeGrew};
+ghost use Rattle.world_start.specs.Fresh.{AreClosed, AreMade, AreNotMade, FilesAreClosed};
+
+use crate::engine::Engine;
+use action_log::{LogState, log_outcomes, log_queues, read_log, segments_read_once};
+use capture_core::{Capture, PlainCopy};
+use disk_model::{Disk, FourFiles};
+use image_files::{ImageState, images_stay, read_image};
+use restart::{gates_are_told, worlds_are_safe, worlds_go_on, zeros};
+use std::alloc::Global;
+use world_actions::Refusal;
+
+/// Makes the files of a world of zeros at tick 0, of files that hold none, by the start of a fresh world.
+/// It refuses `NotEmpty` where one of them isn't closed. Refused, it gives the files back.
+pub fn fresh_files<D: Disk>(
+    alloc: Global,
+    cells: u32,
+    files: FourFiles<D>,
+) -> Result<FourFiles<D>, (FourFiles<D>, Refusal)>
+    requires { (1 ≤ cells) × (cells ≤ CELLS) }
+    ensures made { IsTrue D.honest → IfOk result (AreMade D.content D.may_leave files cells) }
+    ensures refused { IfErr result (λ refused. (refused.1 ≡ Refusal.NotEmpty)
+        ⊎ ((refused.1 ≡ Refusal.NoMemory) ⊎ (refused.1 ≡ Refusal.Device))) }
+    ensures left { IsTrue D.honest → IfErr result (λ refused.
+        AreNotMade D.content D.may_leave files cells refused.1 refused.0) }
+    ensures device { IfErr result (λ refused. refused.1 ≡ Refusal.Device
+        → SomeGrew (fault_counts D.faults files) (fault_counts D.faults refused.0)) }
+    ensures no_fault { IfOk result (λ made. fault_counts D.faults made ≡ fault_counts D.faults files) }
+{
+    let mut files = files;
+    match make_fresh::<PlainCopy, D>(alloc, cells, &mut files) {
+        Ok(()) => Ok(files),
+        Err(refusal) => Err((files, refusal)),
+    }
+}
+
+fn make_fresh<C: Capture, D: Disk>(
+    alloc: Global,
+    cells: u32,
+    files: &mut FourFiles<D>,
+) -> Result<(), Refusal>
+    requires { (1 ≤ cells) × (cells ≤ CELLS) }
+    ensures made { IsTrue D.honest → OnOk result (AreMade D.content D.may_leave files.old cells files.new) }
+    ensures refused { IfErr result (λ refusal. (refusal ≡ Refusal.NotEmpty)
+        ⊎ ((refusal ≡ Refusal.NoMemory) ⊎ (refusal ≡ Refusal.Device))) }
+    ensures left { IsTrue D.honest → IfErr result (λ refusal.
+        AreNotMade D.content D.may_leave files.old cells refusal files.new) }
+    ensures device { IfErr result (λ refusal. refusal ≡ Refusal.Device
+        → SomeGrew (fault_counts D.faults files.old) (fault_counts D.faults files.new)) }
+    ensures no_fault { OnOk result (fault_counts D.faults files.new ≡ fault_counts D.faults files.old) }
+{
+    images_stay::<D>();
+    log_outcomes::<D>();
+    worlds_are_safe::<D>();
+    let mut engine = begin_fresh::<C, D>(alloc, cells, files)?;
+    engine.start(files)
+}
+
+// The engine of a fresh world, at the beginning of its start. The files are only read.
+fn begin_fresh<C: Capture, D: Disk>(
+    alloc: Global,
+    cells: u32,
+    files: &mut FourFiles<D>,
+) -> Result<Engine<C>, Refusal>
+    requires { (1 ≤ cells) × (cells ≤ CELLS) }
+    ensures kept { IsTrue D.honest → EachFile files.old files.new (KeepsFile D.content D.may_leave) }
+    ensures images { IfOk result (λ engine. ImagesInOrder C.content D.content D.honest engine files.new) }
+    ensures log { IfOk result (λ engine. LogInOrder C.content D.content D.honest engine files.new) }
+    ensures begun { IsTrue D.honest → IfOk result (λ engine.
+        IsBegunFresh C.content D.content D.may_leave files.old cells engine files.new) }
+    ensures refused { IfErr result (λ refusal. (refusal ≡ Refusal.NotEmpty)
+        ⊎ ((refusal ≡ Refusal.NoMemory) ⊎ (refusal ≡ Refusal.Device))) }
+    ensures not_empty { IsTrue D.honest → IfErr result (λ refusal.
+        refusal ≡ Refusal.NotEmpty → ¬ FilesAreClosed D.content files.old) }
+    ensures up { IfOk result (λ engine. (engine.images.phase ≡ Down → ⊥) × (engine.log.down ≡ false)) }
+    ensures no_fault { IfOk result (λ engine.
+        fault_counts D.faults files.new ≡ fault_counts D.faults files.old) }
+    ensures device { IfErr result (λ refusal. refusal ≡ Refusal.Device
+        → SomeGrew (fault_counts D.faults files.old) (fault_counts D.faults files.new)) }
+{
+    images_stay::<D>();
+    log_outcomes::<D>();
+    log_queues();
+    gates_are_told();
+    worlds_go_on();
+    let bytes = files.read_all(alloc)?;
+    if !are_closed(alloc, &bytes) {
+        return Err(Refusal::NotEmpty);
+    }
+    let words = zeros(alloc, cells)?;
+    Engine::begin(alloc, cells, None, 0, &words, &bytes)
+}
+
+// Whether none of the files holds an image or a segment. An open one that wants memory isn't closed.
+fn are_closed(alloc: Global, bytes: &FourFiles<Vec<u8>>) -> bool
+    ensures { IsTrue result ↔ AreClosed bytes.now.image_a.items bytes.now.image_b.items
+        bytes.now.log_a.items bytes.now.log_b.items }
+{
+    is_closed_image(alloc, &bytes.image_a)
+        && is_closed_image(alloc, &bytes.image_b)
+        && is_closed_segment(alloc, &bytes.log_a)
+        && is_closed_segment(alloc, &bytes.log_b)
+}
+
+fn is_closed_image(alloc: Global, bytes: &[u8]) -> bool
+    ensures { IsTrue result ↔ (image_of bytes.now ≡ Closed) }
+{
+    matches!(read_image(alloc, bytes), Ok(ImageState::Closed))
+}
+
+fn is_closed_segment(alloc: Global, bytes: &[u8]) -> bool
+    ensures { IsTrue result ↔ IsSegment bytes.now ClosedSegment }
+{
+    segments_read_once();
+    matches!(read_log(alloc, bytes), Ok(LogState::Closed))
+}

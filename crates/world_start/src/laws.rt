@@ -1,0 +1,28 @@
+ghost use Rattle.std.specs.Prelude.{◌≡◌, ℕ, List, false};
+ghost use Rattle.world_actions.specs.declared.action.Action.{Action};
+ghost use Rattle.disk_model.specs.declared.four_files.FourFiles.{FourFiles};
+ghost use Rattle.world_start.specs.declared.engine.Engine.{Engine};
+ghost use Rattle.world_start.specs.Running.{HasNewest};
+ghost use Rattle.world_start.specs.Engine.{Follows};
+ghost use Rattle.world_start.specs.Opening.{AreSound};
+
+use action_log::log_outcomes;
+use capture_core::Capture;
+use disk_model::Disk;
+use image_files::images_stay;
+use restart::worlds_are_safe;
+
+/// Laws: the files of a world that follows its ticks are sound for them and the acknowledged count, once there is an image.
+/// After a start there is one.
+pub fn followed_files_are_sound<C: Capture, D: Disk>()
+    ensures begun { (engine : Engine C) (files : FourFiles D) (ticks : List (List Action)) (acknowledged : ℕ)
+        → HasNewest engine.images → Follows C.content D.content D.may_leave engine files ticks acknowledged
+        → AreSound D.content D.may_leave files engine.images.cells ticks acknowledged }
+    ensures started { (engine : Engine C) (files : FourFiles D) (ticks : List (List Action)) (acknowledged : ℕ)
+        → engine.log.starting ≡ false → Follows C.content D.content D.may_leave engine files ticks acknowledged
+        → AreSound D.content D.may_leave files engine.images.cells ticks acknowledged }
+{
+    images_stay::<D>();
+    log_outcomes::<D>();
+    worlds_are_safe::<D>();
+}

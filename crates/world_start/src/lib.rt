@@ -1,0 +1,21 @@
+//! A world's start on its four files: from what stands in them to a world at rest.
+//!
+//! `recover_world` reads the files, and recovers the world that stands in them. Nothing is written yet. `Engine::start`
+//! runs its start to its end: the image of the recovered tick, and then the log, which begins anew there. `into_parts`
+//! takes a world at rest apart, for who goes on with it. `fresh_files` makes the files of a new world, by the same start.
+//! Whatever a crash leaves of the files, recovery gives a world that ended (`followed_files_are_sound`).
+#![tactic(auto)]
+
+mod engine;
+mod fresh;
+mod laws;
+mod log_run;
+mod parts;
+mod recovering;
+mod round_run;
+
+pub use engine::Engine;
+pub use fresh::fresh_files;
+pub use laws::followed_files_are_sound;
+pub use parts::Parts;
+pub use recovering::{Start, recover_world};
