@@ -45,8 +45,14 @@ impl<
         + Send
         + 'static,
 > Front<R> {
-    /// Prints which world was recovered, and listens.
-    pub fn open(rt: &R, service: &Service<'_>, ended: u64, from: u64) -> Result<Self, Ending>
+    /// Prints which world was recovered, and listens. The server's counts begin with these.
+    pub fn open(
+        rt: &R,
+        service: &Service<'_>,
+        ended: u64,
+        from: u64,
+        pulse: Pulse,
+    ) -> Result<Self, Ending>
         ensures { IfErr result IsFault }
     {
         let streams = match Streams::start(rt, service) {
@@ -58,7 +64,7 @@ impl<
             Ok(listening) => listening,
             Err(ending) => return Err(streams.finish(rt, ending)),
         };
-        match lines_of(rt, service, &streams, &place, Pulse::new(ended, from)) {
+        match lines_of(rt, service, &streams, &place, pulse) {
             Ok(lines) => Ok(Front {
                 streams,
                 listener,
