@@ -44,15 +44,20 @@ impl<
         + Send
         + 'static,
 > Front<R> {
-    /// Listens, beside streams that have begun.
-    pub fn open(rt: &R, service: &Service<'_>, streams: Streams) -> Result<Self, Ending>
+    /// Listens, beside streams that have begun. The server's counts begin with these.
+    pub fn open(
+        rt: &R,
+        service: &Service<'_>,
+        streams: Streams,
+        pulse: Pulse,
+    ) -> Result<Self, Ending>
         ensures { IfErr result IsFault }
     {
         let (listener, place) = match listen(rt, service.address) {
             Ok(listening) => listening,
             Err(ending) => return Err(streams.finish(rt, ending)),
         };
-        match lines_of(rt, service, &streams, &place, Pulse::new(ended, from)) {
+        match lines_of(rt, service, &streams, &place, pulse) {
             Ok(lines) => Ok(Front {
                 streams,
                 listener,

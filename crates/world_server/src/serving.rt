@@ -1,4 +1,4 @@
-ghost use Rattle.std.specs.Prelude.{◌≡◌, ◌≢◌, true, false, IsTrue, IfOk, IfErr, MatchResult};
+ghost use Rattle.std.specs.Prelude.{IfSome, ◌≡◌, ◌≢◌, true, false, IsTrue, IfOk, IfErr, MatchResult};
 ghost use Rattle.std.specs.declared.io.Error.{Error};
 ghost use Rattle.image_files.specs.declared.phase.Phase.TheVariants.{Down};
 ghost use Rattle.world_folder.specs.Ending.{IsFault};
@@ -21,11 +21,11 @@ use std::net::{Net, TcpListener, TcpStream};
 use std::sync::Wait;
 use std::thread::Threads;
 use std::time::Clock;
-use tcp_service::{Admission, Closed, Door, NotServed, Stopped, serve_tcp};
+use tcp_service::{Admission, Closed, Door, NotServed, Pulse, Stopped, serve_tcp};
 use transports::Listener;
 use worker_steps::{Gates, Opened};
 use worker_threads::{Seats, Watch, start_world};
-use workers::{Gate, Open};
+use workers::{Gate, ImageWriter, Open};
 use world_actions::Refusal;
 use world_folder::{Ending, ServerEnding, failure_of, open_existing, stands_in};
 use world_start::{Start, recover_world};
@@ -146,16 +146,27 @@ fn serve_started<
     ensures ok { IfOk result EndsServing }
     ensures err { IfErr result IsFault }
 {
+    let pulse = Pulse::new(opened.ended, newest_image(&opened.images));
     let Front {
         streams,
         listener,
         place,
         lines,
-    } = Front::open(rt, service, streams)?;
+    } = Front::open(rt, service, streams, pulse)?;
     let (every, admission) = (service.every, service.admission());
     let served = serve_opened(rt, rt.alloc(), lines, opened, every, listener, admission);
     place.leave(rt);
     Ok(streams.finish(rt, ending_alone(served)))
+}
+
+// The tick of the newest image, which each world has once its start has ended.
+fn newest_image<D: Disk>(images: &ImageWriter<D>) -> u64
+    ensures { IfSome images.now.keeper.newest (λ newest. result ≡ newest.1) }
+{
+    match images.keeper.newest() {
+        Some((_, tick)) => tick,
+        None => 0,
+    }
 }
 
 /// Serves a world that was opened, and tells how the program ends, and what the server leaves once it has stopped. On
