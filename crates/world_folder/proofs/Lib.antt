@@ -2,3 +2,4 @@ pub mod FormatLemmas
 pub mod MakingLemmas
 pub mod WordsLemmas
 pub mod WordsImageLemmas
+pub mod LookLemmas

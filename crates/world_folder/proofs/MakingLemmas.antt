@@ -1,12 +1,17 @@
 -- Why no world is made.
-use Rattle.std.proofs.Common.{◌≡◌, ◌⊎◌, ℕ, List, refl, subst, ◌∙◌}
-use Rattle.world_actions.specs.declared.refusal.Refusal.TheVariants.{NoMemory, Device, NotEmpty}
+use Rattle.std.proofs.Common.{◌≡◌, ◌⊎◌, inl, inr, ⊎_elim, Ok, Err, ℕ, List, refl, sym, ap, subst, ◌∙◌}
+use Rattle.world_actions.specs.declared.refusal.Refusal.{Refusal}
+use Rattle.world_actions.specs.declared.refusal.Refusal.TheVariants.{NoMemory, Device, NotEmpty, NoImage}
+use Rattle.disk_model.specs.Disk.{Only}
 use Rattle.disk_model.specs.declared.four_files.FourFiles.{FourFiles}
 use Rattle.disk_model.specs.FourFiles.{EachFile, KeepsFile}
+use Rattle.image_files.specs.Image.{Closed, Open, image_of}
+use Rattle.action_log.specs.Segment.{ClosedSegment, IsSegment}
+use Rattle.recovery.specs.Recovery.{Recovers}
 use Rattle.world_start.specs.Fresh.{AreClosed, AreNotMade, FilesAreClosed}
 use Rattle.world_folder.specs.declared.ending.Ending.{Ending}
 use Rattle.world_folder.specs.declared.ending.Ending.TheVariants.{Fault, Occupied}
-use Rattle.world_folder.specs.Making.{IsFirstOpen, TellsUnmade, IsUnmade}
+use Rattle.world_folder.specs.Making.{IsFirstOpen, TellsUnmade, IsUnmade, HoldsNoOther, recovery_of_words}
 
 -- the bytes of four files
 abbrev Four : Type 0
@@ -49,3 +54,52 @@ module _ {D : Type 0} (file : D → List ℕ) (leaves : D → List ℕ → Type 
         };
         safe = λ synced closed. absurd (one_is closed);
       }
+
+-- ---- a world of given words
+
+-- closed files hold no world
+none_stands : (a b la lb : List ℕ) → AreClosed a b la lb → Recovers a b la lb (Err NoImage)
+none_stands a b la lb closed = record {
+  a = ClosedSegment;
+  b = ClosedSegment;
+  reads_a = closed.log_a_closed;
+  reads_b = closed.log_b_closed;
+  holds = rw (closed.image_a_closed, closed.image_b_closed) refl;
+}
+
+-- an image at tick 0 beside closed files is the world
+words_stand : (a b la lb words : List ℕ) → image_of a ≡ Open 0 words → image_of b ≡ Closed → IsSegment la ClosedSegment → IsSegment lb ClosedSegment
+    → Recovers a b la lb (Ok (recovery_of_words words))
+words_stand a b la lb words image image_b log_a log_b = record {
+  a = ClosedSegment;
+  b = ClosedSegment;
+  reads_a = log_a;
+  reads_b = log_b;
+  holds = rw (image, image_b) refl;
+}
+
+module _ {D : Type 0} (file : D → List ℕ) (leaves : D → List ℕ → Type 0) where
+  -- no image is known to be written over the first of four closed files, which were read before
+  pub unwritten : (folder words : List ℕ) (files read : FourFiles D) (image : D) (refusal : Refusal)
+      → FilesAreClosed file files → EachFile files read (KeepsFile file leaves)
+      → (refusal ≡ NoMemory) ⊎ (refusal ≡ Device) → (refusal ≡ NoMemory → image ≡ read.image_a)
+      → (Only (file read.image_a) (leaves read.image_a) → (left : List ℕ) → leaves image left → (image_of left ≡ Closed) ⊎ (image_of left ≡ Open 0 words))
+      → HoldsNoOther file leaves folder files words (Fault refusal) (record { image_a = image; image_b = read.image_b; log_a = read.log_a; log_b = read.log_b })
+  unwritten folder words files read image refusal closed kept why memory leaves_so = record {
+    told = ⊎_elim (λ none. inl none) (λ device. inr (inl device)) why;
+    kept = λ other. record {
+      image_a = subst (λ (disk : D). KeepsFile file leaves files.image_a disk) (sym (memory (⊎_elim (λ none. none) (λ device. absurd (other (ap Fault device))) why))) kept.image_a;
+      image_b = kept.image_b;
+      log_a = kept.log_a;
+      log_b = kept.log_b;
+    };
+    safe = λ synced _ a b la lb left_a left_b left_la left_lb.
+        let only : Only (file read.image_a) (leaves read.image_a) = (λ bytes left. synced.image_a bytes (kept.image_a.crash bytes left) ∙ sym kept.image_a.same_content) in
+        let b_closed : image_of b ≡ Closed = ap image_of (synced.image_b b (kept.image_b.crash b left_b)) ∙ closed.image_b_closed in
+        let la_closed : IsSegment la ClosedSegment = subst (λ (l : List ℕ). IsSegment l ClosedSegment) (sym (synced.log_a la (kept.log_a.crash la left_la))) closed.log_a_closed in
+        let lb_closed : IsSegment lb ClosedSegment = subst (λ (l : List ℕ). IsSegment l ClosedSegment) (sym (synced.log_b lb (kept.log_b.crash lb left_lb))) closed.log_b_closed in
+        ⊎_elim
+        (λ a_closed. inl (none_stands a b la lb (record { image_a_closed = a_closed; image_b_closed = b_closed; log_a_closed = la_closed; log_b_closed = lb_closed })))
+        (λ is. inr (words_stand a b la lb words is b_closed la_closed lb_closed))
+        (leaves_so only a left_a);
+  }

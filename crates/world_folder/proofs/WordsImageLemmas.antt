@@ -1,5 +1,5 @@
 -- The bytes of an image of given words, and what a crash leaves while it is written.
-use Rattle.std.proofs.Common.{◌≡◌, ◌⊎◌, inl, inr, ⊎_elim, ℕ, ◌+◌, ◌*◌, List, [], ◌∷◌, ◌++◌, ◌∙◌, length, take, drop, ap, sym, subst, refl, arith, length-append}
+use Rattle.std.proofs.Common.{◌≡◌, ◌⊎◌, inl, inr, ⊎_elim, ℕ, ◌+◌, ◌*◌, List, [], ◌∷◌, ◌++◌, ◌∙◌, length, drop, ap, sym, subst, refl, arith, length-append}
 use Rattle.std.specs.List.{flat_map}
 use Rattle.world_actions.specs.World.{IsWorld}
 use Rattle.file_format.specs.declared.format.Format.TheVariants.{Second}

@@ -1,8 +1,8 @@
-use Rattle.std.proofs.Common.{◌≡◌, inl, inr, ⊎_elim, IsTrue, List, ℕ, [], ◌∷◌, ap, ◌∙◌}
+use Rattle.std.proofs.Common.{inl, inr, ⊎_elim, List, ℕ, [], ◌∷◌, ap, ◌∙◌}
 use Rattle.std.proofs.lemmas.Result.{on_ok_weaker}
 use Rattle.file_format.specs.declared.gate.TheConstants.{OPEN_GATE}
 use Rattle.disk_model.specs.Disk.{overwritten}
-use Rattle.image_files.specs.Image.{Open, image_of}
+use Rattle.image_files.specs.Image.{image_of}
 use Rattle.world_folder.proofs.WordsImageLemmas.{whole_image}
 use Rattle.world_folder.proofs.words_image.write_words.Goals as goal
 

@@ -1,4 +1,4 @@
-use Rattle.std.proofs.Common.{◌≡◌, ◌+◌, ◌∷◌, List, ℕ, length, drop, slice_index, rules}
+use Rattle.std.proofs.Common.{slice_index, rules}
 use Rattle.world_folder.specs.WordsText.{IsSeparator}
 use Rattle.world_folder.proofs.WordsLemmas.{no_separator_at}
 use Rattle.world_folder.proofs.words_text.end_of_part.Goals as goal

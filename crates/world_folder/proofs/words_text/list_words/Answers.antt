@@ -1,6 +1,5 @@
-use Rattle.std.proofs.Common.{◌≡◌, ◌<◌, ◌≤◌, ◌+◌, ℕ, List, [], ◌∷◌, ◌++◌, length, take, drop, slice_index, decimal, All, subst, sym, ap, ◌∙◌, arith, rules}
-use Rattle.world_actions.specs.World.{IsWord}
-use Rattle.world_folder.specs.WordsText.{ListsEach, Lists, newlines}
+use Rattle.std.proofs.Common.{◌≡◌, ◌<◌, ℕ, List, [], ◌∷◌, ◌++◌, length, take, slice_index, decimal, subst, sym, ap, ◌∙◌, arith, rules}
+use Rattle.world_folder.specs.WordsText.{ListsEach, Lists}
 use Rattle.world_folder.proofs.WordsLemmas.{last_listed, goes_on}
 use Rattle.world_folder.proofs.words_text.list_words.Goals as goal
 

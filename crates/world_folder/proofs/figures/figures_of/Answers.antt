@@ -1,0 +1,17 @@
+use Rattle.std.proofs.Common.{List, ℕ, subst, refl}
+use Rattle.world_folder.specs.Told.{IsLogTold}
+use Rattle.world_folder.proofs.figures.figures_of.Goals as goal
+
+pub returns-in-Ok : goal.returns-in-Ok
+returns-in-Ok c = record {
+  found = c.in-Ok.found;
+  stands = c.in-Ok.ensures.recovered;
+  tick = refl;
+  image = refl;
+  slot = refl;
+  log_a = c.in-Ok-Ok.log_a;
+  log_b = c.in-Ok-Ok.log_b;
+  told_a = subst (λ (l : List ℕ). IsLogTold l c.in-Ok-Ok.log_a) c.deref.ensures.value c.in-Ok-Ok.ensures.told;
+  told_b = subst (λ (l : List ℕ). IsLogTold l c.in-Ok-Ok.log_b) c.deref-2.ensures.value c.in-Ok-Ok.ensures'.told;
+  segment = c.current_segment.ensures;
+}
