@@ -16,7 +16,7 @@ use std::time::Clock;
 use transports::Listener;
 use worker_steps::{Gates, Opened};
 use worker_threads::{Ends, NotStarted, Watch, ends_meet, start, stop};
-use workers::Gate;
+use workers::{Gate, Looks};
 use world_actions::Refusal;
 
 /// What a server leaves once it has stopped.
@@ -100,8 +100,9 @@ pub fn serve_tcp<
         HeardOnlyOfDown stopped.ends.mutator.heard.ticks stopped.ends.log_writer.down) }
 {
     let door = watch.clone()?;
+    let looks = Looks::on_this_machine(rt, alloc)?;
     let (workers, requests) = start(rt, alloc, gates, watch, opened, every)?;
-    let accepted = accept_sessions(rt, alloc, listener, admission, requests, door);
+    let accepted = accept_sessions(rt, alloc, listener, admission, requests, looks, door);
     if let Closed::Left = accepted.closed {
         return Err(NotServed::Left);
     }

@@ -12,7 +12,7 @@ use std::io::{Read, Write};
 use std::sync::Wait;
 use std::time::Duration;
 use transports::Stream;
-use workers::Ask;
+use workers::{Ask, Looks};
 use world_actions::Refusal;
 
 /// Shows that a session has ended: only `serve_session` makes one.
@@ -55,12 +55,13 @@ pub fn serve_session<R: Wait + Copy, W: Door + Drop>(
     idle: Option<u32>,
     session: u64,
     requests: Sender<Ask>,
+    looks: Looks,
     door: W,
 ) -> Over {
     let mut door = door;
     let silence = idle.map(|seconds| Duration::from_secs(u64::from(seconds)));
     let _ = stream.set_up(silence);
-    let mut world = Remote::new(*rt, alloc, session, requests);
+    let mut world = Remote::new(*rt, alloc, session, requests).looking(looks);
     let served = serve_batches(alloc, &mut &stream, &mut &stream, &mut world);
     if served == Err(Refusal::NoMemory) {
         door.session_refused(Unserved::NoMemory);

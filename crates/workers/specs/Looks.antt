@@ -1,0 +1,6 @@
+-- How often a thread looks for what it waits for before it sleeps.
+use Rattle.std.specs.Prelude.{ℕ, nat_lt, if◌then◌else◌}
+
+-- a session looks for its post while fewer sessions wait than there are processors
+abbrev pub session_looks : (waiting processors : ℕ) → ℕ
+session_looks waiting processors = if nat_lt waiting processors then 100 else 0
