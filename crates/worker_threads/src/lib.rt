@@ -2,6 +2,7 @@
 //! they leave.
 #![tactic(auto)]
 
+mod asked;
 mod cuts;
 mod meeting;
 mod promises;

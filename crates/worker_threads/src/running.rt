@@ -2,28 +2,35 @@
 ghost use Rattle.std.specs.Prelude.{◌≡◌, false};
 ghost use Rattle.worker_threads.specs.Kept.{EndsFront, MayTake, EndsBack, MayWrite, EndsLog};
 
+use crate::asked::Asked;
 use crate::watch::Watch;
 use crate::work::Work;
-use crossbeam_channel::Receiver;
 use disk_model::Disk;
 use shared_capture::Method;
 use std::sync::Wait;
-use workers::{Ask, Checkpointer, Gate, LogWriter, Mutator};
+use workers::{Checkpointer, Gate, LogWriter, Mutator};
 
 #[tactic(auto, using(crate::proofs::Keeping::begins))]
 // Runs the batches of the sessions until the last one is gone, and tells the others that no more comes.
 fn play_batches<R: Wait, M: Method, G: Gate + Drop>(
     rt: &R,
-    asks: Receiver<Ask>,
+    asked: Asked,
     mut mutator: Mutator<M, G>,
 ) -> Mutator<M, G>
     ensures { EndsFront mutator result }
 {
-    for ask in asks.iter(rt) {
-        let _ = mutator.turn(rt, ask);
+    for _ in rt.forever() {
+        match asked.next(rt) {
+            Some(ask) => {
+                let _ = mutator.turn(rt, ask);
+            }
+            None => {
+                mutator.end(rt);
+                return mutator;
+            }
+        }
     }
-    mutator.end(rt);
-    mutator
+    unreachable!()
 }
 
 // Writes the images of the rounds until no more is opened.
@@ -71,7 +78,7 @@ fn write_log<R: Wait, D: Disk + Drop, G: Gate + Drop, W: Watch<D>>(
     log_writer
 }
 
-impl<M: Method, G: Gate + Drop> Work<Receiver<Ask>> for Mutator<M, G> {
+impl<M: Method, G: Gate + Drop> Work<Asked> for Mutator<M, G> {
     ghost use Rattle.std.specs.Prelude.{⊤};
     ghost use Rattle.worker_threads.specs.Kept.{EndsFront};
 
@@ -79,8 +86,8 @@ impl<M: Method, G: Gate + Drop> Work<Receiver<Ask>> for Mutator<M, G> {
 
     ghost ended = { EndsFront };
 
-    fn work<R: Wait>(self, rt: &R, asks: Receiver<Ask>) -> Self {
-        play_batches(rt, asks, self)
+    fn work<R: Wait>(self, rt: &R, asked: Asked) -> Self {
+        play_batches(rt, asked, self)
     }
 }
 

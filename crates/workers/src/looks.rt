@@ -1,6 +1,6 @@
 //! How often a thread looks for what it waits for before it sleeps.
 ghost use Rattle.std.specs.Prelude.{◌≡◌};
-ghost use Rattle.workers.specs.Looks.{session_looks};
+ghost use Rattle.workers.specs.Looks.{session_looks, worker_looks};
 
 use std::alloc::{AllocError, Global};
 use std::sync::Arc;
@@ -9,6 +9,9 @@ use std::thread::{self, Threads};
 
 /// How often a session looks for its post while a processor may be idle.
 const SESSION_LOOKS: u32 = 100;
+
+/// How often a worker looks for work while many sessions wait, so that none of them has to wake it.
+const WORKER_LOOKS: u32 = 200;
 
 /// How many sessions wait for their posts, and how many processors there are. Its clones share the count.
 #[derive(Drop)]
@@ -52,6 +55,11 @@ impl Looks {
     pub fn of_session(&self) -> u32 {
         session_looks(self.waiting.load(Ordering::SeqCst), self.processors)
     }
+
+    /// How often a worker looks for work before it sleeps. Other threads run between its looks.
+    pub fn of_worker(&self) -> u32 {
+        worker_looks(self.waiting.load(Ordering::SeqCst), self.processors)
+    }
 }
 
 impl Clone for Looks {
@@ -76,6 +84,17 @@ fn session_looks(waiting: u64, processors: u64) -> u32
 {
     if waiting < processors {
         SESSION_LOOKS
+    } else {
+        0
+    }
+}
+
+// How often a worker looks while so many sessions wait.
+fn worker_looks(waiting: u64, processors: u64) -> u32
+    ensures { result ≡ worker_looks waiting processors }
+{
+    if processors < waiting.saturating_sub(processors) {
+        WORKER_LOOKS
     } else {
         0
     }
