@@ -13,6 +13,10 @@ use std::time::{Clock, Duration};
 use transports::Stream;
 use workers::{Ask, Looks};
 
+/// The stack of a session's thread, which needs a tenth of it. The system's own would be 8 MiB, of which the C library keeps
+/// five for threads to come, and 160 of these.
+const STACK_BYTES: usize = 256 * 1024;
+
 /// How long the wait for the last sessions goes without asking the door.
 const PATIENCE_MILLISECONDS: u64 = 100;
 
@@ -151,7 +155,8 @@ fn start_thread<R: Threads + Wait + Copy + Send + 'static, W: Door + Clone + Dro
         let _ = ends.try_send(&here, key);
         over
     };
-    match thread::spawn(rt, serve) {
+    let thread = thread::Builder::new().stack_size(STACK_BYTES);
+    match thread.spawn(rt, serve) {
         Ok(session) => Ok(session),
         Err(_) => Err(Unserved::NoThread),
     }
