@@ -104,7 +104,7 @@ impl<R: Wait + Copy> Remote<R> {
         };
         let reply = match &self.looks {
             Some(looks) => {
-                let _waits = looks.enter();
+                let _counted = looks.enter();
                 slot.wait(&self.rt, looks.of_session())
             }
             None => slot.wait(&self.rt, 0),

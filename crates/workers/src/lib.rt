@@ -28,7 +28,7 @@ pub use gate::{Gate, Open, Pass, Place};
 pub use item::{Ended, Item, View};
 pub use item_channel::{ItemReceiver, ItemSender, ReceiveEnd, SendEnd, compare, open};
 pub use log_writer::{Log, LogWriter};
-pub use looks::{Looks, Waits};
+pub use looks::{Counted, Looks};
 pub use meeting::meet_workers;
 pub use mutator::Mutator;
 pub use post::{Ask, Asker, Post, Reply, SessionBatch, Waiting};

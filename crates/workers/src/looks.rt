@@ -1,6 +1,6 @@
 //! How often a thread looks for what it waits for before it sleeps.
 ghost use Rattle.std.specs.Prelude.{◌≡◌};
-ghost use Rattle.workers.specs.Looks.{session_looks, worker_looks};
+ghost use Rattle.workers.specs.Looking.{session_looks, worker_looks};
 
 use std::alloc::{AllocError, Global};
 use std::sync::Arc;
@@ -21,7 +21,7 @@ pub struct Looks {
 }
 
 /// A session that counts as waiting until this is dropped.
-pub struct Waits<'a> {
+pub struct Counted<'a> {
     waiting: &'a AtomicU64,
 }
 
@@ -44,9 +44,9 @@ impl Looks {
     }
 
     /// Counts a session as waiting.
-    pub fn enter(&self) -> Waits<'_> {
+    pub fn enter(&self) -> Counted<'_> {
         self.waiting.fetch_add(1, Ordering::SeqCst);
-        Waits {
+        Counted {
             waiting: &self.waiting,
         }
     }
@@ -71,9 +71,9 @@ impl Clone for Looks {
     }
 }
 
-impl Drop for Waits<'_> {
+impl Drop for Counted<'_> {
     fn drop(self) {
-        let Waits { waiting } = self;
+        let Counted { waiting } = self;
         waiting.fetch_sub(1, Ordering::SeqCst);
     }
 }
