@@ -12,7 +12,7 @@ use std::sync::Wait;
 use std::thread::Threads;
 use std::time::Clock;
 use transports::Listener;
-use workers::Ask;
+use workers::{Ask, Looks};
 
 /// Which clients a server takes.
 #[derive(Clone, Copy, Debug, PartialEq, Eq)]
@@ -60,6 +60,7 @@ pub fn accept_sessions<
     listener: Listener,
     admission: Admission,
     requests: Sender<Ask>,
+    looks: Looks,
     door: W,
 ) -> Accepted
     ensures all { result.closed ≡ Closed.AllCame → result.connections ≡ admission.clients }
@@ -78,6 +79,7 @@ pub fn accept_sessions<
         alloc,
         idle: admission.idle,
         requests,
+        looks,
         door,
     };
     let mut incoming = Incoming::new(listener);

@@ -3,14 +3,14 @@ ghost use Rattle.tcp_service.specs.Remote.{given_by};
 
 use crate::pulse::Pulse;
 use batches::Batch;
-use crossbeam_channel::{Receiver, SendError, Sender, bounded};
+use crossbeam_channel::{SendError, Sender};
 use sessions::World;
 use std::alloc::Global;
 use std::marker::Model;
 use std::mem;
 use std::snapshot::Snapshot;
 use std::sync::{Arc, Wait};
-use workers::{Ask, Asker, Post, Reply};
+use workers::{Ask, Asker, Looks, Post, Reply, ReplySender, ReplySlot};
 use world_actions::Refusal;
 
 /// The world that the workers run, for one session. Contracts see the session's number, how often it asked, and the post
@@ -21,6 +21,10 @@ pub struct Remote<R: Wait + Copy> {
     alloc: Global,
     requests: Sender<Ask>,
     asker: Asker,
+    /// Where its replies come, from its first ask on.
+    slot: Option<ReplySlot>,
+    /// How often it looks for a reply before it sleeps. Without this it sleeps at once.
+    looks: Option<Looks>,
     /// The memory for the next batch on its way: that of the last one that came back.
     spare: Batch,
     last: Option<Snapshot<Post>>,
@@ -53,6 +57,8 @@ impl<R: Wait + Copy> Remote<R> {
             alloc,
             requests,
             asker: Asker::new(session),
+            slot: None,
+            looks: None,
             spare: Batch::empty(alloc),
             last: None,
             tick: 0,
@@ -84,18 +90,57 @@ impl<R: Wait + Copy> Remote<R> {
         }
     }
 
-    // What asks for a batch. Its answer has a channel of its own, so that one that can't come any more is known.
-    fn asking(&mut self, b: &Batch, buffer: Vec<u8>) -> Result<(Ask, Receiver<Reply>), Refusal>
-        ensures asks { IfOk result (λ asking. asking.0
+    /// The same, which looks for its replies by these looks.
+    pub fn looking(self, looks: Looks) -> Self
+        ensures { result ≡ self }
+    {
+        let mut remote = self;
+        remote.looks = Some(looks);
+        remote
+    }
+
+    // What sends the reply to the next ask.
+    fn sender(&mut self) -> Result<ReplySender, Refusal>
+        ensures { self.new ≡ self.old }
+    {
+        let slot = match self.slot.take() {
+            Some(slot) => slot,
+            None => ReplySlot::new(self.alloc)?,
+        };
+        let sender = slot.sender();
+        self.slot = Some(slot);
+        Ok(sender?)
+    }
+
+    // What asks for a batch.
+    fn asking(&mut self, b: &Batch, buffer: Vec<u8>) -> Result<Ask, Refusal>
+        ensures asks { IfOk result (λ ask. ask
             ≡ record { session = self.old.session; ask = self.old.asked + 1; requests = b.now.list }) }
         ensures counts { OnOk result (self.new ≡ record self.old { asked = self.old.asked + 1 }) }
         ensures unchanged { OnErr result (self.new ≡ self.old) }
     {
         let spare = mem::replace(&mut self.spare, Batch::empty(self.alloc));
         let batch = b.try_copy(spare)?;
-        let (to, from) = bounded(self.alloc, 1)?;
-        let ask = self.asker.ask(batch, buffer, to)?;
-        Ok((ask, from))
+        let to = self.sender()?;
+        self.asker.ask(batch, buffer, to)
+    }
+
+    // Waits for the reply to the last ask. A fault: none comes, since its sender is gone.
+    fn reply(&self) -> Result<Post, Refusal> {
+        let Some(slot) = &self.slot else {
+            return Err(Refusal::LogDown);
+        };
+        let reply = match &self.looks {
+            Some(looks) => {
+                let _counted = looks.enter();
+                slot.wait(&self.rt, looks.of_session())
+            }
+            None => slot.wait(&self.rt, 0),
+        };
+        match reply {
+            Some(reply) => given_by(reply),
+            None => Err(Refusal::LogDown),
+        }
     }
 
     // The same as `send`, and counts it.
@@ -116,16 +161,13 @@ impl<R: Wait + Copy> Remote<R> {
         ensures err { OnErr result ((self.new ≡ self.old)
             ⊎ (self.new ≡ record self.old { asked = self.old.asked + 1 })) }
     {
-        let (ask, from) = self.asking(b, buffer)?;
+        let ask = self.asking(b, buffer)?;
         match self.requests.send(&self.rt, ask) {
             Ok(()) => {}
             Err(SendError::OutOfMemory(_)) => return Err(Refusal::NoMemory),
             Err(SendError::Disconnected(_)) => return Err(Refusal::LogDown),
         }
-        match from.recv(&self.rt) {
-            Ok(reply) => given_by(reply),
-            Err(_) => Err(Refusal::LogDown),
-        }
+        self.reply()
     }
 }
 

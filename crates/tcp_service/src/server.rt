@@ -15,7 +15,7 @@ use std::time::Clock;
 use transports::Listener;
 use worker_steps::{Gates, Opened};
 use worker_threads::{Ends, NotStarted, Seats, Watch, ends_meet, open_world, start, stop};
-use workers::Gate;
+use workers::{Gate, Looks};
 use world_actions::Refusal;
 
 /// What a server leaves once it has stopped.
@@ -99,8 +99,10 @@ pub fn serve_tcp<
         HeardOnlyOfDown stopped.ends.mutator.heard.ticks stopped.ends.log_writer.down) }
 {
     let door = watch.clone()?;
-    let (workers, requests) = start(rt, alloc, gates, watch, opened, every)?;
-    let accepted = accept_sessions(rt, alloc, listener, admission, requests, door);
+    let looks = Looks::on_this_machine(rt, alloc)?;
+    let looks_too = looks.clone()?;
+    let (workers, requests) = start(rt, alloc, gates, watch, opened, every, looks_too)?;
+    let accepted = accept_sessions(rt, alloc, listener, admission, requests, looks, door);
     if let Closed::Left = accepted.closed {
         return Err(NotServed::Left);
     }

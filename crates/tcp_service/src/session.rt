@@ -12,7 +12,7 @@ use std::io::{Read, Write};
 use std::sync::Wait;
 use std::time::Duration;
 use transports::Stream;
-use workers::Ask;
+use workers::{Ask, Looks};
 use world_actions::Refusal;
 
 /// Shows that a session has ended: only `serve_session` makes one.
@@ -56,6 +56,7 @@ pub fn serve_session<R: Wait + Copy, W: Door + Drop>(
     idle: Option<u32>,
     session: u64,
     requests: Sender<Ask>,
+    looks: Looks,
     door: W,
 ) -> Over {
     let mut door = door;
@@ -65,7 +66,7 @@ pub fn serve_session<R: Wait + Copy, W: Door + Drop>(
     if let Some(pulse) = &pulse {
         pulse.session_began();
     }
-    let mut world = Remote::new(*rt, alloc, session, requests);
+    let mut world = Remote::new(*rt, alloc, session, requests).looking(looks);
     world.count_for(pulse);
     let served = serve_batches(alloc, &mut &stream, &mut &stream, &mut world);
     match served {

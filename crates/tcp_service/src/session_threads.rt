@@ -11,7 +11,11 @@ use std::sync::Wait;
 use std::thread::{self, JoinHandle, Threads};
 use std::time::{Clock, Duration};
 use transports::Stream;
-use workers::Ask;
+use workers::{Ask, Looks};
+
+/// The stack of a session's thread, which needs a tenth of it. The system's own would be 8 MiB, of which the C library keeps
+/// five for threads to come, and 160 of these.
+const STACK_BYTES: usize = 256 * 1024;
 
 /// How long the wait for the last sessions goes without asking the door.
 const PATIENCE_MILLISECONDS: u64 = 100;
@@ -23,6 +27,7 @@ pub struct Shared<W: Door + Clone + Drop> {
     /// After how many seconds of silence it ends.
     pub idle: Option<u32>,
     pub requests: Sender<Ask>,
+    pub looks: Looks,
     pub door: W,
 }
 
@@ -138,16 +143,20 @@ fn start_thread<R: Threads + Wait + Copy + Send + 'static, W: Door + Clone + Dro
     let Ok(requests) = shared.requests.clone() else {
         return Err(Unserved::NoMemory);
     };
+    let Ok(looks) = shared.looks.clone() else {
+        return Err(Unserved::NoMemory);
+    };
     let Ok(door) = shared.door.clone() else {
         return Err(Unserved::NoMemory);
     };
     let (here, alloc, idle) = (*rt, shared.alloc, shared.idle);
     let serve = move || {
-        let over = serve_session(&here, alloc, stream, idle, number, requests, door);
+        let over = serve_session(&here, alloc, stream, idle, number, requests, looks, door);
         let _ = ends.try_send(&here, key);
         over
     };
-    match thread::spawn(rt, serve) {
+    let thread = thread::Builder::new().stack_size(STACK_BYTES);
+    match thread.spawn(rt, serve) {
         Ok(session) => Ok(session),
         Err(_) => Err(Unserved::NoThread),
     }

@@ -8,14 +8,13 @@ use crate::same::same;
 use crate::serial::{Serial, begin, is_posted, log_on, send};
 use crate::worlds::{fused_files, open_files, stands_in_fused};
 use action_log::{LogState, read_log};
-use crossbeam_channel::Receiver;
 use disk_model::{Fused, ModelFile};
 use shared_capture::{Method, Pong, Zig};
 use std::alloc::Global;
 use std::process::Abort;
 use std::sync::Wait;
 use worker_threads::Seats;
-use workers::{Checkpointer, Log, Reply};
+use workers::{Checkpointer, Log, Reply, ReplySlot};
 use world_actions::Refusal;
 
 type File = Fused<ModelFile>;
@@ -47,7 +46,7 @@ fn fall_behind<M: Method>(
     rt: &(impl Wait + Abort),
     alloc: Global,
     world: &mut Serial<M, File>,
-) -> [Receiver<Reply>; 3]
+) -> [ReplySlot; 3]
     requires { MayTake world.old.checkpointer }
     ensures { world.new.log_writer ≡ world.old.log_writer }
 {
@@ -59,15 +58,15 @@ fn fall_behind<M: Method>(
     [first, second, third]
 }
 
-fn is_refused(rt: &(impl Wait + Abort), answer: &Receiver<Reply>) {
-    match answer.recv(rt) {
-        Ok(Reply::Fault(refusal)) => same(rt, "a refusal", refusal, Refusal::LogDown),
+fn is_refused(rt: &(impl Wait + Abort), answer: &ReplySlot) {
+    match answer.wait(rt, 0) {
+        Some(Reply::Fault(refusal)) => same(rt, "a refusal", refusal, Refusal::LogDown),
         _ => panic!(rt; "no fault"),
     }
 }
 
 // The first two ticks are answered, and the third one where the log has it.
-fn check_answers(rt: &(impl Wait + Abort), answers: &[Receiver<Reply>; 3], whole: bool) {
+fn check_answers(rt: &(impl Wait + Abort), answers: &[ReplySlot; 3], whole: bool) {
     let [first, second, third] = answers;
     is_posted(rt, first, b"tick 1: + =1\n");
     is_posted(rt, second, b"tick 2: + =2\n");

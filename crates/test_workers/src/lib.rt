@@ -11,6 +11,8 @@ mod connections;
 #[cfg(test)]
 mod covers;
 #[cfg(test)]
+mod cut_off;
+#[cfg(test)]
 mod ends;
 #[cfg(test)]
 mod failing;

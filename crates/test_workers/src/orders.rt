@@ -4,7 +4,6 @@ ghost use Rattle.std.specs.Prelude.{◌≤◌};
 use crate::same::same;
 use crate::serial::ask_for;
 use crate::worlds::{new_files, open_files, stands_in};
-use crossbeam_channel::bounded;
 use disk_model::ModelFile;
 use shared_capture::{Method, Pong, Zig};
 use std::alloc::Global;
@@ -12,7 +11,7 @@ use std::process::Abort;
 use std::sync::Wait;
 use worker_steps::{Gates, Next, Together};
 use worker_threads::Seats;
-use workers::Open;
+use workers::{Open, ReplySlot};
 
 type World<M> = Together<M, ModelFile, Open, Open, Open>;
 
@@ -43,8 +42,8 @@ fn step<M: Method>(rt: &(impl Wait + Abort), alloc: Global, world: &mut World<M>
 
 // Pushes what is owed, without which no batch is run, and runs a batch.
 fn play_step<M: Method>(rt: &(impl Wait + Abort), alloc: Global, world: &mut World<M>) {
-    let (to, _from) = bounded(alloc, 1).expect(rt, "a channel");
-    let ask = ask_for(rt, alloc, to);
+    let slot = ReplySlot::new(alloc).expect(rt, "a slot");
+    let ask = ask_for(rt, alloc, slot.sender().expect(rt, "a sender"));
     step(rt, alloc, world, Next::Push);
     step(rt, alloc, world, Next::Play(ask));
 }

@@ -13,7 +13,7 @@ use std::alloc::Global;
 use std::process::Abort;
 use std::sync::Wait;
 use worker_threads::Seats;
-use workers::{ItemReceiver, Mutator, Open, Reply, open};
+use workers::{ItemReceiver, Mutator, Open, Reply, ReplySlot, open};
 use world_actions::Refusal;
 use world_ticks::TICK_MAX;
 
@@ -40,12 +40,12 @@ fn is_refused<M: Method>(
     mutator: &mut Mutator<M, Open>,
     refusal: Refusal,
 ) {
-    let (to, from) = bounded(alloc, 1).expect(rt, "a channel");
-    let ask = ask_for(rt, alloc, to);
+    let slot = ReplySlot::new(alloc).expect(rt, "a slot");
+    let ask = ask_for(rt, alloc, slot.sender().expect(rt, "a sender"));
     let given = mutator.turn(rt, ask);
     same(rt, "a batch that isn't run", given, Err(refusal));
-    match from.recv(rt) {
-        Ok(Reply::Fault(told)) => same(rt, "what is told", told, refusal),
+    match slot.wait(rt, 0) {
+        Some(Reply::Fault(told)) => same(rt, "what is told", told, refusal),
         _ => panic!(rt; "no fault"),
     }
 }
@@ -83,7 +83,7 @@ fn try_refused_push<M: Seats>(rt: &(impl Wait + Abort), alloc: Global) {
     let (mut mutator, from) = mutator_at::<M>(rt, alloc, 0);
     drop(from);
     let answered = send(rt, alloc, &mut mutator);
-    assert!(rt; answered.recv(rt).is_err());
+    assert!(rt; answered.wait(rt, 0).is_none());
     same(rt, "ticks that ended", mutator.ended(), 0);
     is_refused(rt, alloc, &mut mutator, Refusal::LogDown);
     drop(mutator);

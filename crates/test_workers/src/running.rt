@@ -11,7 +11,7 @@ use std::thread::Threads;
 use tcp_service::{Remote, serve_batches};
 use worker_steps::Gates;
 use worker_threads::{Ends, Seats, Workers, ends_meet, start, stop};
-use workers::{Ask, Gate};
+use workers::{Ask, Gate, Looks};
 use world_actions::Refusal;
 
 /// Starts workers on the world in these files, where a round is due after so many ticks.
@@ -32,7 +32,8 @@ pub fn begin<
 ) -> (Workers<M, D, A, B, C>, Sender<Ask>) {
     let opened = open_files::<M, D>(rt, alloc, files);
     let watch = Teller { rt: *rt, to };
-    start(rt, alloc, gates, watch, opened, every).expect(rt, "workers")
+    let looks = Looks::on_this_machine(rt, alloc).expect(rt, "a count");
+    start(rt, alloc, gates, watch, opened, every, looks).expect(rt, "workers")
 }
 
 /// Waits until the workers have ended, and brings their ends together.

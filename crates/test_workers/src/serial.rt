@@ -20,7 +20,8 @@ use std::sync::{Arc, Wait};
 use worker_steps::Opened;
 use worker_threads::Seats;
 use workers::{
-    Ask, Asker, Checkpointer, ItemReceiver, ItemSender, LogWriter, Mutator, Open, Reply, open,
+    Ask, Asker, Checkpointer, ItemReceiver, ItemSender, LogWriter, Mutator, Open, Reply,
+    ReplySender, ReplySlot, open,
 };
 use world_actions::Action;
 
@@ -149,15 +150,15 @@ pub fn send<M: Method>(
     rt: &(impl Wait + Abort),
     alloc: Global,
     mutator: &mut Mutator<M, Open>,
-) -> Receiver<Reply> {
-    let (to, from) = bounded(alloc, 1).expect(rt, "a channel");
-    let ask = ask_for(rt, alloc, to);
+) -> ReplySlot {
+    let slot = ReplySlot::new(alloc).expect(rt, "a slot");
+    let ask = ask_for(rt, alloc, slot.sender().expect(rt, "a sender"));
     mutator.turn(rt, ask).expect(rt, "a batch that is run");
-    from
+    slot
 }
 
 /// A batch that adds 1 to the first cell and reads it, and where its answer goes.
-pub fn ask_for(rt: &impl Abort, alloc: Global, to: Sender<Reply>) -> Ask {
+pub fn ask_for(rt: &impl Abort, alloc: Global, to: ReplySender) -> Ask {
     let mut batch = Batch::new(alloc).expect(rt, "a batch");
     batch.push_reserved(Request::Act(Action::Add { cell: 0, by: 1 }));
     batch.push_reserved(Request::Get(0));
@@ -185,15 +186,15 @@ fn answer<M: Method>(
     ensures rest { IsAtRest world.new.log_writer }
     ensures checkpointer { world.new.checkpointer ≡ world.old.checkpointer }
 {
-    let from = send(rt, alloc, &mut world.mutator);
+    let slot = send(rt, alloc, &mut world.mutator);
     log_on(rt, &mut world.log_writer);
-    is_posted(rt, &from, text);
+    is_posted(rt, &slot, text);
 }
 
 /// The answer is a post of this text.
-pub fn is_posted(rt: &(impl Wait + Abort), from: &Receiver<Reply>, text: &[u8]) {
-    match from.recv(rt) {
-        Ok(Reply::Post(post)) => same(rt, "a post", post.into_answer().0.as_slice(), text),
+pub fn is_posted(rt: &(impl Wait + Abort), slot: &ReplySlot, text: &[u8]) {
+    match slot.wait(rt, 0) {
+        Some(Reply::Post(post)) => same(rt, "a post", post.into_answer().0.as_slice(), text),
         _ => panic!(rt; "no post"),
     }
 }

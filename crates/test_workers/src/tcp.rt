@@ -11,7 +11,7 @@ use std::thread::{self, JoinHandle, Threads};
 use std::time::Clock;
 use tcp_service::{Accepted, Admission, Closed, Door, Unserved, accept_sessions};
 use transports::Listener;
-use workers::Ask;
+use workers::{Ask, Looks};
 use world_actions::Refusal;
 
 mod opening;
@@ -119,7 +119,8 @@ fn start_accepting<R: Threads + Wait + Clock + Abort + Copy + Send + 'static>(
     requests: Sender<Ask>,
 ) -> JoinHandle<Accepted> {
     let here = *rt;
-    let accept = move || accept_sessions(&here, alloc, listener, THREE, requests, Nobody);
+    let looks = Looks::new(alloc, 1).expect(rt, "a count");
+    let accept = move || accept_sessions(&here, alloc, listener, THREE, requests, looks, Nobody);
     match thread::spawn(rt, accept) {
         Ok(server) => server,
         Err(_) => panic!(rt; "no thread"),

@@ -8,7 +8,7 @@ use std::sync::Wait;
 use std::thread::Threads;
 use worker_steps::{Gates, Opened};
 use worker_threads::{TickWatch, Watch, Workers, start};
-use workers::{Ask, ImageWriter, Log, Open};
+use workers::{Ask, ImageWriter, Log, Looks, Open};
 use world_actions::Refusal;
 
 /// Tells nothing: what went wrong is seen at the end.
@@ -45,7 +45,8 @@ pub fn start_quiet<
         checkpointer: Open,
         log_writer: Open,
     };
-    match start(rt, alloc, gates, Quiet, opened, every) {
+    let looks = Looks::on_this_machine(rt, alloc)?;
+    match start(rt, alloc, gates, Quiet, opened, every, looks) {
         Ok(started) => Ok(started),
         Err(_) => Err(Refusal::NoMemory),
     }

@@ -1,15 +1,14 @@
 use crate::model::PlainModel;
 use batches::Batch;
-use crossbeam_channel::{Receiver, Sender, TryRecvError, bounded};
 use std::alloc::Global;
 use std::sync::Wait;
-use workers::{Ask, Asker, Post, Reply};
+use workers::{Ask, Asker, Post, Reply, ReplySender, ReplySlot};
 use world_actions::Refusal;
 
 /// A batch whose answer has not come.
 #[derive(Drop)]
 struct Pending {
-    from: Receiver<Reply>,
+    slot: ReplySlot,
     batch: Batch,
     // Its tick, and how many items were pushed with it, if it was run.
     run: Option<(u64, u64)>,
@@ -66,10 +65,11 @@ impl Session {
     }
 
     // Waits for the answer of a batch, which is sent to this sender.
-    fn await_answer(&mut self, alloc: Global, batch: Batch) -> Result<Sender<Reply>, Refusal> {
-        let (to, from) = bounded(alloc, 1)?;
+    fn await_answer(&mut self, alloc: Global, batch: Batch) -> Result<ReplySender, Refusal> {
+        let slot = ReplySlot::new(alloc)?;
+        let to = slot.sender()?;
         self.pending = Some(Pending {
-            from,
+            slot,
             batch,
             run: None,
         });
@@ -99,17 +99,17 @@ impl Session {
     /// The answer that came for it, if one did.
     pub fn look<R: Wait>(&mut self, rt: &R, model: &PlainModel) -> Option<Answer> {
         let pending = self.pending.as_ref()?;
-        match pending.from.try_recv(rt) {
-            Ok(reply) => Some(self.judge(Some(reply), model)),
-            Err(TryRecvError::Empty) => None,
-            Err(TryRecvError::Disconnected) => Some(self.judge(None, model)),
+        if !pending.slot.is_sent() {
+            return None;
         }
+        let reply = pending.slot.wait(rt, 0);
+        Some(self.judge(reply, model))
     }
 
     /// Waits for its answer, if one is due.
     pub fn wait<R: Wait>(&mut self, rt: &R, model: &PlainModel) -> Option<Answer> {
         let pending = self.pending.as_ref()?;
-        let reply = pending.from.recv(rt).ok();
+        let reply = pending.slot.wait(rt, 0);
         Some(self.judge(reply, model))
     }
 

@@ -13,7 +13,7 @@ use std::alloc::Global;
 use std::sync::Wait;
 use std::thread::Threads;
 use worker_steps::{Gates, Opened};
-use workers::{Ask, Cut};
+use workers::{Ask, Cut, Looks};
 
 /// Starts the workers of a world, gives `play` the channel of their batches, and waits until they have ended, which they
 /// do once no sender of it is left. Each worker makes as many steps as its cut says, and none after them. Wherever that
@@ -40,7 +40,8 @@ pub fn stop_after<
         StaysSound D.content D.may_leave opened.front.live opened.images opened.log opened.ended
         ends.mutator ends.checkpointer ends.log_writer) }
 {
-    let (workers, asks) = start(rt, alloc, cuts, watch, opened, every)?;
+    let looks = Looks::on_this_machine(rt, alloc)?;
+    let (workers, asks) = start(rt, alloc, cuts, watch, opened, every, looks)?;
     play(asks);
     let mut ends = stop(rt, workers);
     ends_meet(&mut ends);

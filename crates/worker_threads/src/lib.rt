@@ -2,6 +2,7 @@
 //! they leave. `open_world` opens a world of four files for them. `start_world` does so once the world was recovered.
 #![tactic(auto)]
 
+mod asked;
 mod cuts;
 mod meeting;
 mod promises;

@@ -2,30 +2,37 @@
 ghost use Rattle.std.specs.Prelude.{◌≡◌, false};
 ghost use Rattle.worker_threads.specs.Kept.{EndsFront, MayTake, EndsBack, MayWrite, EndsLog};
 
+use crate::asked::Asked;
 use crate::watch::{TickWatch, Watch};
 use crate::work::Work;
-use crossbeam_channel::Receiver;
 use disk_model::Disk;
 use shared_capture::Method;
 use std::sync::Wait;
-use workers::{Ask, Checkpointer, Gate, LogWriter, Mutator};
+use workers::{Checkpointer, Gate, LogWriter, Mutator};
 
 #[tactic(auto, using(crate::proofs::Keeping::begins))]
 // Runs the batches of the sessions until the last one is gone, and tells the others that no more comes.
 fn play_batches<R: Wait, M: Method, G: Gate + Drop, W: TickWatch>(
     rt: &R,
     watch: &mut W,
-    asks: Receiver<Ask>,
+    asked: Asked,
     mut mutator: Mutator<M, G>,
 ) -> Mutator<M, G>
     ensures { EndsFront mutator result }
 {
-    for ask in asks.iter(rt) {
-        let _ = mutator.turn(rt, ask);
-        watch.ticks_ended(mutator.ended());
+    for _ in rt.forever() {
+        match asked.next(rt) {
+            Some(ask) => {
+                let _ = mutator.turn(rt, ask);
+                watch.ticks_ended(mutator.ended());
+            }
+            None => {
+                mutator.end(rt);
+                return mutator;
+            }
+        }
     }
-    mutator.end(rt);
-    mutator
+    unreachable!()
 }
 
 // Writes the images of the rounds until no more is opened.
@@ -73,7 +80,7 @@ fn write_log<R: Wait, D: Disk + Drop, G: Gate + Drop, W: Watch<D>>(
     log_writer
 }
 
-impl<M: Method, G: Gate + Drop, W: TickWatch + Drop> Work<(Receiver<Ask>, W)> for Mutator<M, G> {
+impl<M: Method, G: Gate + Drop, W: TickWatch + Drop> Work<(Asked, W)> for Mutator<M, G> {
     ghost use Rattle.std.specs.Prelude.{⊤};
     ghost use Rattle.worker_threads.specs.Kept.{EndsFront};
 
@@ -81,9 +88,9 @@ impl<M: Method, G: Gate + Drop, W: TickWatch + Drop> Work<(Receiver<Ask>, W)> fo
 
     ghost ended = { EndsFront };
 
-    fn work<R: Wait>(self, rt: &R, with: (Receiver<Ask>, W)) -> Self {
-        let (asks, mut watch) = with;
-        play_batches(rt, &mut watch, asks, self)
+    fn work<R: Wait>(self, rt: &R, with: (Asked, W)) -> Self {
+        let (asked, mut watch) = with;
+        play_batches(rt, &mut watch, asked, self)
     }
 }
 

@@ -6,12 +6,13 @@ ghost use Rattle.worker_steps.specs.Ends.{acknowledged_by};
 ghost use Rattle.worker_steps.specs.Begun.{IsWhole, IsBegun};
 ghost use Rattle.worker_threads.specs.Kept.{MayTake, MayWrite, EndsFront, EndsBack, EndsLog};
 
+use crate::asked::Asked;
 use crate::promises::{SameCheckpointer, SameLogWriter, SameMutator};
 use crate::watch::{TickWatch, Watch};
 use crate::work::spawn;
 use action_log::Record;
 use circular_buffer::HeapCircularBuffer;
-use crossbeam_channel::{Receiver, Sender, bounded};
+use crossbeam_channel::{Sender, bounded};
 use disk_model::Disk;
 use shared_capture::{Back, CoverIn, CoverOut, Front, Method};
 use std::alloc::{AllocError, Global};
@@ -20,7 +21,9 @@ use std::snapshot::Snapshot;
 use std::sync::Wait;
 use std::thread::{PromisedHandle, Threads};
 use worker_steps::{Gates, Opened, Together};
-use workers::{Ask, Checkpointer, Gate, ItemReceiver, ItemSender, LogWriter, Mutator, Waiting};
+use workers::{
+    Ask, Checkpointer, Gate, ItemReceiver, ItemSender, LogWriter, Looks, Mutator, Waiting,
+};
 use world_ticks::Tick;
 
 /// Why workers can't be started.
@@ -103,7 +106,7 @@ type Players<M, D, A, B> = (
 );
 
 /// Starts the workers of a world, where a round is due after every `every` ticks. What is sent on the channel
-/// that is given back is run as batches. Refused, no thread is left running.
+/// that is given back is run as batches. The workers look for work by these looks. Refused, no thread is left running.
 pub fn start<
     R: Threads + Wait + Copy + Send + 'static,
     M: Method + Send + 'static,
@@ -119,18 +122,22 @@ pub fn start<
     watch: W,
     opened: Opened<M, D>,
     every: u32,
+    looks: Looks,
 ) -> Result<(Workers<M, D, A, B, C>, Sender<Ask>), NotStarted>
     requires { IsWhole D.honest D.content opened.front opened.back opened.images opened.log opened.ended }
     ensures { IfOk result (λ made. IsBegun opened.front opened.back opened.images opened.log opened.ended every made.0) }
 {
-    let (asks, asked) = bounded(alloc, ASKS)?;
+    let (to, asks) = bounded(alloc, ASKS)?;
+    let looks_too = looks.clone()?;
     let Together {
         mutator,
         checkpointer,
-        log_writer,
+        mut log_writer,
     } = Together::begin(rt, alloc, gates, opened, every)?;
+    log_writer.look_by(looks_too);
+    let asked = Asked { asks, looks };
     let workers = start_threads(rt, watch, asked, mutator, checkpointer, log_writer)?;
-    Ok((workers, asks))
+    Ok((workers, to))
 }
 
 // Starts the threads. Where one can't be made the others end, since the channels between them close.
@@ -145,7 +152,7 @@ fn start_threads<
 >(
     rt: &R,
     watch: W,
-    asked: Receiver<Ask>,
+    asked: Asked,
     mutator: Mutator<M, A>,
     checkpointer: Checkpointer<M, D, B>,
     log_writer: LogWriter<D, C>,
@@ -184,7 +191,7 @@ fn start_players<
 >(
     rt: &R,
     watch: W,
-    asked: Receiver<Ask>,
+    asked: Asked,
     mutator: Mutator<M, A>,
     checkpointer: Checkpointer<M, D, B>,
 ) -> Result<Players<M, D, A, B>, NotStarted>
@@ -216,7 +223,7 @@ fn start_mutator<
 >(
     rt: &R,
     watch: W,
-    asked: Receiver<Ask>,
+    asked: Asked,
     mutator: Mutator<M, G>,
 ) -> Result<PromisedHandle<Mutator<M, G>, SameMutator<M, G>>, NotStarted>
     ensures { IfOk result (λ handle. handle.promise.0.value ≡ mutator) }

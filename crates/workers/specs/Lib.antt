@@ -11,3 +11,4 @@ pub mod Logging
 pub mod Publishing
 pub mod Imaging
 pub mod Meeting
+pub mod Looking

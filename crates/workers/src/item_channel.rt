@@ -11,11 +11,13 @@ ghost use Rattle.workers.specs.Channel.{IsBegun, AreOneChannel, with_item, with_
 
 use crate::channel_rule::{All, InOrder, Move, Part, Pop, Push, Whole};
 use crate::item::{Item, View};
+use crate::looks::Looks;
 use crossbeam_channel::{Pass, RecvError, RuledReceiver, RuledSender, TryRecvError, bounded_with};
 use restart::QUEUE_RECORDS;
 use std::alloc::{AllocError, Global};
 use std::marker::Model;
 use std::sync::Wait;
+use std::thread;
 
 #[derive(Drop)]
 pub struct SendEnd {
@@ -52,6 +54,8 @@ impl Model for ItemSender {
 pub struct ItemReceiver {
     end: ReceiveEnd,
     pass: Pass<Item, View>,
+    /// How often it looks for an item before it sleeps. Without this it sleeps as the channel does.
+    looks: Option<Looks>,
 }
 
 impl Model for ItemReceiver {
@@ -99,6 +103,7 @@ pub fn open<R: Wait>(
         ItemReceiver {
             end: ReceiveEnd { end: from },
             pass: other,
+            looks: None,
         },
     ))
 }
@@ -122,8 +127,39 @@ impl ItemSender {
 }
 
 impl ItemReceiver {
+    /// Looks for items by these looks from now on.
+    pub(crate) fn look_by(&mut self, looks: Looks)
+        ensures { self.new ≡ self.old }
+    {
+        self.looks = Some(looks);
+    }
+
+    // How often it looks before it sleeps.
+    fn looks(&self) -> u32 {
+        match &self.looks {
+            Some(looks) => looks.of_worker(),
+            None => 0,
+        }
+    }
+
     /// Pops the item at the front, and waits while the channel is empty.
     pub fn pop<R: Wait>(&mut self, rt: &R) -> Result<Item, RecvError>
+        ensures end { self.new.end ≡ self.old.end }
+        ensures popped { MatchResult result (λ x. self.new.items ≡ self.old.items ++ x ∷ []) (λ _. self.new ≡ self.old) }
+        ensures goes { IfOk result (λ x. Goes (items_end self.old.items) x) }
+    {
+        for _ in 0..self.looks() {
+            match self.try_pop(rt) {
+                Ok(item) => return Ok(item),
+                Err(TryRecvError::Disconnected) => return Err(RecvError),
+                Err(TryRecvError::Empty) => thread::yield_now(),
+            }
+        }
+        self.sleep(rt)
+    }
+
+    // Pops the item at the front, and sleeps while the channel is empty.
+    fn sleep<R: Wait>(&mut self, rt: &R) -> Result<Item, RecvError>
         ensures end { self.new.end ≡ self.old.end }
         ensures popped { MatchResult result (λ x. self.new.items ≡ self.old.items ++ x ∷ []) (λ _. self.new ≡ self.old) }
         ensures goes { IfOk result (λ x. Goes (items_end self.old.items) x) }

@@ -23,6 +23,7 @@ ghost use Rattle.workers.specs.Logging.{is_end, has_end, is_over, writer_at, Too
 
 use crate::gate::{Gate, Place, passes};
 use crate::item_channel::ItemReceiver;
+use crate::looks::Looks;
 use action_log::{LogAnswer, LogKeeper, Record};
 use advance::advance;
 use answers::Answers;
@@ -112,6 +113,13 @@ impl<D: Disk + Drop, G: Gate + Drop> LogWriter<D, G> {
             down: false,
             over: false,
         })
+    }
+
+    /// Looks for items by these looks before it sleeps, from now on.
+    pub fn look_by(&mut self, looks: Looks)
+        ensures { self.new ≡ self.old }
+    {
+        self.from.look_by(looks);
     }
 
     /// Whether there are no more items.

@@ -4,9 +4,9 @@ ghost use Rattle.workers.specs.Posts.{IsAnswer};
 ghost use Rattle.workers.specs.Logging.{IsDurable};
 
 use crate::log_writer::Holding;
+use crate::reply_slot::ReplySender;
 use action_log::Receipt;
 use batches::{Batch, Request};
-use crossbeam_channel::Sender;
 use disk_model::Disk;
 use std::alloc::Global;
 use std::marker::Model;
@@ -73,7 +73,7 @@ impl Asker {
 
     /// Asks for the answer of this batch, which is made in this buffer and goes to this sender. Batch and buffer come back
     /// with the post.
-    pub fn ask(&mut self, batch: Batch, buffer: Vec<u8>, to: Sender<Reply>) -> Result<Ask, Refusal>
+    pub fn ask(&mut self, batch: Batch, buffer: Vec<u8>, to: ReplySender) -> Result<Ask, Refusal>
         ensures asks { IfOk result (λ ask.
             ask ≡ record { session = self.old.session; ask = self.old.asked + 1; requests = batch.list }) }
         ensures counts { OnOk result (self.new ≡ record self.old { asked = self.old.asked + 1 }) }
@@ -98,7 +98,7 @@ impl Asker {
 pub struct Ask {
     asked: SessionBatch,
     buffer: Vec<u8>,
-    to: Sender<Reply>,
+    to: ReplySender,
 }
 
 impl Model for Ask {
@@ -144,7 +144,12 @@ impl Ask {
 
     /// Tells its session why it isn't run.
     pub fn refuse<R: Wait>(self, rt: &R, reason: Refusal) {
-        let _ = self.to.send(rt, Reply::Fault(reason));
+        let Ask {
+            asked: _,
+            buffer: _,
+            to,
+        } = self;
+        to.send(rt, Reply::Fault(reason));
     }
 }
 
@@ -217,7 +222,7 @@ pub struct Waiting {
     number: u64,
     asked: SessionBatch,
     text: Vec<u8>,
-    to: Sender<Reply>,
+    to: ReplySender,
 }
 
 impl Model for Waiting {
@@ -251,16 +256,22 @@ impl Waiting {
         requires held { IsTrue D.honest → IsDurable D.content D.may_leave _holding.now self.number }
     {
         let (post, to) = self.into_post(receipt);
-        let _ = to.send(rt, Reply::Post(post));
+        to.send(rt, Reply::Post(post));
     }
 
     /// Tells its session a fault: the log is down.
     pub(crate) fn refuse<R: Wait>(self, rt: &R) {
-        let _ = self.to.send(rt, Reply::Fault(Refusal::LogDown));
+        let Waiting {
+            number: _,
+            asked: _,
+            text: _,
+            to,
+        } = self;
+        to.send(rt, Reply::Fault(Refusal::LogDown));
     }
 
     // The post that it becomes, and its session.
-    fn into_post(self, receipt: Receipt) -> (Post, Sender<Reply>)
+    fn into_post(self, receipt: Receipt) -> (Post, ReplySender)
         requires durable { self.number ≤ receipt }
         ensures post { result.0 ≡ record { tick = self.number; asked = self.asked; text = self.text; receipt = receipt } }
     {

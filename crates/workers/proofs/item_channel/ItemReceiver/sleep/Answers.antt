@@ -3,7 +3,7 @@ use Rattle.workers.specs.Items.{Goes, items_end}
 use Rattle.workers.specs.Channel.{Popping}
 use Rattle.workers.proofs.Orders.{pops, learns_nothing}
 use Rattle.workers.proofs.Sides.{receiver_after, received_goes}
-use Rattle.workers.proofs.item_channel.ItemReceiver.pop.Goals as goal
+use Rattle.workers.proofs.item_channel.ItemReceiver.sleep.Goals as goal
 
 pub recv_as-requires-clause-rule : goal.recv_as-requires-clause-rule
 recv_as-requires-clause-rule g c = (pops _ _ (search rules), learns_nothing _ _)

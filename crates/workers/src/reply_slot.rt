@@ -1,0 +1,123 @@
+//! Where the replies to a session come, one at a time.
+ghost use Rattle.std.specs.Prelude.{◌≡◌, ⊤};
+
+use crate::post::Reply;
+use std::alloc::{AllocError, Global};
+use std::hint::spin_loop;
+use std::marker::Model;
+use std::sync::atomic::{AtomicU64, Ordering};
+use std::sync::{Arc, Mutex, Wait};
+
+/// Nothing has come.
+const EMPTY: u64 = 0;
+
+/// Nothing has come, and the session sleeps.
+const ASLEEP: u64 = 1;
+
+/// The sender is gone. What it sent, if anything, is there.
+const SENT: u64 = 2;
+
+// One place for a reply, and whether one has come.
+#[derive(Drop)]
+struct Place {
+    state: AtomicU64,
+    reply: Mutex<Option<Reply>>,
+}
+
+/// The session's end, for its life.
+#[derive(Drop)]
+pub struct ReplySlot {
+    place: Arc<Place, Global>,
+}
+
+/// The end that goes with an ask. One that is dropped unused tells the session that no reply comes.
+pub struct ReplySender {
+    place: Arc<Place, Global>,
+}
+
+// Clauses see nothing of an end: what a reply is, its own type tells.
+impl Model for ReplySlot {
+    ghost Value = { ⊤ };
+
+    ghost view = { λ _. tt };
+}
+
+impl Model for ReplySender {
+    ghost Value = { ⊤ };
+
+    ghost view = { λ _. tt };
+}
+
+impl ReplySlot {
+    /// Nothing has come. Only this takes memory.
+    pub fn new(alloc: Global) -> Result<Self, AllocError> {
+        let place = Place {
+            state: AtomicU64::new(EMPTY),
+            reply: Mutex::new(None),
+        };
+        Ok(ReplySlot {
+            place: Arc::new(alloc, place)?,
+        })
+    }
+
+    /// What sends the next reply. A session has one at a time, so the last one is gone.
+    pub fn sender(&self) -> Result<ReplySender, AllocError> {
+        self.place.state.store(EMPTY, Ordering::SeqCst);
+        Ok(ReplySender {
+            place: Arc::try_clone(&self.place)?,
+        })
+    }
+
+    /// Whether the sender is gone, so that there is no more to wait for.
+    pub fn is_sent(&self) -> bool {
+        self.place.state.load(Ordering::SeqCst) == SENT
+    }
+
+    /// Looks for the reply so often, and then sleeps until the sender is gone. Nothing: it was dropped unused.
+    pub fn wait<R: Wait>(&self, rt: &R, looks: u32) -> Option<Reply> {
+        if !self.sees_sent(looks) {
+            self.sleep(rt);
+        }
+        self.place.reply.lock(rt).take()
+    }
+
+    // Looks so often whether the sender is gone.
+    fn sees_sent(&self, looks: u32) -> bool {
+        for _ in 0..looks {
+            if self.is_sent() {
+                return true;
+            }
+            spin_loop();
+        }
+        false
+    }
+
+    // Sleeps until the sender is gone.
+    fn sleep<R: Wait>(&self, rt: &R) {
+        let state = &self.place.state;
+        let _ = state.compare_exchange(EMPTY, ASLEEP, Ordering::SeqCst, Ordering::SeqCst);
+        for _ in rt.forever() {
+            if self.is_sent() {
+                return;
+            }
+            state.park(rt, ASLEEP as u32);
+        }
+        unreachable!()
+    }
+}
+
+impl ReplySender {
+    /// Sends the reply, and wakes its session.
+    pub fn send<R: Wait>(self, rt: &R, reply: Reply) {
+        *self.place.reply.lock(rt) = Some(reply);
+    }
+}
+
+impl Drop for ReplySender {
+    fn drop(self) {
+        let ReplySender { place } = self;
+        if place.state.swap(SENT, Ordering::SeqCst) == ASLEEP {
+            place.state.wake_one();
+        }
+    }
+}
