@@ -8,8 +8,8 @@
 
 The gate tries crates/*/must-fail one by one; this tries crates/*/wrong-bodies by `rt check` on a copy of the repository. A
 function is proved from the contracts of those that it calls. So wrong bodies of different functions are tried in one check,
-and each has to fail a goal of its own function. If anything else fails, the check is made again in halves. A body that fails
-nothing is tried again alone, and so is an edit outside a body.
+and each has to fail a goal of its own function, which is printed. If anything else fails, the check is made again in halves.
+A body that fails nothing is tried again alone, and so is an edit outside a body.
 """
 import argparse
 import collections
@@ -29,9 +29,11 @@ TOP = pathlib.Path(__file__).resolve().parent.parent
 FOLDERS = ("must-fail", "wrong-bodies", "trial-bodies")
 # The most wrong bodies in one check.
 MOST = 10
+# The most goals that are printed for one wrong body.
+GOALS_SHOWN = 3
 # A goal that isn't proved, and an error, by the place that they name.
-OPEN_GOAL = re.compile(r"of (?:\./)?proofs/(\S+)/\w+\.antt must prove")
-ERROR = re.compile(r"^(?:\./)?(src|proofs)/(\S+?):(\d+):\d+: error", re.M)
+OPEN_GOAL = re.compile(r"`(\S+)` of (?:\./)?proofs/(\S+)/\w+\.antt must prove")
+REFUSED_PROOF = re.compile(r"^(?:\./)?proofs/(\S+)/\w+\.antt:\d+:\d+: error(?:: `(\S+)`)?", re.M)
 
 
 @dataclasses.dataclass(frozen=True)
@@ -190,23 +192,34 @@ def check(crate: pathlib.Path, bodies: list[pathlib.Path]) -> subprocess.Complet
             file.write_text(text)
 
 
-def failed_in(run: subprocess.CompletedProcess) -> set[str]:
-    """The folders of proofs/ of which a check names an open goal or an error."""
-    errors = {path.rpartition("/")[0] for part, path, _ in ERROR.findall(run.stdout) if part == "proofs"}
-    return set(OPEN_GOAL.findall(run.stdout)) | errors
+def failed_in(run: subprocess.CompletedProcess) -> dict[str, set[str]]:
+    """The folders of proofs/ of which a check names an open goal or an error, and these goals."""
+    failed: dict[str, set[str]] = collections.defaultdict(set)
+    for goal, path in OPEN_GOAL.findall(run.stdout):
+        failed[path].add(goal)
+    for path, goal in REFUSED_PROOF.findall(run.stdout):
+        failed[path].add(goal or "its proof")
+    return failed
 
 
-def refused_together(crate: pathlib.Path, group: dict[pathlib.Path, set]) -> set[pathlib.Path]:
-    """Those of a group that one check refuses, each by a goal of a function that it alone changes; none if another failed."""
+def listed(failed: dict[str, set[str]]) -> str:
+    """The goals that failed, each with its function."""
+    goals = [f"{path.rpartition('/')[2]}: {goal}" for path, goals in sorted(failed.items()) for goal in sorted(goals)]
+    return ", ".join(goals[:GOALS_SHOWN]) + (f" and {len(goals) - GOALS_SHOWN} more" if len(goals) > GOALS_SHOWN else "")
+
+
+def refused_together(crate: pathlib.Path, group: dict[pathlib.Path, set]) -> dict[pathlib.Path, str]:
+    """Those of a group that one check refuses, each with the goals of a function that it alone changes; none if another failed."""
     try:
         run = check(crate, list(group))
     except ValueError:
-        return set()
+        return {}
     failed = failed_in(run)
     changed = {it for them in group.values() for it in them}
     if run.returncode != 1 or not all(any(it.holds(path) for it in changed) for path in failed):
-        return set()
-    return {body for body, them in group.items() if any(it.holds(path) for it in them for path in failed)}
+        return {}
+    own = {body: {path: failed[path] for path in failed if any(it.holds(path) for it in them)} for body, them in group.items()}
+    return {body: listed(goals) for body, goals in own.items() if goals}
 
 
 def own_copy(name: str, copy: pathlib.Path) -> pathlib.Path:
@@ -229,12 +242,12 @@ def attempt_crate(name: str, copy: pathlib.Path) -> collections.Counter:
     groups = groups_of(bodies, crate)
     while groups:
         group = groups.pop(0)
-        refused = refused_together(crate, group) if len(group) > 1 else set()
+        refused = refused_together(crate, group) if len(group) > 1 else {}
         if len(group) > 1 and not refused:
             groups[:0] = halves_of(group)
             continue
         for body in group:
-            answer = "refused" if body in refused else attempt_alone(crate, body)
+            answer = f"refused, {refused[body]}" if body in refused else attempt_alone(crate, body)
             told[answer.partition(",")[0]] += 1
             print(f"{name}/{body.stem}: {answer}", flush=True)
     shutil.rmtree(crate.parent.parent)
@@ -250,7 +263,7 @@ def attempt_alone(crate: pathlib.Path, body: pathlib.Path) -> str:
         return f"not tried, {run.stdout[-300:]!r}"
     names = r"^(?!.*must prove).*proofs/.*(has no field|is not in scope|has no `|was not admitted)"
     by_name = re.search(names, run.stdout, re.M) and not OPEN_GOAL.search(run.stdout)
-    return "refused, only because a proof names what it takes away" if by_name else "refused"
+    return "refused, only because a proof names what it takes away" if by_name else f"refused, {listed(failed_in(run))}"
 
 
 def attempt(crates: list[str], jobs: int) -> int:
