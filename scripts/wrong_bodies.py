@@ -202,14 +202,15 @@ def failed_in(run: subprocess.CompletedProcess) -> dict[str, set[str]]:
     return failed
 
 
-def listed(failed: dict[str, set[str]]) -> str:
-    """The goals that failed, each with its function."""
+def refused_by(failed: dict[str, set[str]]) -> str:
+    """The answer `refused`, with the goals that failed and their functions."""
     goals = [f"{path.rpartition('/')[2]}: {goal}" for path, goals in sorted(failed.items()) for goal in sorted(goals)]
-    return ", ".join(goals[:GOALS_SHOWN]) + (f" and {len(goals) - GOALS_SHOWN} more" if len(goals) > GOALS_SHOWN else "")
+    more = f" and {len(goals) - GOALS_SHOWN} more" if len(goals) > GOALS_SHOWN else ""
+    return ", ".join(["refused", *goals[:GOALS_SHOWN]]) + more
 
 
 def refused_together(crate: pathlib.Path, group: dict[pathlib.Path, set]) -> dict[pathlib.Path, str]:
-    """Those of a group that one check refuses, each with the goals of a function that it alone changes; none if another failed."""
+    """Those of a group that one check refuses, each by goals of a function that it alone changes; none if another failed."""
     try:
         run = check(crate, list(group))
     except ValueError:
@@ -219,7 +220,7 @@ def refused_together(crate: pathlib.Path, group: dict[pathlib.Path, set]) -> dic
     if run.returncode != 1 or not all(any(it.holds(path) for it in changed) for path in failed):
         return {}
     own = {body: {path: failed[path] for path in failed if any(it.holds(path) for it in them)} for body, them in group.items()}
-    return {body: listed(goals) for body, goals in own.items() if goals}
+    return {body: refused_by(goals) for body, goals in own.items() if goals}
 
 
 def own_copy(name: str, copy: pathlib.Path) -> pathlib.Path:
@@ -247,7 +248,7 @@ def attempt_crate(name: str, copy: pathlib.Path) -> collections.Counter:
             groups[:0] = halves_of(group)
             continue
         for body in group:
-            answer = f"refused, {refused[body]}" if body in refused else attempt_alone(crate, body)
+            answer = refused.get(body) or attempt_alone(crate, body)
             told[answer.partition(",")[0]] += 1
             print(f"{name}/{body.stem}: {answer}", flush=True)
     shutil.rmtree(crate.parent.parent)
@@ -263,7 +264,7 @@ def attempt_alone(crate: pathlib.Path, body: pathlib.Path) -> str:
         return f"not tried, {run.stdout[-300:]!r}"
     names = r"^(?!.*must prove).*proofs/.*(has no field|is not in scope|has no `|was not admitted)"
     by_name = re.search(names, run.stdout, re.M) and not OPEN_GOAL.search(run.stdout)
-    return "refused, only because a proof names what it takes away" if by_name else f"refused, {listed(failed_in(run))}"
+    return "refused, only because a proof names what it takes away" if by_name else refused_by(failed_in(run))
 
 
 def attempt(crates: list[str], jobs: int) -> int:
