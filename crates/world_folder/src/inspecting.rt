@@ -12,6 +12,7 @@ use std::alloc::{AllocError, Global};
 use std::fmt::Display;
 use std::fs::{File, Files};
 use std::io;
+use world_actions::Refusal;
 
 /// Tells how each file of a folder reads, and then what stands in them, with the words where they are
 /// asked for. It writes nothing into the folder.
@@ -23,10 +24,10 @@ pub fn inspect<R: Files<File = File> + Print + AllocGlobal>(
     ensures { IfErr result IsFault }
 {
     let files = read_folder(rt, folder);
-    print_image(rt, &files.image_a)?;
-    print_image(rt, &files.image_b)?;
-    print_log(rt, &files.log_a)?;
-    print_log(rt, &files.log_b)?;
+    print_file(rt, &files.image_a, tell_image)?;
+    print_file(rt, &files.image_b, tell_image)?;
+    print_file(rt, &files.log_a, tell_log)?;
+    print_file(rt, &files.log_b, tell_log)?;
     let found = found_in(rt.alloc(), folder, files)?;
     print_recovered(rt, &found)?;
     println!(rt; " in {}", name_of(found.slot))?;
@@ -36,32 +37,22 @@ pub fn inspect<R: Files<File = File> + Print + AllocGlobal>(
     Ok(())
 }
 
-fn print_image<R: Print + AllocGlobal>(
+// Prints what is told of a file, or why it can't be read.
+fn print_file<
+    R: Print + AllocGlobal,
+    T: Display + Drop,
+    F: FnOnce(Global, &[u8]) -> Result<T, Refusal>,
+>(
     rt: &R,
     named: &Named<io::Result<Vec<u8>>>,
+    tell: F,
 ) -> Result<(), Ending>
+    requires { F.IsAlwaysCallable tell }
     ensures { IfErr result IsFault }
 {
     let name = named.file.name();
     match &named.value {
-        Ok(bytes) => match tell_image(rt.alloc(), bytes) {
-            Ok(told) => print_told(rt, name, told, bytes.len())?,
-            Err(refusal) => return Err(Ending::Fault(refusal)),
-        },
-        Err(error) => print_unreadable(rt, name, error)?,
-    }
-    Ok(())
-}
-
-fn print_log<R: Print + AllocGlobal>(
-    rt: &R,
-    named: &Named<io::Result<Vec<u8>>>,
-) -> Result<(), Ending>
-    ensures { IfErr result IsFault }
-{
-    let name = named.file.name();
-    match &named.value {
-        Ok(bytes) => match tell_log(rt.alloc(), bytes) {
+        Ok(bytes) => match tell(rt.alloc(), bytes) {
             Ok(told) => print_told(rt, name, told, bytes.len())?,
             Err(refusal) => return Err(Ending::Fault(refusal)),
         },

@@ -1,9 +1,7 @@
-ghost use Rattle.std.specs.Prelude.{◌≡◌, ◌≢◌, ◌⊎◌, ◌↔◌, ◌≤◌, length, IsTrue, IfOk, IfErr};
+ghost use Rattle.std.specs.Prelude.{◌≡◌, ◌≢◌, ◌⊎◌, ◌≤◌, length, IsTrue, IfOk, IfErr};
 ghost use Rattle.std.specs.Path.{path_buf_bytes, path_join};
 ghost use Rattle.world_actions.specs.declared.world.TheConstants.{CELLS};
 ghost use Rattle.disk_model.specs.FourFiles.{EachFile, KeepsFile, fault_counts};
-ghost use Rattle.image_files.specs.Image.{Closed, image_of};
-ghost use Rattle.action_log.specs.Segment.{ClosedSegment, IsSegment};
 ghost use Rattle.world_start.specs.Opening.{SomeGrew};
 ghost use Rattle.world_start.specs.Fresh.{AreClosed, AreMade, FilesAreClosed};
 ghost use Rattle.world_folder.specs.declared.ending.Occupied.{Occupied as Open};
@@ -15,12 +13,10 @@ use crate::ending::{Ending, Occupied};
 use crate::folder::path_of;
 use crate::words_image::write_words;
 use crate::world_file::{IMAGE_A, IMAGE_B, LOG_A, LOG_B};
-use action_log::{LogState, read_log, segments_read_once};
 use disk_model::{Disk, FourFiles};
-use image_files::{ImageState, read_image};
 use std::alloc::Global;
 use world_actions::Refusal;
-use world_start::fresh_files;
+use world_start::{are_closed, fresh_files, is_closed_image, is_closed_segment};
 
 /// Shows that the files of a world were made, of so many cells: only `make_in` and `make_of_words` give one.
 #[derive(Clone, Copy, Debug, PartialEq, Eq)]
@@ -102,17 +98,6 @@ pub fn make_of_words<D: Disk>(
     }
 }
 
-// Whether none of four files holds an image or a segment.
-fn are_closed(alloc: Global, bytes: &FourFiles<Vec<u8>>) -> bool
-    ensures { IsTrue result ↔ AreClosed bytes.now.image_a.items bytes.now.image_b.items
-        bytes.now.log_a.items bytes.now.log_b.items }
-{
-    is_closed_image(alloc, &bytes.image_a)
-        && is_closed_image(alloc, &bytes.image_b)
-        && is_closed_segment(alloc, &bytes.log_a)
-        && is_closed_segment(alloc, &bytes.log_b)
-}
-
 // How the program ends where one of the files isn't closed. They are read once more, to find the first such file.
 fn occupied<D: Disk>(alloc: Global, folder: &str, files: &mut FourFiles<D>) -> Ending
     ensures told { IsTrue D.honest → ¬ FilesAreClosed D.content files.old
@@ -154,18 +139,4 @@ fn first_open(alloc: Global, bytes: &FourFiles<Vec<u8>>) -> &'static str
         return LOG_A;
     }
     LOG_B
-}
-
-// An open image that wants memory isn't closed.
-fn is_closed_image(alloc: Global, bytes: &[u8]) -> bool
-    ensures { IsTrue result ↔ (image_of bytes.now ≡ Closed) }
-{
-    matches!(read_image(alloc, bytes), Ok(ImageState::Closed))
-}
-
-fn is_closed_segment(alloc: Global, bytes: &[u8]) -> bool
-    ensures { IsTrue result ↔ IsSegment bytes.now ClosedSegment }
-{
-    segments_read_once();
-    matches!(read_log(alloc, bytes), Ok(LogState::Closed))
 }

@@ -8,6 +8,7 @@ use crate::reporter::start_reporter;
 use crate::service::{Address, Service};
 use crate::socket::listen_at;
 use crate::streams::Streams;
+use crate::system::System;
 use std::alloc::Global;
 use std::fs::{File, Files};
 use std::io;
@@ -31,19 +32,7 @@ pub struct Front<R: Wait + Net + Copy> {
     pub lines: Lines<R>,
 }
 
-impl<
-    R: Threads
-        + Wait
-        + Clock
-        + Net<Listener = TcpListener, Stream = TcpStream>
-        + Files<File = File>
-        + Print
-        + Eprint
-        + AllocGlobal
-        + Copy
-        + Send
-        + 'static,
-> Front<R> {
+impl<R: System> Front<R> {
     /// Listens, beside streams that have begun. The server's counts begin with these.
     pub fn open(
         rt: &R,

@@ -1,7 +1,7 @@
 //! A server of the world in a folder: what it needs of the system, what it prints, and how it ends.
 //!
-//! `serve` recovers the world, prints which one it is, runs its start, listens and serves. Lines leave by a thread for each standard
-//! stream, so nobody waits for their readers.
+//! `serve` recovers the world, prints which one it is, runs its start, listens and serves. Lines leave by a thread for
+//! each standard stream, so nobody waits for their readers.
 #![tactic(auto)]
 
 mod front;
@@ -14,8 +14,10 @@ mod service;
 mod serving;
 mod socket;
 mod streams;
+mod system;
 
 pub use lines::Announce;
 pub use service::{Address, Clients, Every, Service};
 pub use serving::{serve, serve_opened};
 pub use socket::SocketMode;
+pub use system::System;

@@ -12,12 +12,11 @@ use crate::line::Line;
 use crate::lines::Announce;
 use crate::service::{Every, Service};
 use crate::streams::Streams;
+use crate::system::System;
 use capture_core::{Capture, PlainCopy};
 use disk_model::{Disk, FileDisk, FourFiles};
 use shared_capture::{Kind, Method, Pong, Zig};
 use std::alloc::Global;
-use std::fs::{File, Files};
-use std::net::{Net, TcpListener, TcpStream};
 use std::sync::Wait;
 use std::thread::Threads;
 use std::time::Clock;
@@ -32,19 +31,7 @@ use world_start::{Start, recover_world};
 
 /// Serves the world in a folder to so many clients. It prints which world was recovered, where it listens, and how far
 /// play came.
-pub fn serve<
-    R: Threads
-        + Wait
-        + Clock
-        + Net<Listener = TcpListener, Stream = TcpStream>
-        + Files<File = File>
-        + Print
-        + Eprint
-        + AllocGlobal
-        + Copy
-        + Send
-        + 'static,
->(rt: &R, service: &Service<'_>) -> Ending
+pub fn serve<R: System>(rt: &R, service: &Service<'_>) -> Ending
     ensures ends { EndsServing result }
 {
     let served = match service.method {
@@ -58,20 +45,10 @@ pub fn serve<
 }
 
 // Serves by this method, which has to be the one that is asked for.
-fn serve_by<
-    R: Threads
-        + Wait
-        + Clock
-        + Net<Listener = TcpListener, Stream = TcpStream>
-        + Files<File = File>
-        + Print
-        + Eprint
-        + AllocGlobal
-        + Copy
-        + Send
-        + 'static,
-    M: Seats + Send + 'static,
->(rt: &R, service: &Service<'_>) -> Result<Ending, Ending>
+fn serve_by<R: System, M: Seats + Send + 'static>(
+    rt: &R,
+    service: &Service<'_>,
+) -> Result<Ending, Ending>
     requires { service.now.method ≡ M.KIND }
     ensures ok { IfOk result EndsServing }
     ensures err { IfErr result IsFault }
@@ -85,20 +62,7 @@ fn serve_by<
 }
 
 // Prints which world was recovered, runs its start to its end, and serves it.
-fn serve_recovered<
-    R: Threads
-        + Wait
-        + Clock
-        + Net<Listener = TcpListener, Stream = TcpStream>
-        + Files<File = File>
-        + Print
-        + Eprint
-        + AllocGlobal
-        + Copy
-        + Send
-        + 'static,
-    M: Seats + Send + 'static,
->(
+fn serve_recovered<R: System, M: Seats + Send + 'static>(
     rt: &R,
     service: &Service<'_>,
     begun: Start<PlainCopy>,
@@ -122,20 +86,7 @@ fn serve_recovered<
 }
 
 // Serves a world whose start has ended.
-fn serve_started<
-    R: Threads
-        + Wait
-        + Clock
-        + Net<Listener = TcpListener, Stream = TcpStream>
-        + Files<File = File>
-        + Print
-        + Eprint
-        + AllocGlobal
-        + Copy
-        + Send
-        + 'static,
-    M: Seats + Send + 'static,
->(
+fn serve_started<R: System, M: Seats + Send + 'static>(
     rt: &R,
     service: &Service<'_>,
     streams: Streams,

@@ -1,18 +1,17 @@
-ghost use Rattle.std.specs.Prelude.{◌≡◌, ◌≢◌, ◌⊎◌, ◌↔◌, ◌≤◌, false, IsTrue, IfOk, IfErr, OnOk};
+ghost use Rattle.std.specs.Prelude.{◌≡◌, ◌⊎◌, ◌≤◌, false, IsTrue, IfOk, IfErr, OnOk};
 ghost use Rattle.world_actions.specs.declared.world.TheConstants.{CELLS};
 ghost use Rattle.disk_model.specs.FourFiles.{EachFile, KeepsFile, fault_counts};
 ghost use Rattle.image_files.specs.declared.phase.Phase.TheVariants.{Down};
-ghost use Rattle.image_files.specs.Image.{Closed, image_of};
-ghost use Rattle.action_log.specs.Segment.{ClosedSegment, IsSegment};
 ghost use Rattle.world_start.specs.Steps.{ImagesInOrder, LogInOrder, IsBegunFresh};
 ghost use Rattle.world_start.specs.Opening.{SomeGrew};
-ghost use Rattle.world_start.specs.Fresh.{AreClosed, AreMade, AreNotMade, FilesAreClosed};
+ghost use Rattle.world_start.specs.Fresh.{AreMade, AreNotMade, FilesAreClosed};
 
+use crate::closed::are_closed;
 use crate::engine::Engine;
-use action_log::{LogState, log_outcomes, log_queues, read_log, segments_read_once};
+use action_log::{log_outcomes, log_queues};
 use capture_core::{Capture, PlainCopy};
 use disk_model::{Disk, FourFiles};
-use image_files::{ImageState, images_stay, read_image};
+use image_files::images_stay;
 use restart::{gates_are_told, worlds_are_safe, worlds_go_on, zeros};
 use std::alloc::Global;
 use world_actions::Refusal;
@@ -96,28 +95,4 @@ fn begin_fresh<C: Capture, D: Disk>(
     }
     let words = zeros(alloc, cells)?;
     Engine::begin(alloc, cells, None, 0, &words, &bytes)
-}
-
-// Whether none of the files holds an image or a segment. An open one that wants memory isn't closed.
-fn are_closed(alloc: Global, bytes: &FourFiles<Vec<u8>>) -> bool
-    ensures { IsTrue result ↔ AreClosed bytes.now.image_a.items bytes.now.image_b.items
-        bytes.now.log_a.items bytes.now.log_b.items }
-{
-    is_closed_image(alloc, &bytes.image_a)
-        && is_closed_image(alloc, &bytes.image_b)
-        && is_closed_segment(alloc, &bytes.log_a)
-        && is_closed_segment(alloc, &bytes.log_b)
-}
-
-fn is_closed_image(alloc: Global, bytes: &[u8]) -> bool
-    ensures { IsTrue result ↔ (image_of bytes.now ≡ Closed) }
-{
-    matches!(read_image(alloc, bytes), Ok(ImageState::Closed))
-}
-
-fn is_closed_segment(alloc: Global, bytes: &[u8]) -> bool
-    ensures { IsTrue result ↔ IsSegment bytes.now ClosedSegment }
-{
-    segments_read_once();
-    matches!(read_log(alloc, bytes), Ok(LogState::Closed))
 }

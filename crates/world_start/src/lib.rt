@@ -6,6 +6,7 @@
 //! Whatever a crash leaves of the files, recovery gives a world that ended (`followed_files_are_sound`).
 #![tactic(auto)]
 
+mod closed;
 mod engine;
 mod fresh;
 mod laws;
@@ -14,6 +15,7 @@ mod parts;
 mod recovering;
 mod round_run;
 
+pub use closed::{are_closed, is_closed_image, is_closed_segment};
 pub use engine::Engine;
 pub use fresh::fresh_files;
 pub use laws::followed_files_are_sound;

@@ -1,0 +1,35 @@
+ghost use Rattle.std.specs.Prelude.{◌≡◌, ◌↔◌, IsTrue};
+ghost use Rattle.image_files.specs.Image.{Closed, image_of};
+ghost use Rattle.action_log.specs.Segment.{ClosedSegment, IsSegment};
+ghost use Rattle.world_start.specs.Fresh.{AreClosed};
+
+use action_log::{LogState, read_log, segments_read_once};
+use disk_model::FourFiles;
+use image_files::{ImageState, read_image};
+use std::alloc::Global;
+
+/// Whether none of four files holds an image or a segment. An open one that wants memory isn't closed.
+pub fn are_closed(alloc: Global, bytes: &FourFiles<Vec<u8>>) -> bool
+    ensures { IsTrue result ↔ AreClosed bytes.now.image_a.items bytes.now.image_b.items
+        bytes.now.log_a.items bytes.now.log_b.items }
+{
+    is_closed_image(alloc, &bytes.image_a)
+        && is_closed_image(alloc, &bytes.image_b)
+        && is_closed_segment(alloc, &bytes.log_a)
+        && is_closed_segment(alloc, &bytes.log_b)
+}
+
+/// Whether a file holds no image.
+pub fn is_closed_image(alloc: Global, bytes: &[u8]) -> bool
+    ensures { IsTrue result ↔ (image_of bytes.now ≡ Closed) }
+{
+    matches!(read_image(alloc, bytes), Ok(ImageState::Closed))
+}
+
+/// Whether a file holds no segment.
+pub fn is_closed_segment(alloc: Global, bytes: &[u8]) -> bool
+    ensures { IsTrue result ↔ IsSegment bytes.now ClosedSegment }
+{
+    segments_read_once();
+    matches!(read_log(alloc, bytes), Ok(LogState::Closed))
+}
