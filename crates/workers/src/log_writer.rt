@@ -294,7 +294,7 @@ impl<D: Disk + Drop, G: Gate + Drop> LogWriter<D, G> {
     pub fn has_work(&self) -> bool
         ensures { IsTrue result ↔ (0 < work_of self.now.log.keeper self.now.ring.items) }
     {
-        self.log.keeper.work(&self.ring) > 0
+        self.log.keeper.has_work(&self.ring)
     }
 
     /// Ends what is written: an answer that still waits has no receipt, so it is refused, and the log counts as down. The

@@ -32,7 +32,7 @@ pub fn run_log<D: Disk>(
         keeper.old keeper.new queue.old.items queue.new.items log_a.old log_a.new log_b.old log_b.new }
 {
     worlds_go_on();
-    while keeper.work(queue) > 0 {
+    while keeper.has_work(queue) {
         if let LogAnswer::Down = keeper.step(queue, log_a, log_b) {
             break;
         }

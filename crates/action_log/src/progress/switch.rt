@@ -7,7 +7,7 @@ ghost use Rattle.action_log.specs.declared.phase.Phase.TheVariants.{Retiring, Re
 ghost use Rattle.action_log.specs.Progress.{IsInOrder};
 ghost use Rattle.action_log.specs.Written.{Written, header};
 ghost use Rattle.action_log.specs.Files.{Fits, OtherEndures};
-ghost use Rattle.action_log.specs.Steps.{with_switch, switched, renewed, KeepsCurrent, KeepsOther, CurrentLasts, OtherLasts};
+ghost use Rattle.action_log.specs.Steps.{with_switch, switched, renewed, CallOnCurrent, CallOnOther};
 
 use super::Progress;
 use crate::encoding::put_header;
@@ -25,11 +25,8 @@ impl Progress {
         requires up { self.old.down ≡ false }
         ensures ok { OnOk result (self.new ≡ record self.old { phase = RetiringSync }) }
         ensures failed { OnErr result (self.new ≡ record self.old { phase = RetiringSync; down = true }) }
-        ensures fits { KeepsCurrent D.honest self.old self.new (D.content current.old) (D.content current.new) }
-        ensures lasts { CurrentLasts D.honest self.old self.new (D.content current.old) (D.content current.new)
-            (D.may_leave current.old) (D.may_leave current.new) }
-        ensures faults { D.faults current.new ≡ counted (D.faults current.old) result }
-        ensures called { D.called current.old (Write 0 (CLOSED_GATE ∷ [])) (is_ok result) current.new }
+        ensures call { CallOnCurrent D.honest D.content D.may_leave D.faults D.called
+            (Write 0 (CLOSED_GATE ∷ [])) result self.old self.new current.old current.new }
     {
         let call = current.write_at(0, &[CLOSED_GATE]);
         self.phase = Phase::RetiringSync;
@@ -44,11 +41,8 @@ impl Progress {
         requires up { self.old.down ≡ false }
         ensures ok { OnOk result (self.new ≡ record self.old { phase = if self.old.other_shut then Header else Closing }) }
         ensures failed { OnErr result (self.new ≡ record self.old { down = true }) }
-        ensures fits { KeepsCurrent D.honest self.old self.new (D.content current.old) (D.content current.new) }
-        ensures lasts { CurrentLasts D.honest self.old self.new (D.content current.old) (D.content current.new)
-            (D.may_leave current.old) (D.may_leave current.new) }
-        ensures faults { D.faults current.new ≡ counted (D.faults current.old) result }
-        ensures called { D.called current.old Sync (is_ok result) current.new }
+        ensures call { CallOnCurrent D.honest D.content D.may_leave D.faults D.called
+            Sync result self.old self.new current.old current.new }
     {
         if let Err(refusal) = current.sync() {
             self.down = true;
@@ -67,11 +61,8 @@ impl Progress {
         requires up { self.old.down ≡ false }
         ensures ok { OnOk result (self.new ≡ record self.old { phase = ClosingSync }) }
         ensures failed { OnErr result (self.new ≡ record self.old { phase = ClosingSync; down = true }) }
-        ensures fits { KeepsOther D.honest self.old self.new (D.content other.old) (D.content other.new) }
-        ensures lasts { OtherLasts D.honest self.old self.new (D.content other.old) (D.content other.new)
-            (D.may_leave other.old) (D.may_leave other.new) }
-        ensures faults { D.faults other.new ≡ counted (D.faults other.old) result }
-        ensures called { D.called other.old (Write 0 (CLOSED_GATE ∷ [])) (is_ok result) other.new }
+        ensures call { CallOnOther D.honest D.content D.may_leave D.faults D.called
+            (Write 0 (CLOSED_GATE ∷ [])) result self.old self.new other.old other.new }
     {
         let call = other.write_at(0, &[CLOSED_GATE]);
         self.phase = Phase::ClosingSync;
@@ -85,11 +76,8 @@ impl Progress {
         requires up { self.old.down ≡ false }
         ensures ok { OnOk result (self.new ≡ record self.old { phase = Header }) }
         ensures failed { OnErr result (self.new ≡ record self.old { down = true }) }
-        ensures fits { KeepsOther D.honest self.old self.new (D.content other.old) (D.content other.new) }
-        ensures lasts { OtherLasts D.honest self.old self.new (D.content other.old) (D.content other.new)
-            (D.may_leave other.old) (D.may_leave other.new) }
-        ensures faults { D.faults other.new ≡ counted (D.faults other.old) result }
-        ensures called { D.called other.old Sync (is_ok result) other.new }
+        ensures call { CallOnOther D.honest D.content D.may_leave D.faults D.called
+            Sync result self.old self.new other.old other.new }
     {
         if let Err(refusal) = other.sync() {
             self.down = true;
@@ -112,11 +100,8 @@ impl Progress {
         requires up { self.old.down ≡ false }
         ensures ok { OnOk result (self.new ≡ record self.old { phase = HeaderSync }) }
         ensures failed { OnErr result (self.new ≡ record self.old { phase = HeaderSync; down = true }) }
-        ensures fits { KeepsOther D.honest self.old self.new (D.content other.old) (D.content other.new) }
-        ensures lasts { OtherLasts D.honest self.old self.new (D.content other.old) (D.content other.new)
-            (D.may_leave other.old) (D.may_leave other.new) }
-        ensures faults { D.faults other.new ≡ counted (D.faults other.old) result }
-        ensures called { D.called other.old (Write BASE_PLACE (header self.old.next_base)) (is_ok result) other.new }
+        ensures call { CallOnOther D.honest D.content D.may_leave D.faults D.called
+            (Write BASE_PLACE (header self.old.next_base)) result self.old self.new other.old other.new }
         ensures capacity { vec_capacity buffer.old ≤ vec_capacity buffer.new }
     {
         put_header(buffer, self.next_base);
@@ -132,11 +117,8 @@ impl Progress {
         requires up { self.old.down ≡ false }
         ensures ok { OnOk result (self.new ≡ record self.old { phase = Opening }) }
         ensures failed { OnErr result (self.new ≡ record self.old { down = true }) }
-        ensures fits { KeepsOther D.honest self.old self.new (D.content other.old) (D.content other.new) }
-        ensures lasts { OtherLasts D.honest self.old self.new (D.content other.old) (D.content other.new)
-            (D.may_leave other.old) (D.may_leave other.new) }
-        ensures faults { D.faults other.new ≡ counted (D.faults other.old) result }
-        ensures called { D.called other.old Sync (is_ok result) other.new }
+        ensures call { CallOnOther D.honest D.content D.may_leave D.faults D.called
+            Sync result self.old self.new other.old other.new }
     {
         if let Err(refusal) = other.sync() {
             self.down = true;
@@ -153,11 +135,8 @@ impl Progress {
         requires up { self.old.down ≡ false }
         ensures ok { OnOk result (self.new ≡ record self.old { phase = OpeningSync }) }
         ensures failed { OnErr result (self.new ≡ record self.old { phase = OpeningSync; down = true }) }
-        ensures fits { KeepsOther D.honest self.old self.new (D.content other.old) (D.content other.new) }
-        ensures lasts { OtherLasts D.honest self.old self.new (D.content other.old) (D.content other.new)
-            (D.may_leave other.old) (D.may_leave other.new) }
-        ensures faults { D.faults other.new ≡ counted (D.faults other.old) result }
-        ensures called { D.called other.old (Write 0 (OPEN_GATE ∷ [])) (is_ok result) other.new }
+        ensures call { CallOnOther D.honest D.content D.may_leave D.faults D.called
+            (Write 0 (OPEN_GATE ∷ [])) result self.old self.new other.old other.new }
     {
         let call = other.write_at(0, &[OPEN_GATE]);
         self.phase = Phase::OpeningSync;
@@ -227,13 +206,9 @@ impl Progress {
         requires room { IsTrue D.honest → self.old.other_shut ≡ true → 1 ≤ length (D.content other.old) }
         ensures ok { OnOk result (self.new ≡ with_switch self.old tick false) }
         ensures failed { OnErr result (self.new ≡ with_switch self.old tick true) }
-        ensures fits { KeepsOther D.honest self.old self.new (D.content other.old) (D.content other.new) }
-        ensures lasts { OtherLasts D.honest self.old self.new (D.content other.old) (D.content other.new)
-            (D.may_leave other.old) (D.may_leave other.new) }
-        ensures faults { D.faults other.new ≡ counted (D.faults other.old) result }
-        ensures called { D.called other.old
+        ensures call { CallOnOther D.honest D.content D.may_leave D.faults D.called
             (if self.old.other_shut then Write BASE_PLACE (header tick) else Write 0 (CLOSED_GATE ∷ []))
-            (is_ok result) other.new }
+            result self.old self.new other.old other.new }
         ensures capacity { vec_capacity buffer.old ≤ vec_capacity buffer.new }
     {
         self.next_base = tick;

@@ -1,4 +1,4 @@
-use Rattle.std.proofs.Common.{◌∙◌, ap, inr, arith}
+use Rattle.std.proofs.Common.{◌∙◌, ap, inr}
 use Rattle.action_log.specs.declared.progress.Progress.{Progress}
 use Rattle.world_start.proofs.Faults.{log_faults}
 use Rattle.world_start.proofs.LogRuns.{first_step, log_steps, log_then}
@@ -12,7 +12,7 @@ loop-keeper-preserved g c = record {
   end = c.step.ensures.end ∙ c.loop-keeper.invariant.end;
   started = λ was. c.step.ensures.started (c.loop-keeper.invariant.started was);
   first = λ is none. first_step c.loop-keeper.keeper c.step.new.self c.loop-keeper.queue.items c.step.new.queue.items (c.loop-keeper.invariant.first is none)
-      (omega (arith, c.work.ensures, c.loop-keeper-test.true)) c.step.ensures.front c.step.ensures.first;
+      (c.has_work.ensures.0 c.loop-keeper-test.true) c.step.ensures.front c.step.ensures.first;
   faults = log_faults c.step.result c.args.keeper.now.down c.loop-keeper.keeper.down c.step.new.self.down (g.D.Disk.faults c.args.log_a.now) (g.D.Disk.faults c.loop-keeper.log_a) (g.D.Disk.faults c.step.new.a)
       (g.D.Disk.faults c.args.log_b.now) (g.D.Disk.faults c.loop-keeper.log_b) (g.D.Disk.faults c.step.new.b) c.loop-keeper.invariant.faults c.step.ensures.down c.step.ensures.cause c.step.ensures.faults
       (λ down. let r = c.step.ensures.rests (inr down) in (ap (λ (k : Progress). k.down) r.0 ∙ down, ap g.D.Disk.faults r.2, ap g.D.Disk.faults r.3));
@@ -24,7 +24,7 @@ loop-keeper-preserved g c = record {
 
 pub returns-in-Down-clause-first : goal.returns-in-Down-clause-first
 returns-in-Down-clause-first g c = λ is none. first_step c.loop-keeper.keeper c.step.new.self c.loop-keeper.queue.items c.step.new.queue.items (c.loop-keeper.invariant.first is none)
-    (omega (arith, c.work.ensures, c.loop-keeper-test.true)) c.step.ensures.front c.step.ensures.first
+    (c.has_work.ensures.0 c.loop-keeper-test.true) c.step.ensures.front c.step.ensures.first
 
 pub returns-in-Down-clause-faults : goal.returns-in-Down-clause-faults
 returns-in-Down-clause-faults g c = log_faults c.step.result c.args.keeper.now.down c.loop-keeper.keeper.down c.step.new.self.down (g.D.Disk.faults c.args.log_a.now) (g.D.Disk.faults c.loop-keeper.log_a) (g.D.Disk.faults c.step.new.a)
