@@ -8,6 +8,7 @@ It takes seconds, and prints the page, the line and the reason of each of these:
 - a link, an anchor, a page, a folder or a script that does not exist
 - a block of code that differs from the file that it quotes
 - a wrong body of the gate that no table has, and a row on one that is not there
+- a function of the walk of a tick that its file does not have
 
 A block between fences is a quote, whole or in part: of the file in a marker on a line above it, `<!-- examples/FILE -->` or
 `<!-- clients/.. -->`, or without a language of any file in src/ or specs/ of a crate. An indented block is text. The marker `<!-- run -->` makes it
@@ -21,6 +22,7 @@ from collections.abc import Iterator
 
 from code_names import TOP, Names
 from map import Refused, below, read_crates
+import walk
 
 # Pages whose names in backquotes are looked up.
 CITING = ("README.md", "docs/PROOFS.md", "docs/proofs/", "docs/HEADLINE.md", "docs/ARCHITECTURE.md", "docs/MODEL.md")
@@ -267,6 +269,7 @@ def findings() -> Iterator[Finding]:
             yield from wrong_citations(page, names, libraries)
         yield from wrong_links(page)
         yield from wrong_quotes(page, code)
+    yield from ((walk.PAGE, line, reason) for line, reason in walk.findings())
     yield from wrong_tables(every, names)
     yield from unnamed_files(every)
 

@@ -3,7 +3,7 @@
 //! The mutator runs batches on the front of a pair of seats, and pushes their ticks with their answers, and the
 //! switches of the rounds that it opens, on a channel under a rule. The log writer pops them, writes the log, and
 //! answers each batch once its tick is durable. The checkpointer writes the image of each round from the back,
-//! while play goes on. Nothing is locked. Where they end they meet.
+//! while play goes on. No lock is held around the world. Where they end they meet.
 #![tactic(auto)]
 
 mod batch_run;
