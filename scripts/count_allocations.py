@@ -23,7 +23,7 @@ PATIENCE_SECONDS = 60
 MOST = ": at most "
 # The batches that are counted, how many lines each has, and how often it may allocate. The buffers have grown before.
 FEW, MANY, LINES = 200, 2200, 16
-MOST_SERVED = 3
+MOST_SERVED = 1
 
 
 def counts_of(measures: str, library: pathlib.Path) -> tuple[list[str], list[int]]:
