@@ -9,3 +9,4 @@ pub mod TakeLemmas
 pub mod ClaimLemmas
 pub mod FileWords
 pub mod StandsLemmas
+pub mod SlotImages

@@ -7,8 +7,6 @@ use Rattle.world_actions.specs.declared.refusal.Refusal.TheVariants.{NoImage, No
 use Rattle.world_actions.specs.declared.world.TheConstants.{CELLS}
 use Rattle.world_ticks.specs.declared.tick.TheConstants.{TICK_MAX}
 use Rattle.file_format.specs.declared.slot.Slot.{Slot}
-use Rattle.file_format.specs.declared.slot.Slot.TheVariants.{A, B}
-use Rattle.file_format.specs.Slot.{of_slot, other_slot}
 use Rattle.disk_model.specs.CrashOutcome.{IsCrashOutcome}
 use Rattle.image_files.specs.Image.{Closed, image_of}
 use Rattle.image_files.specs.Images.{NoneYet, Newest}
@@ -31,6 +29,7 @@ use Rattle.world_core.specs.declared.moves.Move.TheVariants as move
 use Rattle.world_core.specs.declared.moves.Answer.{Answer}
 use Rattle.world_core.specs.declared.moves.Answer.TheVariants as answer
 use Rattle.world_core.specs.Facts.{IsCoreAt}
+use Rattle.image_files.proofs.SlotImages.{by_slot, by_other}
 use Rattle.world_core.proofs.Safe.{AreSafeFor, core_is_safe_for}
 use Rattle.world_core.proofs.Crashing.{start_at, begins_core}
 
@@ -95,14 +94,6 @@ module _ (safety : SafetyLaws) (cells : ℕ) (ticks : List (List Action)) (ackno
       ]
 
 -- ---- a recovery
-
-by_slot : (slot : Slot) (ia ib : List ℕ) → image_of (of_slot slot ia ib) ≡ of_slot slot (image_of ia) (image_of ib)
-by_slot A ia ib = refl
-by_slot B ia ib = refl
-
-by_other : (slot : Slot) (ia ib : List ℕ) → image_of (of_slot slot ib ia) ≡ of_slot (other_slot slot) (image_of ia) (image_of ib)
-by_other A ia ib = refl
-by_other B ia ib = refl
 
 abbrev pub recovered_past : Past → Recovery → (la lb : List ℕ) → Past
 recovered_past past r la lb = record {

@@ -11,8 +11,6 @@ use Rattle.capture_core.specs.Content.{Content}
 use Rattle.disk_model.specs.FourFiles.{EachFile, KeepsFile}
 use Rattle.disk_model.specs.declared.four_files.FourFiles.{FourFiles}
 use Rattle.file_format.specs.declared.slot.Slot.{Slot}
-use Rattle.file_format.specs.declared.slot.Slot.TheVariants.{A, B}
-use Rattle.file_format.specs.Slot.{of_slot, other_slot}
 use Rattle.image_files.specs.Image.{image_of}
 use Rattle.image_files.specs.Images.{Newest}
 use Rattle.image_files.specs.Progress.{Progress as ImageProgress}
@@ -26,19 +24,12 @@ use Rattle.world_start.specs.declared.engine.Engine.{Engine}
 use Rattle.world_start.specs.Engine.{Follows}
 use Rattle.world_start.specs.Steps.{Begins}
 use Rattle.world_start.specs.Opening.{AreSynced, AreSound, AreRead, IsRead}
+use Rattle.image_files.proofs.SlotImages.{by_slot, by_other}
 use Rattle.world_start.proofs.Beginning.{StartLaws, start_follows, built_live, started_cells, started_newest}
 
 pub if_err : {T : Type 0} (r : Result T Refusal) (refusal : Refusal) (P : Refusal → Type 0) → IsErrAnd r (λ e. e ≡ refusal) → P refusal → IfErr r P
 if_err (Ok value) refusal P h p = tt
 if_err (Err other) refusal P h p = subst P (sym h) p
-
-by_slot : (slot : Slot) (ia ib : List ℕ) → image_of (of_slot slot ia ib) ≡ of_slot slot (image_of ia) (image_of ib)
-by_slot A ia ib = refl
-by_slot B ia ib = refl
-
-by_other : (slot : Slot) (ia ib : List ℕ) → image_of (of_slot slot ib ia) ≡ of_slot (other_slot slot) (image_of ia) (image_of ib)
-by_other A ia ib = refl
-by_other B ia ib = refl
 
 -- the image that recovery chose is there, and has as many words as the recovered world
 pub holds_newest : CrashRestarts → (cells : ℕ) (r : Recovery) (ia ib la lb : List ℕ) → length r.words ≡ cells → Recovers ia ib la lb (Ok r) → HoldsNewest cells (Some (r.slot, r.from)) ia ib
