@@ -42,11 +42,7 @@ fn print_file<
     R: Print + AllocGlobal,
     T: Display + Drop,
     F: FnOnce(Global, &[u8]) -> Result<T, Refusal>,
->(
-    rt: &R,
-    named: &Named<io::Result<Vec<u8>>>,
-    tell: F,
-) -> Result<(), Ending>
+>(rt: &R, named: &Named<io::Result<Vec<u8>>>, tell: F) -> Result<(), Ending>
     requires { F.IsAlwaysCallable tell }
     ensures { IfErr result IsFault }
 {

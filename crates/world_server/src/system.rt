@@ -5,8 +5,7 @@ use std::thread::Threads;
 use std::time::Clock;
 
 /// What a server needs of the system: threads, a clock, the network, files, standard streams and memory.
-pub trait System:
-    Threads
+pub trait System: Threads
     + Wait
     + Clock
     + Net<Listener = TcpListener, Stream = TcpStream>
@@ -16,9 +15,7 @@ pub trait System:
     + AllocGlobal
     + Copy
     + Send
-    + 'static
-{
-}
+    + 'static {}
 
 impl<
     R: Threads
@@ -32,6 +29,4 @@ impl<
         + Copy
         + Send
         + 'static,
-> System for R
-{
-}
+> System for R {}
