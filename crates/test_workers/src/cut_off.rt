@@ -10,9 +10,9 @@ use std::io::{self, ErrorKind, Write};
 use std::process::Abort;
 use std::sync::Wait;
 use std::thread::Threads;
-use tcp_service::{Remote, Seats, serve_batches};
+use tcp_service::{Remote, serve_batches};
 use worker_steps::Gates;
-use worker_threads::Ends;
+use worker_threads::{Ends, Seats};
 use workers::{Ask, Open};
 use world_actions::Refusal;
 
