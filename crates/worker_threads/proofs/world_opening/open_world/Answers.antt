@@ -2,27 +2,15 @@ use Rattle.std.proofs.Common.{◌≡◌, ℕ, take, length, sym, ap, ◌∙◌, 
 use Rattle.worker_steps.specs.Ends.{WorldStands}
 use Rattle.worker_threads.proofs.world_opening.open_world.Goals as goal
 
-pub returns-in-Ok-clause-recovered : goal.returns-in-Ok-clause-recovered
-returns-in-Ok-clause-recovered g c = λ honest.
-    let read = c.in-Ok.ensures.read honest in
-    let opened = c.in_ok-opened.ensures in
-    record {
-      recovery = read.recovery;
-      recovers = read.recovers;
-      words = opened.words ∙ c.in-Ok.ensures.words ∙ read.words;
-      tick = opened.ended ∙ read.ended;
-      image = read.is_from;
-    }
-
-pub returns-in-Ok-clause-stands : goal.returns-in-Ok-clause-stands
-returns-in-Ok-clause-stands g c = λ honest cells ticks acknowledged synced sound.
+pub returns-in_ok-opened-in-Ok-clause-stands : goal.returns-in_ok-opened-in-Ok-clause-stands
+returns-in_ok-opened-in-Ok-clause-stands g c = λ honest cells ticks acknowledged synced sound.
     let D = g.D.Disk in
     let read = c.in-Ok.ensures.read honest in
     let tick : ℕ = read.recovery.tick in
     let follows = read.follows cells ticks acknowledged synced sound in
-    let opened = c.in_ok-opened.opened in
-    let stands = c.in_ok-opened.ensures.stands honest (take tick ticks) acknowledged follows.1 in
-    let same_tick : opened.ended ≡ tick = c.in_ok-opened.ensures.ended ∙ read.ended in (
+    let opened = c.in_ok-opened-in-Ok.opened in
+    let stands = c.in_ok-opened-in-Ok.ensures.stands honest (take tick ticks) acknowledged follows.1 in
+    let same_tick : opened.ended ≡ tick = c.in_ok-opened-in-Ok.ensures.ended ∙ read.ended in (
       subst (λ n. WorldStands D.content D.may_leave cells (take n ticks) opened.front.live opened.images opened.log) (sym same_tick)
           (subst (λ n. WorldStands D.content D.may_leave n (take tick ticks) opened.front.live opened.images opened.log) follows.0 stands.0),
       stands.1 ∙ ap (λ n. length (take n ticks)) (sym same_tick),
