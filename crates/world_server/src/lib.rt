@@ -20,4 +20,3 @@ pub use lines::Announce;
 pub use service::{Address, Clients, Every, Service};
 pub use serving::{serve, serve_opened};
 pub use socket::SocketMode;
-pub use system::System;

@@ -17,6 +17,8 @@ use capture_core::{Capture, PlainCopy};
 use disk_model::{Disk, FileDisk, FourFiles};
 use shared_capture::{Kind, Method, Pong, Zig};
 use std::alloc::Global;
+use std::fs::{File, Files};
+use std::net::{Net, TcpListener, TcpStream};
 use std::sync::Wait;
 use std::thread::Threads;
 use std::time::Clock;
@@ -31,7 +33,19 @@ use world_start::{Start, recover_world};
 
 /// Serves the world in a folder to so many clients. It prints which world was recovered, where it listens, and how far
 /// play came.
-pub fn serve<R: System>(rt: &R, service: &Service<'_>) -> Ending
+pub fn serve<
+    R: Threads
+        + Wait
+        + Clock
+        + Net<Listener = TcpListener, Stream = TcpStream>
+        + Files<File = File>
+        + Print
+        + Eprint
+        + AllocGlobal
+        + Copy
+        + Send
+        + 'static,
+>(rt: &R, service: &Service<'_>) -> Ending
     ensures ends { EndsServing result }
 {
     let served = match service.method {

@@ -4,7 +4,8 @@ use std::sync::Wait;
 use std::thread::Threads;
 use std::time::Clock;
 
-/// What a server needs of the system: threads, a clock, the network, files, standard streams and memory.
+/// What a server needs of the system. `serve` spells it out: the borrow checker doesn't cover a caller that sees it through
+/// this trait alone.
 pub trait System: Threads
     + Wait
     + Clock
