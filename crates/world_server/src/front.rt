@@ -8,7 +8,6 @@ use crate::reporter::start_reporter;
 use crate::service::{Address, Service};
 use crate::socket::listen_at;
 use crate::streams::Streams;
-use crate::system::System;
 use std::alloc::Global;
 use std::fs::{File, Files};
 use std::io;
@@ -32,7 +31,19 @@ pub struct Front<R: Wait + Net + Copy> {
     pub lines: Lines<R>,
 }
 
-impl<R: System> Front<R> {
+impl<
+    R: Threads
+        + Wait
+        + Clock
+        + Net<Listener = TcpListener, Stream = TcpStream>
+        + Files<File = File>
+        + Print
+        + Eprint
+        + AllocGlobal
+        + Copy
+        + Send
+        + 'static,
+> Front<R> {
     /// Listens, beside streams that have begun. The server's counts begin with these.
     pub fn open(
         rt: &R,

@@ -14,7 +14,6 @@ mod service;
 mod serving;
 mod socket;
 mod streams;
-mod system;
 
 pub use lines::Announce;
 pub use service::{Address, Clients, Every, Service};

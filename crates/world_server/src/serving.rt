@@ -12,7 +12,6 @@ use crate::line::Line;
 use crate::lines::Announce;
 use crate::service::{Every, Service};
 use crate::streams::Streams;
-use crate::system::System;
 use capture_core::{Capture, PlainCopy};
 use disk_model::{Disk, FileDisk, FourFiles};
 use shared_capture::{Kind, Method, Pong, Zig};
@@ -59,10 +58,20 @@ pub fn serve<
 }
 
 // Serves by this method, which has to be the one that is asked for.
-fn serve_by<R: System, M: Seats + Send + 'static>(
-    rt: &R,
-    service: &Service<'_>,
-) -> Result<Ending, Ending>
+fn serve_by<
+    R: Threads
+        + Wait
+        + Clock
+        + Net<Listener = TcpListener, Stream = TcpStream>
+        + Files<File = File>
+        + Print
+        + Eprint
+        + AllocGlobal
+        + Copy
+        + Send
+        + 'static,
+    M: Seats + Send + 'static,
+>(rt: &R, service: &Service<'_>) -> Result<Ending, Ending>
     requires { service.now.method ≡ M.KIND }
     ensures ok { IfOk result EndsServing }
     ensures err { IfErr result IsFault }
@@ -76,7 +85,20 @@ fn serve_by<R: System, M: Seats + Send + 'static>(
 }
 
 // Prints which world was recovered, runs its start to its end, and serves it.
-fn serve_recovered<R: System, M: Seats + Send + 'static>(
+fn serve_recovered<
+    R: Threads
+        + Wait
+        + Clock
+        + Net<Listener = TcpListener, Stream = TcpStream>
+        + Files<File = File>
+        + Print
+        + Eprint
+        + AllocGlobal
+        + Copy
+        + Send
+        + 'static,
+    M: Seats + Send + 'static,
+>(
     rt: &R,
     service: &Service<'_>,
     begun: Start<PlainCopy>,
@@ -100,7 +122,20 @@ fn serve_recovered<R: System, M: Seats + Send + 'static>(
 }
 
 // Serves a world whose start has ended.
-fn serve_started<R: System, M: Seats + Send + 'static>(
+fn serve_started<
+    R: Threads
+        + Wait
+        + Clock
+        + Net<Listener = TcpListener, Stream = TcpStream>
+        + Files<File = File>
+        + Print
+        + Eprint
+        + AllocGlobal
+        + Copy
+        + Send
+        + 'static,
+    M: Seats + Send + 'static,
+>(
     rt: &R,
     service: &Service<'_>,
     streams: Streams,
