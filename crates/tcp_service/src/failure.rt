@@ -20,7 +20,7 @@ const ECONNABORTED: i32 = 103;
 
 const ENOBUFS: i32 = 105;
 
-/// What an `accept` that failed tells of the next one.
+/// Why an `accept` failed, by what follows for the next one.
 #[derive(Clone, Copy, Debug, PartialEq, Eq)]
 pub enum Failure {
     /// A signal interrupted it.

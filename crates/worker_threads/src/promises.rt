@@ -1,4 +1,4 @@
-//! What the join of each thread tells of the worker that it brings back.
+//! The join of each thread promises what became of the worker that it brings back.
 use disk_model::Disk;
 use shared_capture::Method;
 use std::snapshot::Snapshot;

@@ -169,7 +169,7 @@ fn newest_image<D: Disk>(images: &ImageWriter<D>) -> u64
     }
 }
 
-/// Serves a world that was opened, and tells how the program ends, and what the server leaves once it has stopped. On
+/// Serves a world that was opened. It returns how the program ends, and what the server leaves once it has stopped. On
 /// disks that keep to the disk model the files are then sound for all ticks that were played.
 pub fn serve_opened<
     R: Threads + Wait + Clock + Copy + Send + 'static,
