@@ -3,3 +3,4 @@ pub mod MakingLemmas
 pub mod WordsLemmas
 pub mod WordsImageLemmas
 pub mod LookLemmas
+pub mod ForwardLemmas

@@ -8,3 +8,4 @@ pub mod WordsText
 pub mod WordsImage
 pub mod Look
 pub mod Figures
+pub mod Forward
