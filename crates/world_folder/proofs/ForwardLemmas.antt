@@ -26,13 +26,14 @@ not_open gate xs ys ends = ends
 -- what lies behind the first of them
 behind_first : (x : ℕ) (xs : List ℕ) (place : ℕ) (bytes : List ℕ) → drop place bytes ≡ x ∷ xs → drop (suc place) bytes ≡ xs
 behind_first x xs place bytes e =
-    ap (λ (n : ℕ). drop n bytes) (omega arith) ∙ sym (drop-drop 1 place bytes) ∙ ap (drop 1) e
+    let next : suc place ≡ place + 1 = omega arith in
+    ap (λ (n : ℕ). drop n bytes) next ∙ sym (drop-drop 1 place bytes) ∙ ap (drop 1) e
 
 -- ---- what a copy has
 
 module _ (file : ℕ → List ℕ) where
   -- a copy from a place on begins with these bytes, and goes on behind them
-  pub record Begins (xs : List ℕ) (place moment : ℕ) (copy : List ℕ) : Type 0 where
+  record Begins (xs : List ℕ) (place moment : ℕ) (copy : List ℕ) : Type 0 where
     pub rest : List ℕ
     pub later : ℕ
     pub after : moment ≤ later
@@ -41,13 +42,15 @@ module _ (file : ℕ → List ℕ) where
 
   -- bytes that the file has there from a moment on are copied
   begins : (xs : List ℕ) (place moment : ℕ) (copy : List ℕ) → ((m : ℕ) → moment ≤ m → (rest : List ℕ) × (drop place (file m) ≡ xs ++ rest)) → IsCopied file place moment copy → Begins xs place moment copy
-  begins [] place moment copy has copied = record {
-    rest = copy;
-    later = moment;
-    after = le_refl moment;
-    is = refl;
-    copied = subst (λ (n : ℕ). IsCopied file n moment copy) (omega arith) copied;
-  }
+  begins [] place moment copy has copied =
+      let here : place ≡ place + 0 = omega arith in
+      record {
+        rest = copy;
+        later = moment;
+        after = le_refl moment;
+        is = refl;
+        copied = subst (λ (n : ℕ). IsCopied file n moment copy) here copied;
+      }
   begins (x ∷ xs) place moment [] has copied =
       let there = has copied.0 copied.1 in
       absurd (no_first x (xs ++ there.0) (sym (drop_all place (file copied.0) copied.2) ∙ there.1))
@@ -57,12 +60,13 @@ module _ (file : ℕ → List ℕ) where
       let next = begins xs (suc place) read copy
       (λ m le. let on = has m (le_trans copied.1 le) in (on.0, behind_first x (xs ++ on.0) place (file m) on.1))
       copied.3 in
+      let behind : suc place + length xs ≡ place + length (x ∷ xs) = omega arith in
       record {
         rest = next.rest;
         later = next.later;
         after = le_trans copied.1 next.after;
         is = ap (λ (b : ℕ). b ∷ copy) (first_of byte x copied.2.0 (xs ++ there.0) (sym copied.2.1 ∙ there.1)) ∙ ap (λ (l : List ℕ). x ∷ l) next.is;
-        copied = subst (λ (n : ℕ). IsCopied file n next.later next.rest) (omega arith) next.copied;
+        copied = subst (λ (n : ℕ). IsCopied file n next.later next.rest) behind next.copied;
       }
 
 -- ---- a segment that grows
@@ -105,7 +109,7 @@ module _ (file : ℕ → List ℕ) (base : ℕ) (ticks : ℕ → List Tick) (gro
       ∙ drop_at (front groups) (flat_map group_bytes more ++ rest_at m) (length (front groups)) refl
 
   -- a copy from the gate behind some groups reads as the segment at a moment
-  pub record Found (groups : List (List Tick)) (moment : ℕ) (copy : List ℕ) : Type 0 where
+  record Found (groups : List (List Tick)) (moment : ℕ) (copy : List ℕ) : Type 0 where
     pub at : ℕ
     pub after : moment ≤ at
     pub more : List (List Tick)
@@ -210,8 +214,8 @@ module _ (file : ℕ → List ℕ) (base : ℕ) (ticks : ℕ → List Tick) (gro
       (λ m le. let on = grows.more began m le in (flat_map group_bytes on.0 ++ rest_at m,
         file_is m ∙ ap (λ (l : List (List Tick)). front l ++ rest_at m) on.1 ∙ ap (λ (l : List ℕ). l ++ rest_at m) (front_more here on.0) ∙ append_assoc (front here) (flat_map group_bytes on.0) (rest_at m)))
       copied in
-      let found = from_gate (length head.rest) here head.later head.rest (le_refl (length head.rest)) (λ m le. grows.more began m (le_trans head.after le)) head.copied in
-      let now = grows.reads found.at in
+      let start : 0 + length (front here) ≡ length (front here) = omega arith in
+      let found = from_gate (length head.rest) here head.later head.rest (le_refl (length head.rest)) (λ m le. grows.more began m (le_trans head.after le)) (subst (λ (n : ℕ). IsCopied file n head.later head.rest) start head.copied) in
       let is : copy ≡ front (groups_at found.at) ++ found.rest =
           head.is ∙ ap (λ (l : List ℕ). front here ++ l) found.is ∙ sym (append_assoc (front here) (flat_map group_bytes found.more) found.rest)
           ∙ ap (λ (l : List ℕ). l ++ found.rest) (sym (front_more here found.more) ∙ ap front (sym found.all)) in
