@@ -1,4 +1,3 @@
-//! What a start begins with: its store, the keepers of its files, and its round if it has one.
 ghost use Rattle.std.specs.Prelude.{◌≡◌, ◌≤◌, ℕ, List, All, replicate, IfOk, IfErr};
 ghost use Rattle.world_actions.specs.World.{IsWord};
 ghost use Rattle.world_actions.specs.declared.world.TheConstants.{CELLS};

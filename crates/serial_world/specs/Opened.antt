@@ -24,7 +24,7 @@ pub record IsOpened {C D : Type 0} (content : C → Content) (file : D → List 
       → (s.engine.images.cells ≡ cells) × Serves content file leaves honest s (take recovery.tick ticks)
 
 module _ {D : Type 0} (file : D → List ℕ) (leaves : D → List ℕ → Type 0) where
-  -- No world is opened. The files were only read, except if a device failed, and sound files stay sound.
+  -- no world is opened: but for a device that failed the files were only read, and sound files stay sound
   pub record IsNotOpened (files : FourFiles D) (refusal : Refusal) (left : FourFiles D) : Type 0 where
     pub kept : refusal ≢ Device → EachFile files left (KeepsFile file leaves)
     pub sound : (cells : ℕ) (ticks : List (List Action)) (acknowledged : ℕ) → AreSynced file leaves files → AreSound file leaves files cells ticks acknowledged

@@ -25,7 +25,7 @@ module _ {C D : Type 0} (content : C → Content) (file : D → List ℕ) (leave
   abbrev pub words_of : SerialState C D → List ℕ
   words_of s = (content s.engine.store).live
 
-  -- The start is over, and these ticks have ended, of which `acked` are acknowledged. The world and its files follow them.
+  -- the start is over, these ticks have ended, as many as are told are acknowledged, and the world and its files follow them
   pub record Serves (s : SerialState C D) (ticks : List (List Action)) : Type 0 where
     pub started : s.engine.log.starting ≡ false
     pub follows : Follows content file leaves s.engine s.files ticks s.acked

@@ -20,7 +20,7 @@ use std::alloc::Global;
 use world_actions::Refusal;
 use world_start::Engine;
 
-/// An engine with its files, and the counts of the world.
+/// An engine with its files, and what is told of the world.
 #[derive(Drop)]
 pub struct SerialState<C: Capture, D: Disk> {
     pub engine: Engine<C>,

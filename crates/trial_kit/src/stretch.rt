@@ -1,7 +1,7 @@
 use std::alloc::{AllocError, Global};
 
-/// Allocating a block of this size is a signal to the library `scripts/watched_allocations.c`: a stretch begins in which it may
-/// refuse one allocation, or each one, or in which it counts them all. Without that library the signal does nothing.
+/// A block of this size begins a stretch in which one allocation may be refused, or each one, or in which all are counted,
+/// for who watches them (`scripts/watched_allocations.c`). Where nobody does none is.
 const ONE_REFUSED: usize = 777_001;
 
 const EACH_REFUSED: usize = 777_002;

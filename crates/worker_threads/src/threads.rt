@@ -45,9 +45,9 @@ impl From<AllocError> for NotStarted {
     }
 }
 
-/// How many batches may wait for the mutator. A session has one at a time, and waits if there is no room. The queue of the
-/// log has as many records, for a reason of its own.
-pub const ASKS: usize = 64;
+/// How many batches may wait for the mutator. A session has one at a time. If there is no room it sleeps, and the mutator has
+/// to wake it, which takes longer than a batch.
+pub const ASKS: usize = 1_024;
 
 /// The workers of a world, each in its thread. Contracts see them as they began. Dropped, they run on.
 #[derive(Drop)]

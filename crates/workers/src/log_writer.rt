@@ -46,8 +46,8 @@ pub struct Log<D: Disk + Drop> {
     pub b: D,
 }
 
-/// Writes the popped records to the log, except those that an open image has, and answers the durable ticks. It begins
-/// after the start of the log.
+/// Writes what it pops to the log, but for what an open image has, and answers what is durable. It begins after the start
+/// of the log.
 #[derive(Drop)]
 pub struct LogWriter<D: Disk + Drop, G: Gate + Drop> {
     gate: G,
@@ -79,7 +79,7 @@ impl<D: Disk + Drop, G: Gate + Drop> Model for LogWriter<D, G> {
 
 impl<D: Disk + Drop, G: Gate + Drop> LogWriter<D, G> {
     /// A log writer for a log that begins after this tick. Its keeper has just made the start, the channel was just
-    /// opened, and no tick of an open image has come yet.
+    /// opened, and no image is told yet.
     pub fn new(
         alloc: Global,
         gate: G,
@@ -150,7 +150,7 @@ impl<D: Disk + Drop, G: Gate + Drop> LogWriter<D, G> {
         self.acked
     }
 
-    // The log is down: says so to the mutator, and refuses each answer that waits.
+    // The log is down: tells it, and refuses each answer that waits.
     fn fall<R: Wait>(&mut self, rt: &R)
         requires up { self.old.down ≡ false }
         ensures { self.new ≡ record self.old {
@@ -358,8 +358,8 @@ impl<D: Disk + Drop, G: Gate + Drop> LogWriter<D, G> {
         }
     }
 
-    /// Waits for an item, and pops it with those behind it, as long as there is room. It writes them to the log, except
-    /// those that an open image has, and answers the durable ticks. Once the log is down it pops an item and refuses it.
+    /// Pops an item, waiting for one, and what is there behind it, as long as there is room; writes all that to the log,
+    /// but for what an open image has, and answers what is durable. Once the log is down it pops an item and refuses it.
     pub fn turn<R: Wait>(&mut self, rt: &R)
         requires goes_on { self.old.over ≡ false }
         requires rest { IsAtRest self.old }

@@ -30,12 +30,12 @@ pub struct ReplySlot {
     place: Arc<Place, Global>,
 }
 
-/// The end that goes with an ask. If it is dropped unused, the session finds that no reply comes.
+/// The end that goes with an ask. One that is dropped unused tells the session that no reply comes.
 pub struct ReplySender {
     place: Arc<Place, Global>,
 }
 
-// Clauses see nothing of an end. The type of a reply carries its promise.
+// Clauses see nothing of an end: what a reply is, its own type tells.
 impl Model for ReplySlot {
     ghost Value = { ⊤ };
 
