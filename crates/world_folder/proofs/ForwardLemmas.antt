@@ -157,13 +157,15 @@ module _ (file : ℕ → List ℕ) (base : ℕ) (ticks : ℕ → List Tick) (gro
   at_gate most finds groups moment byte copy few copied (group ∷ more) all =
       let read = copied.0 in
       let has : HasFrom (groups ++ group ∷ []) read =
-          λ m le. (let on = grows.more read m le in (more ++ on.0, on.1 ∙ ap (λ (l : List (List Tick)). l ++ on.0) (all ∙ sym (append_assoc groups (group ∷ []) more)) ∙ append_assoc (groups ++ group ∷ []) more on.0)) in
+      λ m le. (let on = grows.more read m le in (more ++ on.0, on.1 ∙ ap (λ (l : List (List Tick)). l ++ on.0) (all ∙ sym (append_assoc groups (group ∷ []) more)) ∙ append_assoc (groups ++ group ∷ []) more on.0)) in
       let body = begins file (group_bytes group) (length (front groups)) read (byte ∷ copy)
-      (λ m le. (let on = has m le in (flat_map group_bytes on.0 ++ rest_at m,
-        behind_groups m groups (group ∷ on.0) (on.1 ∙ append_assoc groups (group ∷ []) on.0) ∙ append_assoc (group_bytes group) (flat_map group_bytes on.0) (rest_at m))))
+      (λ m le. (let on = has m le in (
+        flat_map group_bytes on.0 ++ rest_at m,
+        behind_groups m groups (group ∷ on.0) (on.1 ∙ append_assoc groups (group ∷ []) on.0) ∙ append_assoc (group_bytes group) (flat_map group_bytes on.0) (rest_at m),
+      )))
       (read, le_refl read, copied.2, copied.3) in
       let one : length (front (groups ++ group ∷ [])) ≡ length (front groups) + length (group_bytes group) =
-          ap length (front_more groups (group ∷ [])) ∙ length-append (front groups) (flat_map group_bytes (group ∷ [])) ∙ ap (λ (l : List ℕ). length (front groups) + length l) (append-nil (group_bytes group)) in
+      ap length (front_more groups (group ∷ [])) ∙ length-append (front groups) (flat_map group_bytes (group ∷ [])) ∙ ap (λ (l : List ℕ). length (front groups) + length l) (append-nil (group_bytes group)) in
       let next = finds (groups ++ group ∷ []) body.later body.rest (omega (arith, few, ap length body.is, length-append (group_bytes group) body.rest))
       (λ m le. has m (le_trans body.after le))
       (subst (λ (n : ℕ). IsCopied file n body.later body.rest) (sym one) body.copied) in
@@ -211,12 +213,14 @@ module _ (file : ℕ → List ℕ) (base : ℕ) (ticks : ℕ → List Tick) (gro
   copied_at began copy copied =
       let here = groups_at began in
       let head = begins file (front here) 0 began copy
-      (λ m le. let on = grows.more began m le in (flat_map group_bytes on.0 ++ rest_at m,
-        file_is m ∙ ap (λ (l : List (List Tick)). front l ++ rest_at m) on.1 ∙ ap (λ (l : List ℕ). l ++ rest_at m) (front_more here on.0) ∙ append_assoc (front here) (flat_map group_bytes on.0) (rest_at m)))
+      (λ m le. let on = grows.more began m le in (
+        flat_map group_bytes on.0 ++ rest_at m,
+        file_is m ∙ ap (λ (l : List (List Tick)). front l ++ rest_at m) on.1 ∙ ap (λ (l : List ℕ). l ++ rest_at m) (front_more here on.0) ∙ append_assoc (front here) (flat_map group_bytes on.0) (rest_at m),
+      ))
       copied in
       let start : 0 + length (front here) ≡ length (front here) = omega arith in
       let found = from_gate (length head.rest) here head.later head.rest (le_refl (length head.rest)) (λ m le. grows.more began m (le_trans head.after le)) (subst (λ (n : ℕ). IsCopied file n head.later head.rest) start head.copied) in
       let is : copy ≡ front (groups_at found.at) ++ found.rest =
-          head.is ∙ ap (λ (l : List ℕ). front here ++ l) found.is ∙ sym (append_assoc (front here) (flat_map group_bytes found.more) found.rest)
-          ∙ ap (λ (l : List ℕ). l ++ found.rest) (sym (front_more here found.more) ∙ ap front (sym found.all)) in
+      head.is ∙ ap (λ (l : List ℕ). front here ++ l) found.is ∙ sym (append_assoc (front here) (flat_map group_bytes found.more) found.rest)
+      ∙ ap (λ (l : List ℕ). l ++ found.rest) (sym (front_more here found.more) ∙ ap front (sym found.all)) in
       (found.at, le_trans head.after found.after, spelled_copy found.at copy found.rest is found.ends (omega (arith, found.long, ap length head.is, length-append (front here) head.rest)))
