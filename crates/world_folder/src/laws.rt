@@ -3,7 +3,7 @@ ghost use Rattle.std.specs.Prelude.{◌≤◌, ℕ, List};
 ghost use Rattle.action_log.specs.Segment.{Tick, OpenSegment, IsSegment};
 ghost use Rattle.world_folder.specs.Forward.{IsCopied, IsGrowing};
 
-/// Law: a copy of a segment that grows while it is read from its first byte on reads as the segment did at one moment after
+/// Law: a segment may grow while it is copied from its first byte on. The copy reads as the segment did at one moment after
 /// the copy began. So it has every group that was open then, and no part of another one.
 pub fn copies_are_of_a_moment()
     ensures { (file : ℕ → List ℕ) (base : ℕ) (ticks : ℕ → List Tick) → IsGrowing file base ticks
