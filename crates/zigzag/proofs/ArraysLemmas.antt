@@ -1,16 +1,16 @@
 -- What the calls of a store do to its words.
-use Rattle.std.proofs.Common.{◌≡◌, refl, sym, ◌∙◌, ap, ℕ, zero, suc, ◌+◌, ◌<◌, ◌≤◌, Bool, true, false, not, cond, List, [], ◌∷◌, length, drop, map, replicate, get_or, set, Some, None, arith, inl, inr, ◌-◌}
-use Rattle.std.proofs.lemmas.List.{length-map, length-drop, drop_more, drop_all, get_or-map, set-get_or}
+use Rattle.std.proofs.Common.{◌≡◌, refl, sym, ◌∙◌, ap, ℕ, zero, suc, ◌+◌, ◌<◌, ◌≤◌, Bool, true, false, not, cond, List, [], ◌∷◌, length, drop, map, replicate, get_or, set, Some, None, arith, inl, ◌-◌}
+use Rattle.std.proofs.lemmas.List.{length-map, length-drop, drop_more, get_or-map, set-get_or}
 use Rattle.std.proofs.Math.Seq.{drop-length}
 use Rattle.std.proofs.lemmas.List.Elements.{All-nil, All-cons, All-head, All-tail}
 use Rattle.std.specs.Option.{option_map}
-use Rattle.std.proofs.lemmas.Option.{slice_get_within, get_or_from_slice_get, none-some, slice_get-get_or, slice_get-map, slice_get_cases, slice_get_past}
+use Rattle.std.proofs.lemmas.Option.{slice_get_within, get_or_from_slice_get, slice_get-get_or, slice_get-map, slice_get_past}
 use Rattle.std.specs.List.{slice_get, All}
 use Rattle.world_actions.specs.World.{IsWord}
 use Rattle.capture_core.specs.declared.taker.Taken.TheVariants.{Word}
 use Rattle.capture_core.specs.Taken.{taken_of}
 use Rattle.capture_core.specs.Content.{all_touched, content_after, Marks, Takes}
-use Rattle.capture_core.proofs.ContentLemmas.{all_touched-set}
+use Rattle.capture_core.proofs.ContentLemmas.{all_touched-set, none_behind, takes_none}
 use Rattle.zigzag.specs.Zigzag.{Arrays, words_at, live_words, captured_words, content_of, IsInOrder, built_arrays, written_arrays, marked_arrays, taken_arrays}
 
 -- there is a word for each cell
@@ -174,16 +174,7 @@ takes-word store word is =
 
 -- a take where none is left
 pub takes-none : (store : Arrays) → None ≡ slice_get (captured_words store) store.taken → Takes (content_of store) None (content_of store)
-takes-none store is =
-    let end : drop store.taken (captured_words store) ≡ [] =
-    elim (slice_get_cases (captured_words store) store.taken).1 [
-      | inl (x, below, some, at) ↦ absurd (none-some x (is ∙ some))
-      | inr (past, none) ↦ drop_all store.taken (captured_words store) past
-    ] in
-    record {
-      gives = sym (ap (λ list. option_map taken_of (slice_get (map Some list) 0)) end);
-      rest = ap (λ left. record (content_of store) { left = left }) (ap (map Some) end ∙ sym (ap (λ list. drop 1 (map Some list)) end));
-    }
+takes-none store is = takes_none (content_of store) (ap (map Some) (none_behind (captured_words store) store.taken is))
 
 -- how many cells are left
 pub length-left : (store : Arrays) → IsInOrder store → length (content_of store).left ≡ length store.array_zero - store.taken
