@@ -64,3 +64,6 @@ number_bytes-number_of width bytes are_bytes long = bytes_of_number width bytes 
 pub number_of-below : (width : ℕ) (bytes : List ℕ) → IsBytes bytes → number_of width bytes < 256 ^ width
 unfolding number_of
 number_of-below width bytes are_bytes = little_from-lt 0 width bytes are_bytes
+
+-- what the law of numbers says
+pub ruleset number_laws = (number_of-number_bytes, number_bytes-number_of, number_of-append, number_of-below, length-number_bytes)
