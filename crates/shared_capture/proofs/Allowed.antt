@@ -1,5 +1,5 @@
 -- Each step of the two seats, as the table asks for it.
-use Rattle.std.proofs.Common.{◌≡◌, ◌≢◌, ℕ, ◌+◌, ◌<◌, ◌/◌, ◌⊎◌, eqb, Bool, zero, suc, List, [], ◌∷◌, ◌++◌, length, replicate, get_or, set, sym, refl, ap, ◌∙◌, subst, ⊎_elim, inl, inr, arith, length-append, get_or-append-add, true, false, All}
+use Rattle.std.proofs.Common.{◌≡◌, ◌≢◌, ℕ, ◌+◌, ◌<◌, ◌/◌, eqb, Bool, zero, suc, List, [], ◌∷◌, ◌++◌, length, replicate, get_or, set, sym, refl, ap, ◌∙◌, subst, arith, length-append, get_or-append-add, true, false, All}
 use Rattle.std.proofs.lemmas.List.{get_or-replicate, length-replicate, get_or_append_left}
 use Rattle.std.proofs.lemmas.List.Elements.{All-get_or}
 use Rattle.std.proofs.lemmas.Bool.{false≢true}
@@ -7,8 +7,8 @@ use Rattle.std.proofs.lemmas.Option.{none-some}
 use mathlib.Core.Option as maybe
 use lib.ListN.{get_elem?}
 use Rattle.world_actions.specs.World.{IsWord}
-use Rattle.atomic_table.specs.Table.{opening, step, keeps, Allows, Splits, Joins}
-use Rattle.atomic_table.proofs.Lists.{at_set, set_else}
+use Rattle.atomic_table.specs.Table.{State, opening, step, keeps, Allows, Splits, Joins}
+use Rattle.atomic_table.proofs.Lists.{set_else}
 use Rattle.packed_marks.specs.Marks.{IsPacked}
 use Rattle.packed_marks.specs.Bits.{chunks, marked, IsFull}
 use Rattle.shared_capture.specs.declared.method.Kind.{Kind}
@@ -26,16 +26,13 @@ use Rattle.shared_capture.specs.Meeting.{after_meet, front_met, front_part, back
 use Rattle.shared_capture.specs.Seats.{IsReady, IsSame}
 use Rattle.shared_capture.proofs.Packed.{full_packed}
 use Rattle.shared_capture.proofs.Places.{cell_one, mark_one}
+use Rattle.shared_capture.proofs.Views.{set_knows, split_knows, join_knows}
 use Rattle.shared_capture.proofs.Keeps.{words_stay, core_load, core_write, core_mark, core_open, core_look, core_fetch, core_take, core_finish, meets_now}
 
 abbrev U : Type 0
 U = Unit {0}
 
 -- ## Who sits where
-
-set_knows : (K : ℕ → View → Type 0) (vs : List View) (id : ℕ) (w : View) → K id w → ((j : ℕ) (v : View) → j ≢ id → get_elem? vs j ≡ maybe.some v → K j v) → (j : ℕ) (v : View) → get_elem? (set vs id w) j ≡ maybe.some v → K j v
-set_knows K vs id w mine others j v e = ⊎_elim (λ (t : (j ≡ id) × (w ≡ v)). subst (λ (x : ℕ × View). K x.0 x.1) (λ i. (sym t.0 i, t.1 i)) mine)
-    (λ (t : (j ≢ id) × (get_elem? vs j ≡ maybe.some v)). others j v t.0 t.1) (at_set vs id j w v e)
 
 others_front : (f g : FrontView) (p : ℕ) (b : BackView) (q j : ℕ) (v : View) → j ≢ p → Knows f p b q j v → Knows g p b q j v
 others_front f g p b q j Spent ne k = tt
@@ -192,61 +189,26 @@ module _ (kind : Kind) (n : ℕ) where
             (refl, record { agrees = m.1.agrees; level = m.1.level; fetched = m.1.fetched; touched = m.1.touched }),
       )
 
+  -- front and back know what they knew, at these seats
+  kept_at : {s t : State U View} (k : Kept kind n s) (p q : ℕ) → Core kind n t.words k.front k.back → ((j : ℕ) (v : View) → get_elem? t.views j ≡ maybe.some v → Knows k.front p k.back q j v) → Kept kind n t
+  kept_at k p q core each = record { front = k.front; front_at = p; back = k.back; back_at = q; core = core; each_seat = each }
+
   parts : (id : ℕ) (f : FrontView) (b : BackView) → Splits (Kept kind n) id (Pair f b) (Front f) (Back b)
-  parts id f b s k at = let known = k.each_seat id (Pair f b) at in let q : ℕ = length (set s.views id (Front f)) in record {
-    front = k.front;
-    front_at = k.front_at;
-    back = k.back;
-    back_at = q;
-    core = k.core;
-    each_seat = λ j v e. ⊎_elim
-        (set_knows (Knows k.front k.front_at k.back q) s.views id (Front f) (known.0, known.2)
-        (λ i u ne a. others_spent k.front k.front k.front_at k.front_at k.back k.back k.back_at q i u (λ h. ne (h ∙ sym known.0)) (λ h. ne (h ∙ sym known.1)) (k.each_seat i u a)) j v)
-        (λ t. subst (Knows k.front k.front_at k.back q j) t.1 (t.0, known.3))
-        (view_at_end (set s.views id (Front f)) (Back b) v j e);
-  }
-    where
-      view_at_end : (l : List View) (a b : View) (j : ℕ) → get_elem? (l ++ a ∷ []) j ≡ maybe.some b → (get_elem? l j ≡ maybe.some b) ⊎ ((j ≡ length l) × (a ≡ b))
-      view_at_end [] a b zero e = inr (refl, maybe.some-injective a b e)
-      view_at_end [] a b (suc j) e = absurd (maybe.some-ne-none b (sym e))
-      view_at_end (x ∷ xs) a b zero e = inl e
-      view_at_end (x ∷ xs) a b (suc j) e = ⊎_elim inl (λ t. inr (ap suc t.0, t.1)) (view_at_end xs a b j e)
+  parts id f b s k at = let known = k.each_seat id (Pair f b) at in let q : ℕ = length (set s.views id (Front f)) in
+      kept_at k k.front_at q k.core (split_knows (Knows k.front k.front_at k.back q) s.views id (Front f) (Back b) (known.0, known.2) (refl, known.3)
+      (λ j v ne e. others_spent k.front k.front k.front_at k.front_at k.back k.back k.back_at q j v (λ h. ne (h ∙ sym known.0)) (λ h. ne (h ∙ sym known.1)) (k.each_seat j v e)))
 
   moves : (id : ℕ) (b : BackView) → Splits (Kept kind n) id (Back b) Spent (Back b)
-  moves id b s k at = let known = k.each_seat id (Back b) at in let q : ℕ = length (set s.views id Spent) in record {
-    front = k.front;
-    front_at = k.front_at;
-    back = k.back;
-    back_at = q;
-    core = k.core;
-    each_seat = λ j v e. ⊎_elim
-        (set_knows (Knows k.front k.front_at k.back q) s.views id Spent tt
-        (λ i u ne a. others_back k.front k.front_at k.back k.back k.back_at q i u (λ h. ne (h ∙ sym known.0)) (k.each_seat i u a)) j v)
-        (λ t. subst (Knows k.front k.front_at k.back q j) t.1 (t.0, known.1))
-        (view_at_end (set s.views id Spent) (Back b) v j e);
-  }
-    where
-      view_at_end : (l : List View) (a b : View) (j : ℕ) → get_elem? (l ++ a ∷ []) j ≡ maybe.some b → (get_elem? l j ≡ maybe.some b) ⊎ ((j ≡ length l) × (a ≡ b))
-      view_at_end [] a b zero e = inr (refl, maybe.some-injective a b e)
-      view_at_end [] a b (suc j) e = absurd (maybe.some-ne-none b (sym e))
-      view_at_end (x ∷ xs) a b zero e = inl e
-      view_at_end (x ∷ xs) a b (suc j) e = ⊎_elim inl (λ t. inr (ap suc t.0, t.1)) (view_at_end xs a b j e)
+  moves id b s k at = let known = k.each_seat id (Back b) at in let q : ℕ = length (set s.views id Spent) in
+      kept_at k k.front_at q k.core (split_knows (Knows k.front k.front_at k.back q) s.views id Spent (Back b) tt (refl, known.1)
+      (λ j v ne e. others_back k.front k.front_at k.back k.back k.back_at q j v (λ h. ne (h ∙ sym known.0)) (k.each_seat j v e)))
 
   joins : (id : ℕ) (f : FrontView) (there : ℕ) (b : BackView) → Joins (Kept kind n) id (Front f) there (Back b) (Pair f b) Spent
   joins id f there b s k at apart beside =
       let known = k.each_seat id (Front f) at in
-      let seen = k.each_seat there (Back b) (sym (set_else s.views id there (Pair f b) apart) ∙ beside) in record {
-        front = k.front;
-        front_at = id;
-        back = k.back;
-        back_at = id;
-        core = k.core;
-        each_seat = set_knows (Knows k.front id k.back id) (set s.views id (Pair f b)) there Spent tt
-            (λ j v ne e. ⊎_elim
-            (λ (t : (j ≡ id) × (Pair f b ≡ v)). subst (Knows k.front id k.back id j) t.1 (t.0, t.0, known.1, seen.1))
-            (λ (t : (j ≢ id) × (get_elem? s.views j ≡ maybe.some v)). others_spent k.front k.front k.front_at id k.back k.back k.back_at id j v (λ h. t.0 (h ∙ sym known.0)) (λ h. ne (h ∙ sym seen.0)) (k.each_seat j v t.1))
-            (at_set s.views id j (Pair f b) v e));
-      }
+      let seen = k.each_seat there (Back b) (sym (set_else s.views id there (Pair f b) apart) ∙ beside) in
+      kept_at k id id k.core (join_knows (Knows k.front id k.back id) s.views id (Pair f b) there Spent (refl, refl, known.1, seen.1) tt
+      (λ j v near far e. others_spent k.front k.front k.front_at id k.back k.back k.back_at id j v (λ h. near (h ∙ sym known.0)) (λ h. far (h ∙ sym seen.0)) (k.each_seat j v e)))
 
   pub parts_of : (id : ℕ) (v : View) (f : FrontView) (b : BackView) → v ≡ Pair f b → Splits (Kept kind n) id v (front_part v) (back_part v)
   parts_of id v f b is = subst (λ (z : View). Splits (Kept kind n) id z (front_part z) (back_part z)) (sym is) (parts id f b)
