@@ -102,7 +102,7 @@ module _ (kind : Kind) (n : ℕ) where
 module _ (kind : Kind) (n slots id : ℕ) (me : Sitting) (f : FrontView) (is : me.0 ≡ Front f) where
   pub loads_phase : Allows (Kept kind n) slots id me 0 (λ x. x) (phase_loaded (step slots 0 0 0 maybe.none) me)
   loads_phase = front_step kind n slots id me 0 (λ x. x) f (λ x. after_load x f) (phase_loaded (step slots 0 0 0 maybe.none) me) is
-      (λ ws b c. (words_stay kind n ws f b c 0 (after_load (get_or ws 0 0) f) b (core_load kind n ws f b c), (ap (λ (v : View). (Front (after_load (get_or ws 0 0) (front_of v)), me.1)) (sym is), λ e. c.closed (sym (ap (λ (v : View). (front_of v).closed) is) ∙ e))))
+      (λ ws b c. (words_stay kind n ws f b c 0 (after_load (get_or ws 0 0) f) b (core_load kind n ws f b c), (ap (λ (v : View). (Front (after_load (get_or ws 0 0) (front_of v)), me.1)) (sym is), λ e. c.table.closed (sym (ap (λ (v : View). (front_of v).closed) is) ∙ e))))
 
   pub stores_value : (i v word : ℕ) → IsWord v → i < n → length f.live ≡ n → word ≡ cell_place n (write_side kind f.current (marked f.marks i)) i → Allows (Kept kind n) slots id me word (λ _. v) (λ _. value_stored (step slots word v 0 maybe.none) me v)
   stores_value i v word fits inside long at = let s : Bool = write_side kind f.current (marked f.marks i) in
@@ -156,7 +156,7 @@ module _ (kind : Kind) (n slots id : ℕ) (me : Sitting) (b : BackView) (is : me
         (
           subst (λ (z : View). (j : ℕ) (t : Bool) → cell_place n s i ≡ cell_place (back_of z).cells t j → j < (back_of z).cells → ◌≡◌ {A = Sitting} (Back (after_take i x b), me.1) (Back (after_take j x (back_of z)), me.1)) (sym is)
               (λ j t e l. let one = cell_one n s t i j inside (subst (λ (z : ℕ). j < z) wide l) (sym (e ∙ ap (λ (z : ℕ). cell_place z t j) wide)) in λ h. (Back (after_take (sym one.0 h) x b), me.1)),
-          c.small s i inside,
+          c.table.small s i inside,
         ),
       )))
 
@@ -248,13 +248,16 @@ module _ (ws ms : List ℕ) (full : IsFull (length ws) ms) (all_words : All IsWo
 
   opens_core : (kind : Kind) → Core kind n (opening_words ws ms) (front_start ws ms) (back_start n)
   opens_core kind = record {
-    wide = omega (arith, length-append ws (ws ++ (ms ++ zeros)), length-append ws (ms ++ zeros), length-append ms zeros, length-replicate {A = ℕ} (chunks n) 0, full.words_length);
-    cells = (refl, length-replicate {A = Bool} n false, full_packed n ms full, refl);
-    small = λ s i l. subst IsWord (sym (opens_at s i l)) (All-get_or IsWord ws i 0 l all_words);
-    live = λ i l. ap (λ (z : Bool). get_or (opening_words ws ms) (cell_place n z i) 0) (get_or-replicate n i false false l) ∙ opens_at false i l;
-    marks = λ k l. ap (λ (z : Bool). get_or (opening_words ws ms) (mark_place n z k) 0) (front_row kind) ∙ first_row k l;
+    table = record {
+      wide = omega (arith, length-append ws (ws ++ (ms ++ zeros)), length-append ws (ms ++ zeros), length-append ms zeros, length-replicate {A = ℕ} (chunks n) 0, full.words_length);
+      fits = (refl, length-replicate {A = Bool} n false, full_packed n ms full);
+      small = λ s i l. subst IsWord (sym (opens_at s i l)) (All-get_or IsWord ws i 0 l all_words);
+      live = λ i l. ap (λ (z : Bool). get_or (opening_words ws ms) (cell_place n z i) 0) (get_or-replicate n i false false l) ∙ opens_at false i l;
+      marks = λ k l. ap (λ (z : Bool). get_or (opening_words ws ms) (mark_place n z k) 0) (front_row kind) ∙ first_row k l;
+      closed = λ e. absurd (false≢true e);
+    };
+    cells = refl;
     agrees = λ k c e. absurd (none-some c e);
-    closed = λ e. absurd (false≢true e);
     ended = λ _. record { level = refl; idle = refl; same = refl; clean = λ p k l. second_row k l };
     opened = λ p. absurd (omega arith);
     looked = λ e. absurd (false≢true e);
