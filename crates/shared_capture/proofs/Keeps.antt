@@ -53,8 +53,6 @@ module _ (kind : Kind) (n : ℕ) (ws : List ℕ) (f : FrontView) (b : BackView) 
   pub words_stay : (i : ℕ) (g : FrontView) (d : BackView) → Core kind n ws g d → Core kind n (set ws i (get_or ws i 0)) g d
   words_stay i g d k = subst (λ (z : List ℕ). Core kind n z g d) (sym (set-get_or ws i 0)) k
 
-  -- ## The front's steps
-
   -- the round that is open stays so, where the phase stays and what is left of it is there
   still_open : {zs : List ℕ} {g : FrontView} {d : BackView} (o : IsOpen kind n ws f b) → get_or zs 0 0 ≡ phase → g.rounds ≡ f.rounds → d.done ≡ b.done → Left kind n zs g d o.round → IsOpen kind n zs g d
   still_open o still rounds done left = record {
@@ -64,6 +62,8 @@ module _ (kind : Kind) (n : ℕ) (ws : List ℕ) (f : FrontView) (b : BackView) 
     tick = o.tick ∙ sym still;
     left = left;
   }
+
+  -- ## The front's steps
 
   -- the front found the phase, by a load or as it met
   core_found : (loads : List ℕ) (steps : ℕ) → Core kind n ws (record f { closed = eqb phase 0; loads = loads; steps = steps }) b
