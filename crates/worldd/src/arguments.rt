@@ -89,12 +89,7 @@ fn backup_command<'a>(alloc: Global) -> Result<Command<'a>, AllocError> {
 }
 
 /// An argument with a value, by its long name.
-pub fn value_argument<'a>(
-    alloc: Global,
-    name: &'a str,
-    value: &'a str,
-    help: &'a str,
-) -> Arg<'a> {
+pub fn value_argument<'a>(alloc: Global, name: &'a str, value: &'a str, help: &'a str) -> Arg<'a> {
     Arg::new(alloc, name)
         .long(name)
         .value_name(value)
@@ -109,8 +104,9 @@ pub fn folder_argument<'a>(alloc: Global) -> Arg<'a> {
 }
 
 fn cells_argument<'a>(alloc: Global) -> Arg<'a> {
-    value_argument(alloc, CELLS, "N", "The number of cells, all 0")
-        .value_parser(value_parser!(u32).range(1..=i64::from(world_actions::CELLS)))
+    value_argument(alloc, CELLS, "N", "The number of cells, all 0").value_parser(value_parser!(
+        u32
+    ).range(1..=i64::from(world_actions::CELLS)))
 }
 
 fn list_argument<'a>(alloc: Global) -> Arg<'a> {

@@ -129,8 +129,7 @@ fn clients_of(given: &ArgMatches<'_>) -> Option<Clients> {
 
 fn idle_argument<'a>(alloc: Global) -> Arg<'a> {
     let help = "After how many seconds of silence a client's session ends; never by default";
-    value_argument(alloc, IDLE, "SECONDS", help)
-        .value_parser(value_parser!(u32).range(1..=86_400))
+    value_argument(alloc, IDLE, "SECONDS", help).value_parser(value_parser!(u32).range(1..=86_400))
 }
 
 fn report_argument<'a>(alloc: Global) -> Arg<'a> {
