@@ -4,7 +4,7 @@ use Rattle.world_actions.specs.declared.action.Action.{Action}
 use Rattle.capture_core.specs.declared.taker.Taken.{Taken}
 use Rattle.capture_core.specs.Content.{Content, Takes}
 use Rattle.image_files.specs.declared.phase.Phase.{Phase}
-use Rattle.image_files.specs.declared.phase.Phase.TheVariants.{Idle, Closing, ClosingSync, Header, Taking, Reading, Writing as WritingChunk, BodySync, Opening, OpeningSync, Down}
+use Rattle.image_files.specs.declared.phase.Phase.TheVariants.{Idle, Down}
 use Rattle.image_files.specs.declared.answer.ImageAnswer.{ImageAnswer}
 use Rattle.image_files.specs.declared.answer.ImageAnswer.TheVariants as given_
 use Rattle.image_files.specs.Images.{Round, ImageFiles, NoneYet, Newest, round_in, newest_in, with_cell, with_taken, with_opened, StepsImages}
@@ -41,17 +41,8 @@ phase_down : (p : Phase) → p ≡ Down → true ≡ is_down p
 phase_down p e = sym (ap is_down e)
 
 phase_up : (p : Phase) → (p ≡ Down → ⊥) → is_down p ≡ false
-phase_up Idle h = refl
-phase_up Closing h = refl
-phase_up ClosingSync h = refl
-phase_up Header h = refl
-phase_up Taking h = refl
-phase_up Reading h = refl
-phase_up WritingChunk h = refl
-phase_up BodySync h = refl
-phase_up Opening h = refl
-phase_up OpeningSync h = refl
 phase_up Down h = absurd (h refl)
+phase_up p h = refl
 
 both_up : (old new : Phase) (given : ImageAnswer) → (given ≡ given_.Down → ⊥) → (given ≡ given_.Down) ↔ (new ≡ Down) → (old ≡ Down → given ≡ given_.Down) → is_down old ≡ is_down new
 both_up old new given h down stays = phase_up old (λ e. h (stays e)) ∙ sym (phase_up new (λ e. h (down.1 e)))
@@ -183,16 +174,8 @@ no_empty_take laws keepers past old new c round is fewer t =
 -- a keeper in a round that isn't down has moves left
 some_left : (p : Phase) (keeper : Progress) → (p ≡ Idle → ⊥) → (p ≡ Down → ⊥) → 0 < moves_left p keeper
 some_left Idle k idle down = absurd (idle refl)
-some_left Closing k idle down = omega arith
-some_left ClosingSync k idle down = omega arith
-some_left Header k idle down = omega arith
-some_left Taking k idle down = omega arith
-some_left Reading k idle down = omega arith
-some_left WritingChunk k idle down = omega arith
-some_left BodySync k idle down = omega arith
-some_left Opening k idle down = omega arith
-some_left OpeningSync k idle down = omega arith
 some_left Down k idle down = absurd (down refl)
+some_left p k idle down = omega arith
 
 none_left : (keeper old : Progress) → keeper ≡ opened_keeper old → left_of keeper ≡ 0
 none_left keeper old e = ap left_of e
