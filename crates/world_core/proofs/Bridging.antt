@@ -12,7 +12,7 @@ use Rattle.disk_model.specs.Fused.{Fails, CallsThrough}
 use Rattle.image_files.specs.declared.answer.ImageAnswer.{ImageAnswer}
 use Rattle.image_files.specs.declared.answer.ImageAnswer.TheVariants as image_answer
 use Rattle.image_files.specs.declared.phase.Phase.{Phase}
-use Rattle.image_files.specs.declared.phase.Phase.TheVariants.{Idle, Closing, ClosingSync, Header, Taking, Reading, Writing, BodySync, Opening, OpeningSync, Down}
+use Rattle.image_files.specs.declared.phase.Phase.TheVariants.{Idle, Taking, Reading, Down}
 use Rattle.image_files.specs.Images.{ImageFiles, StepsImages}
 use Rattle.image_files.specs.Progress.{Progress as ImageProgress, target_of, left_of, cells_taken, opened_keeper}
 use Rattle.image_files.specs.Steps.{IfOpened, OnWorking, CallsIn as ImageCallsIn, HasCause}
@@ -155,13 +155,7 @@ by_phase Idle t t' n n' c = inl (tt, c.0, c.1)
 by_phase Taking t t' n n' c = inl (tt, c.0, c.1)
 by_phase Down t t' n n' c = inl (tt, c.0, c.1)
 by_phase Reading t t' n n' c = inr (λ none. none, inr c)
-by_phase Closing t t' n n' c = inr (λ none. none, inl c)
-by_phase ClosingSync t t' n n' c = inr (λ none. none, inl c)
-by_phase Header t t' n n' c = inr (λ none. none, inl c)
-by_phase Writing t t' n n' c = inr (λ none. none, inl c)
-by_phase BodySync t t' n n' c = inr (λ none. none, inl c)
-by_phase Opening t t' n n' c = inr (λ none. none, inl c)
-by_phase OpeningSync t t' n n' c = inr (λ none. none, inl c)
+by_phase phase t t' n n' c = inr (λ none. none, inl c)
 
 exchanged : (phase : Phase) (one one' other other' : File) → IsCalled phase one one' other other' → IsCalled phase other other' one one'
 exchanged phase one one' other other' (inl (none, first, second)) = inl (none, second, first)
@@ -192,13 +186,7 @@ module _ (fate : Fate) (t at st nt n an sn nn : File) (mt : IsMoved fate t at st
   images_called Taking c = neither c
   images_called Down c = neither c
   images_called Reading c = second_called c
-  images_called Closing c = first_called c
-  images_called ClosingSync c = first_called c
-  images_called Header c = first_called c
-  images_called Writing c = first_called c
-  images_called BodySync c = first_called c
-  images_called Opening c = first_called c
-  images_called OpeningSync c = first_called c
+  images_called phase c = first_called c
 
   log_called : (phase : LogPhase) (queue : List Record) → LogCallsIn called at st an sn phase queue → LogCallsIn (CallsBy fate) t nt n nn phase queue
   log_called Ready [] c = neither c
@@ -209,12 +197,7 @@ module _ (fate : Fate) (t at st nt n an sn nn : File) (mt : IsMoved fate t at st
   log_called log_phase.BodySync queue c = first_called c
   log_called log_phase.Gate queue c = first_called c
   log_called GateSync queue c = first_called c
-  log_called log_phase.Closing queue c = second_called c
-  log_called log_phase.ClosingSync queue c = second_called c
-  log_called log_phase.Header queue c = second_called c
-  log_called log_phase.HeaderSync queue c = second_called c
-  log_called log_phase.Opening queue c = second_called c
-  log_called log_phase.OpeningSync queue c = second_called c
+  log_called phase queue c = second_called c
 
 module _ (fate : Fate) (a aa sa na b ab sb nb : File) (ma : IsMoved fate a aa sa na) (mb : IsMoved fate b ab sb nb) where
   images_called_at : (slot : Slot) (phase : Phase) → ImageCallsIn phase called (of_slot slot aa ab) (of_slot slot sa sb) (of_slot slot ab aa) (of_slot slot sb sa)
@@ -344,12 +327,7 @@ by_log_phase log_phase.RetiringSync queue c c' o o' h = inr (inl h)
 by_log_phase log_phase.BodySync queue c c' o o' h = inr (inl h)
 by_log_phase log_phase.Gate queue c c' o o' h = inr (inl h)
 by_log_phase GateSync queue c c' o o' h = inr (inl h)
-by_log_phase log_phase.Closing queue c c' o o' h = inr (inr h)
-by_log_phase log_phase.ClosingSync queue c c' o o' h = inr (inr h)
-by_log_phase log_phase.Header queue c c' o o' h = inr (inr h)
-by_log_phase log_phase.HeaderSync queue c c' o o' h = inr (inr h)
-by_log_phase log_phase.Opening queue c c' o o' h = inr (inr h)
-by_log_phase log_phase.OpeningSync queue c c' o o' h = inr (inr h)
+by_log_phase phase queue c c' o o' h = inr (inr h)
 
 log_exchanged : (phase : LogPhase) (queue : List Record) (one one' other other' : File) → IsLogCalled phase queue one one' other other' → IsLogCalled phase queue other other' one one'
 log_exchanged phase queue one one' other other' (inl none) = inl none
