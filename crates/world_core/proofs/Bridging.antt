@@ -200,6 +200,13 @@ module _ (fate : Fate) (t at st nt n an sn nn : File) (mt : IsMoved fate t at st
   log_called phase queue c = second_called c
 
 module _ (fate : Fate) (a aa sa na b ab sb nb : File) (ma : IsMoved fate a aa sa na) (mb : IsMoved fate b ab sb nb) where
+  -- what holds of two files holds of them armed, and what holds of them after the step holds of them disarmed
+  holds_armed : (Holds : FileState → FileState → Type 0) → Holds a.inner b.inner → Holds aa.inner ab.inner
+  holds_armed Holds has = subst (λ (f : File). Holds f.inner ab.inner) (sym ma.armed_is) (subst (λ (f : File). Holds a.inner f.inner) (sym mb.armed_is) has)
+
+  holds_disarmed : (Holds : FileState → FileState → Type 0) → Holds sa.inner sb.inner → Holds na.inner nb.inner
+  holds_disarmed Holds has = subst (λ (f : File). Holds f.inner nb.inner) (sym ma.new_is) (subst (λ (f : File). Holds sa.inner f.inner) (sym mb.new_is) has)
+
   images_called_at : (slot : Slot) (phase : Phase) → ImageCallsIn phase called (of_slot slot aa ab) (of_slot slot sa sb) (of_slot slot ab aa) (of_slot slot sb sa)
       → ImageCallsIn phase (CallsBy fate) (of_slot slot a b) (of_slot slot na nb) (of_slot slot b a) (of_slot slot nb na)
   images_called_at A phase c = images_called fate a aa sa na b ab sb nb ma mb phase c
@@ -235,18 +242,10 @@ when_opened image_answer.Working P Q h = tt
 when_opened (image_answer.Opened tick) P Q h = h
 when_opened image_answer.Down P Q h = tt
 
-armed_images : (keeper : ImageProgress) (images : ImageFiles) (fate : Fate) (a armed_a stepped_a new_a b armed_b stepped_b new_b : File) → IsMoved fate a armed_a stepped_a new_a → IsMoved fate b armed_b stepped_b new_b
-    → ImagesIn keeper images a b → ImagesIn keeper images armed_a armed_b
-armed_images keeper images fate a aa sa na b ab sb nb ma mb has = subst (λ f. ImagesIn keeper images f ab) (sym ma.armed_is) (subst (λ f. ImagesIn keeper images a f) (sym mb.armed_is) has)
-
-moved_images : (keeper : ImageProgress) (images : ImageFiles) (fate : Fate) (a armed_a stepped_a new_a b armed_b stepped_b new_b : File) → IsMoved fate a armed_a stepped_a new_a → IsMoved fate b armed_b stepped_b new_b
-    → ImagesIn keeper images stepped_a stepped_b → ImagesIn keeper images new_a new_b
-moved_images keeper images fate a aa sa na b ab sb nb ma mb has = subst (λ f. ImagesIn keeper images f nb) (sym ma.new_is) (subst (λ f. ImagesIn keeper images sa f) (sym mb.new_is) has)
-
 -- a step of the keeper between two armed files
 pub record StepsArmedImages (was : State) (armed_a armed_b : File) (given : ImageAnswer) (stepped_a stepped_b : File) (new : State) : Type 0 where
   pub rest : new ≡ record was { content = new.content; images = new.images; image_a = new.image_a; image_b = new.image_b }
-  pub stands : (images : ImageFiles) → ImagesIn was.images images armed_a armed_b → (next : ImageFiles) × ImagesIn new.images next stepped_a stepped_b × StepsImages Takes was.images.cells images given next was.content new.content
+  pub stands : (images : ImageFiles) → ImagesIn was.images images armed_a.inner armed_b.inner → (next : ImageFiles) × ImagesIn new.images next stepped_a.inner stepped_b.inner × StepsImages Takes was.images.cells images given next was.content new.content
   pub cells : new.images.cells ≡ was.images.cells
   pub idle : (given ≡ image_answer.Idle) ↔ (was.images.phase ≡ Idle)
   pub down : (given ≡ image_answer.Down) ↔ (new.images.phase ≡ Down)
@@ -267,8 +266,8 @@ image_step_at fate was old new given aa ab sa sb e ma mb s =
     subst (λ o. StepsImageKeeper fate o given new) e (record {
       rest = s.rest;
       stands = λ images has.
-          (let n = s.stands images (armed_images was.images images fate was.image_a aa sa new.image_a was.image_b ab sb new.image_b ma mb has) in
-          (n.0, moved_images new.images n.0 fate was.image_a aa sa new.image_a was.image_b ab sb new.image_b ma mb n.1, n.2));
+          (let n = s.stands images (holds_armed fate was.image_a aa sa new.image_a was.image_b ab sb new.image_b ma mb (ImagesIn was.images images) has) in
+          (n.0, holds_disarmed fate was.image_a aa sa new.image_a was.image_b ab sb new.image_b ma mb (ImagesIn new.images n.0) n.1, n.2));
       cells = s.cells;
       idle = s.idle;
       down = s.down;
@@ -290,18 +289,10 @@ log_counts : (given : LogAnswer) (down : Bool) (a new_a b new_b : ℕ) → (give
 log_counts given true a na b nb is same = inl (is.1 refl)
 log_counts given false a na b nb is same = inr (same refl)
 
-armed_log : (keeper : LogProgress) (place : LogPlace) (fate : Fate) (a armed_a stepped_a new_a b armed_b stepped_b new_b : File) → IsMoved fate a armed_a stepped_a new_a → IsMoved fate b armed_b stepped_b new_b
-    → LogIn keeper place a b → LogIn keeper place armed_a armed_b
-armed_log keeper place fate a aa sa na b ab sb nb ma mb has = subst (λ f. LogIn keeper place f ab) (sym ma.armed_is) (subst (λ f. LogIn keeper place a f) (sym mb.armed_is) has)
-
-moved_log : (keeper : LogProgress) (place : LogPlace) (fate : Fate) (a armed_a stepped_a new_a b armed_b stepped_b new_b : File) → IsMoved fate a armed_a stepped_a new_a → IsMoved fate b armed_b stepped_b new_b
-    → LogIn keeper place stepped_a stepped_b → LogIn keeper place new_a new_b
-moved_log keeper place fate a aa sa na b ab sb nb ma mb has = subst (λ f. LogIn keeper place f nb) (sym ma.new_is) (subst (λ f. LogIn keeper place sa f) (sym mb.new_is) has)
-
 pub record StepsArmedLog (was : State) (armed_a armed_b : File) (given : LogAnswer) (stepped_a stepped_b : File) (new : State) : Type 0 where
   pub rest : new ≡ record was { queue = new.queue; log = new.log; log_a = new.log_a; log_b = new.log_b }
   pub front : was.queue ≡ taken was.log was.queue ++ new.queue
-  pub stands : (place : LogPlace) → LogIn was.log place armed_a armed_b → (next : LogPlace) × LogIn new.log next stepped_a stepped_b × JournalStep place was.queue given next new.queue
+  pub stands : (place : LogPlace) → LogIn was.log place armed_a.inner armed_b.inner → (next : LogPlace) × LogIn new.log next stepped_a.inner stepped_b.inner × JournalStep place was.queue given next new.queue
   pub follows : QueueFollows new.log new.queue
   pub end : end_of new.log new.queue ≡ end_of was.log was.queue
   pub idle : (given ≡ log_answer.Idle) ↔ ((was.log.down ≡ false) × (was.log.phase ≡ Ready) × (was.queue ≡ []))
@@ -374,8 +365,8 @@ log_step_at fate was old new given aa ab sa sb e ma mb s =
       rest = s.rest;
       front = s.front;
       stands = λ place has.
-          (let n = s.stands place (armed_log was.log place fate was.log_a aa sa new.log_a was.log_b ab sb new.log_b ma mb has) in
-          (n.0, moved_log new.log n.0 fate was.log_a aa sa new.log_a was.log_b ab sb new.log_b ma mb n.1, n.2));
+          (let n = s.stands place (holds_armed fate was.log_a aa sa new.log_a was.log_b ab sb new.log_b ma mb (LogIn was.log place) has) in
+          (n.0, holds_disarmed fate was.log_a aa sa new.log_a was.log_b ab sb new.log_b ma mb (LogIn new.log n.0) n.1, n.2));
       follows = s.follows;
       end = s.end;
       idle = s.idle;

@@ -69,21 +69,21 @@ keeper_up true tick keeper idle = begun_up keeper.target_shut
 
 module _ (keepers : KeeperLaws) (cells : ℕ) (newest : Option (Slot × ℕ)) (tick : ℕ) (words : List ℕ) (round : Bool) (image_a image_b log_a log_b : List ℕ) (new : State) (b : Begins cells newest tick words round image_a image_b log_a log_b new)
     (some : 1 ≤ cells) (few : cells ≤ CELLS) (numbered : tick ≤ TICK_MAX) (images : ImageFiles) (told : IsTold cells newest images image_a image_b) where
-  made : ImagesIn (made_keeper cells newest (is_shut image_a) (is_shut image_b)) images new.image_a new.image_b
+  made : ImagesIn (made_keeper cells newest (is_shut image_a) (is_shut image_b)) images new.image_a.inner new.image_b.inner
   made = keepers.made cells newest (is_shut image_a) (is_shut image_b) images new.image_a new.image_b some few (only image_a new.image_a b.file_a) (only image_b new.image_b b.file_b)
       (tells keepers image_a new.image_a b.file_a) (tells keepers image_b new.image_b b.file_b)
       (subst (λ f. IsTold cells newest images f new.image_b.inner.content) (sym b.file_a.content) (subst (λ f. IsTold cells newest images image_a f) (sym b.file_b.content) told))
 
-  begun_images : (r : Bool) → ImagesIn (started_keeper r tick (made_keeper cells newest (is_shut image_a) (is_shut image_b))) (images_begun r tick images) new.image_a new.image_b
+  begun_images : (r : Bool) → ImagesIn (started_keeper r tick (made_keeper cells newest (is_shut image_a) (is_shut image_b))) (images_begun r tick images) new.image_a.inner new.image_b.inner
   begun_images false = made
   begun_images true = keepers.begun (made_keeper cells newest (is_shut image_a) (is_shut image_b)) tick images new.image_a new.image_b refl numbered made
 
   has_images : HasImages new (images_begun round tick images)
-  has_images = subst (λ k. ImagesIn k (images_begun round tick images) new.image_a new.image_b) (sym b.images) (begun_images round)
+  has_images = subst (λ k. ImagesIn k (images_begun round tick images) new.image_a.inner new.image_b.inner) (sym b.images) (begun_images round)
 
   has_log : (before_a before_b : Segment) → IsSegment log_a before_a → IsSegment log_b before_b → HasLog new (start_of tick before_a before_b (start_moves (is_shut log_a) (is_shut log_b)))
   has_log before_a before_b reads_a reads_b =
-      subst (λ k. LogIn k (start_of tick before_a before_b (start_moves (is_shut log_a) (is_shut log_b))) new.log_a new.log_b) (sym b.log)
+      subst (λ k. LogIn k (start_of tick before_a before_b (start_moves (is_shut log_a) (is_shut log_b))) new.log_a.inner new.log_b.inner) (sym b.log)
       (keepers.begins tick (is_shut log_a) (is_shut log_b) new.log_a new.log_b before_a before_b numbered (only log_a new.log_a b.file_la) (only log_b new.log_b b.file_lb)
       (tells keepers log_a new.log_a b.file_la) (tells keepers log_b new.log_b b.file_lb)
       (subst (λ f. IsSegment f before_a) (sym b.file_la.content) reads_a) (subst (λ f. IsSegment f before_b) (sym b.file_lb.content) reads_b))
