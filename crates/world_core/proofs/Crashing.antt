@@ -106,9 +106,11 @@ begins_core queues keepers cells newest tick words round image_a image_b log_a l
     let q = queues.begins tick (is_shut log_a) (is_shut log_b) in
     let log_is = sym b.log in
     record {
-      some_cells = subst (λ n. 1 ≤ n) (sym b.cells_are) some;
-      few_cells = subst (λ n. n ≤ CELLS) (sym b.cells_are) few;
-      keeper_cells = ap (λ (k : Progress). k.cells) b.images ∙ keeper_cells_are round tick (made_keeper cells newest (is_shut image_a) (is_shut image_b)) ∙ sym b.cells_are;
+      cells = record {
+        some_cells = subst (λ n. 1 ≤ n) (sym b.cells_are) some;
+        few_cells = subst (λ n. n ≤ CELLS) (sym b.cells_are) few;
+        keeper_cells = ap (λ (k : Progress). k.cells) b.images ∙ keeper_cells_are round tick (made_keeper cells newest (is_shut image_a) (is_shut image_b)) ∙ sym b.cells_are;
+      };
       live = record {
         last = words;
         after_ended = ap (λ n. after_ticks n past.history.ticks) b.cells_are ∙ after;
@@ -117,11 +119,13 @@ begins_core queues keepers cells newest tick words round image_a image_b log_a l
         running = b.running ∙ sym idle;
       };
       counted = record {
-        ended = b.ended ∙ sym count;
-        since = b.since ∙ sym (ap (λ (s : Standing). s.since) standing);
-        numbered = subst (λ n. n ≤ TICK_MAX) (sym b.ended) numbered;
-        few = omega (arith, b.since);
-        within = omega (arith, b.since);
+        numbers = record {
+          ended = b.ended ∙ sym count;
+          since = b.since ∙ sym (ap (λ (s : Standing). s.since) standing);
+          numbered = subst (λ n. n ≤ TICK_MAX) (sym b.ended) numbered;
+          few = omega (arith, b.since);
+          within = omega (arith, b.since);
+        };
         queue_follows = subst (λ k. QueueFollows k new.queue) log_is (subst (QueueFollows (begun tick (is_shut log_a) (is_shut log_b))) (sym b.queue) q.0);
         queue_end = ap (λ k. end_of k new.queue) b.log ∙ ap (end_of (begun tick (is_shut log_a) (is_shut log_b))) b.queue ∙ q.1
             ∙ ap (λ n. record { base = n; count = 0 }) (let e : tick ≡ new.ended - new.since = omega (arith, b.ended, b.since) in e) ∙ ap (λ n. record { base = new.ended - new.since; count = n }) (sym b.since);
@@ -135,10 +139,12 @@ begins_core queues keepers cells newest tick words round image_a image_b log_a l
       in_step = subst (λ n. InStep n past.history.ticks past.acknowledged new.content (images_begun round tick images) (InStart (start_at tick before_a before_b)) new.queue) (sym b.cells_are)
           (subst (InStep cells past.history.ticks past.acknowledged new.content (images_begun round tick images) (InStart (start_at tick before_a before_b))) (sym b.queue) in_step);
       at_rest = b.running;
-      is_image_known = known ∙ sym (with_round_known round tick images);
-      start_left = ap (λ (s : Standing). s.start_left) standing;
-      image_down = ap (λ (s : Standing). s.is_image_down) standing ∙ keeper_up round tick (made_keeper cells newest (is_shut image_a) (is_shut image_b)) refl ∙ ap (λ (k : Progress). is_down k.phase) (sym b.images);
-      log_down = ap (λ (s : Standing). s.is_log_down) standing ∙ ap (λ (k : LogProgress). k.down) (sym b.log);
-      round = ap (λ (s : Standing). s.round) standing ∙ with_round_tick round tick images no_round;
-      newest = ap (λ (s : Standing). s.newest) standing ∙ ap newest_tick (sym newest_is ∙ sym (with_round_newest round tick images));
+      told = record {
+        is_image_known = known ∙ sym (with_round_known round tick images);
+        start_left = ap (λ (s : Standing). s.start_left) standing;
+        image_down = ap (λ (s : Standing). s.is_image_down) standing ∙ keeper_up round tick (made_keeper cells newest (is_shut image_a) (is_shut image_b)) refl ∙ ap (λ (k : Progress). is_down k.phase) (sym b.images);
+        log_down = ap (λ (s : Standing). s.is_log_down) standing ∙ ap (λ (k : LogProgress). k.down) (sym b.log);
+        round = ap (λ (s : Standing). s.round) standing ∙ with_round_tick round tick images no_round;
+        newest = ap (λ (s : Standing). s.newest) standing ∙ ap newest_tick (sym newest_is ∙ sym (with_round_newest round tick images));
+      };
     }

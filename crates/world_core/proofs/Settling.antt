@@ -112,8 +112,8 @@ log_settled standing past state c is (inl waits) = inr (inl waits)
 log_settled standing past state c is (inr done) =
     inr (inr (
       done.1,
-      no_start state.log state.queue c.place.journal c.place.left standing state refl c.has_log (sym (ap (λ (s : Standing). s.start_left) is) ∙ c.start_left)
-          (sym c.log_down ∙ ap (λ (s : Standing). s.is_log_down) is ∙ done.0) done.1,
+      no_start state.log state.queue c.place.journal c.place.left standing state refl c.has_log (sym (ap (λ (s : Standing). s.start_left) is) ∙ c.told.start_left)
+          (sym c.told.log_down ∙ ap (λ (s : Standing). s.is_log_down) is ∙ done.0) done.1,
     ))
 
 log_idle_after : (fate : Fate) (past : Past) (old new : State) → IsCoreAt (past_after past (move.Log fate) (answer.Log log_answer.Idle)) new → Answers past old (move.Log fate) (answer.Log log_answer.Idle) new → LogSettled past.standing new
