@@ -200,12 +200,12 @@ module _ (fate : Fate) (t at st nt n an sn nn : File) (mt : IsMoved fate t at st
   log_called phase queue c = second_called c
 
 module _ (fate : Fate) (a aa sa na b ab sb nb : File) (ma : IsMoved fate a aa sa na) (mb : IsMoved fate b ab sb nb) where
-  -- what holds of two files holds of them armed, and what holds of them after the step holds of them disarmed
-  holds_armed : (Holds : FileState → FileState → Type 0) → Holds a.inner b.inner → Holds aa.inner ab.inner
-  holds_armed Holds has = subst (λ (f : File). Holds f.inner ab.inner) (sym ma.armed_is) (subst (λ (f : File). Holds a.inner f.inner) (sym mb.armed_is) has)
-
-  holds_disarmed : (Holds : FileState → FileState → Type 0) → Holds sa.inner sb.inner → Holds na.inner nb.inner
-  holds_disarmed Holds has = subst (λ (f : File). Holds f.inner nb.inner) (sym ma.new_is) (subst (λ (f : File). Holds sa.inner f.inner) (sym mb.new_is) has)
+  -- what a step does to what two armed files hold, the move does to what the files hold
+  moved_step : {Next : Type 0} (Held : FileState → FileState → Type 0) (Holds : Next → FileState → FileState → Type 0) (Step : Next → Type 0)
+      → (Held aa.inner ab.inner → (next : Next) × Holds next sa.inner sb.inner × Step next) → Held a.inner b.inner → (next : Next) × Holds next na.inner nb.inner × Step next
+  moved_step Held Holds Step step has =
+      let n = step (subst (λ (f : File). Held f.inner ab.inner) (sym ma.armed_is) (subst (λ (f : File). Held a.inner f.inner) (sym mb.armed_is) has)) in
+      (n.0, subst (λ (f : File). Holds n.0 f.inner nb.inner) (sym ma.new_is) (subst (λ (f : File). Holds n.0 sa.inner f.inner) (sym mb.new_is) n.1), n.2)
 
   images_called_at : (slot : Slot) (phase : Phase) → ImageCallsIn phase called (of_slot slot aa ab) (of_slot slot sa sb) (of_slot slot ab aa) (of_slot slot sb sa)
       → ImageCallsIn phase (CallsBy fate) (of_slot slot a b) (of_slot slot na nb) (of_slot slot b a) (of_slot slot nb na)
@@ -265,9 +265,8 @@ image_step_at fate was old new given aa ab sa sb e ma mb s =
     let may = may_call phase aa sa ab sb called_in in
     subst (λ o. StepsImageKeeper fate o given new) e (record {
       rest = s.rest;
-      stands = λ images has.
-          (let n = s.stands images (holds_armed fate was.image_a aa sa new.image_a was.image_b ab sb new.image_b ma mb (ImagesIn was.images images) has) in
-          (n.0, holds_disarmed fate was.image_a aa sa new.image_a was.image_b ab sb new.image_b ma mb (ImagesIn new.images n.0) n.1, n.2));
+      stands = λ images. moved_step fate was.image_a aa sa new.image_a was.image_b ab sb new.image_b ma mb (ImagesIn was.images images) (ImagesIn new.images)
+          (λ next. StepsImages Takes was.images.cells images given next was.content new.content) (s.stands images);
       cells = s.cells;
       idle = s.idle;
       down = s.down;
@@ -364,9 +363,8 @@ log_step_at fate was old new given aa ab sa sb e ma mb s =
     subst (λ o. StepsLogKeeper fate o given new) e (record {
       rest = s.rest;
       front = s.front;
-      stands = λ place has.
-          (let n = s.stands place (holds_armed fate was.log_a aa sa new.log_a was.log_b ab sb new.log_b ma mb (LogIn was.log place) has) in
-          (n.0, holds_disarmed fate was.log_a aa sa new.log_a was.log_b ab sb new.log_b ma mb (LogIn new.log n.0) n.1, n.2));
+      stands = λ place. moved_step fate was.log_a aa sa new.log_a was.log_b ab sb new.log_b ma mb (LogIn was.log place) (LogIn new.log)
+          (λ next. JournalStep place was.queue given next new.queue) (s.stands place);
       follows = s.follows;
       end = s.end;
       idle = s.idle;
