@@ -1,7 +1,6 @@
 -- What lower crates say of their values, as it is of a core's state.
 use Rattle.std.proofs.Common.{◌≡◌, ◌↔◌, ◌<◌, ◌+◌, ◌++◌, min, true, false, Bool, ℕ, List, [], ◌∷◌, ◌⊎◌, inl, inr, Option, Some, None, refl, sym, ap, subst, ◌∙◌, arith}
 use Rattle.world_actions.specs.declared.action.Action.{Action}
-use Rattle.capture_core.specs.declared.taker.Taken.{Taken}
 use Rattle.capture_core.specs.Content.{Content, Takes}
 use Rattle.file_format.specs.declared.slot.Slot.{Slot}
 use Rattle.file_format.specs.declared.slot.Slot.TheVariants.{A, B}
@@ -32,17 +31,6 @@ use Rattle.world_core.specs.declared.moves.Fate.{Fate}
 use Rattle.world_core.specs.declared.moves.Fate.TheVariants as fate_
 use Rattle.world_core.specs.State.{File, State, ImagesIn, LogIn, failures, HasFailed}
 use Rattle.world_core.specs.Moving.{calls_before_failure, CallsBy, FailsBy, CallsNone, StepsImageKeeper, StepsLogKeeper}
-
-module _ {S : Type 0} (content : S → Content) (took : S → Option Taken → S → Type 0)
-    (after_take : (old new : S) (given : Option Taken) → took old given new → Takes (content old) given (content new)) where
-  -- a step of the keeper, by the content of the store that it took from
-  pub steps_content : (cells : ℕ) (images : ImageFiles) (given : ImageAnswer) (next : ImageFiles) (old new : S)
-      → StepsImages took cells images given next old new → StepsImages Takes cells images given next (content old) (content new)
-  steps_content cells images image_answer.Idle next old new s = (s.0, s.1, ap content s.2)
-  steps_content cells images image_answer.Working next old new s =
-      (s.0, s.1, elim s.2 [ inl same ↦ inl (same.0, ap content same.1) | inr cell ↦ inr (cell.0, after_take old new (Some cell.0) cell.1, cell.2) ])
-  steps_content cells images (image_answer.Opened tick) next old new s = (s.0, s.1, s.2, s.3, s.4, ap content s.5)
-  steps_content cells images image_answer.Down next old new s = (s.0, s.1, s.2, ap content s.3)
 
 -- a store that was only read, and a tick that is the same
 pub only_read : (was now : State) (content : Content) (running : List Action) → content ≡ was.content → running ≡ was.running → was ≡ now
