@@ -25,7 +25,7 @@ is_known (NoneYet images) = false
 is_known (Newest images) = true
 
 -- the cells of the world and of its image keeper
-pub record HasCells (cells keeper : ℕ) : Type 0 where
+pub record HasSize (cells keeper : ℕ) : Type 0 where
   pub some_cells : 1 ≤ cells
   pub few_cells : cells ≤ CELLS
   pub keeper_cells : keeper ≡ cells
@@ -56,8 +56,8 @@ pub record IsLive (cells : ℕ) (history : History) (words : List ℕ) (actions 
   pub running : actions ≡ history.running
 
 -- what moves and answers tell of the keepers
-abbrev pub IsTold : Past → State → ImageFiles → LogPlace → Type 0
-IsTold past state images place = record {
+abbrev pub AreTold : Past → State → ImageFiles → LogPlace → Type 0
+AreTold past state images place = record {
   is_image_known : past.has_image ≡ is_known images;
   start_left : past.standing.start_left ≡ place.left;
   image_down : past.standing.is_image_down ≡ is_down state.images.phase;
@@ -67,7 +67,7 @@ IsTold past state images place = record {
 }
 
 pub record IsCoreAt (past : Past) (state : State) : Type 0 where
-  pub cells : HasCells state.cells state.images.cells
+  pub cells : HasSize state.cells state.images.cells
   pub open cells use *
   pub live : IsLive state.cells past.history state.content.live state.running
   pub counted : IsCounted past state
@@ -78,4 +78,4 @@ pub record IsCoreAt (past : Past) (state : State) : Type 0 where
   pub has_log : HasLog state place
   pub in_step : InStep state.cells past.history.ticks past.acknowledged state.content images place.journal state.queue
   pub at_rest : IsAtRest place.journal state.running
-  pub told : IsTold past state images place
+  pub told : AreTold past state images place
