@@ -18,7 +18,7 @@ use sessions::World;
 use std::alloc::Global;
 use std::marker::Model;
 use world_actions::Refusal;
-use world_start::{Engine, Parts};
+use world_start::Parts;
 
 /// A world that is served from its four files, whatever its store and whatever disks they are on.
 #[derive(Drop)]
@@ -92,8 +92,6 @@ impl<C: Capture, D: Disk> SerialWorld<C, D> {
             → AreSettled D.content D.may_leave parts ticks) }
         ensures refused { IfErr result (λ refused. (refused.0 ≡ self.files) × (refused.1 ≡ Refusal.NoMemory)) }
     {
-        images_stay::<D>();
-        log_outcomes::<D>();
         let SerialWorld { state } = self;
         let SerialState {
             mut engine,
@@ -103,25 +101,7 @@ impl<C: Capture, D: Disk> SerialWorld<C, D> {
             recovered: _,
         } = state;
         match words_of(engine.alloc, &mut engine.store) {
-            Ok(words) => {
-                let Engine {
-                    alloc: _,
-                    store: _,
-                    images,
-                    log,
-                    queue: _,
-                    ended,
-                    since,
-                } = engine;
-                Ok(Parts {
-                    words,
-                    images,
-                    log,
-                    files,
-                    ended,
-                    since,
-                })
-            }
+            Ok(words) => Ok(engine.into_parts(words, files)),
             Err(refusal) => Err((files, refusal)),
         }
     }
