@@ -7,6 +7,7 @@ ghost use Rattle.world_start.specs.Parts.{AreAtRest, AreSettled};
 ghost use Rattle.world_start.specs.Opening.{SomeGrew, AreSynced, IsRecovered, IsRefused};
 ghost use Rattle.serial_world.specs.Opened.{IsOpened, IsNotOpened};
 
+use crate::opening::open_engine;
 use crate::state::SerialState;
 use crate::words::words_of;
 use action_log::log_outcomes;
@@ -59,9 +60,21 @@ impl<C: Capture, D: Disk> SerialWorld<C, D> {
         ensures device { IfErr result (λ refused. refused.1 ≡ Refusal.Device
             → SomeGrew (fault_counts D.faults files) (fault_counts D.faults refused.0)) }
     {
-        Ok(SerialWorld {
-            state: SerialState::open(alloc, files, every)?,
-        })
+        let mut files = files;
+        match open_engine(alloc, &mut files) {
+            Ok((engine, from)) => {
+                let tick = engine.ended;
+                let state = SerialState {
+                    engine,
+                    files,
+                    every,
+                    acked: tick,
+                    recovered: (tick, from),
+                };
+                Ok(SerialWorld { state })
+            }
+            Err(refusal) => Err((files, refusal)),
+        }
     }
 
     /// The number of the greatest receipt, before the first one the recovered tick.
