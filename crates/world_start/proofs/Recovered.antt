@@ -95,12 +95,14 @@ module _ {C D : Type 0} (content : C → Content) (file : D → List ℕ) (leave
       let named = subst (λ w. Begins content (length r.words) (Some (r.slot, r.from)) r.tick w ia ib la lb engine) is_words (subst (λ m. Begins content m (Some (r.slot, r.from)) r.tick words ia ib la lb engine) is_n b) in
       let begun = begins_on (length r.words) (Some (r.slot, r.from)) r.tick r.words engine (read.image_a_is ∙ sym kept.image_a.same_content) (read.image_b_is ∙ sym kept.image_b.same_content) (read.log_a_is ∙ sym kept.log_a.same_content) (read.log_b_is ∙ sym kept.log_b.same_content) named in
       record {
-        recovery = r;
-        recovers = there;
-        is_from = is_from;
-        words = built_live r.words (nat_lt r.from r.tick) (content engine.store) begun.store;
-        ended = begun.ended;
-        since = begun.since;
+        matches = record {
+          recovery = r;
+          recovers = there;
+          is_from = is_from;
+          words = built_live r.words (nat_lt r.from r.tick) (content engine.store) begun.store;
+          ended = begun.ended;
+          since = begun.since;
+        };
         newest = λ none. (let e : Some (r.slot, r.from) ≡ None = sym (ap (λ (k : ImageProgress). k.newest) begun.images ∙ started_newest (nat_lt r.from r.tick) r.tick _) ∙ none in absurd (let h = e in cc));
         follows = λ cells ticks acknowledged synced sound.
             recovered_follows laws once restarts begins stays r engine left world most here begun cells ticks acknowledged (synced_on files left kept synced) (sound_on files left kept cells ticks acknowledged sound);

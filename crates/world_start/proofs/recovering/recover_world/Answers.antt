@@ -82,20 +82,22 @@ returns-clause-recovered g c =
     let found = c.in_ok-found.found in
     let b = c.in_ok-engine.ensures.begins in
     record {
-      image_a = c.deref.result.now;
-      image_b = c.deref-2.result.now;
-      log_a = c.deref-3.result.now;
-      log_b = c.deref-4.result.now;
-      recovery = recovery_of_answer found;
-      recovers = c.in_ok-found.ensures.recovered;
+      bytes = record {
+        image_a = c.deref.result.now;
+        image_b = c.deref-2.result.now;
+        log_a = c.deref-3.result.now;
+        log_b = c.deref-4.result.now;
+        recovery = recovery_of_answer found;
+        recovers = c.in_ok-found.ensures.recovered;
+        read = λ honest. (let b = c.in_ok-bytes.ensures.bytes honest in record {
+          image_a_is = c.deref.ensures.value ∙ b.image_a;
+          image_b_is = c.deref-2.ensures.value ∙ b.image_b;
+          log_a_is = c.deref-3.ensures.value ∙ b.log_a;
+          log_b_is = c.deref-4.ensures.value ∙ b.log_b;
+        });
+      };
       tick_is = b.ended;
       from_is = refl;
       words = built_live c.deref-5.result.now (nat_lt found.from found.tick) (g.C.Capture.content c.in_ok-engine.engine.store) b.store ∙ c.deref-5.ensures.value;
       ended = b.ended;
-      read = λ honest. (let b = c.in_ok-bytes.ensures.bytes honest in record {
-        image_a_is = c.deref.ensures.value ∙ b.image_a;
-        image_b_is = c.deref-2.ensures.value ∙ b.image_b;
-        log_a_is = c.deref-3.ensures.value ∙ b.log_a;
-        log_b_is = c.deref-4.ensures.value ∙ b.log_b;
-      });
     }
