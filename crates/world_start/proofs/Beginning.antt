@@ -112,15 +112,17 @@ module _ {C D : Type 0} (content : C → Content) (file : D → List ℕ) (leave
       let place = start_of tick before_a before_b (start_moves (is_shut (file files.log_a)) (is_shut (file files.log_b))) in
       record {
         images = begun_at;
-        place = place;
         has_images = subst (λ k. ImagesStand k begun_at (file files.image_a) (file files.image_b) (leaves files.image_a) (leaves files.image_b)) (sym b.images)
             (begun_images laws cells newest tick (has_round newest tick) images files.image_a files.image_b some few most oa ob told);
-        has_log = subst (λ k. LogStands k (file files.log_a) (file files.log_b) (leaves files.log_a) (leaves files.log_b) place) (sym b.log)
-            (laws.log tick (is_shut (file files.log_a)) (is_shut (file files.log_b)) files.log_a files.log_b before_a before_b most ola olb (laws.told (file files.log_a)) (laws.told (file files.log_b)) reads_a reads_b);
-        count = acknowledged;
-        at_least = omega arith;
-        in_step = subst (λ n. InStep n ticks acknowledged (content engine.store) begun_at place.journal engine.queue.items) (sym same)
-            (subst (λ q. InStep cells ticks acknowledged (content engine.store) begun_at place.journal q) (sym b.queue) step);
+        log = record {
+          place = place;
+          stands = subst (λ k. LogStands k (file files.log_a) (file files.log_b) (leaves files.log_a) (leaves files.log_b) place) (sym b.log)
+              (laws.log tick (is_shut (file files.log_a)) (is_shut (file files.log_b)) files.log_a files.log_b before_a before_b most ola olb (laws.told (file files.log_a)) (laws.told (file files.log_b)) reads_a reads_b);
+          count = acknowledged;
+          at_least = omega arith;
+          in_step = subst (λ n. InStep n ticks acknowledged (content engine.store) begun_at place.journal engine.queue.items) (sym same)
+              (subst (λ q. InStep cells ticks acknowledged (content engine.store) begun_at place.journal q) (sym b.queue) step);
+        };
         world = ap (λ n. after_ticks n ticks) same ∙ (world ∙ ap (λ (w : List ℕ). Ok w) (sym (built_live words (has_round newest tick) (content engine.store) b.store)));
         ended = b.ended ∙ count;
       }

@@ -177,12 +177,8 @@ module _ {C D : Type 0} (content : C → Content) (file : D → List ℕ) (leave
       let on = goes ticks acknowledged f.place.journal old.queue.items (record { images = f.images; stands = f.has_images; count = f.count; at_least = f.at_least; in_step = f.in_step }) in
       record {
         images = on.images;
-        place = f.place;
         has_images = on.stands;
-        has_log = f.has_log;
-        count = on.count;
-        at_least = on.at_least;
-        in_step = on.in_step;
+        log = record { place = f.place; stands = f.has_log; count = on.count; at_least = on.at_least; in_step = on.in_step };
         world = ap (λ n. after_ticks n ticks) cells ∙ (f.world ∙ ap (λ (w : List ℕ). Ok w) (sym live));
         ended = f.ended;
       }
@@ -193,16 +189,10 @@ module _ {C D : Type 0} (content : C → Content) (file : D → List ℕ) (leave
       → (f : Follows content file leaves old files ticks acknowledged) → (old.log.starting ≡ false) ⊎ (round_in f.images ≡ None)
       → Follows content file leaves (record old { log = log; queue = queue }) (record files { log_a = a; log_b = b }) ticks acknowledged
   log_follows old files log queue a b ticks acknowledged goes f waits =
-      let on = goes old.images.cells ticks acknowledged (content old.store) f.images f.has_images.fits.in_order.some waits
-      (record { place = f.place; stands = f.has_log; count = f.count; at_least = f.at_least; in_step = f.in_step }) in
       record {
         images = f.images;
-        place = on.place;
         has_images = f.has_images;
-        has_log = on.stands;
-        count = on.count;
-        at_least = on.at_least;
-        in_step = on.in_step;
+        log = goes old.images.cells ticks acknowledged (content old.store) f.images f.has_images.fits.in_order.some waits f.log;
         world = f.world;
         ended = f.ended;
       }
@@ -222,13 +212,15 @@ module _ {C D : Type 0} (content : C → Content) (file : D → List ℕ) (leave
       let on = goes.all_acknowledged s.images.cells ticks f.count (content s.store) f.images logs.0 is_ready.0 empty in
       record {
         images = f.images;
-        place = f.place;
         has_images = f.has_images;
-        has_log = f.has_log;
-        count = length ticks;
-        at_least = omega (arith, f.ended);
-        in_step = subst (λ j. InStep s.images.cells ticks (length ticks) (content s.store) f.images j s.queue.items) (sym logs.1)
-            (subst (λ q. InStep s.images.cells ticks (length ticks) (content s.store) f.images (Writing logs.0) q) (sym idle.1) on);
+        log = record {
+          place = f.place;
+          stands = f.has_log;
+          count = length ticks;
+          at_least = omega (arith, f.ended);
+          in_step = subst (λ j. InStep s.images.cells ticks (length ticks) (content s.store) f.images j s.queue.items) (sym logs.1)
+              (subst (λ q. InStep s.images.cells ticks (length ticks) (content s.store) f.images (Writing logs.0) q) (sym idle.1) on);
+        };
         world = f.world;
         ended = f.ended;
       }

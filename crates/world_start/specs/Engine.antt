@@ -7,10 +7,8 @@ use Rattle.capture_core.specs.Content.{Content}
 use Rattle.disk_model.specs.declared.four_files.FourFiles.{FourFiles}
 use Rattle.image_files.specs.Images.{ImageFiles}
 use Rattle.image_files.specs.Files.{Stands as ImagesStand}
-use Rattle.action_log.specs.Logs.{LogPlace}
-use Rattle.action_log.specs.Stands.{Stands as LogStands}
-use Rattle.restart.specs.InStep.{InStep}
 use Rattle.world_start.specs.declared.engine.Engine.{Engine}
+use Rattle.world_start.specs.Running.{LogGoesOn}
 
 -- ---- on files that keep to the disk model
 
@@ -18,11 +16,8 @@ module _ {C D : Type 0} (content : C → Content) (file : D → List ℕ) (leave
   -- these ticks have ended, so many of them at least are acknowledged, and store, keepers, queue and files follow them
   pub record Follows (engine : Engine C) (files : FourFiles D) (ticks : List (List Action)) (acknowledged : ℕ) : Type 0 where
     pub images : ImageFiles
-    pub place : LogPlace
     pub has_images : ImagesStand engine.images images (file files.image_a) (file files.image_b) (leaves files.image_a) (leaves files.image_b)
-    pub has_log : LogStands engine.log (file files.log_a) (file files.log_b) (leaves files.log_a) (leaves files.log_b) place
-    pub count : ℕ
-    pub at_least : acknowledged ≤ count
-    pub in_step : InStep engine.images.cells ticks count (content engine.store) images place.journal engine.queue.items
+    pub log : LogGoesOn file leaves engine.log engine.queue.items files.log_a files.log_b engine.images.cells ticks acknowledged (content engine.store) images
+    pub open log use {place, stands as has_log, count, at_least, in_step}
     pub world : after_ticks engine.images.cells ticks ≡ Ok (content engine.store).live
     pub ended : engine.ended ≡ length ticks
