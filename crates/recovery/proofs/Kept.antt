@@ -135,13 +135,7 @@ opened_keeps cells ticks acknowledged images logs queue round k some whole =
         rising = m.rising;
         in_order = m.in_order;
       };
-      queued = record {
-        taken = k.taken;
-        some_taken = k.some_taken;
-        left = k.left;
-        numbered = k.numbered;
-        has = has_later logs k.taken images.tick round.tick (with_work logs.switch queue) later k.has;
-      };
+      queued = record { taken = k.taken; some_taken = k.some_taken; left = k.left; numbered = k.numbered; has = has_later logs k.taken images.tick round.tick (with_work logs.switch queue) later k.has };
     }
 
 module _ {S : Type 0} (took : S → Option Taken → S → Type 0) (cells : ℕ) (ticks : List (List Action)) (acknowledged : ℕ) (images : Images) (logs : Logs) (queue : List Record) where
