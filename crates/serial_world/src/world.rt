@@ -1,10 +1,9 @@
 ghost use Rattle.std.specs.Prelude.{◌≡◌, [], List, false, IsTrue, IfOk, IfErr};
 ghost use Rattle.world_actions.specs.declared.action.Action.{Action};
-ghost use Rattle.disk_model.specs.FourFiles.{fault_counts};
 ghost use Rattle.serial_world.specs.Runs.{Runs, Serves};
 ghost use Rattle.image_files.specs.declared.phase.Phase.TheVariants.{Idle};
 ghost use Rattle.world_start.specs.Parts.{AreAtRest, AreSettled};
-ghost use Rattle.world_start.specs.Opening.{SomeGrew, AreSynced, IsRecovered, IsRefused};
+ghost use Rattle.world_start.specs.Opening.{HasFaulted, AreSynced, IsRecovered, IsRefused};
 ghost use Rattle.serial_world.specs.Opened.{IsOpened, IsNotOpened};
 
 use crate::opening::open_engine;
@@ -57,8 +56,7 @@ impl<C: Capture, D: Disk> SerialWorld<C, D> {
         ensures refused { IfErr result (λ refused. IsRefused D.content D.honest files refused.1) }
         ensures left { IsTrue D.honest → IfErr result (λ refused.
             IsNotOpened D.content D.may_leave files refused.1 refused.0) }
-        ensures device { IfErr result (λ refused. refused.1 ≡ Refusal.Device
-            → SomeGrew (fault_counts D.faults files) (fault_counts D.faults refused.0)) }
+        ensures device { IfErr result (λ refused. HasFaulted D.faults files refused.0 refused.1) }
     {
         let mut files = files;
         match open_engine(alloc, &mut files) {

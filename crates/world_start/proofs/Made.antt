@@ -13,10 +13,10 @@ use Rattle.action_log.specs.Segment.{ClosedSegment}
 use Rattle.recovery.specs.Sound.{IsSound, IsFresh}
 use Rattle.restart.specs.InStep.{WorldsGoOn, IsSafe}
 use Rattle.world_start.specs.declared.engine.Engine.{Engine}
-use Rattle.world_start.specs.Steps.{Begins, IsBegunFresh}
+use Rattle.world_start.specs.Steps.{Begins, StartLaws, IsBegunFresh}
 use Rattle.world_start.specs.Opening.{AreRead}
 use Rattle.world_start.specs.Fresh.{AreClosed}
-use Rattle.world_start.proofs.Beginning.{StartLaws, start_follows}
+use Rattle.world_start.proofs.Beginning.{start_follows}
 use Rattle.world_start.proofs.Recovered.{synced_on}
 use Rattle.world_start.proofs.Sound.{fewer_sound}
 
@@ -39,7 +39,7 @@ if_refused (Ok value) P Q f h = tt
 if_refused (Err refusal) P Q f h = f refusal h
 
 module _ {C D : Type 0} (content : C → Content) (file : D → List ℕ) (leaves : D → List ℕ → Type 0) where
-  pub fresh_begun : StartLaws content file leaves false → WorldsGoOn → (files left : FourFiles D) → EachFile files left (KeepsFile file leaves)
+  pub fresh_begun : StartLaws file leaves → WorldsGoOn → (files left : FourFiles D) → EachFile files left (KeepsFile file leaves)
       → (ia ib la lb : List ℕ) → AreRead file files ia ib la lb → AreClosed ia ib la lb → (cells : ℕ) → 1 ≤ cells → cells ≤ CELLS → (words : List ℕ) → words ≡ replicate cells 0
       → (engine : Engine C) → Begins content cells None 0 words ia ib la lb engine → IsBegunFresh content file leaves files cells engine left
   fresh_begun laws begins files left kept ia ib la lb read closed cells some few words zeros engine b =

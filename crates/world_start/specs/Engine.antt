@@ -8,7 +8,7 @@ use Rattle.disk_model.specs.declared.four_files.FourFiles.{FourFiles}
 use Rattle.image_files.specs.Images.{ImageFiles}
 use Rattle.image_files.specs.Files.{Stands as ImagesStand}
 use Rattle.world_start.specs.declared.engine.Engine.{Engine}
-use Rattle.world_start.specs.Running.{LogGoesOn}
+use Rattle.world_start.specs.Running.{RoundFaults, LogFaults, LogGoesOn}
 
 -- ---- on files that keep to the disk model
 
@@ -21,3 +21,17 @@ module _ {C D : Type 0} (content : C → Content) (file : D → List ℕ) (leave
     pub open log use {place, stands as has_log, count, at_least, in_step}
     pub world : after_ticks engine.images.cells ticks ≡ Ok (content engine.store).live
     pub ended : engine.ended ≡ length ticks
+
+  -- the ticks that an engine and its files follow, they still follow
+  abbrev pub StillFollows : (old : Engine C) (files : FourFiles D) (new : Engine C) (left : FourFiles D) → Type 0
+  StillFollows old files new left = (ticks : List (List Action)) (acknowledged : ℕ) → Follows old files ticks acknowledged → Follows new left ticks acknowledged
+
+-- ---- whatever the disks are
+
+module _ {C D : Type 0} (faults : D → ℕ) where
+  -- what the two counts of faults say of a run of images, and of a run of the log
+  abbrev pub ImageFaults : (old : Engine C) (files : FourFiles D) (new : Engine C) (left : FourFiles D) → Type 0
+  ImageFaults old files new left = RoundFaults old.images.phase new.images.phase (faults files.image_a) (faults left.image_a) (faults files.image_b) (faults left.image_b)
+
+  abbrev pub JournalFaults : (old : Engine C) (files : FourFiles D) (new : Engine C) (left : FourFiles D) → Type 0
+  JournalFaults old files new left = LogFaults old.log.down new.log.down (faults files.log_a) (faults left.log_a) (faults files.log_b) (faults left.log_b)

@@ -5,6 +5,7 @@ use Rattle.world_actions.specs.declared.refusal.Refusal.{Refusal}
 use Rattle.world_actions.specs.declared.refusal.Refusal.TheVariants.{Device, NoMemory}
 use Rattle.capture_core.specs.Content.{Content}
 use Rattle.disk_model.specs.Disk.{Only, Grew}
+use Rattle.disk_model.specs.FourFiles.{fault_counts}
 use Rattle.disk_model.specs.declared.four_files.FourFiles.{FourFiles}
 use Rattle.recovery.specs.Recovery.{Recovery, Recovers}
 use Rattle.recovery.specs.Sound.{IsSound}
@@ -49,6 +50,10 @@ IsRefused file honest files refusal =
 -- one of these counts of faults grew, except at its last value
 abbrev pub SomeGrew : List ℕ → List ℕ → Type 0
 SomeGrew old new = (place : ℕ) × (place < length old) × Grew (slice_index old place) (slice_index new place)
+
+-- a refusal by a device comes only where the count of a file's faults grew
+abbrev pub HasFaulted : {D : Type 0} → (faults : D → ℕ) → (files left : FourFiles D) → Refusal → Type 0
+HasFaulted faults files left refusal = refusal ≡ Device → SomeGrew (fault_counts faults files) (fault_counts faults left)
 
 -- what recovery answers on bytes, which are what the files hold where they keep to the disk model
 pub record RecoversBytes {D : Type 0} (file : D → List ℕ) (honest : Bool) (files : FourFiles D) : Type 0 where

@@ -63,13 +63,7 @@ returns-clause-read g c = λ honest.
     let b = c.in_ok-bytes.ensures.bytes honest in
     let all : length c.deref-5.result.now ≡ c.len-cells.result = c.deref-5.ensures.len ∙ sym c.len-cells.ensures in
     is_read g.C.Capture.content g.D.Disk.content g.D.Disk.may_leave
-    (record {
-      made = c.images_stay.ensures.made;
-      round = c.images_stay.ensures.begun;
-      log = λ tick shut_a shut_b log_a log_b before_a before_b most oa ob ta tb. c.log_outcomes.ensures.begins tick shut_a shut_b log_a log_b before_a before_b most oa ob ta.yes ta.no tb.yes tb.no;
-      told = c.gates_are_told.ensures;
-    })
-    c.segments_read_once.ensures.once c.crash_restarts.ensures c.worlds_go_on.ensures (λ disk. g.met.D.Disk.stays disk honest)
+    c.starts_begin.ensures c.segments_read_once.ensures.once c.crash_restarts.ensures c.worlds_go_on.ensures (λ disk. g.met.D.Disk.stays disk honest)
     c.args.files.now c.read_all.new.self (c.read_all.ensures.kept honest) bytes.image_a.items bytes.image_b.items bytes.log_a.items bytes.log_b.items
     (record { image_a_is = b.image_a; image_b_is = b.image_b; log_a_is = b.log_a; log_b_is = b.log_b })
     (recovery_of_answer found) c.len-cells.result found.from c.deref-5.result.now c.in_ok-engine.engine c.in_ok-found.ensures.world c.in_ok-found.ensures.numbers.1 c.deref-5.ensures.value
