@@ -14,6 +14,7 @@ use Rattle.image_files.specs.Files.{Stands as ImagesStand, FitsFiles as ImagesFi
 use Rattle.image_files.specs.Images.{ImageFiles, with_round}
 use Rattle.image_files.specs.Progress.{Progress as ImageProgress, made_keeper, begun_keeper}
 use Rattle.image_files.specs.declared.phase.Phase.TheVariants.{Idle, Down}
+use Rattle.restart.specs.InStep.{WorldsGoOn}
 use Rattle.restart.specs.Start.{has_round, started_keeper, IsBuilt, is_shut}
 use Rattle.world_start.specs.declared.engine.Engine.{Engine}
 use Rattle.restart.specs.declared.start.TheConstants.{QUEUE_RECORDS}
@@ -76,7 +77,7 @@ module _ {C : Type 0} (content : C → Content) where
     pub ended : engine.ended ≡ tick
     pub since : engine.since ≡ 0
 
--- what the laws say of the files of keepers just made, nothing of which is unsynced
+-- what the laws say of keepers just made, on files of which nothing is unsynced, and of a world in step
 pub record StartLaws {D : Type 0} (file : D → List ℕ) (leaves : D → List ℕ → Type 0) : Type 0 where
   pub made : (cells : ℕ) (newest : Option (Slot × ℕ)) (shut_a shut_b : Bool) (images : ImageFiles) (image_a image_b : D) → 1 ≤ cells → cells ≤ CELLS
       → Only (file image_a) (leaves image_a) → Only (file image_b) (leaves image_b) → TellsShut shut_a (file image_a) → TellsShut shut_b (file image_b) → IsTold cells newest images (file image_a) (file image_b)
@@ -87,6 +88,8 @@ pub record StartLaws {D : Type 0} (file : D → List ℕ) (leaves : D → List �
       → TellsShut shut_a (file log_a) → TellsShut shut_b (file log_b) → IsSegment (file log_a) before_a → IsSegment (file log_b) before_b
       → LogStands (begun tick shut_a shut_b) (file log_a) (file log_b) (leaves log_a) (leaves log_b) (start_of tick before_a before_b (start_moves shut_a shut_b))
   pub told : (bytes : List ℕ) → TellsShut (is_shut bytes) bytes
+  pub queue : (tick : ℕ) (shut_a shut_b : Bool) → QueueFollows (begun tick shut_a shut_b) [] × (end_of (begun tick shut_a shut_b) [] ≡ record { base = tick; count = 0 })
+  pub goes_on : WorldsGoOn
 
 -- ---- making files
 

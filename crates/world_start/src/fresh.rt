@@ -9,11 +9,11 @@ ghost use Rattle.world_start.specs.Fresh.{AreMade, AreNotMade, FilesAreClosed};
 use crate::closed::are_closed;
 use crate::engine::Engine;
 use crate::laws::starts_begin;
-use action_log::{log_outcomes, log_queues};
+use action_log::log_outcomes;
 use capture_core::{Capture, PlainCopy};
 use disk_model::{Disk, FourFiles};
 use image_files::images_stay;
-use restart::{worlds_are_safe, worlds_go_on, zeros};
+use restart::{worlds_are_safe, zeros};
 use std::alloc::Global;
 use world_actions::Refusal;
 
@@ -83,8 +83,6 @@ fn begin_fresh<C: Capture, D: Disk>(
     ensures device { IfErr result (HasFaulted D.faults files.old files.new) }
 {
     starts_begin::<D>();
-    log_queues();
-    worlds_go_on();
     let bytes = files.read_all(alloc)?;
     if !are_closed(alloc, &bytes) {
         return Err(Refusal::NotEmpty);

@@ -5,11 +5,10 @@ ghost use Rattle.world_start.specs.Opening.{HasFaulted, IsRead, IsRecovered, IsR
 
 use crate::engine::Engine;
 use crate::laws::starts_begin;
-use action_log::{log_queues, segments_read_once};
+use action_log::segments_read_once;
 use capture_core::Capture;
 use disk_model::{Disk, FourFiles};
 use recovery::{crash_restarts, recover};
-use restart::worlds_go_on;
 use std::alloc::Global;
 use world_actions::Refusal;
 
@@ -41,10 +40,8 @@ pub fn recover_world<C: Capture, D: Disk>(
     ensures device { IfErr result (HasFaulted D.faults files.old files.new) }
 {
     starts_begin::<D>();
-    log_queues();
     segments_read_once();
     crash_restarts();
-    worlds_go_on();
     let bytes = files.read_all(alloc)?;
     let found = recover(
         alloc,
