@@ -30,12 +30,8 @@ returns-in_err-start-clause-left g c = λ honest.
 
 pub returns-clause-started : goal.returns-clause-started
 returns-clause-started g c = λ honest.
-    let file = g.D.Disk.content in
-    let leaves = g.D.Disk.may_leave in
-    let last = c.start.new.self in
-    let after = c.start.new.files in
     let read = c.in_ok-begun.ensures.read honest in
-    let ended : last.ended ≡ read.recovery.tick = c.start.ensures.ended.0 ∙ read.ended in
+    let ended = c.start.ensures.ended.0 ∙ read.ended in
     record {
       matches = record {
         recovery = read.recovery;
@@ -48,7 +44,7 @@ returns-clause-started g c = λ honest.
       follows = λ cells ticks acknowledged synced sound.
           (let f = read.follows cells ticks acknowledged synced sound in (
             c.start.ensures.cells ∙ f.0,
-            subst (λ n. Follows g.C.Capture.content file leaves last after (take read.recovery.tick ticks) n) ended (c.in_ok-start.ensures.acknowledges honest (take read.recovery.tick ticks) acknowledged f.1),
+            subst (λ n. Follows g.C.Capture.content g.D.Disk.content g.D.Disk.may_leave c.start.new.self c.start.new.files (take read.recovery.tick ticks) n) ended (c.in_ok-start.ensures.acknowledges honest (take read.recovery.tick ticks) acknowledged f.1),
           ));
     }
 
