@@ -3,7 +3,7 @@ use Rattle.std.proofs.Common.{◌≡◌, ◌↔◌, ℕ, ◌<◌, Bool, true, fa
 use Rattle.world_actions.specs.declared.action.Action.{Action}
 use Rattle.world_actions.specs.declared.refusal.Refusal.TheVariants.{Starting, LogDown, ImageDown, OpenTick, Busy, NothingNew, QueueFull}
 use Rattle.image_files.specs.declared.phase.Phase.{Phase}
-use Rattle.image_files.specs.declared.phase.Phase.TheVariants.{Idle, Closing, ClosingSync, Header, Taking, Reading, Writing as WritingChunk, BodySync, Opening, OpeningSync, Down}
+use Rattle.image_files.specs.declared.phase.Phase.TheVariants.{Idle}
 use Rattle.image_files.specs.Images.{Round, round_in}
 use Rattle.world_core.specs.Standing.{tick_refusal, mark_refusal, is_starting, is_round_open, is_log_waiting, mark_refusal_at, queue_most}
 use Rattle.world_core.specs.Past.{Past}
@@ -27,29 +27,11 @@ true_iff false n h = not_lt n (λ e. (let g : false ≡ true = h.1 e in absurd (
 
 idle_or_not : (p : Phase) → (is_in_round p ≡ false → p ≡ Idle)
 idle_or_not Idle e = refl
-idle_or_not Closing e = absurd (let g = e in cc)
-idle_or_not ClosingSync e = absurd (let g = e in cc)
-idle_or_not Header e = absurd (let g = e in cc)
-idle_or_not Taking e = absurd (let g = e in cc)
-idle_or_not Reading e = absurd (let g = e in cc)
-idle_or_not WritingChunk e = absurd (let g = e in cc)
-idle_or_not BodySync e = absurd (let g = e in cc)
-idle_or_not Opening e = absurd (let g = e in cc)
-idle_or_not OpeningSync e = absurd (let g = e in cc)
-idle_or_not Down e = absurd (let g = e in cc)
+idle_or_not p e = absurd (let g = e in cc)
 
 in_round : (p : Phase) (opened : Bool) → (p ≡ Idle → opened ≡ false) → ((p ≡ Idle → ⊥) → opened ≡ true) → is_in_round p ≡ opened
 in_round Idle o none some = sym (none refl)
-in_round Closing o none some = sym (some (λ e. let g = e in cc))
-in_round ClosingSync o none some = sym (some (λ e. let g = e in cc))
-in_round Header o none some = sym (some (λ e. let g = e in cc))
-in_round Taking o none some = sym (some (λ e. let g = e in cc))
-in_round Reading o none some = sym (some (λ e. let g = e in cc))
-in_round WritingChunk o none some = sym (some (λ e. let g = e in cc))
-in_round BodySync o none some = sym (some (λ e. let g = e in cc))
-in_round Opening o none some = sym (some (λ e. let g = e in cc))
-in_round OpeningSync o none some = sym (some (λ e. let g = e in cc))
-in_round Down o none some = sym (some (λ e. let g = e in cc))
+in_round p o none some = sym (some (λ e. let g = e in cc))
 
 pub starting_is : KeeperLaws → (past : Past) (state : State) → IsCoreAt past state → state.log.starting ≡ is_starting past.standing
 starting_is laws past state c = true_iff state.log.starting c.place.left (laws.left state.log state.log_a state.log_b c.place c.has_log) ∙ ap (nat_lt 0) (sym c.told.start_left)

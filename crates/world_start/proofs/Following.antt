@@ -31,20 +31,10 @@ use Rattle.world_start.specs.Parts.{LogIsReady}
 -- ---- a log that is idle
 
 no_rest : (p : Phase) (shut : Bool) → rest_in p shut ≡ 0 → p ≡ phase.Ready
-no_rest phase.Retiring true e = absurd (let h = e in cc)
-no_rest phase.Retiring false e = absurd (let h = e in cc)
-no_rest phase.RetiringSync true e = absurd (let h = e in cc)
-no_rest phase.RetiringSync false e = absurd (let h = e in cc)
 no_rest phase.Ready shut e = refl
-no_rest phase.BodySync shut e = absurd (let h = e in cc)
-no_rest phase.Gate shut e = absurd (let h = e in cc)
-no_rest phase.GateSync shut e = absurd (let h = e in cc)
-no_rest phase.Closing shut e = absurd (let h = e in cc)
-no_rest phase.ClosingSync shut e = absurd (let h = e in cc)
-no_rest phase.Header shut e = absurd (let h = e in cc)
-no_rest phase.HeaderSync shut e = absurd (let h = e in cc)
-no_rest phase.Opening shut e = absurd (let h = e in cc)
-no_rest phase.OpeningSync shut e = absurd (let h = e in cc)
+no_rest phase.Retiring true e = absurd (let h = e in cc)
+no_rest phase.RetiringSync true e = absurd (let h = e in cc)
+no_rest p shut e = absurd (let h = e in cc)
 
 no_queue : (queue : List Record) → queue_work queue ≡ 0 → queue ≡ []
 no_queue [] e = refl

@@ -6,7 +6,7 @@ use Rattle.capture_core.specs.declared.taker.Taken.{Taken}
 use Rattle.capture_core.specs.Taken.{taken_of}
 use Rattle.capture_core.specs.Content.{Content, Takes}
 use Rattle.image_files.specs.declared.phase.Phase.{Phase}
-use Rattle.image_files.specs.declared.phase.Phase.TheVariants.{Idle, Closing, ClosingSync, Header, Taking, Reading, Writing, BodySync, Opening, OpeningSync, Down}
+use Rattle.image_files.specs.declared.phase.Phase.TheVariants.{Idle, BodySync, Opening, OpeningSync, Down}
 use Rattle.image_files.specs.declared.answer.ImageAnswer.{ImageAnswer}
 use Rattle.image_files.specs.declared.answer.ImageAnswer.TheVariants as answer
 use Rattle.image_files.specs.Images.{ImageFiles, StepsImages}
@@ -115,16 +115,11 @@ module _ {S : Type 0} (content : S → Content) (took : S → Option Taken → S
 -- a keeper with no move left has no round in work, or is down
 by_phase : (phase : Phase) (keeper : Progress) → moves_left phase keeper ≡ 0 → (phase ≡ Idle) ⊎ (phase ≡ Down)
 by_phase Idle keeper none = inl refl
-by_phase Closing keeper none = absurd (omega (arith, none))
-by_phase ClosingSync keeper none = absurd (omega (arith, none))
-by_phase Header keeper none = absurd (omega (arith, none))
-by_phase Taking keeper none = absurd (omega (arith, none))
-by_phase Reading keeper none = absurd (omega (arith, none))
-by_phase Writing keeper none = absurd (omega (arith, none))
+by_phase Down keeper none = inr refl
 by_phase BodySync keeper none = absurd (let h = none in cc)
 by_phase Opening keeper none = absurd (let h = none in cc)
 by_phase OpeningSync keeper none = absurd (let h = none in cc)
-by_phase Down keeper none = inr refl
+by_phase phase keeper none = absurd (omega (arith, none))
 
 pub none_left : (keeper : Progress) → left_of keeper ≤ 0 → (keeper.phase ≡ Idle) ⊎ (keeper.phase ≡ Down)
 none_left keeper none = by_phase keeper.phase keeper (omega arith)
