@@ -1,5 +1,5 @@
 -- What lower crates say of their values, as it is of a core's state.
-use Rattle.std.proofs.Common.{◌≡◌, ◌↔◌, ◌<◌, ◌+◌, ◌++◌, min, true, false, Bool, ℕ, List, [], ◌∷◌, ◌⊎◌, inl, inr, Option, Some, None, refl, sym, ap, subst, ◌∙◌, arith}
+use Rattle.std.proofs.Common.{◌≡◌, ◌↔◌, ◌<◌, ◌+◌, ◌++◌, min, true, false, Bool, ℕ, List, [], ◌∷◌, ◌⊎◌, inl, inr, Some, None, refl, sym, ap, subst, ◌∙◌, arith}
 use Rattle.world_actions.specs.declared.action.Action.{Action}
 use Rattle.capture_core.specs.Content.{Content, Takes}
 use Rattle.file_format.specs.declared.slot.Slot.{Slot}
@@ -13,7 +13,7 @@ use Rattle.image_files.specs.declared.answer.ImageAnswer.TheVariants as image_an
 use Rattle.image_files.specs.declared.phase.Phase.{Phase}
 use Rattle.image_files.specs.declared.phase.Phase.TheVariants.{Idle, Taking, Reading, Down}
 use Rattle.image_files.specs.Images.{ImageFiles, StepsImages}
-use Rattle.image_files.specs.Progress.{Progress as ImageProgress, target_of, left_of, cells_taken, opened_keeper}
+use Rattle.image_files.specs.Progress.{target_of, left_of, cells_taken, opened_keeper}
 use Rattle.image_files.specs.Steps.{IfOpened, OnWorking, CallsIn as ImageCallsIn, HasCause}
 use Rattle.action_log.specs.declared.phase.Phase.{Phase as LogPhase}
 use Rattle.action_log.specs.declared.phase.Phase.TheVariants as log_phase

@@ -6,7 +6,6 @@ use Rattle.world_actions.specs.declared.refusal.Refusal.{Refusal}
 use Rattle.world_actions.specs.declared.refusal.Refusal.TheVariants.{NoImage, NoMemory}
 use Rattle.world_actions.specs.declared.world.TheConstants.{CELLS}
 use Rattle.world_ticks.specs.declared.tick.TheConstants.{TICK_MAX}
-use Rattle.file_format.specs.declared.slot.Slot.{Slot}
 use Rattle.disk_model.specs.CrashOutcome.{IsCrashOutcome}
 use Rattle.image_files.specs.Image.{Closed, image_of}
 use Rattle.image_files.specs.Images.{NoneYet, Newest}
