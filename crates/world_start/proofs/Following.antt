@@ -1,12 +1,11 @@
 -- What runs of images and log do keeps the world in step with its ticks.
-use Rattle.std.proofs.Common.{◌≡◌, ◌↔◌, ℕ, zero, suc, Bool, IsTrue, ◌+◌, ◌-◌, ◌<◌, ◌≤◌, ◌⊎◌, inl, inr, List, [], ◌∷◌, ◌++◌, length, true, false, None, Ok, refl, sym, ap, subst, ◌∙◌, arith}
+use Rattle.std.proofs.Common.{◌≡◌, ◌↔◌, ℕ, zero, suc, Bool, IsTrue, ◌-◌, ◌<◌, ◌≤◌, ◌⊎◌, inl, inr, List, [], ◌∷◌, ◌++◌, length, true, false, None, Ok, refl, sym, ap, subst, ◌∙◌, arith}
 use Rattle.std.proofs.lemmas.List.{length-append, take_all}
 use Rattle.world_actions.specs.declared.action.Action.{Action}
 use Rattle.world_ticks.specs.After.{after_ticks}
 use Rattle.capture_core.specs.Content.{Content}
 use Rattle.circular_buffer.specs.Buffer.{Buffer}
 use Rattle.disk_model.specs.declared.four_files.FourFiles.{FourFiles}
-use Rattle.image_files.specs.declared.phase.Phase.TheVariants.{Closing, Header}
 use Rattle.image_files.specs.Images.{Images, ImageFiles, NoneYet, Newest, round_in}
 use Rattle.image_files.specs.Progress.{Progress as ImageProgress}
 use Rattle.image_files.specs.Files.{Stands as ImagesStand}
