@@ -14,7 +14,6 @@ use Rattle.image_files.specs.Images.{ImageFiles, NoneYet, Newest, ImageFilesAre,
 use Rattle.image_files.specs.Progress.{Progress as ImageProgress, begun_keeper}
 use Rattle.image_files.specs.Files.{Stands as ImagesStand}
 use Rattle.action_log.specs.declared.record.Record.TheVariants as records
-use Rattle.action_log.specs.declared.phase.Phase.TheVariants as phase
 use Rattle.action_log.specs.declared.phase.Phase.TheVariants.{Ready}
 use Rattle.action_log.specs.declared.progress.Progress.{Progress as LogProgress}
 use Rattle.action_log.specs.Progress.{work_of, end_of}
