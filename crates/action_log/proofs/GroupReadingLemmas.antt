@@ -13,7 +13,7 @@ use Rattle.action_log.specs.Segment.{Tick, joined, tick_bytes, IsGroup, group_by
 use Rattle.action_log.specs.Reading.{◌>>=◌, action_at, tick_at, group_at, groups_at, groups_of, ticks_of, AreAdded}
 use Rattle.action_log.specs.TickList.{actions_of}
 use Rattle.action_log.proofs.ValueReadingLemmas.{IsBytes-rest, bind_some, found_is, AreRead}
-use Rattle.action_log.proofs.ActionReadingLemmas.{Numbers, group_reads, counted_bytes}
+use Rattle.action_log.proofs.ActionReadingLemmas.{group_reads, counted_bytes}
 
 -- ---- some groups, and what ends them
 
@@ -172,53 +172,52 @@ groups_length (g ∷ groups) rest =
 
 -- ---- groups, taken and read again
 
-module _ (numbers : Numbers) where
-  pub groups_take : (format : Format) (n : ℕ) (bytes : List ℕ) (gs : List (List Tick)) (rest : List ℕ) → IsBytes bytes → length bytes ≤ n → groups_at format n bytes ≡ Some (gs, rest) → TakesGroups format bytes gs rest
-  unfolding groups_at
-  groups_take format zero bytes gs rest fits len e =
-      subst (λ (p : List (List Tick) × List ℕ). TakesGroups format bytes p.0 p.1) (found_is ([], bytes) (gs, rest) e) (record { parts = refl; is = tt; ends = no_bytes bytes len })
-  groups_take format (suc n) [] gs rest fits len e =
-      subst (λ (p : List (List Tick) × List ℕ). TakesGroups format [] p.0 p.1) (found_is ([], []) (gs, rest) e) (record { parts = refl; is = tt; ends = tt })
-  groups_take format (suc n) (gate ∷ bytes) gs rest fits len e =
-      let go : (b : Bool) → eqb gate OPEN_GATE ≡ b → cond b (more_groups format n bytes) (no_more (gate ∷ bytes)) ≡ Some (gs, rest) → TakesGroups format (gate ∷ bytes) gs rest =
-      λ b. elim b as (λ b. eqb gate OPEN_GATE ≡ b → cond b (more_groups format n bytes) (no_more (gate ∷ bytes)) ≡ Some (gs, rest) → TakesGroups format (gate ∷ bytes) gs rest) [
-        | true ↦ λ opened f. (
-            let one : gate ≡ OPEN_GATE = eqb-true gate OPEN_GATE opened in
-            let p = bind_some (group_at format bytes) (λ group. groups_at format n group.1 >>= onto group.0) (gs, rest) f in
-            let a = (group_reads numbers format).takes bytes p.0.0 p.0.1 (IsBytes-rest gate bytes fits) p.1 in
-            let shorter : length p.0.1 ≤ n = omega (arith, ap length a.parts, length-append (counted_bytes tick_bytes p.0.0) p.0.1) in
-            let q = bind_some (groups_at format n p.0.1) (onto p.0.0) (gs, rest) p.2 in
-            let c = groups_take format n p.0.1 q.0.0 q.0.1 a.are_bytes shorter q.1 in
-            subst (λ (p : List (List Tick) × List ℕ). TakesGroups format (gate ∷ bytes) p.0 p.1) (found_is (p.0.0 ∷ q.0.0, q.0.1) (gs, rest) q.2)
-            (record {
-              parts = ap (λ m. m ∷ bytes) one ∙ ap (λ l. OPEN_GATE ∷ l) (a.parts ∙ ap (λ l. counted_bytes tick_bytes p.0.0 ++ l) c.parts) ∙ sym (append_assoc (group_bytes p.0.0) (flat_map group_bytes q.0.0) q.0.1);
-              is = (a.is, c.is);
-              ends = c.ends;
-            }))
-        | false ↦ λ shut f. subst (λ (p : List (List Tick) × List ℕ). TakesGroups format (gate ∷ bytes) p.0 p.1) (found_is ([], gate ∷ bytes) (gs, rest) f) (record { parts = refl; is = tt; ends = eqb-false gate OPEN_GATE shut })
-      ] in
-      go (eqb gate OPEN_GATE) refl e
+pub groups_take : (format : Format) (n : ℕ) (bytes : List ℕ) (gs : List (List Tick)) (rest : List ℕ) → IsBytes bytes → length bytes ≤ n → groups_at format n bytes ≡ Some (gs, rest) → TakesGroups format bytes gs rest
+unfolding groups_at
+groups_take format zero bytes gs rest fits len e =
+    subst (λ (p : List (List Tick) × List ℕ). TakesGroups format bytes p.0 p.1) (found_is ([], bytes) (gs, rest) e) (record { parts = refl; is = tt; ends = no_bytes bytes len })
+groups_take format (suc n) [] gs rest fits len e =
+    subst (λ (p : List (List Tick) × List ℕ). TakesGroups format [] p.0 p.1) (found_is ([], []) (gs, rest) e) (record { parts = refl; is = tt; ends = tt })
+groups_take format (suc n) (gate ∷ bytes) gs rest fits len e =
+    let go : (b : Bool) → eqb gate OPEN_GATE ≡ b → cond b (more_groups format n bytes) (no_more (gate ∷ bytes)) ≡ Some (gs, rest) → TakesGroups format (gate ∷ bytes) gs rest =
+    λ b. elim b as (λ b. eqb gate OPEN_GATE ≡ b → cond b (more_groups format n bytes) (no_more (gate ∷ bytes)) ≡ Some (gs, rest) → TakesGroups format (gate ∷ bytes) gs rest) [
+      | true ↦ λ opened f. (
+          let one : gate ≡ OPEN_GATE = eqb-true gate OPEN_GATE opened in
+          let p = bind_some (group_at format bytes) (λ group. groups_at format n group.1 >>= onto group.0) (gs, rest) f in
+          let a = (group_reads format).takes bytes p.0.0 p.0.1 (IsBytes-rest gate bytes fits) p.1 in
+          let shorter : length p.0.1 ≤ n = omega (arith, ap length a.parts, length-append (counted_bytes tick_bytes p.0.0) p.0.1) in
+          let q = bind_some (groups_at format n p.0.1) (onto p.0.0) (gs, rest) p.2 in
+          let c = groups_take format n p.0.1 q.0.0 q.0.1 a.are_bytes shorter q.1 in
+          subst (λ (p : List (List Tick) × List ℕ). TakesGroups format (gate ∷ bytes) p.0 p.1) (found_is (p.0.0 ∷ q.0.0, q.0.1) (gs, rest) q.2)
+          (record {
+            parts = ap (λ m. m ∷ bytes) one ∙ ap (λ l. OPEN_GATE ∷ l) (a.parts ∙ ap (λ l. counted_bytes tick_bytes p.0.0 ++ l) c.parts) ∙ sym (append_assoc (group_bytes p.0.0) (flat_map group_bytes q.0.0) q.0.1);
+            is = (a.is, c.is);
+            ends = c.ends;
+          }))
+      | false ↦ λ shut f. subst (λ (p : List (List Tick) × List ℕ). TakesGroups format (gate ∷ bytes) p.0 p.1) (found_is ([], gate ∷ bytes) (gs, rest) f) (record { parts = refl; is = tt; ends = eqb-false gate OPEN_GATE shut })
+    ] in
+    go (eqb gate OPEN_GATE) refl e
 
-  groups_again : (format : Format) (n : ℕ) (gs : List (List Tick)) (rest : List ℕ) → AllByRecursion (IsGroup format) gs → EndsGroups rest → length gs ≤ n → groups_at format n (flat_map group_bytes gs ++ rest) ≡ Some (gs, rest)
-  unfolding groups_at
-  groups_again format zero [] rest f ends len = refl
-  groups_again format zero (g ∷ gs) rest f ends len = absurd (omega arith)
-  groups_again format (suc n) [] [] f ends len = refl
-  groups_again format (suc n) [] (b ∷ rest) f ends len = cond-false (eqb b OPEN_GATE) (group_at format rest >>= (λ group. groups_at format n group.1 >>= (λ others. Some (group.0 ∷ others.0, others.1)))) (Some ([], b ∷ rest)) (ne_eqb b OPEN_GATE ends)
-  groups_again format (suc n) (g ∷ gs) rest f ends len =
-      let fewer : length gs ≤ n = omega arith in
-      ap (groups_at format (suc n)) (append_assoc (group_bytes g) (flat_map group_bytes gs) rest)
-      ∙ ap (λ o. o >>= (λ group. groups_at format n group.1 >>= (λ others. Some (group.0 ∷ others.0, others.1)))) ((group_reads numbers format).again g (flat_map group_bytes gs ++ rest) f.0)
-      ∙ ap (λ o. o >>= (λ others. Some (g ∷ others.0, others.1))) (groups_again format n gs rest f.1 ends fewer)
+groups_again : (format : Format) (n : ℕ) (gs : List (List Tick)) (rest : List ℕ) → AllByRecursion (IsGroup format) gs → EndsGroups rest → length gs ≤ n → groups_at format n (flat_map group_bytes gs ++ rest) ≡ Some (gs, rest)
+unfolding groups_at
+groups_again format zero [] rest f ends len = refl
+groups_again format zero (g ∷ gs) rest f ends len = absurd (omega arith)
+groups_again format (suc n) [] [] f ends len = refl
+groups_again format (suc n) [] (b ∷ rest) f ends len = cond-false (eqb b OPEN_GATE) (group_at format rest >>= (λ group. groups_at format n group.1 >>= (λ others. Some (group.0 ∷ others.0, others.1)))) (Some ([], b ∷ rest)) (ne_eqb b OPEN_GATE ends)
+groups_again format (suc n) (g ∷ gs) rest f ends len =
+    let fewer : length gs ≤ n = omega arith in
+    ap (groups_at format (suc n)) (append_assoc (group_bytes g) (flat_map group_bytes gs) rest)
+    ∙ ap (λ o. o >>= (λ group. groups_at format n group.1 >>= (λ others. Some (group.0 ∷ others.0, others.1)))) ((group_reads format).again g (flat_map group_bytes gs ++ rest) f.0)
+    ∙ ap (λ o. o >>= (λ others. Some (g ∷ others.0, others.1))) (groups_again format n gs rest f.1 ends fewer)
 
-  pub all_again : (format : Format) (gs : List (List Tick)) (rest : List ℕ) → AllByRecursion (IsGroup format) gs → EndsGroups rest → groups_of format (flat_map group_bytes gs ++ rest) ≡ Some gs
-  unfolding groups_of
-  all_again format gs rest f ends = ap (λ o. o >>= (λ found. Some found.0)) (groups_again format (length (flat_map group_bytes gs ++ rest)) gs rest f ends (groups_length gs rest))
+pub all_again : (format : Format) (gs : List (List Tick)) (rest : List ℕ) → AllByRecursion (IsGroup format) gs → EndsGroups rest → groups_of format (flat_map group_bytes gs ++ rest) ≡ Some gs
+unfolding groups_of
+all_again format gs rest f ends = ap (λ o. o >>= (λ found. Some found.0)) (groups_again format (length (flat_map group_bytes gs ++ rest)) gs rest f ends (groups_length gs rest))
 
-  -- one more group is read, and the bytes left are fewer
-  pub read_to_next : (format : Format) (bytes : List ℕ) (done : List (List Tick)) (rest behind : List ℕ) (group : List Tick) (next : List ℕ) → IsReadTo format bytes done rest → rest ≡ OPEN_GATE ∷ behind → group_at format behind ≡ Some (group, next) → IsReadTo format bytes (done ++ group ∷ []) next × (length next < length rest)
-  read_to_next format bytes done rest behind group next r gate e =
-      let at = subst IsBytes gate r.are_bytes in
-      let taken = (group_reads numbers format).takes behind group next (IsBytes-rest OPEN_GATE behind at) e in
-      let fewer : length next < length rest = omega (arith, ap length gate, ap length taken.parts, length-append (counted_bytes tick_bytes group) next) in
-      (group_read format bytes done rest behind group next r fewer gate e taken.are_bytes, fewer)
+-- one more group is read, and the bytes left are fewer
+pub read_to_next : (format : Format) (bytes : List ℕ) (done : List (List Tick)) (rest behind : List ℕ) (group : List Tick) (next : List ℕ) → IsReadTo format bytes done rest → rest ≡ OPEN_GATE ∷ behind → group_at format behind ≡ Some (group, next) → IsReadTo format bytes (done ++ group ∷ []) next × (length next < length rest)
+read_to_next format bytes done rest behind group next r gate e =
+    let at = subst IsBytes gate r.are_bytes in
+    let taken = (group_reads format).takes behind group next (IsBytes-rest OPEN_GATE behind at) e in
+    let fewer : length next < length rest = omega (arith, ap length gate, ap length taken.parts, length-append (counted_bytes tick_bytes group) next) in
+    (group_read format bytes done rest behind group next r fewer gate e taken.are_bytes, fewer)

@@ -17,7 +17,6 @@ ghost use Rattle.action_log.specs.Files.{FitsFiles};
 ghost use Rattle.action_log.specs.Stands.{Stands};
 
 use disk_model::Disk;
-use file_format::numbers_read_back;
 
 /// Laws: no spelling of an action, a tick or a group of a format begins another one's of the same format, and each list
 /// of bytes reads in one way.
@@ -25,9 +24,7 @@ pub fn segments_read_once()
     ensures apart { LawOfSpellings }
     ensures once { ReadsOnce }
     ensures each { EachReads }
-{
-    numbers_read_back();
-}
+{}
 
 /// Laws: which records may be queued behind others, and what stands behind them then.
 pub fn log_queues()

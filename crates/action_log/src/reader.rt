@@ -9,7 +9,7 @@ mod ticks;
 use self::ticks::{Counts, count_all, read_ticks};
 use crate::format::{FIRST_GROUP, HEADER_BYTES, SEGMENT_TICKS};
 use crate::tick_list::TickList;
-use file_format::{Format, OPEN_GATE, marked_at, numbers_read_back};
+use file_format::{Format, OPEN_GATE, marked_at};
 use std::alloc::Global;
 use world_actions::Refusal;
 use world_ticks::TICK_MAX;
@@ -56,7 +56,6 @@ pub fn count_groups(bytes: &[u8]) -> Option<usize>
     ensures each { (base : ℕ) (ticks : List (List Action)) (segment : IsOpenSegment bytes.now base ticks)
         → result ≡ Some (length segment.groups) }
 {
-    numbers_read_back();
     match judge(bytes) {
         Judged::Closed => None,
         Judged::Malformed => None,
@@ -80,7 +79,6 @@ enum Judged {
 fn judge(bytes: &[u8]) -> Judged
     ensures { IsJudged bytes.now result }
 {
-    numbers_read_back();
     if bytes.len() < HEADER_BYTES || bytes[0] != OPEN_GATE {
         return Judged::Closed;
     }

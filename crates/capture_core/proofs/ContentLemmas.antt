@@ -1,12 +1,14 @@
 -- Contents of stores, and what writes do to them.
-use Rattle.std.proofs.Common.{◌≡◌, refl, sym, ◌∙◌, ap, ℕ, suc, zero, Bool, true, List, [], ◌∷◌, length, replicate, set, ◌≢◌, subst, inl, inr, false, Some}
-use Rattle.std.proofs.lemmas.List.{length-set}
-use Rattle.std.proofs.lemmas.Option.{none-some, same_Some}
+use Rattle.std.proofs.Common.{◌≡◌, refl, sym, ◌∙◌, ap, ℕ, suc, zero, Bool, true, List, [], ◌∷◌, length, drop, replicate, set, ◌≢◌, subst, inl, inr, false, Some, None}
+use Rattle.std.proofs.lemmas.List.{length-set, drop_all}
+use Rattle.std.proofs.lemmas.Option.{none-some, same_Some, slice_get_cases}
 use Rattle.std.proofs.lemmas.Bool.{cases_eq}
 use Rattle.std.specs.List.{slice_get}
+use Rattle.std.specs.Option.{option_map}
 use Rattle.world_actions.specs.Effect.{Write, written}
 use Rattle.world_ticks.specs.Cells.{Access, Read, Wrote, Accesses, writes_among, Performs}
-use Rattle.capture_core.specs.Content.{Content, all_touched, content_after, Covers}
+use Rattle.capture_core.specs.Taken.{taken_of}
+use Rattle.capture_core.specs.Content.{Content, all_touched, content_after, Takes, Covers}
 
 -- where all are the same, writing that again changes nothing
 set-replicate : (n i : ℕ) (b : Bool) → set (replicate n b) i b ≡ replicate n b
@@ -74,3 +76,17 @@ covers-write image write store covers k untouched =
 pub covers-writes : (image : List ℕ) (store : Content) (writes : List Write) → Covers image store → Covers image (content_after store writes)
 covers-writes image store [] covers = covers
 covers-writes image store (write ∷ writes) covers = covers-writes image (content_after store (write ∷ [])) writes (covers-write image write store covers)
+
+-- nothing stands behind a place where a list has no entry
+pub none_behind : {X : Type 0} (entries : List X) (place : ℕ) → None ≡ slice_get entries place → drop place entries ≡ []
+none_behind entries place is = elim (slice_get_cases entries place).1 [
+  | inl (x, below, some, at) ↦ absurd (none-some x (is ∙ some))
+  | inr (past, none) ↦ drop_all place entries past
+]
+
+-- a take where none is left
+pub takes_none : (store : Content) → store.left ≡ [] → Takes store None store
+takes_none store end = record {
+  gives = sym (ap (λ list. option_map taken_of (slice_get list 0)) end);
+  rest = ap (λ left. record store { left = left }) (end ∙ sym (ap (λ list. drop 1 list) end));
+}

@@ -3,7 +3,7 @@ use Rattle.std.proofs.Common.{◌/◌, ◌%◌, ◌≡◌, ℕ, zero, suc, ◌+�
 use Rattle.std.proofs.Math.Nat.{div-div-eq-div-mul, div-one, mod-lt, pow-succ'}
 use Rattle.std.specs.Int.{byte_at, bytes_low_first}
 use Rattle.byteorder.specs.Endian.{little_from}
-use Rattle.byteorder.specs.Numbers.{little_from-append, little_from-cons, little_number-reads_back, length-bytes_low_first}
+use Rattle.byteorder.specs.Numbers.{little_from-append, little_from-cons, little_from-lt, little_number-reads_back, length-bytes_low_first}
 use Rattle.file_format.specs.Number.{IsBytes, number_bytes, number_of}
 
 -- a byte of a number, by its place
@@ -26,7 +26,7 @@ higher_bytes (suc k) j b y small =
     rw (first, higher_bytes k (suc j) b y small) refl
 
 -- the bytes of the number that the first bytes give are those
-pub bytes_of_number : (k : ℕ) (bytes : List ℕ) → IsBytes bytes → k ≤ length bytes → bytes_low_first 0 k (little_from 0 k bytes) ≡ take k bytes
+bytes_of_number : (k : ℕ) (bytes : List ℕ) → IsBytes bytes → k ≤ length bytes → bytes_low_first 0 k (little_from 0 k bytes) ≡ take k bytes
 bytes_of_number zero bytes are_bytes long = refl
 bytes_of_number (suc k) [] are_bytes long = absurd (omega arith)
 bytes_of_number (suc k) (b ∷ rest) are_bytes long =
@@ -54,3 +54,16 @@ number_of-number_bytes width number rest small = little_number-reads_back width 
 pub number_of-append : (width : ℕ) (bytes rest : List ℕ) → width ≤ length bytes → number_of width (bytes ++ rest) ≡ number_of width bytes
 unfolding number_of
 number_of-append width bytes rest long = little_from-append width bytes rest long
+
+-- bytes are those of their number
+pub number_bytes-number_of : (width : ℕ) (bytes : List ℕ) → IsBytes bytes → width ≤ length bytes → number_bytes width (number_of width bytes) ≡ take width bytes
+unfolding number_bytes number_of
+number_bytes-number_of width bytes are_bytes long = bytes_of_number width bytes are_bytes long
+
+-- a number of so many bytes fits into them
+pub number_of-below : (width : ℕ) (bytes : List ℕ) → IsBytes bytes → number_of width bytes < 256 ^ width
+unfolding number_of
+number_of-below width bytes are_bytes = little_from-lt 0 width bytes are_bytes
+
+-- what the law of numbers says
+pub ruleset number_laws = (number_of-number_bytes, number_bytes-number_of, number_of-append, number_of-below, length-number_bytes)

@@ -80,6 +80,7 @@ pub fn write_u64_at(bytes: &mut [u8], place: usize, number: u64)
 }
 
 /// Laws: a number is read back from its bytes, whatever follows, and bytes are those of their number.
+#[tactic(auto, using(crate::proofs::NumberLemmas::number_laws))]
 pub fn numbers_read_back()
     ensures read { (width number : ℕ) (rest : List ℕ) → number < 256 ^ width
         → number_of width (number_bytes width number ++ rest) ≡ number }

@@ -1,6 +1,7 @@
 -- A step keeps what the keeper and its files stand for.
-use Rattle.std.proofs.Common.{◌≡◌, ◌⊎◌, inl, inr, ◌↔◌, ℕ, List, [], true, false, Option, Some, None, length, refl, sym, ◌∙◌, ap, subst}
+use Rattle.std.proofs.Common.{◌≡◌, ◌⊎◌, inl, inr, ◌↔◌, ℕ, List, [], true, false, Option, Some, None, length, refl, sym, ◌∙◌, ap, subst, Bool, IsTrue}
 use Rattle.std.specs.Prelude.{IfSome, IfNone, is_some, option_map, ⊤}
+use Rattle.disk_model.specs.Disk.{Within}
 use Rattle.file_format.specs.declared.slot.Slot.{Slot}
 use Rattle.file_format.specs.declared.slot.Slot.TheVariants.{A, B}
 use Rattle.file_format.specs.Slot.{other_slot, of_slot, in_slot, beside_slot}
@@ -19,13 +20,13 @@ use Rattle.image_files.proofs.TakeLemmas.{length-done}
 use Rattle.image_files.specs.Files.{Stands, StandsFor, IsHeld, before_in}
 
 -- what a step says of a keeper, its taker, and the contents and outcomes of its two files
-pub record Stepped {S : Type 0} (took : S → Option Taken → S → Type 0) (given : ImageAnswer) (old new : Progress) (from to : S) (target target' newest newest' : List ℕ) (left left' beside beside' : List ℕ → Type 0) : Type 0 where
-  pub fits : IfOpened given (Fits new newest' target') (Fits new target' newest')
-  pub endures : (before : Image) → Endures old before target newest left beside → IfOpened given (Endures new (image_of newest') newest' target' beside' left') (Endures new before target' newest' left' beside')
-  pub opened_image : OnOpened given (IsOpenedImage old (done old target newest) target' left')
-  pub took_cell : old.phase ≡ Taking → (cell : Option Taken) × took from cell to × IfNone cell (to ≡ from) × TookCell cell old new × TookWord cell old newest (done old target newest) (done new target' newest')
+pub record Stepped {S : Type 0} (took : S → Option Taken → S → Type 0) (honest : Bool) (given : ImageAnswer) (old new : Progress) (from to : S) (target target' newest newest' : List ℕ) (left left' beside beside' : List ℕ → Type 0) : Type 0 where
+  pub fits : IsTrue honest → IfOpened given (Fits new newest' target') (Fits new target' newest')
+  pub endures : IsTrue honest → (before : Image) → Endures old before target newest left beside → IfOpened given (Endures new (image_of newest') newest' target' beside' left') (Endures new before target' newest' left' beside')
+  pub opened_image : IsTrue honest → OnOpened given (IsOpenedImage old (done old target newest) target' left')
+  pub took_cell : old.phase ≡ Taking → (cell : Option Taken) × took from cell to × IfNone cell (to ≡ from) × TookCell cell old new × (IsTrue honest → TookWord cell old newest (done old target newest) (done new target' newest'))
   pub not_took : (old.phase ≡ Taking → ⊥) → to ≡ from
-  pub words : (old.phase ≡ Taking → ⊥) → IfOpened given ⊤ (done new target' newest' ≡ done old target newest)
+  pub words : (old.phase ≡ Taking → ⊥) → IsTrue honest → IfOpened given ⊤ (done new target' newest' ≡ done old target newest)
   pub goes_on : OnWorking given (new.phase ≡ Idle → ⊥)
   pub takes : old.phase ≡ Taking → given ≡ answer.Working
   pub idle : (given ≡ answer.Idle) ↔ (old.phase ≡ Idle)
@@ -33,7 +34,7 @@ pub record Stepped {S : Type 0} (took : S → Option Taken → S → Type 0) (gi
   pub cells : new.cells ≡ old.cells
   pub ended : IfOpened given (new ≡ opened_keeper old) ((new.tick ≡ old.tick) × (new.newest ≡ old.newest))
   pub rests : (old.phase ≡ Idle) ⊎ (old.phase ≡ Down) → new ≡ old
-  pub stays : newest' ≡ newest
+  pub stays : IsTrue honest → (newest' ≡ newest) × Within beside beside'
 
 is_phase : (phase : Phase) → (phase ≡ Taking) ⊎ (phase ≡ Taking → ⊥)
 is_phase Taking = inl refl
@@ -90,10 +91,10 @@ before_taken cell (Newest images) = refl
 idle_round : (keeper : Progress) (target newest : List ℕ) → keeper.phase ≡ Idle → round_of keeper target newest ≡ None
 idle_round keeper target newest is = ap (λ (p : Phase). round_in_phase p (round_so_far keeper target newest)) is
 
-module _ {S : Type 0} (took : S → Option Taken → S → Type 0) (old new : Progress) (from to : S) (target target' newest newest' : List ℕ) (left left' beside beside' : List ℕ → Type 0)
+module _ {S : Type 0} (took : S → Option Taken → S → Type 0) (honest : Bool) (sure : IsTrue honest) (old new : Progress) (from to : S) (target target' newest newest' : List ℕ) (left left' beside beside' : List ℕ → Type 0)
     (images : ImageFiles) (stands : StandsFor old images target newest left beside) where
   abbrev Step : ImageAnswer → Type 0
-  Step given = Stepped took given old new from to target target' newest newest' left left' beside beside'
+  Step given = Stepped took honest given old new from to target target' newest newest' left left' beside beside'
 
   -- what a step with this answer keeps
   abbrev Kept : ImageAnswer → Type 0
@@ -118,7 +119,7 @@ module _ {S : Type 0} (took : S → Option Taken → S → Type 0) (old new : Pr
       let no_round : round_of new target' newest' ≡ round_of old target newest =
       idle_round new target' newest' (ap (λ (k : Progress). k.phase) same ∙ is) ∙ sym (idle_round old target newest is) in (
         images,
-        record { fits = step.fits; endures = step.endures (before_in images) stands.endures; held = held_on images old new target target' newest newest' step.ended.1 step.cells step.stays no_round stands.held },
+        record { fits = step.fits sure; endures = step.endures sure (before_in images) stands.endures; held = held_on images old new target target' newest newest' step.ended.1 step.cells (step.stays sure).0 no_round stands.held },
         (held_round images old target newest stands.held ∙ idle_round old target newest is, refl, step.not_took (λ taking. cc (is, taking))),
       )
 
@@ -129,9 +130,9 @@ module _ {S : Type 0} (took : S → Option Taken → S → Type 0) (old new : Pr
       let not_taking : old.phase ≡ Taking → ⊥ = λ is. let e = step.takes is in cc e in (
         images,
         record {
-          fits = step.fits;
-          endures = step.endures (before_in images) stands.endures;
-          held = held_on images old new target target' newest newest' step.ended.1 step.cells step.stays (same_round busy_new busy_old step.ended.0 (step.words not_taking)) stands.held;
+          fits = step.fits sure;
+          endures = step.endures sure (before_in images) stands.endures;
+          held = held_on images old new target target' newest newest' step.ended.1 step.cells (step.stays sure).0 (same_round busy_new busy_old step.ended.0 (step.words not_taking sure)) stands.held;
         },
         (round, round_is busy_old, refl, step.not_took not_taking),
       )
@@ -199,8 +200,8 @@ module _ {S : Type 0} (took : S → Option Taken → S → Type 0) (old new : Pr
 
   working_kept : Step answer.Working → Kept answer.Working
   working_kept step = elim (is_phase old.phase) [
-    | inr not_taking ↦ (images, stays_so (step.words not_taking), (round, round_is busy_old, inl (refl, step.not_took not_taking)))
-    | inl taking ↦ let cell = step.took_cell taking in by_cell cell.0 cell.1 cell.2 cell.4
+    | inr not_taking ↦ (images, stays_so (step.words not_taking sure), (round, round_is busy_old, inl (refl, step.not_took not_taking)))
+    | inl taking ↦ let cell = step.took_cell taking in by_cell cell.0 cell.1 cell.2 (cell.4 sure)
   ]
     where
       busy_old : old.phase ≡ Idle → ⊥
@@ -208,21 +209,21 @@ module _ {S : Type 0} (took : S → Option Taken → S → Type 0) (old new : Pr
 
       stays_so : done new target' newest' ≡ done old target newest → StandsFor new images target' newest' left' beside'
       stays_so words = record {
-        fits = step.fits;
-        endures = step.endures (before_in images) stands.endures;
-        held = held_on images old new target target' newest newest' step.ended.1 step.cells step.stays (same_round step.goes_on busy_old step.ended.0 words) stands.held;
+        fits = step.fits sure;
+        endures = step.endures sure (before_in images) stands.endures;
+        held = held_on images old new target target' newest newest' step.ended.1 step.cells (step.stays sure).0 (same_round step.goes_on busy_old step.ended.0 words) stands.held;
       }
 
       by_cell : (cell : Option Taken) → took from cell to → IfNone cell (to ≡ from) → TookWord cell old newest (done old target newest) (done new target' newest') → Kept answer.Working
       by_cell None was unchanged words = (images, stays_so words, (round, round_is busy_old, inl (refl, unchanged)))
       by_cell (Some cell) was unchanged words =
-          let fits : Fits new target' newest' = step.fits in
-          let endures : Endures new (before_in images) target' newest' left' beside' = step.endures (before_in images) stands.endures in (
+          let fits : Fits new target' newest' = step.fits sure in
+          let endures : Endures new (before_in images) target' newest' left' beside' = step.endures sure (before_in images) stands.endures in (
             with_taken cell images,
             record {
               fits = fits;
               endures = subst (λ (before : Image). Endures new before target' newest' left' beside') (sym (before_taken cell images)) endures;
-              held = taken_held cell words step.goes_on busy_old step.ended.0 step.ended.1 step.cells step.stays images stands.held;
+              held = taken_held cell words step.goes_on busy_old step.ended.0 step.ended.1 step.cells (step.stays sure).0 images stands.held;
             },
             (round, round_is busy_old, inr (cell, was, refl)),
           )
@@ -232,8 +233,8 @@ module _ {S : Type 0} (took : S → Option Taken → S → Type 0) (old new : Pr
       let busy_old : old.phase ≡ Idle → ⊥ = λ is. let e = step.idle.1 is in cc e in
       let not_taking : old.phase ≡ Taking → ⊥ = λ is. let e = step.takes is in cc e in (
         with_opened round images,
-        opened_stands tick step.ended step.opened_image step.stays step.fits (step.endures (before_in images) stands.endures) images stands.fits stands.held,
-        (round, round_is busy_old, step.opened_image.of_the_round, step.opened_image.whole, refl, step.not_took not_taking),
+        opened_stands tick step.ended (step.opened_image sure) (step.stays sure).0 (step.fits sure) (step.endures sure (before_in images) stands.endures) images stands.fits stands.held,
+        (round, round_is busy_old, (step.opened_image sure).of_the_round, (step.opened_image sure).whole, refl, step.not_took not_taking),
       )
 
   pub kept : (given : ImageAnswer) → Step given → Kept given
@@ -244,7 +245,7 @@ module _ {S : Type 0} (took : S → Option Taken → S → Type 0) (old new : Pr
 
 -- ---- by the files' names
 
-module _ {S : Type 0} (took : S → Option Taken → S → Type 0) (given : ImageAnswer) (old new : Progress) (from to : S) (a a' b b' : List ℕ) (left_a left_a' left_b left_b' : List ℕ → Type 0) (images : ImageFiles) where
+module _ {S : Type 0} (took : S → Option Taken → S → Type 0) (honest : Bool) (sure : IsTrue honest) (given : ImageAnswer) (old new : Progress) (from to : S) (a a' b b' : List ℕ) (left_a left_a' left_b left_b' : List ℕ → Type 0) (images : ImageFiles) where
   -- what a step by the files' names keeps
   abbrev FilesKept : Type 0
   FilesKept = (next : ImageFiles) × Stands new next a' b' left_a' left_b' × StepsImages took old.cells images given next from to
@@ -265,14 +266,14 @@ module _ {S : Type 0} (took : S → Option Taken → S → Type 0) (given : Imag
   abbrev WasAt : Slot → Type 0
   WasAt target = StandsFor old images (of_slot target a b) (of_slot target b a) (in_slot target left_a left_b) (beside_slot target left_a left_b)
 
-  pub kept_at_a : A ≡ target_of old.newest → Stepped took given old new from to a a' b b' left_a left_a' left_b left_b' → Stands old images a b left_a left_b → FilesKept
+  pub kept_at_a : A ≡ target_of old.newest → Stepped took honest given old new from to a a' b b' left_a left_a' left_b left_b' → Stands old images a b left_a left_b → FilesKept
   kept_at_a is step stands =
       let was : WasAt A = subst WasAt (sym is) stands in
-      let next = kept took old new from to a a' b b' left_a left_a' left_b left_b' images was given step in
+      let next = kept took honest sure old new from to a a' b b' left_a left_a' left_b left_b' images was given step in
       (next.0, at_target given next.0 A is step.ended next.1, next.2)
 
-  pub kept_at_b : B ≡ target_of old.newest → Stepped took given old new from to b b' a a' left_b left_b' left_a left_a' → Stands old images a b left_a left_b → FilesKept
+  pub kept_at_b : B ≡ target_of old.newest → Stepped took honest given old new from to b b' a a' left_b left_b' left_a left_a' → Stands old images a b left_a left_b → FilesKept
   kept_at_b is step stands =
       let was : WasAt B = subst WasAt (sym is) stands in
-      let next = kept took old new from to b b' a a' left_b left_b' left_a left_a' images was given step in
+      let next = kept took honest sure old new from to b b' a a' left_b left_b' left_a left_a' images was given step in
       (next.0, at_target given next.0 B is step.ended next.1, next.2)

@@ -14,7 +14,7 @@ use Rattle.image_files.specs.declared.phase.Phase.TheVariants.{Taking, Reading, 
 use Rattle.image_files.specs.Image.{Image, words_from, is_word}
 use Rattle.image_files.specs.Taken.{filled_words, word_of, has_same}
 use Rattle.image_files.specs.Progress.{Progress, PhaseFits, IsInOrder, chunk_size, newest_words, done, cells_taken}
-use Rattle.image_files.specs.Keeper.{Fits, TargetFits, TargetEndures, Endures}
+use Rattle.image_files.specs.Keeper.{HasBody, Fits, TargetFits, TargetEndures, Endures}
 use Rattle.image_files.specs.Steps.{TookWord}
 use Rattle.image_files.specs.Calls.{after_take, with_taken_cell, TookCell}
 use Rattle.image_files.proofs.WordLemmas.{length-words_from}
@@ -76,28 +76,13 @@ module _ (keeper : Progress) (cell : Taken) (phase : keeper.phase ≡ Taking) (o
     took_fits le fits =
         let part = subst (λ (p : Phase). TargetFits p keeper target) phase fits.of_target in
         let pass = chunk_pass keeper.chunk cell le fits.chunk in
+        let body : (next : Phase) → HasBody (took next) target = λ next. record { room = part.1.room; mark = part.1.mark; tick = part.1.tick; words = part.1.words } in
+        let taken : (next : Phase) → PhaseFits next (took next) → TargetFits next (took next) target → Fits (took next) target newest = λ next by_phase of_target.
+        record { in_order = in_order_after next by_phase; image = fits.image; newest_shut = fits.newest_shut; of_target = of_target; chunk = pass } in
         by_cases (λ next. Fits (took next) target newest)
-        (λ by_phase. record {
-          in_order = in_order_after Taking by_phase;
-          image = fits.image;
-          newest_shut = fits.newest_shut;
-          of_target = (part.0, record { room = part.1.room; mark = part.1.mark; tick = part.1.tick; words = part.1.words });
-          chunk = pass;
-        })
-        (λ by_phase. record {
-          in_order = in_order_after Reading by_phase;
-          image = fits.image;
-          newest_shut = fits.newest_shut;
-          of_target = (part.0, record { room = part.1.room; mark = part.1.mark; tick = part.1.tick; words = part.1.words });
-          chunk = pass;
-        })
-        (λ by_phase. record {
-          in_order = in_order_after Writing by_phase;
-          image = fits.image;
-          newest_shut = fits.newest_shut;
-          of_target = (part.0, record { room = part.1.room; mark = part.1.mark; tick = part.1.tick; words = part.1.words });
-          chunk = pass;
-        })
+        (λ by_phase. taken Taking by_phase (part.0, body Taking))
+        (λ by_phase. taken Reading by_phase (part.0, body Reading))
+        (λ by_phase. taken Writing by_phase (part.0, body Writing))
 
     took_endures : (before : Image) (outcomes : List ℕ → Type 0) → TargetEndures keeper.phase keeper before target newest outcomes → TargetEndures (after_take keeper chunk) (with_taken_cell cell keeper) before target newest outcomes
     took_endures before outcomes stood =

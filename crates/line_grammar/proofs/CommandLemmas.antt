@@ -13,27 +13,38 @@ use Rattle.line_grammar.proofs.ReadingLemmas.{Decision, reading_exists, reading_
 use Rattle.line_grammar.proofs.WordLemmas.{same_cell, same_cell_number, same_first, same_second, none_rest}
 use Rattle.line_grammar.proofs.NumberLemmas.{length-cell, length-number, length-difference}
 
--- no number after the cell: no set
-pub none_set : (words : List ℕ) (m : ℕ) (rest : List ℕ) → m < 2 ^ 32 → words ≡ decimal m ++ (32 ∷ rest)
-    → ((n : ℕ) → n < 2 ^ 64 → rest ≢ decimal n) → Means (codes "set " ++ words) None
-none_set words m rest fits split none (Act (Set cell value)) bounds is =
-    none_rest words m rest (decimal value) fits split (none value bounds.1) cell bounds.0 cc
-none_set words m rest fits split none other bounds is = absurd (omega (arith, same_first is, same_second is))
+-- a cell in front of what is no rest of a command
+module _ (words : List ℕ) (m : ℕ) (rest : List ℕ) (fits : m < 2 ^ 32) (split : words ≡ decimal m ++ (32 ∷ rest)) where
+  -- no number after it: no set
+  pub none_set : ((n : ℕ) → n < 2 ^ 64 → rest ≢ decimal n) → Means (codes "set " ++ words) None
+  none_set none (Act (Set cell value)) bounds is =
+      none_rest words m rest (decimal value) fits split (none value bounds.1) cell bounds.0 cc
+  none_set none other bounds is = absurd (omega (arith, same_first is, same_second is))
 
--- no difference after the cell: no add
-pub none_add : (words : List ℕ) (m : ℕ) (rest : List ℕ) → m < 2 ^ 32 → words ≡ decimal m ++ (32 ∷ rest)
-    → ((z : ℤ) → unsigned_abs z < 2 ^ 63 → rest ≢ signed_decimal z) → Means (codes "add " ++ words) None
-none_add words m rest fits split none (Act (Add cell by)) bounds is =
-    none_rest words m rest (signed_decimal by) fits split (none by bounds.1) cell bounds.0 cc
-none_add words m rest fits split none other bounds is = absurd (omega (arith, same_first is))
+  -- no difference: no add
+  pub none_add : ((z : ℤ) → unsigned_abs z < 2 ^ 63 → rest ≢ signed_decimal z) → Means (codes "add " ++ words) None
+  none_add none (Act (Add cell by)) bounds is =
+      none_rest words m rest (signed_decimal by) fits split (none by bounds.1) cell bounds.0 cc
+  none_add none other bounds is = absurd (omega (arith, same_first is))
 
--- no cell and number after the cell: no move
-pub none_move : (words : List ℕ) (m : ℕ) (rest : List ℕ) → m < 2 ^ 32 → words ≡ decimal m ++ (32 ∷ rest)
-    → ((cell n : ℕ) → cell < 2 ^ 32 → n < 2 ^ 64 → rest ≢ decimal cell ++ (32 ∷ decimal n)) → Means (codes "move " ++ words) None
-none_move words m rest fits split none (Act (Transfer from to amount)) bounds is =
-    let differs = none to amount bounds.1 bounds.2 in
-    none_rest words m rest (decimal to ++ (32 ∷ decimal amount)) fits split differs from bounds.0 cc
-none_move words m rest fits split none other bounds is = absurd (omega (arith, same_first is))
+  -- no cell and number: no move
+  pub none_move : ((cell n : ℕ) → cell < 2 ^ 32 → n < 2 ^ 64 → rest ≢ decimal cell ++ (32 ∷ decimal n)) → Means (codes "move " ++ words) None
+  none_move none (Act (Transfer from to amount)) bounds is =
+      let differs = none to amount bounds.1 bounds.2 in
+      none_rest words m rest (decimal to ++ (32 ∷ decimal amount)) fits split differs from bounds.0 cc
+  none_move none other bounds is = absurd (omega (arith, same_first is))
+
+  -- no second cell: no swap
+  pub none_swap : ((n : ℕ) → n < 2 ^ 32 → rest ≢ decimal n) → Means (codes "swap " ++ words) None
+  none_swap none (Act (Swap a b)) bounds is =
+      none_rest words m rest (decimal b) fits split (none b bounds.1) a bounds.0 cc
+  none_swap none other bounds is = absurd (omega (arith, same_first is, same_second is))
+
+  -- no number: no cap
+  pub none_cap : ((n : ℕ) → n < 2 ^ 64 → rest ≢ decimal n) → Means (codes "cap " ++ words) None
+  none_cap none (Act (Cap cell value)) bounds is =
+      none_rest words m rest (decimal value) fits split (none value bounds.1) cell bounds.0 cc
+  none_cap none other bounds is = absurd (omega (arith, same_first is))
 
 -- no number after the second cell
 pub none_amount : (rest : List ℕ) (m : ℕ) (last : List ℕ) → m < 2 ^ 32 → rest ≡ decimal m ++ (32 ∷ last)
@@ -41,20 +52,6 @@ pub none_amount : (rest : List ℕ) (m : ℕ) (last : List ℕ) → m < 2 ^ 32 �
     → (cell n : ℕ) → cell < 2 ^ 32 → n < 2 ^ 64 → rest ≢ decimal cell ++ (32 ∷ decimal n)
 none_amount rest m last fits split none cell n cell_fits n_fits =
     none_rest rest m last (decimal n) fits split (none n n_fits) cell cell_fits
-
--- no second cell: no swap
-pub none_swap : (words : List ℕ) (m : ℕ) (rest : List ℕ) → m < 2 ^ 32 → words ≡ decimal m ++ (32 ∷ rest)
-    → ((n : ℕ) → n < 2 ^ 32 → rest ≢ decimal n) → Means (codes "swap " ++ words) None
-none_swap words m rest fits split none (Act (Swap a b)) bounds is =
-    none_rest words m rest (decimal b) fits split (none b bounds.1) a bounds.0 cc
-none_swap words m rest fits split none other bounds is = absurd (omega (arith, same_first is, same_second is))
-
--- no number after the cell: no cap
-pub none_cap : (words : List ℕ) (m : ℕ) (rest : List ℕ) → m < 2 ^ 32 → words ≡ decimal m ++ (32 ∷ rest)
-    → ((n : ℕ) → n < 2 ^ 64 → rest ≢ decimal n) → Means (codes "cap " ++ words) None
-none_cap words m rest fits split none (Act (Cap cell value)) bounds is =
-    none_rest words m rest (decimal value) fits split (none value bounds.1) cell bounds.0 cc
-none_cap words m rest fits split none other bounds is = absurd (omega (arith, same_first is))
 
 -- the same bound in the other measure of a difference
 mag-below : (z : ℤ) → unsigned_abs z < 2 ^ 63 → mag z < 2 ^ 63

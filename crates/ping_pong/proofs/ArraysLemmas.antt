@@ -2,13 +2,14 @@
 use Rattle.std.proofs.Common.{◌≡◌, refl, sym, ◌∙◌, ap, subst, inl, inr, ◌⊎◌, ℕ, zero, suc, ◌+◌, ◌-◌, ◌<◌, ◌≤◌, Bool, true, false, List, [], ◌∷◌, length, drop, replicate, get_or, set, Option, Some, None, arith, add-one}
 use Rattle.std.proofs.lemmas.List.{length-set, length-drop, length-replicate, drop_more, drop_all, take_all, get_or_read}
 use Rattle.std.proofs.lemmas.List.Elements.{All-set}
-use Rattle.std.proofs.lemmas.Option.{slice_get_cases, slice_get_past, slice_get_within, get_or_from_slice_get, none-some}
+use Rattle.std.proofs.lemmas.Option.{slice_get_past, slice_get_within, get_or_from_slice_get}
 use Rattle.std.specs.List.{slice_get}
 use Rattle.std.specs.Bool.{then_some}
 use Rattle.std.specs.Option.{option_map}
 use Rattle.world_actions.specs.World.{IsWord}
 use Rattle.capture_core.specs.Taken.{taken_of}
 use Rattle.capture_core.specs.Content.{all_touched, Marks, Takes}
+use Rattle.capture_core.proofs.ContentLemmas.{none_behind, takes_none}
 use Rattle.ping_pong.specs.PingPong.{Arrays, dirty_words, previous_entries, content_of, IsInOrder, built_arrays, written_arrays, swapped_arrays, taken_arrays}
 
 -- there is an entry for each cell
@@ -131,16 +132,7 @@ takes-entry store entry is =
 
 -- a take where none is left
 pub takes-none : (store : Arrays) → None ≡ slice_get (previous_entries store) store.taken → Takes (content_of store) None (content_of store)
-takes-none store is =
-    let end : drop store.taken (previous_entries store) ≡ [] =
-    elim (slice_get_cases (previous_entries store) store.taken).1 [
-      | inl (x, lt, some, at) ↦ absurd (none-some x (is ∙ some))
-      | inr (le, none) ↦ drop_all store.taken (previous_entries store) le
-    ] in
-    record {
-      gives = sym (ap (λ list. option_map taken_of (slice_get list 0)) end);
-      rest = ap (λ left. record (content_of store) { left = left }) (end ∙ sym (ap (λ list. drop 1 list) end));
-    }
+takes-none store is = takes_none (content_of store) (none_behind (previous_entries store) store.taken is)
 
 -- there is no entry past the last cell
 pub entry-none : (store : Arrays) → IsInOrder store → length store.live ≤ store.taken → None ≡ slice_get (previous_entries store) store.taken

@@ -44,17 +44,16 @@ tick_ends cells ticks acknowledged images logs queue k tick next e =
     let m = k.follow_marks in
     let same : switches_in queue ≡ switches_in (queue ++ records.Tick tick ∷ []) = sym (no_switch_behind queue tick) in
     record {
-      some_cells = k.some_cells;
-      last = next;
-      accepted = one_more cells ticks tick.list k.last next k.accepted e;
-      images_follow = end_images cells ticks (tick.list ∷ []) images k.images_follow;
+      worlds = record { some_cells = k.some_cells; last = next; accepted = one_more cells ticks tick.list k.last next k.accepted e; images_follow = end_images cells ticks (tick.list ∷ []) images k.images_follow };
       logs_follow = end_logs ticks (tick.list ∷ []) acknowledged images.tick logs k.logs_follow;
       follow_marks = subst (λ l. FollowMarks l images logs) same m;
-      taken = k.taken;
-      some_taken = omega (arith, k.some_taken, length-append ticks (tick.list ∷ []));
-      left = drop-append-le k.taken ticks (tick.list ∷ []) k.some_taken ∙ ap (λ l. l ++ tick.list ∷ []) k.left ∙ sym (ticks_behind queue tick);
-      numbered = tick_numbered logs.switch k.taken tick queue k.numbered;
-      has = has_more logs k.taken images.tick logs.switch queue (records.Tick tick) k.has;
+      queued = record {
+        taken = k.taken;
+        some_taken = omega (arith, k.some_taken, length-append ticks (tick.list ∷ []));
+        left = drop-append-le k.taken ticks (tick.list ∷ []) k.some_taken ∙ ap (λ l. l ++ tick.list ∷ []) k.left ∙ sym (ticks_behind queue tick);
+        numbered = tick_numbered logs.switch k.taken tick queue k.numbered;
+        has = has_more logs k.taken images.tick logs.switch queue (records.Tick tick) k.has;
+      };
     }
 
 -- ---- a mark
@@ -86,17 +85,16 @@ marked : (cells : ℕ) (ticks : List (List Action)) (acknowledged : ℕ) (images
 marked cells ticks acknowledged images logs queue k none above =
     let count : length ticks ≡ k.taken + length (ticks_in queue) = omega (arith, ap length k.left, length-drop k.taken ticks, k.some_taken) in
     record {
-      some_cells = k.some_cells;
-      last = k.last;
-      accepted = k.accepted;
-      images_follow = record { newest = k.images_follow.newest; before = k.images_follow.before; round = (above, λ full. absurd (omega (arith, full, k.some_cells))) };
+      worlds = record { some_cells = k.some_cells; last = k.last; accepted = k.accepted; images_follow = record { newest = k.images_follow.newest; before = k.images_follow.before; round = (above, λ full. absurd (omega (arith, full, k.some_cells))) } };
       logs_follow = k.logs_follow;
       follow_marks = subst (λ l. FollowMarks l (with_round_begun images (length ticks)) logs) (sym (next_switch queue (length ticks))) (mark_follows (switches_in queue) images logs (length ticks) k.follow_marks none above k.logs_follow.taken.ended);
-      taken = k.taken;
-      some_taken = k.some_taken;
-      left = k.left ∙ sym (switch_behind queue (length ticks));
-      numbered = mark_numbered logs.switch k.taken (length ticks) queue count k.numbered;
-      has = has_more logs k.taken images.tick logs.switch queue (records.Switch (length ticks)) k.has;
+      queued = record {
+        taken = k.taken;
+        some_taken = k.some_taken;
+        left = k.left ∙ sym (switch_behind queue (length ticks));
+        numbered = mark_numbered logs.switch k.taken (length ticks) queue count k.numbered;
+        has = has_more logs k.taken images.tick logs.switch queue (records.Switch (length ticks)) k.has;
+      };
     }
 
 pub mark_is_made : (cells : ℕ) (ticks : List (List Action)) (acknowledged : ℕ) (images next : Images) (logs : Logs) (queue : List Record)
@@ -115,17 +113,10 @@ pub with_words : (cells : ℕ) (ticks : List (List Action)) (acknowledged : ℕ)
 with_words cells ticks acknowledged images logs queue round taken k some of =
     let m = k.follow_marks in
     record {
-      some_cells = k.some_cells;
-      last = k.last;
-      accepted = k.accepted;
-      images_follow = record { newest = k.images_follow.newest; before = k.images_follow.before; round = of };
+      worlds = record { some_cells = k.some_cells; last = k.last; accepted = k.accepted; images_follow = record { newest = k.images_follow.newest; before = k.images_follow.before; round = of } };
       logs_follow = k.logs_follow;
       follow_marks = record { earlier = m.earlier; bases = m.bases ∙ ap (λ r. m.earlier ++ images.tick ∷ round_tick r) some; rising = m.rising; in_order = m.in_order };
-      taken = k.taken;
-      some_taken = k.some_taken;
-      left = k.left;
-      numbered = k.numbered;
-      has = k.has;
+      queued = k.queued;
     }
 
 pub opened_keeps : (cells : ℕ) (ticks : List (List Action)) (acknowledged : ℕ) (images : Images) (logs : Logs) (queue : List Record) (round : Round)
@@ -136,10 +127,7 @@ opened_keeps cells ticks acknowledged images logs queue round k some whole =
     let of : IsRoundOf cells ticks images.tick (Some round) = subst (IsRoundOf cells ticks images.tick) some k.images_follow.round in
     let later : images.tick ≤ round.tick = omega (arith, of.0) in
     record {
-      some_cells = k.some_cells;
-      last = k.last;
-      accepted = k.accepted;
-      images_follow = opened_follows cells ticks images round k.images_follow of whole;
+      worlds = record { some_cells = k.some_cells; last = k.last; accepted = k.accepted; images_follow = opened_follows cells ticks images round k.images_follow of whole };
       logs_follow = logs_opened ticks acknowledged images.tick round.tick logs later k.logs_follow;
       follow_marks = record {
         earlier = m.earlier ++ images.tick ∷ [];
@@ -147,11 +135,7 @@ opened_keeps cells ticks acknowledged images logs queue round k some whole =
         rising = m.rising;
         in_order = m.in_order;
       };
-      taken = k.taken;
-      some_taken = k.some_taken;
-      left = k.left;
-      numbered = k.numbered;
-      has = has_later logs k.taken images.tick round.tick (with_work logs.switch queue) later k.has;
+      queued = record { taken = k.taken; some_taken = k.some_taken; left = k.left; numbered = k.numbered; has = has_later logs k.taken images.tick round.tick (with_work logs.switch queue) later k.has };
     }
 
 module _ {S : Type 0} (took : S → Option Taken → S → Type 0) (cells : ℕ) (ticks : List (List Action)) (acknowledged : ℕ) (images : Images) (logs : Logs) (queue : List Record) where

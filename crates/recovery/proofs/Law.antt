@@ -10,7 +10,7 @@ use Rattle.world_actions.specs.declared.action.Action.{Action}
 use Rattle.world_ticks.specs.After.{after_ticks}
 use Rattle.action_log.specs.Segment.{IsSegment, Segment, ClosedSegment, MalformedSegment, OpenSegment}
 use Rattle.image_files.specs.Image.{Image, Closed, Bad, Open, image_of}
-use Rattle.recovery.specs.Recovery.{Recovery, BothRead, Newest, newest, has_base, recovery_from, recovery_with, replayed, is_bad_image, is_bad_segment}
+use Rattle.recovery.specs.Recovery.{BothRead, Newest, newest, has_base, recovery_from, recovery_with, replayed, is_bad_image, is_bad_segment}
 use Rattle.recovery.specs.Sound.{IsWorldAt, HoldsWorld, IsSoundReading, IsSound}
 use Rattle.file_format.specs.Slot.{in_slot, beside_slot}
 use Rattle.image_files.specs.Images.{Round, Images, IsTarget, ImagesAre}
@@ -236,19 +236,41 @@ image_pair cells ticks tick words before (Some round) now at h r (inr (inr e)) =
 
 -- ---- together
 
-pub or_false : (x y : Bool) → x ≡ false → y ≡ false → (x || y) ≡ false
+or_false : (x y : Bool) → x ≡ false → y ≡ false → (x || y) ≡ false
 or_false true y h k = absurd cc
 or_false false y h k = k
 
-pub well_formed : (cells : ℕ) (ticks : List (List Action)) (most : ℕ) (image : Image) → HoldsWorld cells ticks most image → is_bad_image image ≡ false
+well_formed : (cells : ℕ) (ticks : List (List Action)) (most : ℕ) (image : Image) → HoldsWorld cells ticks most image → is_bad_image image ≡ false
 well_formed cells ticks most Closed h = refl
 well_formed cells ticks most Bad h = absurd h
 well_formed cells ticks most (Open s v) h = refl
 
-pub still_holds : (cells : ℕ) (ticks : List (List Action)) (most more : ℕ) (image : Image) → most ≤ more → HoldsWorld cells ticks most image → HoldsWorld cells ticks more image
+still_holds : (cells : ℕ) (ticks : List (List Action)) (most more : ℕ) (image : Image) → most ≤ more → HoldsWorld cells ticks most image → HoldsWorld cells ticks more image
 still_holds cells ticks most more Closed le h = tt
 still_holds cells ticks most more Bad le h = h
 still_holds cells ticks most more (Open s v) le h = (omega (arith, h.0), h.1)
+
+-- what is replayed on the picked image is a sound reading
+pub picked_reading : (cells : ℕ) (ticks : List (List Action)) (acknowledged t : ℕ) (image_a image_b : Image) (log_a log_b : Segment) (p : Picked cells ticks t image_a image_b) → is_bad_segment log_a ≡ false → is_bad_segment log_b ≡ false
+    → (more : ℕ) (words : List ℕ) → recovery_from (Some p.image) log_a log_b ≡ Ok (record { tick = p.image.tick + more; from = p.image.tick; slot = p.image.slot; words = words })
+    → acknowledged ≤ p.image.tick + more → IsWorldAt cells ticks (p.image.tick + more) words → IsSoundReading image_a image_b log_a log_b cells ticks acknowledged
+picked_reading cells ticks acknowledged t image_a image_b log_a log_b p fa fb more words is reaches world =
+    let n = p.image in
+    let images_formed : (is_bad_image image_a || is_bad_image image_b) ≡ false = or_false (is_bad_image image_a) (is_bad_image image_b) (well_formed cells ticks n.tick image_a p.a_holds) (well_formed cells ticks n.tick image_b p.b_holds) in
+    let logs_formed : (is_bad_segment log_a || is_bad_segment log_b) ≡ false = or_false (is_bad_segment log_a) (is_bad_segment log_b) fa fb in
+    let later : n.tick ≤ n.tick + more = omega arith in
+    record {
+      recovery = record { tick = n.tick + more; from = n.tick; slot = n.slot; words = words };
+      stands =
+          cond-false (is_bad_image image_a || is_bad_image image_b) (Err BadImage) (cond (is_bad_segment log_a || is_bad_segment log_b) (Err BadLog) (recovery_from (newest image_a image_b) log_a log_b)) images_formed
+          ∙ cond-false (is_bad_segment log_a || is_bad_segment log_b) (Err BadLog) (recovery_from (newest image_a image_b) log_a log_b) logs_formed
+          ∙ ap (λ o. recovery_from o log_a log_b) p.is
+          ∙ is;
+      keeps = reaches;
+      world = world;
+      image_a_holds = still_holds cells ticks n.tick (n.tick + more) image_a later p.a_holds;
+      image_b_holds = still_holds cells ticks n.tick (n.tick + more) image_b later p.b_holds;
+    }
 
 pub sound_reading : (cells : ℕ) (ticks : List (List Action)) (acknowledged t : ℕ) (last : List ℕ) (image_a image_b : Image) (log_a log_b : Segment) → after_ticks cells ticks ≡ Ok last → Picked cells ticks t image_a image_b → IsTail ticks acknowledged t log_a log_b → is_bad_segment log_a ≡ false → is_bad_segment log_b ≡ false → IsSoundReading image_a image_b log_a log_b cells ticks acknowledged
 sound_reading cells ticks acknowledged t last image_a image_b log_a log_b all p from fa fb =
@@ -257,24 +279,9 @@ sound_reading cells ticks acknowledged t last image_a image_b log_a log_b all p 
     let on = world_on cells ticks n.tick at.more n.words last all at.ended p.world in
     let rest : List (List Action) = take at.more (drop n.tick ticks) in
     let len : length rest ≡ at.more = omega (arith, length-take at.more (drop n.tick ticks), length-drop n.tick ticks, at.ended) in
-    let answer : Recovery = record { tick = n.tick + at.more; from = n.tick; slot = n.slot; words = on.later_words } in
-    let images_formed : (is_bad_image image_a || is_bad_image image_b) ≡ false = or_false (is_bad_image image_a) (is_bad_image image_b) (well_formed cells ticks n.tick image_a p.a_holds) (well_formed cells ticks n.tick image_b p.b_holds) in
-    let logs_formed : (is_bad_segment log_a || is_bad_segment log_b) ≡ false = or_false (is_bad_segment log_a) (is_bad_segment log_b) fa fb in
-    let later : n.tick ≤ n.tick + at.more = omega arith in
-    record {
-      recovery = answer;
-      stands =
-          cond-false (is_bad_image image_a || is_bad_image image_b) (Err BadImage) (cond (is_bad_segment log_a || is_bad_segment log_b) (Err BadLog) (recovery_from (newest image_a image_b) log_a log_b)) images_formed
-          ∙ cond-false (is_bad_segment log_a || is_bad_segment log_b) (Err BadLog) (recovery_from (newest image_a image_b) log_a log_b) logs_formed
-          ∙ ap (λ o. recovery_from o log_a log_b) p.is
-          ∙ ap (replayed n) at.is
-          ∙ ap (recovery_with n rest) on.replays
-          ∙ ap (λ m. Ok (record { tick = n.tick + m; from = n.tick; slot = n.slot; words = on.later_words })) len;
-      keeps = at.reaches;
-      world = on.world;
-      image_a_holds = still_holds cells ticks n.tick (n.tick + at.more) image_a later p.a_holds;
-      image_b_holds = still_holds cells ticks n.tick (n.tick + at.more) image_b later p.b_holds;
-    }
+    picked_reading cells ticks acknowledged t image_a image_b log_a log_b p fa fb at.more on.later_words
+    (ap (replayed n) at.is ∙ ap (recovery_with n rest) on.replays ∙ ap (λ m. Ok (record { tick = n.tick + m; from = n.tick; slot = n.slot; words = on.later_words })) len)
+    at.reaches on.world
 
 -- ---- the bases
 

@@ -104,17 +104,16 @@ start_ends cells ticks acknowledged images from start some s at none =
     let f = s.start_follows in
     let whole : length ticks ≡ images.tick = f.whole ∙ sym at in
     let kept : IsKept cells ticks acknowledged images (started images.tick) [] = record {
-      some_cells = some;
-      last = s.last;
-      accepted = s.accepted;
-      images_follow = s.images_follow;
+      worlds = record { some_cells = some; last = s.last; accepted = s.accepted; images_follow = s.images_follow };
       logs_follow = record { taken = record { ended = omega (arith, whole); are = refl }; acknowledges = inr (omega (arith, f.acknowledges, at)); before = tt; switch = tt };
       follow_marks = record { earlier = []; bases = ap (λ r. images.tick ∷ round_tick r) (sym none); rising = tt; in_order = tt };
-      taken = images.tick;
-      some_taken = omega (arith, whole);
-      left = drop_all images.tick ticks (omega (arith, whole));
-      numbered = tt;
-      has = inl (omega arith);
+      queued = record {
+        taken = images.tick;
+        some_taken = omega (arith, whole);
+        left = drop_all images.tick ticks (omega (arith, whole));
+        numbered = tt;
+        has = inl (omega arith);
+      };
     } in
     subst (λ t. IsKept cells ticks acknowledged images (started t) []) at kept
 

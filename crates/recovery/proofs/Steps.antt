@@ -26,17 +26,10 @@ pub keeps_fewer : (cells : ℕ) (ticks : List (List Action)) (acknowledged fewer
 keeps_fewer cells ticks acknowledged fewer images logs queue le k =
     let f = k.logs_follow in
     record {
-      some_cells = k.some_cells;
-      last = k.last;
-      accepted = k.accepted;
-      images_follow = k.images_follow;
+      worlds = k.worlds;
       logs_follow = record { taken = f.taken; acknowledges = reached_fewer acknowledged fewer (logs.base + length logs.kept) images.tick le f.acknowledges; before = f.before; switch = f.switch };
       follow_marks = k.follow_marks;
-      taken = k.taken;
-      some_taken = k.some_taken;
-      left = k.left;
-      numbered = k.numbered;
-      has = k.has;
+      queued = k.queued;
     }
 
 module _ (cells : ℕ) (ticks : List (List Action)) (acknowledged : ℕ) (images : Images) (logs : Logs) where
@@ -66,10 +59,7 @@ module _ (cells : ℕ) (ticks : List (List Action)) (acknowledged : ℕ) (images
       let same : switches_in queue ≡ switches_in left = group_switches group queue left stand in
       let begin : BeginFrom (logs.base + length (logs.kept ++ group)) (switches_in left) = subst (λ n. BeginFrom n (switches_in left)) end (first_switch (k.taken + length group) left numbered) in
       record {
-        some_cells = k.some_cells;
-        last = k.last;
-        accepted = k.accepted;
-        images_follow = k.images_follow;
+        worlds = k.worlds;
         logs_follow = record { taken = both; acknowledges = f.acknowledges; before = f.before; switch = subst (IsSwitchOf images.tick (with_group logs group)) (sym idle.1) tt };
         follow_marks = record {
           earlier = m.earlier;
@@ -77,11 +67,13 @@ module _ (cells : ℕ) (ticks : List (List Action)) (acknowledged : ℕ) (images
           rising = subst (λ l. RiseFrom logs.base (coming logs.switch l)) same m.rising;
           in_order = subst (λ o. BeginFrom (logs.base + length (logs.kept ++ group)) (coming o (switches_in left))) (sym idle.1) begin;
         };
-        taken = k.taken + length group;
-        some_taken = omega (arith, end, both.ended);
-        left = sym (drop-drop (length group) k.taken ticks) ∙ ap (drop (length group)) rest ∙ drop_at group (ticks_in left) (length group) refl;
-        numbered = subst (λ o. AreNumbered (k.taken + length group) (with_work o left)) (sym idle.1) numbered;
-        has = inl (sym end);
+        queued = record {
+          taken = k.taken + length group;
+          some_taken = omega (arith, end, both.ended);
+          left = sym (drop-drop (length group) k.taken ticks) ∙ ap (drop (length group)) rest ∙ drop_at group (ticks_in left) (length group) refl;
+          numbered = subst (λ o. AreNumbered (k.taken + length group) (with_work o left)) (sym idle.1) numbered;
+          has = inl (sym end);
+        };
       }
 
   switch_reaches : (mark taken newest : ℕ) (queue : List Record) → mark ≡ taken → logs.pending ≡ [] → HasUpTo logs taken newest queue → Reaches (logs.base + length logs.kept) mark newest
@@ -95,10 +87,7 @@ module _ (cells : ℕ) (ticks : List (List Action)) (acknowledged : ℕ) (images
       let numbered = idle_numbered (records.Switch mark ∷ left) k idle in
       let rise = idle_rising (records.Switch mark ∷ left) k idle in
       record {
-        some_cells = k.some_cells;
-        last = k.last;
-        accepted = k.accepted;
-        images_follow = k.images_follow;
+        worlds = k.worlds;
         logs_follow = record {
           taken = f.taken;
           acknowledges = f.acknowledges;
@@ -111,11 +100,13 @@ module _ (cells : ℕ) (ticks : List (List Action)) (acknowledged : ℕ) (images
           rising = rise;
           in_order = subst (λ o. BeginFrom (logs.base + length (logs.kept ++ logs.pending)) (coming o (mark ∷ switches_in left))) idle.1 m.in_order;
         };
-        taken = k.taken;
-        some_taken = k.some_taken;
-        left = k.left;
-        numbered = numbered;
-        has = idle_has (records.Switch mark ∷ left) k idle;
+        queued = record {
+          taken = k.taken;
+          some_taken = k.some_taken;
+          left = k.left;
+          numbered = numbered;
+          has = idle_has (records.Switch mark ∷ left) k idle;
+        };
       }
 
   -- what a closed segment keeps, the next one's base reaches
@@ -135,10 +126,7 @@ module _ (cells : ℕ) (ticks : List (List Action)) (acknowledged : ℕ) (images
       let done = bases_done logs.before logs.base mark images.tick (switches_in queue) m.earlier images.round bases in
       let kept : FollowsFrom ticks logs.base logs.kept = follows_front ticks logs.base logs.kept logs.pending f.taken in
       record {
-        some_cells = k.some_cells;
-        last = k.last;
-        accepted = k.accepted;
-        images_follow = k.images_follow;
+        worlds = k.worlds;
         logs_follow = record {
           taken = record { ended = omega (arith, numbered.0, k.some_taken); are = refl };
           acknowledges = switch_kept mark images.tick of.2 f.acknowledges;
@@ -151,11 +139,13 @@ module _ (cells : ℕ) (ticks : List (List Action)) (acknowledged : ℕ) (images
           rising = rise.1;
           in_order = subst (λ n. BeginFrom n (switches_in queue)) (let e : mark ≡ mark + 0 = omega arith in e) (begins mark (switches_in queue) rise.1);
         };
-        taken = k.taken;
-        some_taken = k.some_taken;
-        left = k.left;
-        numbered = numbered.1;
-        has = inl (omega (arith, numbered.0));
+        queued = record {
+          taken = k.taken;
+          some_taken = k.some_taken;
+          left = k.left;
+          numbered = numbered.1;
+          has = inl (omega (arith, numbered.0));
+        };
       }
 
   going_on_keeps : (queue : List Record) (next : Logs) (left : List Record) → IsKept cells ticks acknowledged images logs queue → GoesOn logs queue next left → IsKept cells ticks acknowledged images next left
@@ -183,10 +173,7 @@ module _ (cells : ℕ) (ticks : List (List Action)) (acknowledged : ℕ) (images
       let count : logs.base + length (logs.kept ++ logs.pending) ≡ logs.base + length ((logs.kept ++ logs.pending) ++ []) = ap (λ l. logs.base + length l) same in
       let more : logs.base + length logs.kept ≤ logs.base + length (logs.kept ++ logs.pending) = omega (arith, length-append logs.kept logs.pending) in
       let after : IsKept cells ticks (max acknowledged tick) images (with_group_kept logs) queue = record {
-        some_cells = k.some_cells;
-        last = k.last;
-        accepted = k.accepted;
-        images_follow = k.images_follow;
+        worlds = k.worlds;
         logs_follow = record {
           taken = subst (FollowsFrom ticks logs.base) same f.taken;
           acknowledges = reached_max acknowledged tick (logs.base + length (logs.kept ++ logs.pending)) images.tick (reached_more acknowledged (logs.base + length logs.kept) (logs.base + length (logs.kept ++ logs.pending)) images.tick f.acknowledges more) (inl (omega (arith, a.tick_is)));
@@ -194,11 +181,13 @@ module _ (cells : ℕ) (ticks : List (List Action)) (acknowledged : ℕ) (images
           switch = subst (IsSwitchOf images.tick (with_group_kept logs)) (sym a.no_switch) tt;
         };
         follow_marks = record { earlier = m.earlier; bases = m.bases; rising = m.rising; in_order = subst (λ n. BeginFrom n (coming logs.switch (switches_in queue))) count m.in_order };
-        taken = k.taken;
-        some_taken = k.some_taken;
-        left = k.left;
-        numbered = k.numbered;
-        has = inl (sym count ∙ group_taken queue k a.some);
+        queued = record {
+          taken = k.taken;
+          some_taken = k.some_taken;
+          left = k.left;
+          numbered = k.numbered;
+          has = inl (sym count ∙ group_taken queue k a.some);
+        };
       } in
       subst (λ l. IsKept cells ticks (max acknowledged tick) images l left) (sym a.is) (subst (λ q. IsKept cells ticks (max acknowledged tick) images (with_group_kept logs) q) (sym a.queue_is) after)
 
@@ -226,10 +215,7 @@ module _ (cells : ℕ) (ticks : List (List Action)) (acknowledged : ℕ) (images
       let covered = bases_covered ticks logs.base images.tick tick logs.before (switches_in front) (switches_in behind) m.earlier (round_tick images.round) f.before rise opened bases in
       let rest : drop k.taken ticks ≡ ticks_in front ++ ticks_in behind = k.left ∙ ticks_behind front (records.Switch tick ∷ behind) in
       record {
-        some_cells = k.some_cells;
-        last = k.last;
-        accepted = k.accepted;
-        images_follow = k.images_follow;
+        worlds = k.worlds;
         logs_follow = record {
           taken = f.taken;
           acknowledges = reached_max acknowledged tick (logs.base + length logs.kept) images.tick f.acknowledges (inr opened);
@@ -242,11 +228,13 @@ module _ (cells : ℕ) (ticks : List (List Action)) (acknowledged : ℕ) (images
           rising = subst (λ o. RiseFrom logs.base (coming o (tick ∷ switches_in behind))) (sym idle.1) (below_rising logs.base tick (switches_in front) (switches_in behind) rise).2;
           in_order = subst (λ o. BeginFrom (logs.base + length (logs.kept ++ logs.pending)) (coming o (tick ∷ switches_in behind))) (sym idle.1) end;
         };
-        taken = tick;
-        some_taken = omega (arith, n.0, ap length rest, length-append (ticks_in front) (ticks_in behind), length-drop k.taken ticks, k.some_taken);
-        left = ap (λ i. drop i ticks) n.0 ∙ sym (drop-drop (length (ticks_in front)) k.taken ticks) ∙ ap (drop (length (ticks_in front))) rest ∙ drop_at (ticks_in front) (ticks_in behind) (length (ticks_in front)) refl;
-        numbered = subst (λ o. AreNumbered tick (with_work o (records.Switch tick ∷ behind))) (sym idle.1) (refl, n.1);
-        has = subst (λ o. HasUpTo logs tick images.tick (with_work o (records.Switch tick ∷ behind))) (sym idle.1) (inr (idle.0, omega (arith, end, idle_count logs idle.0), opened, tt));
+        queued = record {
+          taken = tick;
+          some_taken = omega (arith, n.0, ap length rest, length-append (ticks_in front) (ticks_in behind), length-drop k.taken ticks, k.some_taken);
+          left = ap (λ i. drop i ticks) n.0 ∙ sym (drop-drop (length (ticks_in front)) k.taken ticks) ∙ ap (drop (length (ticks_in front))) rest ∙ drop_at (ticks_in front) (ticks_in behind) (length (ticks_in front)) refl;
+          numbered = subst (λ o. AreNumbered tick (with_work o (records.Switch tick ∷ behind))) (sym idle.1) (refl, n.1);
+          has = subst (λ o. HasUpTo logs tick images.tick (with_work o (records.Switch tick ∷ behind))) (sym idle.1) (inr (idle.0, omega (arith, end, idle_count logs idle.0), opened, tt));
+        };
       }
 
   -- with the queue as it was before the cover

@@ -53,20 +53,30 @@ HasUpTo logs taken newest queue =
     (logs.base + length (logs.kept ++ logs.pending) ≡ taken)
     ⊎ ((logs.pending ≡ []) × (logs.base + length logs.kept ≤ taken) × (taken ≤ newest) × IsSwitchFirst queue)
 
--- What is kept between any two events after a start: all ended ticks were accepted, the data of both keepers follow
--- them and one another, and the queue has what the log has still to take.
-pub record IsKept (cells : ℕ) (ticks : List (List Action)) (acknowledged : ℕ) (images : Images) (logs : Logs) (queue : List Record) : Type 0 where
+-- all ended ticks were accepted, and the images follow them
+pub record AreAccepted (cells : ℕ) (ticks : List (List Action)) (images : Images) : Type 0 where
   pub some_cells : 1 ≤ cells
   pub last : List ℕ
   pub accepted : after_ticks cells ticks ≡ Ok last
   pub images_follow : ImagesFollow cells ticks images
-  pub logs_follow : LogsFollow ticks acknowledged images.tick logs
-  pub follow_marks : FollowMarks (switches_in queue) images logs
+
+-- the queue has what the log has still to take
+pub record AreQueued (ticks : List (List Action)) (newest : ℕ) (logs : Logs) (queue : List Record) : Type 0 where
   pub taken : ℕ
   pub some_taken : taken ≤ length ticks
   pub left : drop taken ticks ≡ ticks_in queue
   pub numbered : AreNumbered taken (with_work logs.switch queue)
-  pub has : HasUpTo logs taken images.tick (with_work logs.switch queue)
+  pub has : HasUpTo logs taken newest (with_work logs.switch queue)
+
+-- What is kept between any two events after a start: all ended ticks were accepted, the data of both keepers follow
+-- them and one another, and the queue has what the log has still to take.
+pub record IsKept (cells : ℕ) (ticks : List (List Action)) (acknowledged : ℕ) (images : Images) (logs : Logs) (queue : List Record) : Type 0 where
+  pub worlds : AreAccepted cells ticks images
+  pub open worlds use *
+  pub logs_follow : LogsFollow ticks acknowledged images.tick logs
+  pub follow_marks : FollowMarks (switches_in queue) images logs
+  pub queued : AreQueued ticks images.tick logs queue
+  pub open queued use *
 
 -- ---- the events
 

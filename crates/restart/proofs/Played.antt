@@ -81,17 +81,10 @@ all_phase : (cells : ℕ) (ticks : List (List Action)) (acknowledged : ℕ) (ima
 all_phase cells ticks acknowledged (NoneYet images) logs none phase = absurd phase
 all_phase cells ticks acknowledged (Newest images) logs none phase =
     record {
-      some_cells = phase.some_cells;
-      last = phase.last;
-      accepted = phase.accepted;
-      images_follow = phase.images_follow;
+      worlds = phase.worlds;
       logs_follow = record { taken = phase.logs_follow.taken; acknowledges = kept_all cells ticks acknowledged images logs none phase; before = phase.logs_follow.before; switch = phase.logs_follow.switch };
       follow_marks = phase.follow_marks;
-      taken = phase.taken;
-      some_taken = phase.some_taken;
-      left = phase.left;
-      numbered = phase.numbered;
-      has = phase.has;
+      queued = phase.queued;
     }
 
 pub all_acknowledged : (cells : ℕ) (ticks : List (List Action)) (acknowledged : ℕ) (content : Content) (images : ImageFiles) (logs : Logs) → logs.pending ≡ []

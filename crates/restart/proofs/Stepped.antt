@@ -104,6 +104,16 @@ module _ (cells : ℕ) (ticks : List (List Action)) where
   step_follows images (answer.Opened tick) next old new s f = same_follows (with_opened s.0 images) next old new s.4 s.5 (opened_follows cells ticks old s.0 images s.1 s.3 f)
   step_follows images answer.Down next old new s f = same_follows images next old new s.2 s.3 f
 
+-- the step by the content of the store that the keeper took from
+module _ {S : Type 0} (content : S → Content) (took : S → Option Taken → S → Type 0) (after_take : (old new : S) (given : Option Taken) → took old given new → Takes (content old) given (content new)) where
+  pub steps_content : (cells : ℕ) (images : ImageFiles) (given : ImageAnswer) (next : ImageFiles) (old new : S)
+      → StepsImages took cells images given next old new → StepsImages Takes cells images given next (content old) (content new)
+  steps_content cells images answer.Idle next old new s = (s.0, s.1, ap content s.2)
+  steps_content cells images answer.Working next old new s =
+      (s.0, s.1, elim s.2 [ inl same ↦ inl (same.0, ap content same.1) | inr cell ↦ inr (cell.0, after_take old new (Some cell.0) cell.1, cell.2) ])
+  steps_content cells images (answer.Opened tick) next old new s = (s.0, s.1, s.2, s.3, s.4, ap content s.5)
+  steps_content cells images answer.Down next old new s = (s.0, s.1, s.2, ap content s.3)
+
 -- ---- the round in work
 
 abbrev tick_of : Option Round → ℕ

@@ -14,7 +14,6 @@ use Rattle.image_files.specs.Images.{ImageFiles, NoneYet, Newest, ImageFilesAre,
 use Rattle.image_files.specs.Progress.{Progress as ImageProgress, begun_keeper}
 use Rattle.image_files.specs.Files.{Stands as ImagesStand}
 use Rattle.action_log.specs.declared.record.Record.TheVariants as records
-use Rattle.action_log.specs.declared.phase.Phase.TheVariants as phase
 use Rattle.action_log.specs.declared.phase.Phase.TheVariants.{Ready}
 use Rattle.action_log.specs.declared.progress.Progress.{Progress as LogProgress}
 use Rattle.action_log.specs.Progress.{work_of, end_of}
@@ -67,13 +66,15 @@ module _ {C D : Type 0} (content : C → Content) (file : D → List ℕ) (leave
       let mid : Engine C = record old { store = new.store; queue = new.queue; ended = old.ended + 1; since = old.since + 1 } in
       let after : Follows content file leaves mid files (ticks ++ p.tick.list ∷ []) acknowledged = record {
         images = f.images;
-        place = f.place;
         has_images = f.has_images;
-        has_log = f.has_log;
-        count = f.count;
-        at_least = f.at_least;
-        in_step = subst (λ q. InStep old.images.cells (ticks ++ p.tick.list ∷ []) f.count (content new.store) f.images f.place.journal q) (sym p.queue)
-            (subst (λ j. InStep old.images.cells (ticks ++ p.tick.list ∷ []) f.count (content new.store) f.images j (old.queue.items ++ records.Tick p.tick ∷ [])) (sym logs.1) on.1);
+        log = record {
+          place = f.place;
+          stands = f.has_log;
+          count = f.count;
+          at_least = f.at_least;
+          in_step = subst (λ q. InStep old.images.cells (ticks ++ p.tick.list ∷ []) f.count (content new.store) f.images f.place.journal q) (sym p.queue)
+              (subst (λ j. InStep old.images.cells (ticks ++ p.tick.list ∷ []) f.count (content new.store) f.images j (old.queue.items ++ records.Tick p.tick ∷ [])) (sym logs.1) on.1);
+        };
         world = on.0;
         ended = omega (arith, f.ended, length-append ticks (p.tick.list ∷ []));
       } in
@@ -106,15 +107,17 @@ module _ {C D : Type 0} (content : C → Content) (file : D → List ℕ) (leave
       let queue : new.queue.items ≡ records.Switch (length ticks) ∷ [] = d.queue ∙ (ap (λ q. q ++ records.Switch old.ended ∷ []) waits.1 ∙ ap (λ n. records.Switch n ∷ []) f.ended) in
       let after : Follows content file leaves mid files ticks acknowledged = record {
         images = with_round old.ended f.images;
-        place = f.place;
         has_images = begins old.images old.ended f.images files.image_a files.image_b idle most f.has_images;
-        has_log = f.has_log;
-        count = f.count;
-        at_least = f.at_least;
-        in_step = subst (λ j. InStep old.images.cells ticks f.count (content new.store) (with_round old.ended f.images) j new.queue.items) (sym logs.1)
-            (subst (λ i. InStep old.images.cells ticks f.count (content new.store) (with_round old.ended i) (Writing logs.0) new.queue.items) (sym newest.1)
-            (subst (λ n. InStep old.images.cells ticks f.count (content new.store) (with_round n (Newest newest.0)) (Writing logs.0) new.queue.items) (sym f.ended)
-            (subst (λ q. InStep old.images.cells ticks f.count (content new.store) (with_round (length ticks) (Newest newest.0)) (Writing logs.0) q) (sym queue) on)));
+        log = record {
+          place = f.place;
+          stands = f.has_log;
+          count = f.count;
+          at_least = f.at_least;
+          in_step = subst (λ j. InStep old.images.cells ticks f.count (content new.store) (with_round old.ended f.images) j new.queue.items) (sym logs.1)
+              (subst (λ i. InStep old.images.cells ticks f.count (content new.store) (with_round old.ended i) (Writing logs.0) new.queue.items) (sym newest.1)
+              (subst (λ n. InStep old.images.cells ticks f.count (content new.store) (with_round n (Newest newest.0)) (Writing logs.0) new.queue.items) (sym f.ended)
+              (subst (λ q. InStep old.images.cells ticks f.count (content new.store) (with_round (length ticks) (Newest newest.0)) (Writing logs.0) q) (sym queue) on)));
+        };
         world = f.world ∙ ap (λ (w : List ℕ). Ok w) (sym d.marks.live);
         ended = f.ended;
       } in

@@ -5,14 +5,13 @@ use Rattle.action_log.specs.declared.record.Record.TheVariants as records
 use Rattle.capture_core.specs.Content.{Content, Covers, Marks}
 use Rattle.disk_model.specs.declared.four_files.FourFiles.{FourFiles}
 use Rattle.image_files.specs.Progress.{begun_keeper}
-use Rattle.recovery.specs.Recovery.{Recovery}
 use Rattle.batches.specs.Answer.{accepted_of, words_after}
 use Rattle.batches.specs.declared.batch.Request.{Request}
 use Rattle.world_actions.specs.declared.action.Action.{Action}
 use Rattle.world_ticks.specs.Tick.{Actions}
 use Rattle.world_start.specs.declared.engine.Engine.{Engine}
 use Rattle.world_start.specs.Engine.{Follows}
-use Rattle.world_start.specs.Opening.{AreSynced, AreSound, RecoversFiles}
+use Rattle.world_start.specs.Opening.{AreSynced, AreSound, MatchesRecovery}
 
 -- ---- a batch on the store
 
@@ -41,11 +40,7 @@ module _ {C : Type 0} (content : C → Content) where
 module _ {C D : Type 0} (content : C → Content) (file : D → List ℕ) (leaves : D → List ℕ → Type 0) where
   -- The start of the recovered world has ended: so many ticks are acknowledged again.
   pub record IsStarted (files : FourFiles D) (engine : Engine C) (from : ℕ) (left : FourFiles D) : Type 0 where
-    pub recovery : Recovery
-    pub recovers : RecoversFiles file files recovery
-    pub is_from : from ≡ recovery.from
-    pub words : (content engine.store).live ≡ recovery.words
-    pub ended : engine.ended ≡ recovery.tick
-    pub since : engine.since ≡ 0
+    pub matches : MatchesRecovery content file files engine from
+    pub open matches use *
     pub follows : (cells : ℕ) (ticks : List (List Action)) (acknowledged : ℕ) → AreSynced file leaves files → AreSound file leaves files cells ticks acknowledged
         → (engine.images.cells ≡ cells) × Follows content file leaves engine left (take recovery.tick ticks) recovery.tick

@@ -2,7 +2,7 @@ ghost use Rattle.std.specs.Prelude.{◌≡◌, ◌⊎◌, ◌<◌, ◌≤◌, []
 ghost use Rattle.world_actions.specs.declared.action.Action.{Action};
 ghost use Rattle.world_ticks.specs.declared.tick.TheConstants.{TICK_MAX};
 ghost use Rattle.image_files.specs.declared.phase.Phase.TheVariants.{Idle, Down};
-ghost use Rattle.world_start.specs.Engine.{Follows};
+ghost use Rattle.world_start.specs.Engine.{Follows, StillFollows};
 ghost use Rattle.world_start.specs.Steps.{IsAtRest};
 ghost use Rattle.serial_world.specs.Runs.{HasImageOf};
 ghost use Rattle.serial_world.specs.Steps.{BeginsRound};
@@ -24,9 +24,7 @@ pub fn checkpoint<C: Capture, D: Disk>(engine: &mut Engine<C>, files: &mut FourF
     ensures cells { engine.new.images.cells ≡ engine.old.images.cells }
     ensures live { (C.content engine.new.store).live ≡ (C.content engine.old.store).live }
     ensures ended { (engine.new.ended ≡ engine.old.ended) × (engine.new.since ≡ 0) }
-    ensures follows { IsTrue D.honest → (ticks : List (List Action)) (acknowledged : ℕ)
-        → Follows C.content D.content D.may_leave engine.old files.old ticks acknowledged
-        → Follows C.content D.content D.may_leave engine.new files.new ticks acknowledged }
+    ensures follows { IsTrue D.honest → StillFollows C.content D.content D.may_leave engine.old files.old engine.new files.new }
     ensures image { IsTrue D.honest → (ticks : List (List Action)) (acknowledged : ℕ)
         → Follows C.content D.content D.may_leave engine.old files.old ticks acknowledged
         → (engine.new.images.phase ≡ Down) ⊎ HasImageOf D.may_leave files.new engine.new.ended }

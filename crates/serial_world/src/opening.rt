@@ -1,8 +1,7 @@
 ghost use Rattle.std.specs.Prelude.{◌≡◌, false, IsTrue, IfOk, IfErr};
-ghost use Rattle.disk_model.specs.FourFiles.{fault_counts};
 ghost use Rattle.image_files.specs.declared.phase.Phase.TheVariants.{Idle};
 ghost use Rattle.world_start.specs.Steps.{IsAtRest};
-ghost use Rattle.world_start.specs.Opening.{SomeGrew, IsRecovered, IsRefused};
+ghost use Rattle.world_start.specs.Opening.{HasFaulted, IsRecovered, IsRefused};
 ghost use Rattle.serial_world.specs.Opened.{IsNotOpened};
 ghost use Rattle.serial_world.specs.Steps.{IsStarted};
 
@@ -28,8 +27,7 @@ pub fn open_engine<C: Capture, D: Disk>(
     ensures refused { IfErr result (IsRefused D.content D.honest files.old) }
     ensures left { IsTrue D.honest → IfErr result (λ refusal.
         IsNotOpened D.content D.may_leave files.old refusal files.new) }
-    ensures device { IfErr result (λ refusal. refusal ≡ Refusal.Device
-        → SomeGrew (fault_counts D.faults files.old) (fault_counts D.faults files.new)) }
+    ensures device { IfErr result (HasFaulted D.faults files.old files.new) }
 {
     followed_files_are_sound::<C, D>();
     let begun = recover_world::<C, D>(alloc, files)?;

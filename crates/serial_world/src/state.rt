@@ -1,22 +1,17 @@
-ghost use Rattle.std.specs.Prelude.{◌≡◌, ◌⊎◌, ◌≤◌, ◌<◌, ℕ, List, Ok, Err, false, IsTrue, IfOk, OnOk, IfErr};
+ghost use Rattle.std.specs.Prelude.{◌≡◌, ◌⊎◌, ◌≤◌, ◌<◌, ℕ, List, Ok, Err, false, IsTrue, OnOk, IfErr};
 ghost use Rattle.world_actions.specs.declared.action.Action.{Action};
-ghost use Rattle.disk_model.specs.FourFiles.{fault_counts};
 ghost use Rattle.image_files.specs.declared.phase.Phase.TheVariants.{Idle, Down};
 ghost use Rattle.serial_world.specs.Runs.{HasImageOf};
 ghost use Rattle.world_start.specs.Steps.{IsAtRest};
 ghost use Rattle.serial_world.specs.Runs.{Serves, Runs};
-ghost use Rattle.world_start.specs.Opening.{SomeGrew, IsRecovered, IsRefused};
-ghost use Rattle.serial_world.specs.Opened.{IsOpened, IsNotOpened};
 
 use crate::marks::checkpoint;
-use crate::opening::open_engine;
 use crate::ticks::{batch_refusal, play};
 use action_log::{log_outcomes, log_queues};
 use batches::{Batch, answers_are_ticks};
 use capture_core::Capture;
 use disk_model::{Disk, FourFiles};
 use restart::worlds_go_on;
-use std::alloc::Global;
 use world_actions::Refusal;
 use world_start::Engine;
 
@@ -34,44 +29,6 @@ pub struct SerialState<C: Capture, D: Disk> {
 }
 
 impl<C: Capture, D: Disk> SerialState<C, D> {
-    /// Opens the world that stands in the files, or gives them back with the reason.
-    pub fn open(
-        alloc: Global,
-        files: FourFiles<D>,
-        every: u32,
-    ) -> Result<Self, (FourFiles<D>, Refusal)>
-        ensures rest { IfOk result (λ state.
-            IsAtRest C.content D.content D.honest state.engine state.files) }
-        ensures opened { IsTrue D.honest
-            → IfOk result (IsOpened C.content D.content D.may_leave D.honest files) }
-        ensures recovered { IfOk result (λ state. IsRecovered C.content D.content D.honest files
-            state.engine state.recovered.0 state.recovered.1) }
-        ensures up { IfOk result (λ state. state.engine.log.down ≡ false) }
-        ensures begun { IfOk result (λ state. (state.engine.since ≡ 0) × (state.engine.images.phase ≡ Idle)) }
-        ensures every { IfOk result (λ state. state.every ≡ every) }
-        ensures acked { IfOk result (λ state. state.acked ≡ state.engine.ended) }
-        ensures refused { IfErr result (λ refused. IsRefused D.content D.honest files refused.1) }
-        ensures left { IsTrue D.honest → IfErr result (λ refused.
-            IsNotOpened D.content D.may_leave files refused.1 refused.0) }
-        ensures device { IfErr result (λ refused. refused.1 ≡ Refusal.Device
-            → SomeGrew (fault_counts D.faults files) (fault_counts D.faults refused.0)) }
-    {
-        let mut files = files;
-        match open_engine(alloc, &mut files) {
-            Ok((engine, from)) => {
-                let tick = engine.ended;
-                Ok(SerialState {
-                    engine,
-                    files,
-                    every,
-                    acked: tick,
-                    recovered: (tick, from),
-                })
-            }
-            Err(refusal) => Err((files, refusal)),
-        }
-    }
-
     /// Plays a batch as one tick, has it logged, and makes a checkpoint if one is due. The answer is put into `text`.
     pub fn batch(&mut self, b: &Batch, text: &mut Vec<u8>) -> Result<(), Refusal>
         requires { IsAtRest C.content D.content D.honest self.old.engine self.old.files }

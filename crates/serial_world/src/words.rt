@@ -1,4 +1,4 @@
-ghost use Rattle.std.specs.Prelude.{◌≡◌, All, IfOk, IfErr};
+ghost use Rattle.std.specs.Prelude.{◌≡◌, All, IfOk, IfErr, OnOk};
 ghost use Rattle.world_actions.specs.World.{IsWord};
 
 use capture_core::Capture;
@@ -9,6 +9,7 @@ use world_actions::Refusal;
 pub fn words_of<C: Capture>(alloc: Global, store: &mut C) -> Result<Vec<u64>, Refusal>
     ensures words { IfOk result (λ words. words.items ≡ (C.content store.old).live) }
     ensures limit { IfOk result (λ words. All IsWord words.items) }
+    ensures same { OnOk result (C.content store.new ≡ C.content store.old) }
     ensures memory { IfErr result (λ refusal. refusal ≡ Refusal.NoMemory) }
 {
     let cells = store.len();

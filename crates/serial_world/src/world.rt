@@ -1,12 +1,12 @@
 ghost use Rattle.std.specs.Prelude.{◌≡◌, [], List, false, IsTrue, IfOk, IfErr};
 ghost use Rattle.world_actions.specs.declared.action.Action.{Action};
-ghost use Rattle.disk_model.specs.FourFiles.{fault_counts};
 ghost use Rattle.serial_world.specs.Runs.{Runs, Serves};
 ghost use Rattle.image_files.specs.declared.phase.Phase.TheVariants.{Idle};
 ghost use Rattle.world_start.specs.Parts.{AreAtRest, AreSettled};
-ghost use Rattle.world_start.specs.Opening.{SomeGrew, AreSynced, IsRecovered, IsRefused};
+ghost use Rattle.world_start.specs.Opening.{HasFaulted, AreSynced, IsRecovered, IsRefused};
 ghost use Rattle.serial_world.specs.Opened.{IsOpened, IsNotOpened};
 
+use crate::opening::open_engine;
 use crate::state::SerialState;
 use crate::words::words_of;
 use action_log::log_outcomes;
@@ -18,7 +18,7 @@ use sessions::World;
 use std::alloc::Global;
 use std::marker::Model;
 use world_actions::Refusal;
-use world_start::{Engine, Parts};
+use world_start::Parts;
 
 /// A world that is served from its four files, whatever its store and whatever disks they are on.
 #[derive(Drop)]
@@ -56,12 +56,23 @@ impl<C: Capture, D: Disk> SerialWorld<C, D> {
         ensures refused { IfErr result (λ refused. IsRefused D.content D.honest files refused.1) }
         ensures left { IsTrue D.honest → IfErr result (λ refused.
             IsNotOpened D.content D.may_leave files refused.1 refused.0) }
-        ensures device { IfErr result (λ refused. refused.1 ≡ Refusal.Device
-            → SomeGrew (fault_counts D.faults files) (fault_counts D.faults refused.0)) }
+        ensures device { IfErr result (λ refused. HasFaulted D.faults files refused.0 refused.1) }
     {
-        Ok(SerialWorld {
-            state: SerialState::open(alloc, files, every)?,
-        })
+        let mut files = files;
+        match open_engine(alloc, &mut files) {
+            Ok((engine, from)) => {
+                let tick = engine.ended;
+                let state = SerialState {
+                    engine,
+                    files,
+                    every,
+                    acked: tick,
+                    recovered: (tick, from),
+                };
+                Ok(SerialWorld { state })
+            }
+            Err(refusal) => Err((files, refusal)),
+        }
     }
 
     /// The number of the greatest receipt, before the first one the recovered tick.
@@ -92,8 +103,6 @@ impl<C: Capture, D: Disk> SerialWorld<C, D> {
             → AreSettled D.content D.may_leave parts ticks) }
         ensures refused { IfErr result (λ refused. (refused.0 ≡ self.files) × (refused.1 ≡ Refusal.NoMemory)) }
     {
-        images_stay::<D>();
-        log_outcomes::<D>();
         let SerialWorld { state } = self;
         let SerialState {
             mut engine,
@@ -103,25 +112,7 @@ impl<C: Capture, D: Disk> SerialWorld<C, D> {
             recovered: _,
         } = state;
         match words_of(engine.alloc, &mut engine.store) {
-            Ok(words) => {
-                let Engine {
-                    alloc: _,
-                    store: _,
-                    images,
-                    log,
-                    queue: _,
-                    ended,
-                    since,
-                } = engine;
-                Ok(Parts {
-                    words,
-                    images,
-                    log,
-                    files,
-                    ended,
-                    since,
-                })
-            }
+            Ok(words) => Ok(engine.into_parts(words, files)),
             Err(refusal) => Err((files, refusal)),
         }
     }

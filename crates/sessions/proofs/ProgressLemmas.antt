@@ -1,7 +1,7 @@
 -- A session goes on by whole batches.
-use Rattle.std.proofs.Common.{arith, refl, sym, ap, subst, ◌∙◌, ◌≡◌, ℕ, ◌<◌, ◌≤◌, List, [], ◌∷◌, ◌++◌, append_assoc, append-nil, length, true, false, Option, Result}
+use Rattle.std.proofs.Common.{arith, refl, sym, ap, subst, ◌∙◌, ◌≡◌, ℕ, ◌<◌, ◌≤◌, List, [], ◌∷◌, ◌++◌, append_assoc, append-nil, length, take, drop, true, false, Option, Result}
 use Rattle.std.proofs.lemmas.Bool.Decides.{nat_tests}
-use Rattle.std.proofs.lemmas.List.{length-append}
+use Rattle.std.proofs.lemmas.List.{length-append, take-append-drop}
 use Rattle.line_grammar.specs.declared.command.Command.{Command}
 use Rattle.line_grammar.specs.Command.{Means}
 use Rattle.world_actions.specs.declared.refusal.Refusal.{Refusal}
@@ -140,11 +140,11 @@ module _ {S : Type 0} (runs : S → List Request → Result (List ℕ) Refusal �
         early = ap (λ (b : Batches). ends_early b.ended b.rest) whole ∙ (ends_fit s.batches (added [] t.requests more.ended more.rest).ended (added [] t.requests more.ended more.rest).rest s.fit ∙ late_ones.1);
       }
 
-  -- a batch is too long, and its line is written
-  pub too_long_ends : (now : S) (old : Reading) (bytes left : List ℕ) → ((before : List ℕ) → IsBegun before old → IsTooMuch (before ++ bytes)) → EndsEarly runs now old (bytes ++ left) now (fault_text BadLine)
-  too_long_ends now old bytes left long = record {
+  -- in a piece a batch is too long, and its line is written
+  pub too_long_ends : (now : S) (old : Reading) (n : ℕ) (piece : List ℕ) → ((before : List ℕ) → IsBegun before old → IsTooMuch (before ++ take n piece)) → EndsEarly runs now old piece now (fault_text BadLine)
+  too_long_ends now old n piece long = subst (λ b. EndsEarly runs now old b now (fault_text BadLine)) (take-append-drop n piece) (record {
     on = λ first read prior s.
-        let t = too_long first now old read prior bytes left s (long s.begun s.reads) in
+        let t = too_long first now old read prior (take n piece) (drop n piece) s (long s.begun s.reads) in
         record {
           meanings = t.meanings;
           mean = t.mean;
@@ -153,13 +153,13 @@ module _ {S : Type 0} (runs : S → List Request → Result (List ℕ) Refusal �
           early_is = sym t.early;
           text_is = refl;
         };
-  }
+  })
 
   -- or the writing of it fails
-  pub too_long_breaks : (now : S) (old : Reading) (bytes left front : List ℕ) → ((before : List ℕ) → IsBegun before old → IsTooMuch (before ++ bytes)) → IsFront front (fault_text BadLine) → BreaksOff runs now old (bytes ++ left) now front
-  too_long_breaks now old bytes left front long is = record {
+  pub too_long_breaks : (now : S) (old : Reading) (n : ℕ) (piece front : List ℕ) → ((before : List ℕ) → IsBegun before old → IsTooMuch (before ++ take n piece)) → IsFront front (fault_text BadLine) → BreaksOff runs now old piece now front
+  too_long_breaks now old n piece front long is = subst (λ b. BreaksOff runs now old b now front) (take-append-drop n piece) (record {
     on = λ first read prior s.
-        let t = too_long first now old read prior bytes left s (long s.begun s.reads) in
+        let t = too_long first now old read prior (take n piece) (drop n piece) s (long s.begun s.reads) in
         record {
           meanings = t.meanings;
           mean = t.mean;
@@ -173,15 +173,15 @@ module _ {S : Type 0} (runs : S → List Request → Result (List ℕ) Refusal �
           written_is = refl;
           broken = InEnd refl t.early refl is;
         };
-  }
+  })
 
   -- a batch has ended, and the writing of its answer fails
-  pub whole_breaks : (now last : S) (old : Reading) (bytes left front : List ℕ) (requests : List Request) (given : Result (List ℕ) Refusal) → ((before : List ℕ) → IsBegun before old → IsWhole (before ++ bytes) requests)
-      → runs now requests given last → IsFront front (line_of given) → BreaksOff runs now old (bytes ++ left) last front
-  whole_breaks now last old bytes left front requests given whole run is = record {
+  pub whole_breaks : (now last : S) (old : Reading) (n : ℕ) (piece front : List ℕ) (requests : List Request) (given : Result (List ℕ) Refusal) → ((before : List ℕ) → IsBegun before old → IsWhole (before ++ take n piece) requests)
+      → runs now requests given last → IsFront front (line_of given) → BreaksOff runs now old piece last front
+  whole_breaks now last old n piece front requests given whole run is = subst (λ b. BreaksOff runs now old b last front) (take-append-drop n piece) (record {
     on = λ first read prior s.
         let w = whole s.begun s.reads in
-        let all = all_read first now old read prior bytes left s w.meanings w.lines in
+        let all = all_read first now old read prior (take n piece) (drop n piece) s w.meanings w.lines in
         let more = batches_of all.0 in
         let tail : batches_of (w.meanings ++ all.0) ≡ record { ended = requests ∷ more.ended; rest = more.rest } = batches_after w.meanings all.0 (requests ∷ []) w.batch in
         let both : batches_of (s.meanings ++ (w.meanings ++ all.0)) ≡ record { ended = s.batches ++ (requests ∷ more.ended); rest = more.rest } =
@@ -200,7 +200,7 @@ module _ {S : Type 0} (runs : S → List Request → Result (List ℕ) Refusal �
           written_is = refl;
           broken = InAnswer requests (answered_in more.ended) given refl run is;
         };
-  }
+  })
 
 module _ {S : Type 0} (runs : S → List Request → Result (List ℕ) Refusal → S → Type 0) where
   pub early_after : (now middle last : S) (old between : Reading) (bytes more written rest : List ℕ) → Goes runs now old bytes between middle written → EndsEarly runs middle between more last rest → EndsEarly runs now old (bytes ++ more) last (written ++ rest)

@@ -47,20 +47,29 @@ pub fn serve_lines<R: Read, W: Write, X: World>(
     ensures fault { IfErr result (λ refusal. (refusal ≡ Refusal.NoMemory)
         ⊎ ((refusal ≡ Refusal.BadLine) ⊎ (refusal ≡ Refusal.Device))) }
 {
-    let mut reader = BatchReader::new(alloc)?;
-    let mut text = Vec::new(alloc);
-    serve_pieces(&mut reader, &mut text, r, w, world)
+    let reader = BatchReader::new(alloc)?;
+    let mut session = Session {
+        reader,
+        text: Vec::new(alloc),
+    };
+    serve_pieces(&mut session, r, w, world)
+}
+
+// The batch that has begun, and the text that answers it.
+#[derive(Drop)]
+struct Session {
+    reader: BatchReader,
+    text: Vec<u8>,
 }
 
 // Reads piece after piece.
 fn serve_pieces<R: Read, W: Write, X: World>(
-    reader: &mut BatchReader,
-    text: &mut Vec<u8>,
+    session: &mut Session,
     r: &mut R,
     w: &mut W,
     world: &mut X,
 ) -> Result<(), Refusal>
-    requires { Stands X.runs world.old [] reader.old world.old [] }
+    requires { Stands X.runs world.old [] session.old.reader world.old [] }
     ensures whole { OnOk result (IsAtEnd (R.remaining r.new)
         × (input : List ℕ) × Consumes (R.remaining r.old) (R.remaining r.new) input
         × (text : List ℕ) × Appends (W.contents w.old) (W.contents w.new) text
@@ -76,36 +85,34 @@ fn serve_pieces<R: Read, W: Write, X: World>(
         if n == 0 {
             return Ok(());
         }
-        serve_piece(reader, text, &piece[..n], w, world)?;
+        serve_piece(session, &piece[..n], w, world)?;
     }
     Err(Refusal::Device)
 }
 
 // Goes through the next bytes, and answers each batch that ends in them.
 fn serve_piece<W: Write, X: World>(
-    reader: &mut BatchReader,
-    text: &mut Vec<u8>,
+    session: &mut Session,
     piece: &[u8],
     w: &mut W,
     world: &mut X,
 ) -> Result<(), Refusal>
     ensures done { OnOk result ((written : List ℕ) × Appends (W.contents w.old) (W.contents w.new) written
-        × Goes X.runs world.old reader.old piece.now reader.new world.new written) }
+        × Goes X.runs world.old session.old.reader piece.now session.new.reader world.new written) }
     ensures fault { IfErr result (λ refusal. (written : List ℕ) × Appends (W.contents w.old) (W.contents w.new) written
-        × (((refusal ≡ Refusal.BadLine) × EndsEarly X.runs world.old reader.old piece.now world.new written)
-        ⊎ ((refusal ≡ Refusal.Device) × BreaksOff X.runs world.old reader.old piece.now world.new written))) }
+        × (((refusal ≡ Refusal.BadLine) × EndsEarly X.runs world.old session.old.reader piece.now world.new written)
+        ⊎ ((refusal ≡ Refusal.Device) × BreaksOff X.runs world.old session.old.reader piece.now world.new written))) }
 {
     let mut at = 0;
     while at < piece.len() {
-        at += serve_some(reader, text, &piece[at..], w, world)?;
+        at += serve_some(session, &piece[at..], w, world)?;
     }
     Ok(())
 }
 
 // Takes bytes up to the end of a batch, and answers it.
 fn serve_some<W: Write, X: World>(
-    reader: &mut BatchReader,
-    text: &mut Vec<u8>,
+    session: &mut Session,
     piece: &[u8],
     w: &mut W,
     world: &mut X,
@@ -113,18 +120,18 @@ fn serve_some<W: Write, X: World>(
     requires { 0 < length piece.now }
     ensures count { IfOk result (λ n. (0 < n) × (n ≤ length piece.now)) }
     ensures done { IfOk result (λ n. (written : List ℕ) × Appends (W.contents w.old) (W.contents w.new) written
-        × Goes X.runs world.old reader.old (take n piece.now) reader.new world.new written) }
+        × Goes X.runs world.old session.old.reader (take n piece.now) session.new.reader world.new written) }
     ensures fault { IfErr result (λ refusal. (written : List ℕ) × Appends (W.contents w.old) (W.contents w.new) written
-        × (((refusal ≡ Refusal.BadLine) × EndsEarly X.runs world.old reader.old piece.now world.new written)
-        ⊎ ((refusal ≡ Refusal.Device) × BreaksOff X.runs world.old reader.old piece.now world.new written))) }
+        × (((refusal ≡ Refusal.BadLine) × EndsEarly X.runs world.old session.old.reader piece.now world.new written)
+        ⊎ ((refusal ≡ Refusal.Device) × BreaksOff X.runs world.old session.old.reader piece.now world.new written))) }
 {
     one_reading();
-    let (n, fed) = reader.take(piece);
+    let (n, fed) = session.reader.take(piece);
     match fed {
         Fed::More => Ok(n),
         Fed::Whole => {
-            answer_batch(reader.batch(), text, w, world)?;
-            reader.clear();
+            answer_batch(session.reader.batch(), &mut session.text, w, world)?;
+            session.reader.clear();
             Ok(n)
         }
         Fed::TooLong => {

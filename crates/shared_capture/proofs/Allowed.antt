@@ -1,5 +1,5 @@
 -- Each step of the two seats, as the table asks for it.
-use Rattle.std.proofs.Common.{◌≡◌, ◌≢◌, ℕ, ◌+◌, ◌<◌, ◌/◌, ◌⊎◌, eqb, Bool, zero, suc, List, [], ◌∷◌, ◌++◌, length, replicate, get_or, set, sym, refl, ap, ◌∙◌, subst, ⊎_elim, inl, inr, arith, length-append, get_or-append-add, true, false, All}
+use Rattle.std.proofs.Common.{◌≡◌, ◌≢◌, ℕ, ◌+◌, ◌<◌, ◌/◌, eqb, Bool, zero, suc, List, [], ◌∷◌, ◌++◌, length, replicate, get_or, set, sym, refl, ap, ◌∙◌, subst, arith, length-append, get_or-append-add, true, false, All}
 use Rattle.std.proofs.lemmas.List.{get_or-replicate, length-replicate, get_or_append_left}
 use Rattle.std.proofs.lemmas.List.Elements.{All-get_or}
 use Rattle.std.proofs.lemmas.Bool.{false≢true}
@@ -7,8 +7,8 @@ use Rattle.std.proofs.lemmas.Option.{none-some}
 use mathlib.Core.Option as maybe
 use lib.ListN.{get_elem?}
 use Rattle.world_actions.specs.World.{IsWord}
-use Rattle.atomic_table.specs.Table.{opening, step, keeps, Allows, Splits, Joins}
-use Rattle.atomic_table.proofs.Lists.{at_set, set_else}
+use Rattle.atomic_table.specs.Table.{State, opening, step, keeps, Allows, Splits, Joins}
+use Rattle.atomic_table.proofs.Lists.{set_else}
 use Rattle.packed_marks.specs.Marks.{IsPacked}
 use Rattle.packed_marks.specs.Bits.{chunks, marked, IsFull}
 use Rattle.shared_capture.specs.declared.method.Kind.{Kind}
@@ -26,16 +26,13 @@ use Rattle.shared_capture.specs.Meeting.{after_meet, front_met, front_part, back
 use Rattle.shared_capture.specs.Seats.{IsReady, IsSame}
 use Rattle.shared_capture.proofs.Packed.{full_packed}
 use Rattle.shared_capture.proofs.Places.{cell_one, mark_one}
+use Rattle.shared_capture.proofs.Views.{set_knows, split_knows, join_knows}
 use Rattle.shared_capture.proofs.Keeps.{words_stay, core_load, core_write, core_mark, core_open, core_look, core_fetch, core_take, core_finish, meets_now}
 
 abbrev U : Type 0
 U = Unit {0}
 
 -- ## Who sits where
-
-set_knows : (K : ℕ → View → Type 0) (vs : List View) (id : ℕ) (w : View) → K id w → ((j : ℕ) (v : View) → j ≢ id → get_elem? vs j ≡ maybe.some v → K j v) → (j : ℕ) (v : View) → get_elem? (set vs id w) j ≡ maybe.some v → K j v
-set_knows K vs id w mine others j v e = ⊎_elim (λ (t : (j ≡ id) × (w ≡ v)). subst (λ (x : ℕ × View). K x.0 x.1) (λ i. (sym t.0 i, t.1 i)) mine)
-    (λ (t : (j ≢ id) × (get_elem? vs j ≡ maybe.some v)). others j v t.0 t.1) (at_set vs id j w v e)
 
 others_front : (f g : FrontView) (p : ℕ) (b : BackView) (q j : ℕ) (v : View) → j ≢ p → Knows f p b q j v → Knows g p b q j v
 others_front f g p b q j Spent ne k = tt
@@ -105,7 +102,7 @@ module _ (kind : Kind) (n : ℕ) where
 module _ (kind : Kind) (n slots id : ℕ) (me : Sitting) (f : FrontView) (is : me.0 ≡ Front f) where
   pub loads_phase : Allows (Kept kind n) slots id me 0 (λ x. x) (phase_loaded (step slots 0 0 0 maybe.none) me)
   loads_phase = front_step kind n slots id me 0 (λ x. x) f (λ x. after_load x f) (phase_loaded (step slots 0 0 0 maybe.none) me) is
-      (λ ws b c. (words_stay kind n ws f b c 0 (after_load (get_or ws 0 0) f) b (core_load kind n ws f b c), (ap (λ (v : View). (Front (after_load (get_or ws 0 0) (front_of v)), me.1)) (sym is), λ e. c.closed (sym (ap (λ (v : View). (front_of v).closed) is) ∙ e))))
+      (λ ws b c. (words_stay kind n ws f b c 0 (after_load (get_or ws 0 0) f) b (core_load kind n ws f b c), (ap (λ (v : View). (Front (after_load (get_or ws 0 0) (front_of v)), me.1)) (sym is), λ e. c.table.closed (sym (ap (λ (v : View). (front_of v).closed) is) ∙ e))))
 
   pub stores_value : (i v word : ℕ) → IsWord v → i < n → length f.live ≡ n → word ≡ cell_place n (write_side kind f.current (marked f.marks i)) i → Allows (Kept kind n) slots id me word (λ _. v) (λ _. value_stored (step slots word v 0 maybe.none) me v)
   stores_value i v word fits inside long at = let s : Bool = write_side kind f.current (marked f.marks i) in
@@ -159,7 +156,7 @@ module _ (kind : Kind) (n slots id : ℕ) (me : Sitting) (b : BackView) (is : me
         (
           subst (λ (z : View). (j : ℕ) (t : Bool) → cell_place n s i ≡ cell_place (back_of z).cells t j → j < (back_of z).cells → ◌≡◌ {A = Sitting} (Back (after_take i x b), me.1) (Back (after_take j x (back_of z)), me.1)) (sym is)
               (λ j t e l. let one = cell_one n s t i j inside (subst (λ (z : ℕ). j < z) wide l) (sym (e ∙ ap (λ (z : ℕ). cell_place z t j) wide)) in λ h. (Back (after_take (sym one.0 h) x b), me.1)),
-          c.small s i inside,
+          c.table.small s i inside,
         ),
       )))
 
@@ -192,61 +189,26 @@ module _ (kind : Kind) (n : ℕ) where
             (refl, record { agrees = m.1.agrees; level = m.1.level; fetched = m.1.fetched; touched = m.1.touched }),
       )
 
+  -- front and back know what they knew, at these seats
+  kept_at : {s t : State U View} (k : Kept kind n s) (p q : ℕ) → Core kind n t.words k.front k.back → ((j : ℕ) (v : View) → get_elem? t.views j ≡ maybe.some v → Knows k.front p k.back q j v) → Kept kind n t
+  kept_at k p q core each = record { front = k.front; front_at = p; back = k.back; back_at = q; core = core; each_seat = each }
+
   parts : (id : ℕ) (f : FrontView) (b : BackView) → Splits (Kept kind n) id (Pair f b) (Front f) (Back b)
-  parts id f b s k at = let known = k.each_seat id (Pair f b) at in let q : ℕ = length (set s.views id (Front f)) in record {
-    front = k.front;
-    front_at = k.front_at;
-    back = k.back;
-    back_at = q;
-    core = k.core;
-    each_seat = λ j v e. ⊎_elim
-        (set_knows (Knows k.front k.front_at k.back q) s.views id (Front f) (known.0, known.2)
-        (λ i u ne a. others_spent k.front k.front k.front_at k.front_at k.back k.back k.back_at q i u (λ h. ne (h ∙ sym known.0)) (λ h. ne (h ∙ sym known.1)) (k.each_seat i u a)) j v)
-        (λ t. subst (Knows k.front k.front_at k.back q j) t.1 (t.0, known.3))
-        (view_at_end (set s.views id (Front f)) (Back b) v j e);
-  }
-    where
-      view_at_end : (l : List View) (a b : View) (j : ℕ) → get_elem? (l ++ a ∷ []) j ≡ maybe.some b → (get_elem? l j ≡ maybe.some b) ⊎ ((j ≡ length l) × (a ≡ b))
-      view_at_end [] a b zero e = inr (refl, maybe.some-injective a b e)
-      view_at_end [] a b (suc j) e = absurd (maybe.some-ne-none b (sym e))
-      view_at_end (x ∷ xs) a b zero e = inl e
-      view_at_end (x ∷ xs) a b (suc j) e = ⊎_elim inl (λ t. inr (ap suc t.0, t.1)) (view_at_end xs a b j e)
+  parts id f b s k at = let known = k.each_seat id (Pair f b) at in let q : ℕ = length (set s.views id (Front f)) in
+      kept_at k k.front_at q k.core (split_knows (Knows k.front k.front_at k.back q) s.views id (Front f) (Back b) (known.0, known.2) (refl, known.3)
+      (λ j v ne e. others_spent k.front k.front k.front_at k.front_at k.back k.back k.back_at q j v (λ h. ne (h ∙ sym known.0)) (λ h. ne (h ∙ sym known.1)) (k.each_seat j v e)))
 
   moves : (id : ℕ) (b : BackView) → Splits (Kept kind n) id (Back b) Spent (Back b)
-  moves id b s k at = let known = k.each_seat id (Back b) at in let q : ℕ = length (set s.views id Spent) in record {
-    front = k.front;
-    front_at = k.front_at;
-    back = k.back;
-    back_at = q;
-    core = k.core;
-    each_seat = λ j v e. ⊎_elim
-        (set_knows (Knows k.front k.front_at k.back q) s.views id Spent tt
-        (λ i u ne a. others_back k.front k.front_at k.back k.back k.back_at q i u (λ h. ne (h ∙ sym known.0)) (k.each_seat i u a)) j v)
-        (λ t. subst (Knows k.front k.front_at k.back q j) t.1 (t.0, known.1))
-        (view_at_end (set s.views id Spent) (Back b) v j e);
-  }
-    where
-      view_at_end : (l : List View) (a b : View) (j : ℕ) → get_elem? (l ++ a ∷ []) j ≡ maybe.some b → (get_elem? l j ≡ maybe.some b) ⊎ ((j ≡ length l) × (a ≡ b))
-      view_at_end [] a b zero e = inr (refl, maybe.some-injective a b e)
-      view_at_end [] a b (suc j) e = absurd (maybe.some-ne-none b (sym e))
-      view_at_end (x ∷ xs) a b zero e = inl e
-      view_at_end (x ∷ xs) a b (suc j) e = ⊎_elim inl (λ t. inr (ap suc t.0, t.1)) (view_at_end xs a b j e)
+  moves id b s k at = let known = k.each_seat id (Back b) at in let q : ℕ = length (set s.views id Spent) in
+      kept_at k k.front_at q k.core (split_knows (Knows k.front k.front_at k.back q) s.views id Spent (Back b) tt (refl, known.1)
+      (λ j v ne e. others_back k.front k.front_at k.back k.back k.back_at q j v (λ h. ne (h ∙ sym known.0)) (k.each_seat j v e)))
 
   joins : (id : ℕ) (f : FrontView) (there : ℕ) (b : BackView) → Joins (Kept kind n) id (Front f) there (Back b) (Pair f b) Spent
   joins id f there b s k at apart beside =
       let known = k.each_seat id (Front f) at in
-      let seen = k.each_seat there (Back b) (sym (set_else s.views id there (Pair f b) apart) ∙ beside) in record {
-        front = k.front;
-        front_at = id;
-        back = k.back;
-        back_at = id;
-        core = k.core;
-        each_seat = set_knows (Knows k.front id k.back id) (set s.views id (Pair f b)) there Spent tt
-            (λ j v ne e. ⊎_elim
-            (λ (t : (j ≡ id) × (Pair f b ≡ v)). subst (Knows k.front id k.back id j) t.1 (t.0, t.0, known.1, seen.1))
-            (λ (t : (j ≢ id) × (get_elem? s.views j ≡ maybe.some v)). others_spent k.front k.front k.front_at id k.back k.back k.back_at id j v (λ h. t.0 (h ∙ sym known.0)) (λ h. ne (h ∙ sym seen.0)) (k.each_seat j v t.1))
-            (at_set s.views id j (Pair f b) v e));
-      }
+      let seen = k.each_seat there (Back b) (sym (set_else s.views id there (Pair f b) apart) ∙ beside) in
+      kept_at k id id k.core (join_knows (Knows k.front id k.back id) s.views id (Pair f b) there Spent (refl, refl, known.1, seen.1) tt
+      (λ j v near far e. others_spent k.front k.front k.front_at id k.back k.back k.back_at id j v (λ h. near (h ∙ sym known.0)) (λ h. far (h ∙ sym seen.0)) (k.each_seat j v e)))
 
   pub parts_of : (id : ℕ) (v : View) (f : FrontView) (b : BackView) → v ≡ Pair f b → Splits (Kept kind n) id v (front_part v) (back_part v)
   parts_of id v f b is = subst (λ (z : View). Splits (Kept kind n) id z (front_part z) (back_part z)) (sym is) (parts id f b)
@@ -286,13 +248,16 @@ module _ (ws ms : List ℕ) (full : IsFull (length ws) ms) (all_words : All IsWo
 
   opens_core : (kind : Kind) → Core kind n (opening_words ws ms) (front_start ws ms) (back_start n)
   opens_core kind = record {
-    wide = omega (arith, length-append ws (ws ++ (ms ++ zeros)), length-append ws (ms ++ zeros), length-append ms zeros, length-replicate {A = ℕ} (chunks n) 0, full.words_length);
-    cells = (refl, length-replicate {A = Bool} n false, full_packed n ms full, refl);
-    small = λ s i l. subst IsWord (sym (opens_at s i l)) (All-get_or IsWord ws i 0 l all_words);
-    live = λ i l. ap (λ (z : Bool). get_or (opening_words ws ms) (cell_place n z i) 0) (get_or-replicate n i false false l) ∙ opens_at false i l;
-    marks = λ k l. ap (λ (z : Bool). get_or (opening_words ws ms) (mark_place n z k) 0) (front_row kind) ∙ first_row k l;
+    table = record {
+      wide = omega (arith, length-append ws (ws ++ (ms ++ zeros)), length-append ws (ms ++ zeros), length-append ms zeros, length-replicate {A = ℕ} (chunks n) 0, full.words_length);
+      fits = (refl, length-replicate {A = Bool} n false, full_packed n ms full);
+      small = λ s i l. subst IsWord (sym (opens_at s i l)) (All-get_or IsWord ws i 0 l all_words);
+      live = λ i l. ap (λ (z : Bool). get_or (opening_words ws ms) (cell_place n z i) 0) (get_or-replicate n i false false l) ∙ opens_at false i l;
+      marks = λ k l. ap (λ (z : Bool). get_or (opening_words ws ms) (mark_place n z k) 0) (front_row kind) ∙ first_row k l;
+      closed = λ e. absurd (false≢true e);
+    };
+    cells = refl;
     agrees = λ k c e. absurd (none-some c e);
-    closed = λ e. absurd (false≢true e);
     ended = λ _. record { level = refl; idle = refl; same = refl; clean = λ p k l. second_row k l };
     opened = λ p. absurd (omega arith);
     looked = λ e. absurd (false≢true e);

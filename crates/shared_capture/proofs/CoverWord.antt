@@ -4,10 +4,11 @@ use Rattle.std.specs.List.{slice_get}
 use mathlib.Core.Option as maybe
 use lib.ListN.{get_elem?}
 use Rattle.atomic_table.specs.Table.{State, opening, step, keeps, Allows, Splits, Joins}
-use Rattle.atomic_table.proofs.Lists.{at_set, set_else}
+use Rattle.atomic_table.proofs.Lists.{set_else}
 use Rattle.shared_capture.specs.declared.cover.CoverView.{CoverView}
 use Rattle.shared_capture.specs.declared.cover.CoverView.TheVariants.{Spent, Out, In, Both}
 use Rattle.shared_capture.specs.CoverWord.{last_of, AreStored, Knows, Kept, Sitting, stored_of, loaded_of, stored_next, loaded_next, met, out_part, in_part, paired}
+use Rattle.shared_capture.proofs.Views.{set_knows, split_knows, join_knows}
 
 -- ---- lists
 
@@ -44,11 +45,6 @@ loaded_more stored loaded are i tick e = ⊎_elim (are i tick)
 
 -- ---- who sits where
 
-set_knows : (K : ℕ → CoverView → Type 0) (vs : List CoverView) (id : ℕ) (w : CoverView) → K id w → ((j : ℕ) (v : CoverView) → j ≢ id → get_elem? vs j ≡ maybe.some v → K j v)
-    → (j : ℕ) (v : CoverView) → get_elem? (set vs id w) j ≡ maybe.some v → K j v
-set_knows K vs id w mine others j v e = ⊎_elim (λ (t : (j ≡ id) × (w ≡ v)). subst (λ (x : ℕ × CoverView). K x.0 x.1) (λ i. (sym t.0 i, t.1 i)) mine)
-    (λ (t : (j ≢ id) × (get_elem? vs j ≡ maybe.some v)). others j v t.0 t.1) (at_set vs id j w v e)
-
 others_out : (a b : List ℕ) (p r : ℕ) (loaded : List ℕ) (q j : ℕ) (v : CoverView) → j ≢ p → Knows a p loaded q j v → Knows b r loaded q j v
 others_out a b p r loaded q j Spent ne k = tt
 others_out a b p r loaded q j (Out ticks) ne k = absurd (ne k.0)
@@ -67,11 +63,9 @@ others_spent stored loaded p o q r j (Out ticks) np nq k = absurd (np k.0)
 others_spent stored loaded p o q r j (In ticks) np nq k = absurd (nq k.0)
 others_spent stored loaded p o q r j (Both first second) np nq k = absurd (np k.0)
 
-at_end : (l : List CoverView) (a b : CoverView) (j : ℕ) → get_elem? (l ++ a ∷ []) j ≡ maybe.some b → (get_elem? l j ≡ maybe.some b) ⊎ ((j ≡ length l) × (a ≡ b))
-at_end [] a b zero e = inr (refl, maybe.some-injective a b e)
-at_end [] a b (suc j) e = absurd (maybe.some-ne-none b (sym e))
-at_end (x ∷ xs) a b zero e = inl e
-at_end (x ∷ xs) a b (suc j) e = ⊎_elim inl (λ t. inr (ap suc t.0, t.1)) (at_end xs a b j e)
+-- what was stored and loaded stays, with these two seats
+kept_at : {s t : State (Unit {0}) CoverView} (k : Kept s) (p q : ℕ) → t.words ≡ last_of k.stored ∷ [] → ((j : ℕ) (v : CoverView) → get_elem? t.views j ≡ maybe.some v → Knows k.stored p k.loaded q j v) → Kept t
+kept_at k p q word each = record { stored = k.stored; out_at = p; loaded = k.loaded; in_at = q; word = word; are_stored = k.are_stored; each_seat = each }
 
 -- ---- the steps
 
@@ -130,15 +124,7 @@ meets slots id me stored loaded is s k wide at small =
       me.0,
       keeps,
       tt,
-      record {
-        stored = k.stored;
-        out_at = k.out_at;
-        loaded = k.loaded;
-        in_at = k.in_at;
-        word = still s k;
-        are_stored = k.are_stored;
-        each_seat = set_knows (Knows k.stored k.out_at k.loaded k.in_at) s.views id me.0 (k.each_seat id me.0 at) (λ j v ne e. k.each_seat j v e);
-      },
+      kept_at k k.out_at k.in_at (still s k) (set_knows (Knows k.stored k.out_at k.loaded k.in_at) s.views id me.0 (k.each_seat id me.0 at) (λ j v ne e. k.each_seat j v e)),
       (refl, subst (λ (v : CoverView). AreStored (stored_of v) (loaded_of v)) (sym is) are),
     )
 
@@ -148,55 +134,22 @@ parts : (id : ℕ) (stored loaded : List ℕ) → Splits Kept id (Both stored lo
 parts id stored loaded s k at =
     let known = k.each_seat id (Both stored loaded) at in
     let q : ℕ = length (set s.views id (Out stored)) in
-    record {
-      stored = k.stored;
-      out_at = k.out_at;
-      loaded = k.loaded;
-      in_at = q;
-      word = k.word;
-      are_stored = k.are_stored;
-      each_seat = λ j v e. ⊎_elim
-          (set_knows (Knows k.stored k.out_at k.loaded q) s.views id (Out stored) (known.0, known.2)
-          (λ i u ne a. others_spent k.stored k.loaded k.out_at k.out_at k.in_at q i u (λ h. ne (h ∙ sym known.0)) (λ h. ne (h ∙ sym known.1)) (k.each_seat i u a)) j v)
-          (λ t. subst (Knows k.stored k.out_at k.loaded q j) t.1 (t.0, known.3))
-          (at_end (set s.views id (Out stored)) (In loaded) v j e);
-    }
+    kept_at k k.out_at q k.word (split_knows (Knows k.stored k.out_at k.loaded q) s.views id (Out stored) (In loaded) (known.0, known.2) (refl, known.3)
+    (λ j v ne e. others_spent k.stored k.loaded k.out_at k.out_at k.in_at q j v (λ h. ne (h ∙ sym known.0)) (λ h. ne (h ∙ sym known.1)) (k.each_seat j v e)))
 
 moves : (id : ℕ) (loaded : List ℕ) → Splits Kept id (In loaded) Spent (In loaded)
 moves id loaded s k at =
     let known = k.each_seat id (In loaded) at in
     let q : ℕ = length (set s.views id Spent) in
-    record {
-      stored = k.stored;
-      out_at = k.out_at;
-      loaded = k.loaded;
-      in_at = q;
-      word = k.word;
-      are_stored = k.are_stored;
-      each_seat = λ j v e. ⊎_elim
-          (set_knows (Knows k.stored k.out_at k.loaded q) s.views id Spent tt
-          (λ i u ne a. others_in k.stored k.out_at k.loaded k.loaded k.in_at q i u (λ h. ne (h ∙ sym known.0)) (k.each_seat i u a)) j v)
-          (λ t. subst (Knows k.stored k.out_at k.loaded q j) t.1 (t.0, known.1))
-          (at_end (set s.views id Spent) (In loaded) v j e);
-    }
+    kept_at k k.out_at q k.word (split_knows (Knows k.stored k.out_at k.loaded q) s.views id Spent (In loaded) tt (refl, known.1)
+    (λ j v ne e. others_in k.stored k.out_at k.loaded k.loaded k.in_at q j v (λ h. ne (h ∙ sym known.0)) (k.each_seat j v e)))
 
 joins : (id : ℕ) (stored : List ℕ) (there : ℕ) (loaded : List ℕ) → Joins Kept id (Out stored) there (In loaded) (Both stored loaded) Spent
 joins id stored there loaded s k at apart beside =
     let known = k.each_seat id (Out stored) at in
     let seen = k.each_seat there (In loaded) (sym (set_else s.views id there (Both stored loaded) apart) ∙ beside) in
-    record {
-      stored = k.stored;
-      out_at = id;
-      loaded = k.loaded;
-      in_at = id;
-      word = k.word;
-      are_stored = k.are_stored;
-      each_seat = set_knows (Knows k.stored id k.loaded id) (set s.views id (Both stored loaded)) there Spent tt
-          (λ j v ne e. ⊎_elim
-          (λ (t : (j ≡ id) × (Both stored loaded ≡ v)). subst (Knows k.stored id k.loaded id j) t.1 (t.0, t.0, known.1, seen.1))
-          (λ (t : (j ≢ id) × (get_elem? s.views j ≡ maybe.some v)). others_spent k.stored k.loaded k.out_at id k.in_at id j v (λ h. t.0 (h ∙ sym known.0)) (λ h. ne (h ∙ sym seen.0)) (k.each_seat j v t.1))
-          (at_set s.views id j (Both stored loaded) v e));
-    }
+    kept_at k id id k.word (join_knows (Knows k.stored id k.loaded id) s.views id (Both stored loaded) there Spent (refl, refl, known.1, seen.1) tt
+    (λ j v near far e. others_spent k.stored k.loaded k.out_at id k.in_at id j v (λ h. near (h ∙ sym known.0)) (λ h. far (h ∙ sym seen.0)) (k.each_seat j v e)))
 
 pub parts_of : (id : ℕ) (v : CoverView) (stored loaded : List ℕ) → v ≡ Both stored loaded → Splits Kept id v (out_part v) (in_part v)
 parts_of id v stored loaded is = subst (λ (z : CoverView). Splits Kept id z (out_part z) (in_part z)) (sym is) (parts id stored loaded)

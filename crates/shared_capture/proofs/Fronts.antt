@@ -53,25 +53,32 @@ module _ (kind : Kind) (t : TableId) (n : ℕ) (seat new : TableSeat) (live mark
   }
 
   module _ (i v w : ℕ) (inside : i < n) (word : IsWord v) where
+    -- a word was written, and the marks stand
+    word_written : (s : Bool) (far : List ℕ) → IsFront t (after_write i s v f) new → (kind ≡ PingPong → IsReady kind n (front_of new.me.0)) → (kind ≡ Zigzag → IsPacked n far)
+        → (kind ≡ Zigzag → (j : ℕ) → j < n → flag_at (front_of new.me.0).sides j ≡ not (marked far j)) → IsFrontOf kind t n new (set live i v) marks far current
+    word_written s far k ready packed are = let is = sits_view t (after_write i s v f) new k in record {
+      sits = resits t (after_write i s v f) new k;
+      cells = ok.cells;
+      fits = subst (FitsCells n) (sym is) (length-set f.live i v ∙ ok.fits.0, length-set f.sides i s ∙ ok.fits.1, ok.fits.2);
+      live_is = ap (λ (z : FrontView). z.live) is ∙ ap (λ (z : List ℕ). set z i v) ok.live_is;
+      words = All-set IsWord live i v word ok.words;
+      marks_are = ap (λ (z : FrontView). z.marks) is ∙ ok.marks_are;
+      current_is = ap (λ (z : FrontView). z.current) is ∙ ok.current_is;
+      ready = ready;
+      away_packed = packed;
+      away_are = are;
+    }
+
     pub zigzag_written : (s : Bool) → kind ≡ Zigzag → IsFront t (after_write i s v f) new → is_set w (i % 64) ≡ not s → ((j : ℕ) → j < 64 → j ≢ i % 64 → is_set w j ≡ is_set (get_or away (i / 64) 0) j)
         → IsFrontOf kind t n new (set live i v) marks (set away (i / 64) w) current
     zigzag_written s e k here others =
         let is = sits_view t (after_write i s v f) new k in
-        let becomes = marked_put away i w (not s) (omega (arith, (ok.away_packed e).words_length)) here others in record {
-          sits = resits t (after_write i s v f) new k;
-          cells = ok.cells;
-          fits = subst (FitsCells n) (sym is) (length-set f.live i v ∙ ok.fits.0, length-set f.sides i s ∙ ok.fits.1, ok.fits.2);
-          live_is = ap (λ (z : FrontView). z.live) is ∙ ap (λ (z : List ℕ). set z i v) ok.live_is;
-          words = All-set IsWord live i v word ok.words;
-          marks_are = ap (λ (z : FrontView). z.marks) is ∙ ok.marks_are;
-          current_is = ap (λ (z : FrontView). z.current) is ∙ ok.current_is;
-          ready = λ p. absurd (zigzag≢ping_pong kind e p);
-          away_packed = λ p. packed-put n away i w (not s) (ok.away_packed p) inside here others;
-          away_are = λ p j l. ap (λ (z : FrontView). flag_at z.sides j) is ∙ dite (ℕ_discrete j i)
-              (λ h. subst (λ (z : ℕ). flag_at (set f.sides i s) z ≡ not (marked (set away (i / 64) w) z)) (sym h)
-              (get_or-set_same f.sides i s false (omega (arith, ok.fits.1)) ∙ (sym (not_not s) ∙ ap not (sym becomes.0))))
-              (λ ne. get_or-set_other f.sides i j s false ne ∙ (ok.away_are p j l ∙ ap not (sym (becomes.1 j ne))));
-        }
+        let becomes = marked_put away i w (not s) (omega (arith, (ok.away_packed e).words_length)) here others in
+        word_written s (set away (i / 64) w) k (λ p. absurd (zigzag≢ping_pong kind e p)) (λ p. packed-put n away i w (not s) (ok.away_packed p) inside here others)
+        (λ p j l. ap (λ (z : FrontView). flag_at z.sides j) is ∙ dite (ℕ_discrete j i)
+        (λ h. subst (λ (z : ℕ). flag_at (set f.sides i s) z ≡ not (marked (set away (i / 64) w) z)) (sym h)
+        (get_or-set_same f.sides i s false (omega (arith, ok.fits.1)) ∙ (sym (not_not s) ∙ ap not (sym becomes.0))))
+        (λ ne. get_or-set_other f.sides i j s false ne ∙ (ok.away_are p j l ∙ ap not (sym (becomes.1 j ne)))))
 
     pub ping_pong_written : kind ≡ PingPong → IsFront t (after_mark (i / 64) w (after_write i current v f)) new → is_set w (i % 64) ≡ true → ((j : ℕ) → j < 64 → j ≢ i % 64 → is_set w j ≡ is_set (get_or marks (i / 64) 0) j)
         → IsFrontOf kind t n new (set live i v) (set marks (i / 64) w) away current
@@ -104,18 +111,8 @@ module _ (kind : Kind) (t : TableId) (n : ℕ) (seat new : TableSeat) (live mark
         let was : IsReady PingPong n f = subst (λ (z : Kind). IsReady z n f) e (ok.ready e) in
         let now : IsReady PingPong n g = λ j l m. dite (ℕ_discrete j i)
         (λ h. subst (λ (z : ℕ). flag_at (set f.sides i current) z ≡ f.current) (sym h) (get_or-set_same f.sides i current false (omega (arith, ok.fits.1)) ∙ sym ok.current_is))
-        (λ ne. get_or-set_other f.sides i j current false ne ∙ was j l m) in record {
-          sits = resits t g new k;
-          cells = ok.cells;
-          fits = subst (FitsCells n) (sym is) (length-set f.live i v ∙ ok.fits.0, length-set f.sides i current ∙ ok.fits.1, ok.fits.2);
-          live_is = ap (λ (z : FrontView). z.live) is ∙ ap (λ (z : List ℕ). set z i v) ok.live_is;
-          words = All-set IsWord live i v word ok.words;
-          marks_are = ap (λ (z : FrontView). z.marks) is ∙ ok.marks_are;
-          current_is = ap (λ (z : FrontView). z.current) is ∙ ok.current_is;
-          ready = λ p. subst (IsReady kind n) (sym is) (subst (λ (z : Kind). IsReady z n g) (sym e) now);
-          away_packed = λ p. absurd (zigzag≢ping_pong kind p e);
-          away_are = λ p. absurd (zigzag≢ping_pong kind p e);
-        }
+        (λ ne. get_or-set_other f.sides i j current false ne ∙ was j l m) in
+        word_written current away k (λ p. subst (IsReady kind n) (sym is) (subst (λ (z : Kind). IsReady z n g) (sym e) now)) (λ p. absurd (zigzag≢ping_pong kind p e)) (λ p. absurd (zigzag≢ping_pong kind p e))
 
   -- in Zigzag every cell counts as touched
   pub zigzag_touched : (u : TableId) (i v : ℕ) (s : Bool) → kind ≡ Zigzag → IsFront u (after_write i s v f) new

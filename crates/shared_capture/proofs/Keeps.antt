@@ -20,7 +20,7 @@ use Rattle.shared_capture.specs.declared.view.BackView.{BackView}
 use Rattle.shared_capture.specs.Methods.{write_side, take_side, is_word, row, left_in, cleared, touched_of}
 use Rattle.shared_capture.specs.Rounds.{flag_at, shown, shown_as, IsTakenOf, Agree, snapshots_as, padded}
 use Rattle.shared_capture.specs.Table.{cell_place, mark_place}
-use Rattle.shared_capture.specs.Rule.{IsOpen, Core}
+use Rattle.shared_capture.specs.Rule.{Left, IsOpen, Core}
 use Rattle.shared_capture.specs.Steps.{after_load, after_write, after_mark, after_open, looked_as, after_fetch, after_take, after_finish}
 use Rattle.shared_capture.specs.Meeting.{MetAs, Met, met_as, front_met}
 use Rattle.shared_capture.specs.Seats.{IsReady, IsSame}
@@ -53,23 +53,36 @@ module _ (kind : Kind) (n : ℕ) (ws : List ℕ) (f : FrontView) (b : BackView) 
   pub words_stay : (i : ℕ) (g : FrontView) (d : BackView) → Core kind n ws g d → Core kind n (set ws i (get_or ws i 0)) g d
   words_stay i g d k = subst (λ (z : List ℕ). Core kind n z g d) (sym (set-get_or ws i 0)) k
 
+  -- the round that is open stays so, where the phase stays and what is left of it is there
+  still_open : {zs : List ℕ} {g : FrontView} {d : BackView} (o : IsOpen kind n ws f b) → get_or zs 0 0 ≡ phase → g.rounds ≡ f.rounds → d.done ≡ b.done → Left kind n zs g d o.round → IsOpen kind n zs g d
+  still_open o still rounds done left = record {
+    round = o.round;
+    at = (λ i. slice_get (rounds i) (length (done i))) ∙ o.at;
+    one_more = ap length rounds ∙ (o.one_more ∙ ap (λ (l : List Snapshot). length l + 1) (sym done));
+    tick = o.tick ∙ sym still;
+    left = left;
+  }
+
   -- ## The front's steps
 
-  pub core_load : Core kind n ws (after_load phase f) b
-  core_load = record {
-    wide = c.wide;
+  -- the front found the phase, by a load or as it met
+  core_found : (loads : List ℕ) (steps : ℕ) → Core kind n ws (record f { closed = eqb phase 0; loads = loads; steps = steps }) b
+  core_found loads steps = record {
+    table = record { wide = c.table.wide; fits = c.table.fits; small = c.table.small; live = c.table.live; marks = c.table.marks; closed = λ e. eqb-true phase 0 e };
     cells = c.cells;
-    small = c.small;
-    live = c.live;
-    marks = c.marks;
     agrees = c.agrees;
-    closed = λ e. eqb-true phase 0 e;
     ended = λ e. let k = c.ended e in record { level = k.level; idle = k.idle; same = k.same; clean = k.clean };
-    opened = λ p. let o = c.opened p in record { round = o.round; at = o.at; one_more = o.one_more; tick = o.tick; left = record { touched = o.left.touched; kept = o.left.kept; apart = o.left.apart; turned = o.left.turned; left = o.left.left; swapped = o.left.swapped } };
+    opened = λ p. let o = c.opened p in still_open o refl refl refl (record { touched = o.left.touched; kept = o.left.kept; apart = o.left.apart; turned = o.left.turned; left = o.left.left; swapped = o.left.swapped });
     looked = λ e. let k = c.looked e in record { some = k.some; tick = k.tick; taken = k.taken };
     fresh = c.fresh;
     fetched = c.fetched;
   }
+
+  pub core_load : Core kind n ws (after_load phase f) b
+  core_load = core_found (f.loads ++ phase ∷ []) (f.steps + 1)
+
+  pub core_front_met : Core kind n ws (front_met phase f) b
+  core_front_met = core_found f.loads f.steps
 
   module _ (i v : ℕ) (inside : i < n) (fits : IsWord v) where
     abbrev s : Bool
@@ -88,48 +101,45 @@ module _ (kind : Kind) (n : ℕ) (ws : List ℕ) (f : FrontView) (b : BackView) 
     marks_still t k = get_or-set_other ws at (mark_place n t k) v 0 (mark_not_cell n s t i k inside)
 
     put : get_or after at 0 ≡ v
-    put = get_or-set_same ws at v 0 (subst (λ (z : ℕ). at < z) (sym c.wide) (cell_inside n s i inside))
+    put = get_or-set_same ws at v 0 (subst (λ (z : ℕ). at < z) (sym c.table.wide) (cell_inside n s i inside))
 
     live_at : (j : ℕ) → j < n → get_or after (cell_place n (flag_at (set f.sides i s) j) j) 0 ≡ get_or (set f.live i v) j 0
     live_at j l = dite (ℕ_discrete j i)
         (λ e. subst (λ (z : ℕ). get_or after (cell_place n (flag_at (set f.sides i s) z) z) 0 ≡ get_or (set f.live i v) z 0) (sym e)
-        (ap (λ (z : Bool). get_or after (cell_place n z i) 0) (get_or-set_same f.sides i s false (omega (arith, c.cells.1)))
-        ∙ (put ∙ sym (get_or-set_same f.live i v 0 (omega (arith, c.cells.0))))))
+        (ap (λ (z : Bool). get_or after (cell_place n z i) 0) (get_or-set_same f.sides i s false (omega (arith, c.table.fits.1)))
+        ∙ (put ∙ sym (get_or-set_same f.live i v 0 (omega (arith, c.table.fits.0))))))
         (λ ne. ap (λ (z : Bool). get_or after (cell_place n z j) 0) (get_or-set_other f.sides i j s false ne)
-        ∙ (get_or-set_other ws at (cell_place n (flag_at f.sides j) j) v 0 (λ e. ne (cell_one n s (flag_at f.sides j) i j inside l e).0) ∙ (c.live j l ∙ sym (get_or-set_other f.live i j v 0 ne))))
+        ∙ (get_or-set_other ws at (cell_place n (flag_at f.sides j) j) v 0 (λ e. ne (cell_one n s (flag_at f.sides j) i j inside l e).0) ∙ (c.table.live j l ∙ sym (get_or-set_other f.live i j v 0 ne))))
 
     small_at : (t : Bool) (j : ℕ) → j < n → IsWord (get_or after (cell_place n t j) 0)
     small_at t j l = dite (ℕ_discrete (cell_place n t j) at)
         (λ e. subst (λ (z : ℕ). IsWord (get_or after z 0)) (sym e) (subst IsWord (sym put) fits))
-        (λ ne. subst IsWord (sym (get_or-set_other ws at (cell_place n t j) v 0 ne)) (c.small t j l))
+        (λ ne. subst IsWord (sym (get_or-set_other ws at (cell_place n t j) v 0 ne)) (c.table.small t j l))
 
     pub core_write : Core kind n after (after_write i s v f) b
     core_write = record {
-      wide = length-set ws at v ∙ c.wide;
-      cells = (length-set f.live i v ∙ c.cells.0, length-set f.sides i s ∙ c.cells.1, c.cells.2, c.cells.3);
-      small = small_at;
-      live = live_at;
-      marks = λ k l. marks_still (row kind f.current) k ∙ c.marks k l;
-      agrees = c.agrees;
-      closed = λ e. still ∙ c.closed e;
-      ended = λ e. let k = c.ended (sym still ∙ e) in record { level = k.level; idle = k.idle; same = k.same; clean = λ p j l. marks_still (not f.current) j ∙ k.clean p j l };
-      opened = λ p. let o = c.opened (subst (λ (z : ℕ). 0 < z) still p) in let left = o.left in record {
-        round = o.round;
-        at = o.at;
-        one_more = o.one_more;
-        tick = o.tick ∙ sym still;
-        left = record {
-          touched = left.touched;
-          kept = λ j l w. get_or-set_other ws at (cell_place n (take_side kind b.current (marked f.last j)) j) v 0
-              (λ e. let one = cell_one n s (take_side kind b.current (marked f.last j)) i j inside l e in
-              not_apart s (sym one.1 ∙ (left.apart j l ∙ ap (λ (z : ℕ). not (write_side kind f.current (marked f.marks z))) one.0)))
-              ∙ left.kept j l w;
-          apart = left.apart;
-          turned = left.turned;
-          left = λ k l m. marks_still (row kind b.current) k ∙ left.left k l m;
-          swapped = λ e k l m. marks_still b.current k ∙ left.swapped e k l m;
-        };
+      table = record {
+        wide = length-set ws at v ∙ c.table.wide;
+        fits = (length-set f.live i v ∙ c.table.fits.0, length-set f.sides i s ∙ c.table.fits.1, c.table.fits.2);
+        small = small_at;
+        live = live_at;
+        marks = λ k l. marks_still (row kind f.current) k ∙ c.table.marks k l;
+        closed = λ e. still ∙ c.table.closed e;
       };
+      cells = c.cells;
+      agrees = c.agrees;
+      ended = λ e. let k = c.ended (sym still ∙ e) in record { level = k.level; idle = k.idle; same = k.same; clean = λ p j l. marks_still (not f.current) j ∙ k.clean p j l };
+      opened = λ p. let o = c.opened (subst (λ (z : ℕ). 0 < z) still p) in let left = o.left in still_open o still refl refl (record {
+        touched = left.touched;
+        kept = λ j l w. get_or-set_other ws at (cell_place n (take_side kind b.current (marked f.last j)) j) v 0
+            (λ e. let one = cell_one n s (take_side kind b.current (marked f.last j)) i j inside l e in
+            not_apart s (sym one.1 ∙ (left.apart j l ∙ ap (λ (z : ℕ). not (write_side kind f.current (marked f.marks z))) one.0)))
+            ∙ left.kept j l w;
+        apart = left.apart;
+        turned = left.turned;
+        left = λ k l m. marks_still (row kind b.current) k ∙ left.left k l m;
+        swapped = λ e k l m. marks_still b.current k ∙ left.swapped e k l m;
+      });
       looked = λ e. let k = c.looked e in record { some = subst (λ (z : ℕ). 0 < z) (sym still) k.some; tick = k.tick ∙ sym still; taken = k.taken };
       fresh = c.fresh;
       fetched = c.fetched;
@@ -153,39 +163,36 @@ module _ (kind : Kind) (n : ℕ) (ws : List ℕ) (f : FrontView) (b : BackView) 
     other_same t ne j l = get_or-set_other ws here (mark_place n t j) v 0 (λ e. ne (mark_one n (row kind f.current) t k j inside l e).1)
 
     open_after : (e : Kind) → kind ≡ e → 0 < phase → IsOpen kind n marked_words (after_mark k v f) b
-    open_after Zigzag e p = absurd (omega (arith, c.closed (closed e)))
+    open_after Zigzag e p = absurd (omega (arith, c.table.closed (closed e)))
     open_after PingPong e p = let o = c.opened p in let left = o.left in
         let rows : (x : Bool) → row kind x ≡ x = λ x. ap (λ (z : Kind). row z x) e in
-        let apart : b.current ≢ row kind f.current = λ h. not_apart f.current (sym (sym left.turned ∙ (h ∙ rows f.current))) in record {
-          round = o.round;
-          at = o.at;
-          one_more = o.one_more;
-          tick = o.tick ∙ sym phase_same;
-          left = record {
-            touched = left.touched;
-            kept = λ j l w. cells_same (take_side kind b.current (marked f.last j)) j l ∙ left.kept j l w;
-            apart = λ j l. subst (λ (z : Kind). take_side z b.current (marked f.last j) ≡ not (write_side z f.current (marked (set f.marks k v) j))) (sym e) left.turned;
-            turned = left.turned;
-            left = λ j l m. ap (λ (z : Bool). get_or marked_words (mark_place n z j) 0) (rows b.current) ∙ (other_same b.current apart j l ∙ (sym (ap (λ (z : Bool). get_or ws (mark_place n z j) 0) (rows b.current)) ∙ left.left j l m));
-            swapped = λ p j l m. other_same b.current apart j l ∙ left.swapped p j l m;
-          };
-        }
+        let apart : b.current ≢ row kind f.current = λ h. not_apart f.current (sym (sym left.turned ∙ (h ∙ rows f.current))) in still_open o phase_same refl refl (record {
+          touched = left.touched;
+          kept = λ j l w. cells_same (take_side kind b.current (marked f.last j)) j l ∙ left.kept j l w;
+          apart = λ j l. subst (λ (z : Kind). take_side z b.current (marked f.last j) ≡ not (write_side z f.current (marked (set f.marks k v) j))) (sym e) left.turned;
+          turned = left.turned;
+          left = λ j l m. ap (λ (z : Bool). get_or marked_words (mark_place n z j) 0) (rows b.current) ∙ (other_same b.current apart j l ∙ (sym (ap (λ (z : Bool). get_or ws (mark_place n z j) 0) (rows b.current)) ∙ left.left j l m));
+          swapped = λ p j l m. other_same b.current apart j l ∙ left.swapped p j l m;
+        })
 
     clean_after : phase ≡ 0 → kind ≡ PingPong → (j : ℕ) → j < chunks n → get_or marked_words (mark_place n (not f.current) j) 0 ≡ 0
     clean_after z p j l = other_same (not f.current) (λ h. not_apart f.current (sym (h ∙ ap (λ (y : Kind). row y f.current) p))) j l ∙ (c.ended z).clean p j l
 
     pub core_mark : Core kind n marked_words (after_mark k v f) b
     core_mark = record {
-      wide = length-set ws here v ∙ c.wide;
-      cells = (c.cells.0, c.cells.1, packed, c.cells.3);
-      small = λ s i l. subst IsWord (sym (cells_same s i l)) (c.small s i l);
-      live = λ i l. cells_same (flag_at f.sides i) i l ∙ c.live i l;
-      marks = λ j l. dite (ℕ_discrete j k)
-          (λ e. subst (λ (z : ℕ). get_or marked_words (mark_place n (row kind f.current) z) 0 ≡ get_or (set f.marks k v) z 0) (sym e)
-          (get_or-set_same ws here v 0 (subst (λ (z : ℕ). here < z) (sym c.wide) (mark_inside n (row kind f.current) k inside)) ∙ sym (get_or-set_same f.marks k v 0 (omega (arith, c.cells.2.words_length)))))
-          (λ ne. get_or-set_other ws here (mark_place n (row kind f.current) j) v 0 (λ e. ne (mark_one n (row kind f.current) (row kind f.current) k j inside l e).0) ∙ (c.marks j l ∙ sym (get_or-set_other f.marks k j v 0 ne)));
+      table = record {
+        wide = length-set ws here v ∙ c.table.wide;
+        fits = (c.table.fits.0, c.table.fits.1, packed);
+        small = λ s i l. subst IsWord (sym (cells_same s i l)) (c.table.small s i l);
+        live = λ i l. cells_same (flag_at f.sides i) i l ∙ c.table.live i l;
+        marks = λ j l. dite (ℕ_discrete j k)
+            (λ e. subst (λ (z : ℕ). get_or marked_words (mark_place n (row kind f.current) z) 0 ≡ get_or (set f.marks k v) z 0) (sym e)
+            (get_or-set_same ws here v 0 (subst (λ (z : ℕ). here < z) (sym c.table.wide) (mark_inside n (row kind f.current) k inside)) ∙ sym (get_or-set_same f.marks k v 0 (omega (arith, c.table.fits.2.words_length)))))
+            (λ ne. get_or-set_other ws here (mark_place n (row kind f.current) j) v 0 (λ e. ne (mark_one n (row kind f.current) (row kind f.current) k j inside l e).0) ∙ (c.table.marks j l ∙ sym (get_or-set_other f.marks k j v 0 ne)));
+        closed = λ e. phase_same ∙ c.table.closed e;
+      };
+      cells = c.cells;
       agrees = c.agrees;
-      closed = λ e. phase_same ∙ c.closed e;
       ended = λ e. let z = sym phase_same ∙ e in let d = c.ended z in record { level = d.level; idle = d.idle; same = d.same; clean = clean_after z };
       opened = λ p. open_after kind refl (subst (λ (z : ℕ). 0 < z) phase_same p);
       looked = λ e. let d = c.looked e in record { some = subst (λ (z : ℕ). 0 < z) (sym phase_same) d.some; tick = d.tick ∙ sym phase_same; taken = d.taken };
@@ -198,7 +205,7 @@ module _ (kind : Kind) (n : ℕ) (ws : List ℕ) (f : FrontView) (b : BackView) 
     begun = set ws 0 t
 
     now : get_or begun 0 0 ≡ t
-    now = get_or-set_same ws 0 t 0 (omega (arith, c.wide))
+    now = get_or-set_same ws 0 t 0 (omega (arith, c.table.wide))
 
     abbrev round : Round
     round = record { tick = t; words = f.live; touched = touched_of kind (length f.live) f.marks }
@@ -211,26 +218,29 @@ module _ (kind : Kind) (n : ℕ) (ws : List ℕ) (f : FrontView) (b : BackView) 
 
     -- the marks are as the method leaves them
     marks_now : (e : Kind) → kind ≡ e → (k : ℕ) → k < chunks n → get_or begun (mark_place n (row e (not f.current)) k) 0 ≡ get_or (cleared e f.marks) k 0
-    marks_now Zigzag e k l = same_mark false k ∙ (sym (ap (λ (z : Kind). get_or ws (mark_place n (row z f.current) k) 0) e) ∙ c.marks k l)
-    marks_now PingPong e k l = same_mark (not f.current) k ∙ ((c.ended (c.closed closed)).clean e k l ∙ sym (get_or-replicate (length f.marks) k 0 0 (omega (arith, c.cells.2.words_length))))
+    marks_now Zigzag e k l = same_mark false k ∙ (sym (ap (λ (z : Kind). get_or ws (mark_place n (row z f.current) k) 0) e) ∙ c.table.marks k l)
+    marks_now PingPong e k l = same_mark (not f.current) k ∙ ((c.ended (c.table.closed closed)).clean e k l ∙ sym (get_or-replicate (length f.marks) k 0 0 (omega (arith, c.table.fits.2.words_length))))
 
     marks_packed : (e : Kind) → IsPacked n (cleared e f.marks)
-    marks_packed Zigzag = c.cells.2
-    marks_packed PingPong = zeros_packed n f.marks c.cells.2
+    marks_packed Zigzag = c.table.fits.2
+    marks_packed PingPong = zeros_packed n f.marks c.table.fits.2
 
     apart_now : (e : Kind) (x : Bool) → b.current ≡ f.current → (i : ℕ) → take_side e b.current (marked f.marks i) ≡ not (write_side e (not f.current) (marked (cleared e f.marks) i))
     apart_now Zigzag x e i = refl
     apart_now PingPong x e i = e ∙ sym (not_not f.current)
 
     pub core_open : Core kind n begun (after_open kind t f) b
-    core_open = let level = c.ended (c.closed closed) in let none : length b.marks ≡ 0 = ap length (c.fresh level.idle) in record {
-      wide = length-set ws 0 t ∙ c.wide;
-      cells = (c.cells.0, c.cells.1, marks_packed kind, c.cells.3);
-      small = λ s i l. subst IsWord (sym (same_cell s i)) (c.small s i l);
-      live = λ i l. same_cell (flag_at f.sides i) i ∙ c.live i l;
-      marks = λ k l. marks_now kind refl k l;
+    core_open = let level = c.ended (c.table.closed closed) in let none : length b.marks ≡ 0 = ap length (c.fresh level.idle) in record {
+      table = record {
+        wide = length-set ws 0 t ∙ c.table.wide;
+        fits = (c.table.fits.0, c.table.fits.1, marks_packed kind);
+        small = λ s i l. subst IsWord (sym (same_cell s i)) (c.table.small s i l);
+        live = λ i l. same_cell (flag_at f.sides i) i ∙ c.table.live i l;
+        marks = λ k l. marks_now kind refl k l;
+        closed = λ e. absurd (false≢true e);
+      };
+      cells = c.cells;
       agrees = λ k d e. let a = c.agrees k d e in (a.0, at_longer f.rounds (round ∷ []) k a.0 a.1, a.2);
-      closed = λ e. absurd (false≢true e);
       ended = λ e. absurd (omega (arith, now));
       opened = λ _. record {
         round = round;
@@ -238,11 +248,11 @@ module _ (kind : Kind) (n : ℕ) (ws : List ℕ) (f : FrontView) (b : BackView) 
         one_more = length-append f.rounds (round ∷ []) ∙ ap (λ (z : ℕ). z + 1) level.level;
         tick = sym now;
         left = record {
-          touched = ap (λ (z : ℕ). touched_of kind z f.marks) c.cells.0;
-          kept = λ i l w. ap (λ (z : Bool). get_or begun (cell_place n z i) 0) (ap (λ (z : Bool). take_side kind z (marked f.marks i)) level.same ∙ sym (ready i l w)) ∙ (same_cell (flag_at f.sides i) i ∙ c.live i l);
+          touched = ap (λ (z : ℕ). touched_of kind z f.marks) c.table.fits.0;
+          kept = λ i l w. ap (λ (z : Bool). get_or begun (cell_place n z i) 0) (ap (λ (z : Bool). take_side kind z (marked f.marks i)) level.same ∙ sym (ready i l w)) ∙ (same_cell (flag_at f.sides i) i ∙ c.table.live i l);
           apart = λ i l. apart_now kind true level.same i;
           turned = level.same ∙ sym (not_not f.current);
-          left = λ k l m. ap (λ (z : Bool). get_or begun (mark_place n (row kind z) k) 0) level.same ∙ (same_mark (row kind f.current) k ∙ c.marks k l);
+          left = λ k l m. ap (λ (z : Bool). get_or begun (mark_place n (row kind z) k) 0) level.same ∙ (same_mark (row kind f.current) k ∙ c.table.marks k l);
           swapped = λ e k l m. absurd (omega (arith, none));
         };
       };
@@ -255,13 +265,9 @@ module _ (kind : Kind) (n : ℕ) (ws : List ℕ) (f : FrontView) (b : BackView) 
 
   pub core_look : (e : Bool) → eqb phase 0 ≡ e → b.working ≡ false → Core kind n ws f (looked_as e phase b)
   core_look true e idle = record {
-    wide = c.wide;
+    table = c.table;
     cells = c.cells;
-    small = c.small;
-    live = c.live;
-    marks = c.marks;
     agrees = c.agrees;
-    closed = c.closed;
     ended = λ z. let k = c.ended z in record { level = k.level; idle = k.idle; same = k.same; clean = k.clean };
     opened = λ p. absurd (omega (arith, eqb-true phase 0 e));
     looked = λ w. absurd (true≢false (sym w ∙ idle));
@@ -269,15 +275,11 @@ module _ (kind : Kind) (n : ℕ) (ws : List ℕ) (f : FrontView) (b : BackView) 
     fetched = c.fetched;
   }
   core_look false e idle = let some : 0 < phase = some_phase phase e in let o = c.opened some in let none : length b.marks ≡ 0 = ap length (c.fresh idle) in record {
-    wide = c.wide;
+    table = c.table;
     cells = c.cells;
-    small = c.small;
-    live = c.live;
-    marks = c.marks;
     agrees = c.agrees;
-    closed = c.closed;
     ended = λ z. absurd (omega arith);
-    opened = λ p. record { round = o.round; at = o.at; one_more = o.one_more; tick = o.tick; left = record { touched = o.left.touched; kept = o.left.kept; apart = o.left.apart; turned = o.left.turned; left = λ k l m. o.left.left k l (omega (arith, none)); swapped = λ p k l m. absurd (omega arith) } };
+    opened = λ _. still_open o refl refl refl (record { touched = o.left.touched; kept = o.left.kept; apart = o.left.apart; turned = o.left.turned; left = λ k l m. o.left.left k l (omega (arith, none)); swapped = λ p k l m. absurd (omega arith) });
     looked = λ _. record { some = some; tick = refl; taken = λ r at. (sym o.tick ∙ ap (λ (z : Round). z.tick) (same_Some o.round r (sym o.at ∙ at)), λ i t at'. absurd (none-some t at')) };
     fresh = λ w. absurd (true≢false w);
     fetched = λ k m e. absurd (none-some m e);
@@ -329,33 +331,30 @@ module _ (kind : Kind) (n : ℕ) (ws : List ℕ) (f : FrontView) (b : BackView) 
       swapped_now Zigzag e p k l m = absurd (zigzag≢ping_pong Zigzag refl p)
       swapped_now PingPong e p k l m =
           let rows : row kind b.current ≡ b.current = ap (λ (z : Kind). row z b.current) e in dite (ℕ_discrete k (length b.marks))
-          (λ h. ap (λ (z : ℕ × Bool). get_or (set ws next 0) (mark_place n z.1 z.0) 0) (λ j. (h j, sym rows j)) ∙ get_or-set_same ws next 0 0 (subst (λ (z : ℕ). next < z) (sym c.wide) (mark_inside n (row kind b.current) (length b.marks) inside)))
+          (λ h. ap (λ (z : ℕ × Bool). get_or (set ws next 0) (mark_place n z.1 z.0) 0) (λ j. (h j, sym rows j)) ∙ get_or-set_same ws next 0 0 (subst (λ (z : ℕ). next < z) (sym c.table.wide) (mark_inside n (row kind b.current) (length b.marks) inside)))
           (λ ne. get_or-set_other ws next (mark_place n b.current k) 0 0 (λ h. ne (mark_one n (row kind b.current) b.current (length b.marks) k inside l h).0) ∙ opened_now.left.swapped e k l (omega arith))
 
       core_fetch_as : (e : Kind) → kind ≡ e → Core kind n (fetched_words e) f (after_fetch found b)
       core_fetch_as e is = let k = c.looked working in let o = opened_now in record {
-        wide = length-set ws next (left_in e found) ∙ c.wide;
-        cells = c.cells;
-        small = λ s i l. subst IsWord (sym (cells_kept e s i l)) (c.small s i l);
-        live = λ i l. cells_kept e (flag_at f.sides i) i l ∙ c.live i l;
-        marks = λ j l. front_kept e is j l ∙ c.marks j l;
-        agrees = c.agrees;
-        closed = λ z. phase_kept e ∙ c.closed z;
-        ended = λ z. absurd (omega (arith, phase_kept e, k.some));
-        opened = λ _. record {
-          round = o.round;
-          at = o.at;
-          one_more = o.one_more;
-          tick = o.tick ∙ sym (phase_kept e);
-          left = record {
-            touched = o.left.touched;
-            kept = λ j l w. cells_kept e (take_side kind b.current (marked f.last j)) j l ∙ o.left.kept j l w;
-            apart = o.left.apart;
-            turned = o.left.turned;
-            left = λ j l m. left_kept e j l (omega (arith, longer));
-            swapped = λ p j l m. swapped_now e is (sym is ∙ p) j l (omega (arith, longer));
-          };
+        table = record {
+          wide = length-set ws next (left_in e found) ∙ c.table.wide;
+          fits = c.table.fits;
+          small = λ s i l. subst IsWord (sym (cells_kept e s i l)) (c.table.small s i l);
+          live = λ i l. cells_kept e (flag_at f.sides i) i l ∙ c.table.live i l;
+          marks = λ j l. front_kept e is j l ∙ c.table.marks j l;
+          closed = λ z. phase_kept e ∙ c.table.closed z;
         };
+        cells = c.cells;
+        agrees = c.agrees;
+        ended = λ z. absurd (omega (arith, phase_kept e, k.some));
+        opened = λ _. still_open o (phase_kept e) refl refl (record {
+          touched = o.left.touched;
+          kept = λ j l w. cells_kept e (take_side kind b.current (marked f.last j)) j l ∙ o.left.kept j l w;
+          apart = o.left.apart;
+          turned = o.left.turned;
+          left = λ j l m. left_kept e j l (omega (arith, longer));
+          swapped = λ p j l m. swapped_now e is (sym is ∙ p) j l (omega (arith, longer));
+        });
         looked = λ _. record { some = subst (λ (z : ℕ). 0 < z) (sym (phase_kept e)) k.some; tick = k.tick ∙ sym (phase_kept e); taken = k.taken };
         fresh = λ w. absurd (true≢false (sym working ∙ w));
         fetched = fetched_right;
@@ -397,15 +396,11 @@ module _ (kind : Kind) (n : ℕ) (ws : List ℕ) (f : FrontView) (b : BackView) 
 
       pub core_take : Core kind n ws f (after_take i read b)
       core_take = let k = c.looked working in let o = opened_now in record {
-        wide = c.wide;
+        table = c.table;
         cells = c.cells;
-        small = c.small;
-        live = c.live;
-        marks = c.marks;
         agrees = c.agrees;
-        closed = c.closed;
         ended = λ e. absurd (omega (arith, k.some));
-        opened = λ _. record { round = o.round; at = o.at; one_more = o.one_more; tick = o.tick; left = record { touched = o.left.touched; kept = o.left.kept; apart = o.left.apart; turned = o.left.turned; left = o.left.left; swapped = o.left.swapped } };
+        opened = λ _. still_open o refl refl refl (record { touched = o.left.touched; kept = o.left.kept; apart = o.left.apart; turned = o.left.turned; left = o.left.left; swapped = o.left.swapped });
         looked = λ _. record {
           some = k.some;
           tick = k.tick;
@@ -421,18 +416,21 @@ module _ (kind : Kind) (n : ℕ) (ws : List ℕ) (f : FrontView) (b : BackView) 
       }
 
     pub core_finish : IsSame kind n b → Core kind n (set ws 0 0) f (after_finish b)
-    core_finish known = let k = c.looked working in let o = opened_now in let zero_now : get_or (set ws 0 0) 0 0 ≡ 0 = get_or-set_same ws 0 0 0 (omega (arith, c.wide)) in
+    core_finish known = let k = c.looked working in let o = opened_now in let zero_now : get_or (set ws 0 0) 0 0 ≡ 0 = get_or-set_same ws 0 0 0 (omega (arith, c.table.wide)) in
         let words = λ (s : Bool) (i : ℕ). get_or-set_other ws 0 (cell_place n s i) 0 0 (λ e. cell_not_phase n s i (sym e)) in
         let dirt = λ (s : Bool) (j : ℕ). get_or-set_other ws 0 (mark_place n s j) 0 0 (λ e. mark_not_phase n s j (sym e)) in
         let last : Snapshot = record { tick = b.now.tick; taken = padded b.cells b.now.taken } in
-        let right : IsTakenOf o.round last = ((k.taken o.round o.at).0, λ j t a. padded_right n (omega arith) known o.round o.at j t (subst (λ (z : ℕ). slice_get (padded z b.now.taken) j ≡ Some t) c.cells.3 a)) in record {
-          wide = length-set ws 0 0 ∙ c.wide;
+        let right : IsTakenOf o.round last = ((k.taken o.round o.at).0, λ j t a. padded_right n (omega arith) known o.round o.at j t (subst (λ (z : ℕ). slice_get (padded z b.now.taken) j ≡ Some t) c.cells a)) in record {
+          table = record {
+            wide = length-set ws 0 0 ∙ c.table.wide;
+            fits = c.table.fits;
+            small = λ s i l. subst IsWord (sym (words s i)) (c.table.small s i l);
+            live = λ i l. words (flag_at f.sides i) i ∙ c.table.live i l;
+            marks = λ j l. dirt (row kind f.current) j ∙ c.table.marks j l;
+            closed = λ _. zero_now;
+          };
           cells = c.cells;
-          small = λ s i l. subst IsWord (sym (words s i)) (c.small s i l);
-          live = λ i l. words (flag_at f.sides i) i ∙ c.live i l;
-          marks = λ j l. dirt (row kind f.current) j ∙ c.marks j l;
           agrees = λ j d e. ⊎_elim (c.agrees j d) (λ t. (o.round, ap (slice_get f.rounds) t.0 ∙ o.at, subst (IsTakenOf o.round) t.1 right)) (at_end b.done last d j e);
-          closed = λ _. zero_now;
           ended = λ _. record {
             level = o.one_more ∙ sym (length-append b.done (last ∷ []));
             idle = refl;
@@ -453,23 +451,7 @@ module _ (kind : Kind) (n : ℕ) (ws : List ℕ) (f : FrontView) (b : BackView) 
       λ j d at. ⊎_elim (c.agrees j d) (λ t. (o.round, ap (slice_get f.rounds) t.0 ∙ o.at, subst (IsTakenOf o.round) t.1 (k.taken o.round o.at))) (at_end b.done b.now d j at)
 
   pub touched_now : (r : Round) → b.working ≡ true → slice_get f.rounds (length b.done) ≡ Some r → r.touched ≡ touched_of kind b.cells f.last
-  touched_now r e at = let o = c.opened (c.looked e).some in ap (λ (z : Round). z.touched) (same_Some r o.round (sym at ∙ o.at)) ∙ (o.left.touched ∙ ap (λ (z : ℕ). touched_of kind z f.last) (sym c.cells.3))
-
-  pub core_front_met : Core kind n ws (front_met phase f) b
-  core_front_met = record {
-    wide = c.wide;
-    cells = c.cells;
-    small = c.small;
-    live = c.live;
-    marks = c.marks;
-    agrees = c.agrees;
-    closed = λ e. eqb-true phase 0 e;
-    ended = λ e. let k = c.ended e in record { level = k.level; idle = k.idle; same = k.same; clean = k.clean };
-    opened = λ p. let o = c.opened p in record { round = o.round; at = o.at; one_more = o.one_more; tick = o.tick; left = record { touched = o.left.touched; kept = o.left.kept; apart = o.left.apart; turned = o.left.turned; left = o.left.left; swapped = o.left.swapped } };
-    looked = λ e. let k = c.looked e in record { some = k.some; tick = k.tick; taken = k.taken };
-    fresh = c.fresh;
-    fetched = c.fetched;
-  }
+  touched_now r e at = let o = c.opened (c.looked e).some in ap (λ (z : Round). z.touched) (same_Some r o.round (sym at ∙ o.at)) ∙ (o.left.touched ∙ ap (λ (z : ℕ). touched_of kind z f.last) (sym c.cells))
 
 -- what both know where they meet at phase x
 pub meets : (kind : Kind) (n : ℕ) (ws : List ℕ) (f : FrontView) (b : BackView) → Core kind n ws f b → (e : Bool) → eqb (get_or ws 0 0) 0 ≡ e → (w : Bool) → b.working ≡ w

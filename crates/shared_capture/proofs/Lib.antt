@@ -3,6 +3,7 @@ pub mod Packed
 pub mod Touched
 pub mod Changes
 pub mod Keeps
+pub mod Views
 pub mod Allowed
 pub mod Fronts
 pub mod Backs

@@ -6,7 +6,6 @@ use lib.ListN.{get_elem?}
 use Rattle.world_actions.specs.World.{IsWord}
 use Rattle.atomic_table.specs.Table.{State}
 use Rattle.packed_marks.specs.Bits.{chunks, marked}
-use Rattle.packed_marks.specs.Marks.{IsPacked}
 use Rattle.shared_capture.specs.declared.method.Kind.{Kind}
 use Rattle.shared_capture.specs.declared.method.Kind.TheVariants.{PingPong}
 use Rattle.shared_capture.specs.declared.view.Round.{Round}
@@ -17,6 +16,7 @@ use Rattle.shared_capture.specs.declared.view.View.TheVariants.{Spent, Front, Ba
 use Rattle.shared_capture.specs.Methods.{write_side, take_side, is_word, row, touched_of}
 use Rattle.shared_capture.specs.Rounds.{flag_at, IsTakenOf, Agree}
 use Rattle.shared_capture.specs.Table.{cell_place, mark_place, table_words}
+use Rattle.shared_capture.specs.Seats.{FitsCells}
 
 -- what is left of the open round stands in the table, and no write goes where it stands
 pub record Left (kind : Kind) (n : ℕ) (words : List ℕ) (f : FrontView) (b : BackView) (r : Round) : Type 0 where
@@ -52,16 +52,21 @@ pub record Looked (words : List ℕ) (f : FrontView) (b : BackView) : Type 0 whe
   pub tick : b.now.tick ≡ slice_index words 0
   pub taken : (r : Round) → slice_get f.rounds (length b.done) ≡ Some r → IsTakenOf r b.now
 
--- the words of the table of n cells, and what front and back know
-pub record Core (kind : Kind) (n : ℕ) (words : List ℕ) (f : FrontView) (b : BackView) : Type 0 where
+-- the table of n cells has the words that the front knows
+pub record HasFront (kind : Kind) (n : ℕ) (words : List ℕ) (f : FrontView) : Type 0 where
   pub wide : length words ≡ table_words n
-  pub cells : (length f.live ≡ n) × (length f.sides ≡ n) × IsPacked n f.marks × (b.cells ≡ n)
+  pub fits : FitsCells n f
   pub small : (s : Bool) (i : ℕ) → i < n → IsWord (slice_index words (cell_place n s i))
   pub live : (i : ℕ) → i < n → slice_index words (cell_place n (flag_at f.sides i) i) ≡ slice_index f.live i
   pub marks : (k : ℕ) → k < chunks n
       → slice_index words (mark_place n (row kind f.current) k) ≡ slice_index f.marks k
-  pub agrees : Agree f.rounds b.done
   pub closed : f.closed ≡ true → slice_index words 0 ≡ 0
+
+-- the words of the table of n cells, and what front and back know
+pub record Core (kind : Kind) (n : ℕ) (words : List ℕ) (f : FrontView) (b : BackView) : Type 0 where
+  pub table : HasFront kind n words f
+  pub cells : b.cells ≡ n
+  pub agrees : Agree f.rounds b.done
   pub ended : slice_index words 0 ≡ 0 → IsEnded kind n words f b
   pub opened : 0 < slice_index words 0 → IsOpen kind n words f b
   pub looked : b.working ≡ true → Looked words f b

@@ -2,7 +2,6 @@
 ghost use Rattle.std.specs.Prelude.{◌≡◌, ◌<◌, [], false, length, vec_len, All, IfOk, IfErr};
 ghost use Rattle.std.specs.Arc.{arc_value};
 ghost use Rattle.world_actions.specs.World.{IsWord};
-ghost use Rattle.world_actions.specs.declared.refusal.Refusal.{Refusal};
 ghost use Rattle.packed_marks.specs.Bits.{IsFull};
 ghost use Rattle.shared_capture.specs.declared.method.Kind.TheVariants.{Zigzag};
 ghost use Rattle.shared_capture.specs.Rounds.{Agree};

@@ -23,19 +23,20 @@ use Rattle.steps.specs.Played.{Played, Opens, Moves, Plays, Runs, Starts}
 use Rattle.steps.specs.OpenCore.{OpenState, Leads, MovesOn}
 use Rattle.steps.specs.Progress.{IsAt, LineLeads}
 
+-- a line that is known
+runs_lead : (line actual : Line) (given : Answer) (old new : State) → line ≡ actual
+    → ((past : Past) → IsCoreAt past old → (next : Past) × IsCoreAt next new × Runs actual (record { past = past; state = old }) (answer_text given) (record { past = next; state = new }))
+    → Leads line old (answer_text given) new
+runs_lead line actual given old new is runs = subst (λ (l : Line). Leads l old (answer_text given) new) (sym is) (record { on = runs })
+
 -- a line that is one move
 pub move_leads : (line actual : Line) (asked wanted : Move) (old new : State) (r : Result Answer Refusal) → line ≡ actual → asked ≡ wanted
     → ((from to : Played) (text : List ℕ) → Plays wanted from text to → Runs actual from text to)
     → IfOk r (λ given. MovesOn old asked given new) → IfOk r (λ given. Leads line old (answer_text given) new)
 move_leads line actual asked wanted old new (Err refusal) is same plays moves = tt
-move_leads line actual asked wanted old new (Ok given) is same plays moves = subst (λ (l : Line). Leads l old (answer_text given) new) (sym is) leads
-  where
-    leads : Leads actual old (answer_text given) new
-    leads = record {
-      on = λ past stands.
-          let made = MovesOn.on (subst (λ (m : Move). MovesOn old m given new) same moves) past stands in
-          (past_after past wanted given, made.stands, plays _ _ _ (given, made, refl));
-    }
+move_leads line actual asked wanted old new (Ok given) is same plays moves = runs_lead line actual given old new is (λ past stands.
+    let made = MovesOn.on (subst (λ (m : Move). MovesOn old m given new) same moves) past stands in
+    (past_after past wanted given, made.stands, plays _ _ _ (given, made, refl)))
 
 -- a cover of the newest image's tick
 pub cover_leads : (newest : ℕ) (old new : State) (r : Result Answer Refusal) → ((past : Past) → IsCoreAt past old → newest ≡ past.standing.newest)
@@ -52,18 +53,14 @@ cover_leads newest old new (Ok given) is moves = record {
 pub images_lead : (line : Line) (fate : Fate) (old new : State) (told : ImageAnswer) → line ≡ Images fate
     → ((past : Past) → IsCoreAt past old → (next : Past) × IsCoreAt next new × RepeatsImages fate past old told next new)
     → Leads line old (answer_text (answer.Image told)) new
-images_lead line fate old new told is repeats = subst (λ (l : Line). Leads l old (answer_text (answer.Image told)) new) (sym is) leads
-  where
-    leads : Leads (Images fate) old (answer_text (answer.Image told)) new
-    leads = record { on = λ past stands. let made = repeats past stands in (made.0, made.1, (told, made.2, refl)) }
+images_lead line fate old new told is repeats =
+    runs_lead line (Images fate) (answer.Image told) old new is (λ past stands. let made = repeats past stands in (made.0, made.1, (told, made.2, refl)))
 
 pub logs_lead : (line : Line) (fate : Fate) (old new : State) (told : LogAnswer) → line ≡ Logs fate
     → ((past : Past) → IsCoreAt past old → (next : Past) × IsCoreAt next new × RepeatsLog fate past old told next new)
     → Leads line old (answer_text (answer.Log told)) new
-logs_lead line fate old new told is repeats = subst (λ (l : Line). Leads l old (answer_text (answer.Log told)) new) (sym is) leads
-  where
-    leads : Leads (Logs fate) old (answer_text (answer.Log told)) new
-    leads = record { on = λ past stands. let made = repeats past stands in (made.0, made.1, (told, made.2, refl)) }
+logs_lead line fate old new told is repeats =
+    runs_lead line (Logs fate) (answer.Log told) old new is (λ past stands. let made = repeats past stands in (made.0, made.1, (told, made.2, refl)))
 
 -- a start after an answer that is no refusal
 pub starts_run : (given : Answer) (from to : Played) → ((refusal : Refusal) → given ≢ answer.Refused refusal)

@@ -1,9 +1,11 @@
 -- One byte of a script at a time: what stands after it.
-use Rattle.std.proofs.Common.{append-nil, refl, ap, sym, subst, ◌∙◌, ◌≡◌, ◌≢◌, ℕ, List, [], ◌∷◌, ◌++◌, append_assoc, take, drop, Option, None, inl}
+use Rattle.std.proofs.Common.{append-nil, refl, ap, sym, subst, ◌∙◌, ◌≡◌, ◌≢◌, ℕ, List, [], ◌∷◌, ◌++◌, append_assoc, take, drop, Option, Some, None, IfSome, inl}
 use Rattle.std.proofs.lemmas.List.{take-append-drop}
+use Rattle.std.specs.Io.KnownBytes.{Appends}
 use Rattle.world_actions.specs.declared.refusal.Refusal.{Refusal}
 use Rattle.world_actions.specs.declared.refusal.Refusal.TheVariants.{Device}
 use Rattle.byte_streams.specs.Front.{IsFront}
+use Rattle.byte_streams.proofs.StreamLemmas.{if_some, Appends-both}
 use Rattle.line_grammar.specs.Kept.{HasNoNewline, kept_of, KeptMeans}
 use Rattle.line_grammar.proofs.KeptLemmas.{kept_of-snoc, HasNoNewline-snoc}
 use Rattle.steps.specs.declared.line.Line.{Line}
@@ -69,7 +71,7 @@ front_behind : (prior front said : List ℕ) → IsFront front said → IsFront 
 front_behind prior front said is = (is.0, ap (λ l. prior ++ l) is.1 ∙ sym (append_assoc prior front is.0))
 
 -- a fault that has nothing to do with a line
-pub cut_between : (input left written : List ℕ) (script : ScriptState) (refusal : Refusal) → Stands input script left written → IsCutOff input written refusal
+cut_between : (input left written : List ℕ) (script : ScriptState) (refusal : Refusal) → Stands input script left written → IsCutOff input written refusal
 cut_between input left written script refusal stands = record {
   answered = stands.answered;
   later = lines_of (stands.line ++ left);
@@ -117,6 +119,16 @@ completes_answered script new meaning said some means leads = record {
 -- no part of the next answer is written
 pub breaks_between : (script : ScriptState) (left : List ℕ) (refusal : Refusal) → BreaksOff script left [] refusal
 breaks_between script left refusal = record { on = λ input prior stands. rw (append-nil) (cut_between input left prior script refusal stands) }
+
+-- a fault behind what was written for the input so far
+pub cut_behind : (known left before middle after : Option (List ℕ)) (script : ScriptState) (front : List ℕ) (refusal : Refusal)
+    → ((input : List ℕ) → known ≡ Some input → (rest : List ℕ) × (left ≡ Some rest) × ((written : List ℕ) × Appends before middle written × Stands input script rest written)) → Appends middle after front
+    → ((rest : List ℕ) → left ≡ Some rest → (bytes : List ℕ) × (rest ≡ bytes) × BreaksOff script bytes front refusal) → IfSome known (λ input. (written : List ℕ) × IsCutOff input written refusal × Appends before after written)
+cut_behind known left before middle after script front refusal stands appends breaks = if_some _ _ (λ input is.
+    let so_far = stands input is in
+    let run = so_far.2 in
+    let fault = breaks so_far.0 so_far.1 in
+    (run.0 ++ front, fault.2.on input run.0 (rw (fault.1) at run.2), Appends-both _ _ _ _ _ run.1 appends))
 
 -- a front of what was said is written
 pub breaks_front : {old new : ScriptState} {bytes said front : List ℕ} → LeadsOn old bytes new said → IsFront front said → (left : List ℕ) → BreaksOff old (bytes ++ left) front Device

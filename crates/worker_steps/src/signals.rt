@@ -5,35 +5,26 @@ use crossbeam_channel::{Receiver, Sender, bounded};
 use shared_capture::{CoverIn, CoverOut, cover_pair};
 use std::alloc::{AllocError, Global};
 
-/// The bell that wakes the checkpointer, the word that tells the newest open image, and the word that tells that the log
-/// is down.
+/// The two ends of the bell that wakes the checkpointer, of the word that tells the newest open image, and of the word that
+/// tells that the log is down.
 #[derive(Drop)]
 pub struct Signals {
-    pub bell: Sender<()>,
-    pub rung: Receiver<()>,
-    pub out: CoverOut,
-    pub told: CoverIn,
-    pub told_down: CoverOut,
-    pub heard: CoverIn,
+    pub bell: (Sender<()>, Receiver<()>),
+    pub images: (CoverOut, CoverIn),
+    pub down: (CoverOut, CoverIn),
 }
 
 impl Signals {
     pub fn new(alloc: Global) -> Result<Signals, AllocError>
-        ensures images { IfOk result (λ signals. (signals.out.pair ≡ signals.told.pair)
-            × (signals.out.ticks ≡ []) × (signals.told.ticks ≡ [])) }
-        ensures log { IfOk result (λ signals. (signals.told_down.pair ≡ signals.heard.pair)
-            × (signals.told_down.ticks ≡ []) × (signals.heard.ticks ≡ [])) }
+        ensures images { IfOk result (λ signals. (signals.images.0.pair ≡ signals.images.1.pair)
+            × (signals.images.0.ticks ≡ []) × (signals.images.1.ticks ≡ [])) }
+        ensures down { IfOk result (λ signals. (signals.down.0.pair ≡ signals.down.1.pair)
+            × (signals.down.0.ticks ≡ []) × (signals.down.1.ticks ≡ [])) }
     {
-        let (bell, rung) = bounded(alloc, 1)?;
-        let (out, told) = word(alloc)?;
-        let (told_down, heard) = word(alloc)?;
         Ok(Signals {
-            bell,
-            rung,
-            out,
-            told,
-            told_down,
-            heard,
+            bell: bounded(alloc, 1)?,
+            images: word(alloc)?,
+            down: word(alloc)?,
         })
     }
 }

@@ -67,12 +67,9 @@ impl<M: Method, D: Disk + Drop, A: Gate + Drop, B: Gate + Drop, C: Gate + Drop> 
             log_writer,
         } = gates;
         let Signals {
-            bell,
-            rung,
-            out,
-            told,
-            told_down,
-            heard,
+            bell: (bell, rung),
+            images: (out, told),
+            down: (told_down, heard),
         } = signals;
         let mutator = Mutator::new(mutator, alloc, front, to, ended, every, bell, heard);
         let checkpointer = Checkpointer::new(checkpointer, back, out, images, rung);

@@ -36,25 +36,14 @@ module _ {D : Type 0} (called : D → Call → Bool → D → Type 0) where
     log_calls log.BodySync queue calls = first calls
     log_calls log.Gate queue calls = first calls
     log_calls log.GateSync queue calls = first calls
-    log_calls log.Closing queue calls = second calls
-    log_calls log.ClosingSync queue calls = second calls
-    log_calls log.Header queue calls = second calls
-    log_calls log.HeaderSync queue calls = second calls
-    log_calls log.Opening queue calls = second calls
-    log_calls log.OpeningSync queue calls = second calls
+    log_calls _ queue calls = second calls
 
     image_calls : (phase : images.Phase) → image_steps.CallsIn phase called a new_a b new_b → OneCalledAtMostOnce called a new_a b new_b
     image_calls image.Idle calls = none calls
     image_calls image.Taking calls = none calls
     image_calls image.Down calls = none calls
     image_calls image.Reading calls = second calls
-    image_calls image.Closing calls = first calls
-    image_calls image.ClosingSync calls = first calls
-    image_calls image.Header calls = first calls
-    image_calls image.Writing calls = first calls
-    image_calls image.BodySync calls = first calls
-    image_calls image.Opening calls = first calls
-    image_calls image.OpeningSync calls = first calls
+    image_calls _ calls = first calls
 
   turned : (a new_a b new_b : D) → OneCalledAtMostOnce called b new_b a new_a → OneCalledAtMostOnce called a new_a b new_b
   turned a new_a b new_b (inl calls) = inr (calls.1, calls.0)

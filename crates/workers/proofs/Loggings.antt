@@ -42,31 +42,45 @@ most_after end (Tick ended) goes most = omega (arith, goes.1)
 most_after end (Switch n) goes most = omega (arith, goes.0, most)
 most_after end End goes most = most
 
+-- the answer of an item is the next one
+next_of : (end : QueueEnd) (item : Item) (number : ℕ) (waiting : List Unposted) → Goes end item → waiting ≡ [] → number + length waiting ≡ end.base + end.count → AreNext number (answers_of item)
+next_of end (Start n) number waiting goes none is = tt
+next_of end (Tick ended) number waiting goes none is = (omega (arith, goes.2, is, ap length none), tt)
+next_of end (Switch n) number waiting goes none is = tt
+next_of end End number waiting goes none is = tt
+
 module _ {D : Type 0} (file : D → List ℕ) (leaves : D → List ℕ → Type 0) (honest : Bool) (w : Logging D) (is : IsLogging file leaves honest w) where
+  -- an item was popped
+  module _ (item : Item) (from : Popping) (popped : from.items ≡ w.from.items ++ item ∷ []) (goes : Goes (items_end w.from.items) item) where
+    popped_end : items_end from.items ≡ end_after (items_end w.from.items) item
+    popped_end = ap items_end popped ∙ end_more w.from.items item
+
+    popped_numbers : w.answers.answered + length (w.answers.waiting ++ answers_of item) ≡ (items_end from.items).base + (items_end from.items).count
+    popped_numbers = numbers_after (items_end w.from.items) item w.answers.answered w.answers.waiting goes is.numbers ∙ ap (λ (e : QueueEnd). e.base + e.count) (sym popped_end)
+
+    popped_most : (items_end from.items).base + (items_end from.items).count ≤ TICK_MAX
+    popped_most = subst (λ (e : QueueEnd). e.base + e.count ≤ TICK_MAX) (sym popped_end) (most_after (items_end w.from.items) item goes is.most)
+
   pub kept : (item : Item) (from : Popping) (ring : Buffer Record) (answers : Answering) (over : Bool) → w.down ≡ false → from.items ≡ w.from.items ++ item ∷ [] → Goes (items_end w.from.items) item
       → QueueFollows w.log.keeper ring.items → end_of w.log.keeper ring.items ≡ end_after (end_of w.log.keeper w.ring.items) item → ring ≡ record w.ring { items = w.ring.items ++ record_of item }
       → answers ≡ record w.answers { waiting = w.answers.waiting ++ answers_of item } → IsLogging file leaves honest (record w { from = from; ring = ring; answers = answers; over = over })
-  kept item from ring answers over up popped goes follows end ring_is answers_is =
-      let last : items_end from.items ≡ end_after (items_end w.from.items) item = ap items_end popped ∙ end_more w.from.items item in
-      let count : w.answers.answered + length (w.answers.waiting ++ answers_of item) ≡ (items_end from.items).base + (items_end from.items).count
-      = numbers_after (items_end w.from.items) item w.answers.answered w.answers.waiting goes is.numbers ∙ ap (λ (e : QueueEnd). e.base + e.count) (sym last) in
-      record {
-        started = is.started;
-        fits = is.fits;
-        follows = follows;
-        end = λ u. end ∙ (ap (λ (e : QueueEnd). end_after e item) (is.end up) ∙ sym last);
-        ring = ap (λ (b : Buffer Record). b.capacity) ring_is ∙ is.ring;
-        room = ap (λ (a : Answering). a.room) answers_is ∙ is.room;
-        numbers = ap (λ (a : Answering). a.answered + length a.waiting) answers_is ∙ count;
-        most = subst (λ (e : QueueEnd). e.base + e.count ≤ TICK_MAX) (sym last) (most_after (items_end w.from.items) item goes is.most);
-        posted = λ u. ap (λ (a : Answering). a.posted) answers_is ∙ (is.posted u ∙ sym (ap (λ (a : Answering). a.answered) answers_is));
-        durable = subst (λ (a : Answering). a.posted ≤ w.acked) (sym answers_is) is.durable;
-        tells = is.tells;
-        writes = λ h logs stands.
-            (subst (λ (r : List Record). Writes file leaves w.log ring.items w.covers.ticks w.acked w.down (told_in logs) r) (sym (ap records_of popped ∙ records_more w.from.items item))
-            (subst (λ (b : Buffer Record). Writes file leaves w.log b.items w.covers.ticks w.acked w.down (told_in logs) (records_of w.from.items ++ record_of item)) (sym ring_is)
-            (writes_more file leaves w.log w.ring.items (record_of item) w.covers.ticks w.acked w.down (told_in logs) (records_of w.from.items) up (is.writes h logs stands))));
-      }
+  kept item from ring answers over up popped goes follows end ring_is answers_is = record {
+    started = is.started;
+    fits = is.fits;
+    follows = follows;
+    end = λ u. end ∙ (ap (λ (e : QueueEnd). end_after e item) (is.end up) ∙ sym (popped_end item from popped goes));
+    ring = ap (λ (b : Buffer Record). b.capacity) ring_is ∙ is.ring;
+    room = ap (λ (a : Answering). a.room) answers_is ∙ is.room;
+    numbers = ap (λ (a : Answering). a.answered + length a.waiting) answers_is ∙ popped_numbers item from popped goes;
+    most = popped_most item from popped goes;
+    posted = λ u. ap (λ (a : Answering). a.posted) answers_is ∙ (is.posted u ∙ sym (ap (λ (a : Answering). a.answered) answers_is));
+    durable = subst (λ (a : Answering). a.posted ≤ w.acked) (sym answers_is) is.durable;
+    tells = is.tells;
+    writes = λ h logs stands.
+        (subst (λ (r : List Record). Writes file leaves w.log ring.items w.covers.ticks w.acked w.down (told_in logs) r) (sym (ap records_of popped ∙ records_more w.from.items item))
+        (subst (λ (b : Buffer Record). Writes file leaves w.log b.items w.covers.ticks w.acked w.down (told_in logs) (records_of w.from.items ++ record_of item)) (sym ring_is)
+        (writes_more file leaves w.log w.ring.items (record_of item) w.covers.ticks w.acked w.down (told_in logs) (records_of w.from.items) up (is.writes h logs stands))));
+  }
 
   -- what the files tell after a step that was answered so
   pub told_on : (covers : CoverState) (tick : ℕ) (log : Log D) (ring : Buffer Record) (given : LogAnswer) (acked : ℕ) → (acked ≡ w.acked) ⊎ (given ≡ answer.Acked acked)
@@ -97,37 +111,33 @@ module _ {D : Type 0} (file : D → List ℕ) (leaves : D → List ℕ → Type 
     writes = told_on covers tick log ring given acked which told advances;
   }
 
-  -- an item is popped and lost
-  pub lost : (item : Item) (from : Popping) (answers : Answering) (over : Bool) → w.down ≡ true → w.answers.waiting ≡ [] → from.items ≡ w.from.items ++ item ∷ [] → Goes (items_end w.from.items) item
-      → answers.room ≡ w.answers.room → answers.posted ≡ w.answers.posted → answers.waiting ≡ [] → answers.answered ≡ w.answers.answered + length (answers_of item)
-      → IsLogging file leaves honest (record w { from = from; answers = answers; over = over })
-  lost item from answers over down none popped goes room posted none_after answered =
-      let last : items_end from.items ≡ end_after (items_end w.from.items) item = ap items_end popped ∙ end_more w.from.items item in
-      let count : w.answers.answered + length (w.answers.waiting ++ answers_of item) ≡ (items_end from.items).base + (items_end from.items).count
-      = numbers_after (items_end w.from.items) item w.answers.answered w.answers.waiting goes is.numbers ∙ ap (λ (e : QueueEnd). e.base + e.count) (sym last) in
-      record {
-        started = is.started;
-        fits = is.fits;
-        follows = is.follows;
-        end = λ up. absurd (let e : true ≡ false = sym down ∙ up in cc);
-        ring = is.ring;
-        room = room ∙ is.room;
-        numbers = omega (arith, ap length none_after, answered, count, length-append w.answers.waiting (answers_of item), ap length none);
-        most = subst (λ (e : QueueEnd). e.base + e.count ≤ TICK_MAX) (sym last) (most_after (items_end w.from.items) item goes is.most);
-        posted = λ up. absurd (let e : true ≡ false = sym down ∙ up in cc);
-        durable = subst (λ k. k ≤ w.acked) (sym posted) is.durable;
-        tells = is.tells;
-        writes = λ h logs stands.
-            (subst (λ (r : List Record). Writes file leaves w.log w.ring.items w.covers.ticks w.acked w.down (told_in logs) r) (sym (ap records_of popped ∙ records_more w.from.items item))
-            (writes_lost file leaves w.log w.ring.items (record_of item) w.covers.ticks w.acked w.down (told_in logs) (records_of w.from.items) down (is.writes h logs stands)));
-      }
+  -- an item is popped and its answer refused, where none waits
+  module _ (seen : Logging D) (same : w ≡ seen) (none : seen.answers.waiting ≡ []) where
+    none_waits : w.answers.waiting ≡ []
+    none_waits = ap (λ (x : Logging D). x.answers.waiting) same ∙ none
 
--- the answer of an item is the next one
-pub next_of : (end : QueueEnd) (item : Item) (number : ℕ) (waiting : List Unposted) → Goes end item → waiting ≡ [] → number + length waiting ≡ end.base + end.count → AreNext number (answers_of item)
-next_of end (Start n) number waiting goes none is = tt
-next_of end (Tick ended) number waiting goes none is = (omega (arith, goes.2, is, ap length none), tt)
-next_of end (Switch n) number waiting goes none is = tt
-next_of end End number waiting goes none is = tt
+    pub next_popped : (item : Item) → Goes (items_end w.from.items) item → AreNext w.answers.answered (answers_of item)
+    next_popped item goes = next_of (items_end w.from.items) item w.answers.answered w.answers.waiting goes none_waits is.numbers
+
+    pub lost : (item : Item) (from : Popping) (answers : Answering) (over : Bool) → seen.down ≡ true → from.items ≡ w.from.items ++ item ∷ [] → Goes (items_end w.from.items) item
+        → answers ≡ record w.answers { answered = w.answers.answered + length (answers_of item) } → IsLogging file leaves honest (record w { from = from; answers = answers; over = over })
+    lost item from answers over seen_down popped goes answers_is =
+        let down : w.down ≡ true = ap (λ (x : Logging D). x.down) same ∙ seen_down in record {
+          started = is.started;
+          fits = is.fits;
+          follows = is.follows;
+          end = λ up. absurd (let e : true ≡ false = sym down ∙ up in cc);
+          ring = is.ring;
+          room = ap (λ (a : Answering). a.room) answers_is ∙ is.room;
+          numbers = omega (arith, ap (λ (a : Answering). length a.waiting) answers_is, ap (λ (a : Answering). a.answered) answers_is, popped_numbers item from popped goes, length-append w.answers.waiting (answers_of item), ap length none_waits);
+          most = popped_most item from popped goes;
+          posted = λ up. absurd (let e : true ≡ false = sym down ∙ up in cc);
+          durable = subst (λ (a : Answering). a.posted ≤ w.acked) (sym answers_is) is.durable;
+          tells = is.tells;
+          writes = λ h logs stands.
+              (subst (λ (r : List Record). Writes file leaves w.log w.ring.items w.covers.ticks w.acked w.down (told_in logs) r) (sym (ap records_of popped ∙ records_more w.from.items item))
+              (writes_lost file leaves w.log w.ring.items (record_of item) w.covers.ticks w.acked w.down (told_in logs) (records_of w.from.items) down (is.writes h logs stands)));
+        }
 
 -- ---- what a turn pops
 

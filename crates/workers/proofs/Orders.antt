@@ -1,10 +1,11 @@
 -- Each step of the two ends keeps the order of the records.
-use Rattle.std.proofs.Common.{◌≡◌, ◌≢◌, ℕ, ◌⊎◌, zero, suc, List, [], ◌∷◌, ◌++◌, length, set, sym, refl, ap, ◌∙◌, subst, ⊎_elim, inl, inr}
+use Rattle.std.proofs.Common.{◌≡◌, ℕ, zero, suc, List, [], ◌∷◌, ◌++◌, length, set, sym, refl, ap, ◌∙◌, subst}
 use mathlib.Core.Option.{some, some-injective, some-ne-none}
 use Rattle.std.proofs.lemmas.List.{append_assoc}
 use lib.ListN.{get_elem?}
-use Rattle.atomic_table.proofs.Lists.{at_set, set_else}
+use Rattle.atomic_table.proofs.Lists.{set_else}
 use Rattle.crossbeam_channel.specs.Fifo.{Pushes, Pops, Forks, Merges, Learns}
+use Rattle.shared_capture.proofs.Views.{set_knows, split_knows, join_knows}
 use Rattle.workers.specs.declared.item.Item.{Item}
 use Rattle.workers.specs.declared.item.Item.TheVariants.{Start}
 use Rattle.workers.specs.declared.item.View.{View}
@@ -13,22 +14,16 @@ use Rattle.workers.specs.Items.{AreNumbered}
 use Rattle.workers.proofs.Numbers.{prefix_numbered}
 use Rattle.workers.specs.Order.{Knows, IsInOrder, pushed_of, popped_of, pushed, popped, tells_all, pushing_part, popping_part, whole}
 
-at_end : {A : Type 0} (l : List A) (a b : A) (j : ℕ) → get_elem? (l ++ a ∷ []) j ≡ some b → (get_elem? l j ≡ some b) ⊎ ((j ≡ length l) × (a ≡ b))
-at_end [] a b zero e = inr (refl, some-injective a b e)
-at_end [] a b (suc j) e = absurd (some-ne-none b (sym e))
-at_end (x ∷ xs) a b zero e = inl e
-at_end (x ∷ xs) a b (suc j) e = ⊎_elim inl (λ t. inr (ap suc t.0, t.1)) (at_end xs a b j e)
-
-set_knows : (K : ℕ → View → Type 0) (vs : List View) (id : ℕ) (w : View) → K id w → ((j : ℕ) (v : View) → j ≢ id → get_elem? vs j ≡ some v → K j v) → (j : ℕ) (v : View) → get_elem? (set vs id w) j ≡ some v → K j v
-set_knows K vs id w mine others j v e = ⊎_elim (λ (t : (j ≡ id) × (w ≡ v)). subst (λ (x : ℕ × View). K x.0 x.1) (λ i. (sym t.0 i, t.1 i)) mine)
-    (λ (t : (j ≢ id) × (get_elem? vs j ≡ some v)). others j v t.0 t.1) (at_set vs id j w v e)
-
 -- what a seat knows that is neither end
 others : (a b : List Item) (p o : ℕ) (t s : List Item) (q r j : ℕ) (v : View) → (j ≡ p → a ≡ b) → (j ≡ p → p ≡ o) → (j ≡ q → t ≡ s) → (j ≡ q → q ≡ r) → Knows a p t q j v → Knows b o s r j v
 others a b p o t s q r j V.Spent x y z w k = tt
 others a b p o t s q r j (V.Pushes xs) x y z w k = (k.0 ∙ y k.0, k.1 ∙ x k.0)
 others a b p o t s q r j (V.Pops ys) x y z w k = (k.0 ∙ w k.0, k.1 ∙ z k.0)
 others a b p o t s q r j (V.Both xs ys) x y z w k = (k.0 ∙ y k.0, k.1 ∙ w k.1, k.2 ∙ x k.0, k.3 ∙ z k.1)
+
+-- the order stays, with these two seats
+kept_at : {items : List Item} {views later : List View} (k : IsInOrder items views) (p q : ℕ) → ((j : ℕ) (v : View) → get_elem? later j ≡ some v → Knows k.all p k.taken q j v) → IsInOrder items later
+kept_at k p q each = record { all = k.all; pushed_at = p; taken = k.taken; popped_at = q; order = k.order; numbered = k.numbered; each_seat = each }
 
 start_knows : (j : ℕ) (v : View) → get_elem? (V.Both [] [] ∷ []) j ≡ some v → Knows [] 0 [] 0 j v
 start_knows zero v e = subst (Knows [] 0 [] 0 0) (some-injective (V.Both [] []) v e) (refl, refl, refl, refl)
@@ -85,19 +80,9 @@ pub pops : (id : ℕ) (v : View) → v ≡ V.Pops (popped_of v) → Pops IsInOrd
 pops id v is x items views k at = let o = pops_one x items views k id v at is in (V.Pops (popped_of v ++ x ∷ []), o.0, (refl, o.1))
 
 forks_both : (id : ℕ) (xs ys : List Item) → Forks IsInOrder id (V.Both xs ys) (V.Pushes xs) (V.Pops ys)
-forks_both id xs ys items views k at = let known = k.each_seat id (V.Both xs ys) at in let q : ℕ = length (set views id (V.Pushes xs)) in record {
-  all = k.all;
-  pushed_at = k.pushed_at;
-  taken = k.taken;
-  popped_at = q;
-  order = k.order;
-  numbered = k.numbered;
-  each_seat = λ j v e. ⊎_elim
-      (set_knows (Knows k.all k.pushed_at k.taken q) views id (V.Pushes xs) (known.0, known.2)
-      (λ i u ne a. others k.all k.all k.pushed_at k.pushed_at k.taken k.taken k.popped_at q i u (λ _. refl) (λ _. refl) (λ _. refl) (λ h. absurd (ne (h ∙ sym known.1))) (k.each_seat i u a)) j v)
-      (λ t. subst (Knows k.all k.pushed_at k.taken q j) t.1 (t.0, known.3))
-      (at_end (set views id (V.Pushes xs)) (V.Pops ys) v j e);
-}
+forks_both id xs ys items views k at = let known = k.each_seat id (V.Both xs ys) at in let q : ℕ = length (set views id (V.Pushes xs)) in
+    kept_at k k.pushed_at q (split_knows (Knows k.all k.pushed_at k.taken q) views id (V.Pushes xs) (V.Pops ys) (known.0, known.2) (refl, known.3)
+    (λ j v ne e. others k.all k.all k.pushed_at k.pushed_at k.taken k.taken k.popped_at q j v (λ _. refl) (λ _. refl) (λ _. refl) (λ h. absurd (ne (h ∙ sym known.1))) (k.each_seat j v e)))
 
 pub forks : (id : ℕ) (v : View) → v ≡ V.Both (pushed_of v) (popped_of v) → Forks IsInOrder id v (pushing_part v) (popping_part v)
 forks id v is = subst (λ (z : View). Forks IsInOrder id z (pushing_part z) (popping_part z)) (sym is) (forks_both id (pushed_of v) (popped_of v))
@@ -105,19 +90,9 @@ forks id v is = subst (λ (z : View). Forks IsInOrder id z (pushing_part z) (pop
 merges_both : (id : ℕ) (xs : List Item) (there : ℕ) (ys : List Item) → Merges IsInOrder id (V.Pushes xs) there (V.Pops ys) (V.Both xs ys) V.Spent
 merges_both id xs there ys items views k at apart beside =
     let known = k.each_seat id (V.Pushes xs) at in
-    let seen = k.each_seat there (V.Pops ys) (sym (set_else views id there (V.Both xs ys) apart) ∙ beside) in record {
-      all = k.all;
-      pushed_at = id;
-      taken = k.taken;
-      popped_at = id;
-      order = k.order;
-      numbered = k.numbered;
-      each_seat = set_knows (Knows k.all id k.taken id) (set views id (V.Both xs ys)) there V.Spent tt
-          (λ j v ne e. ⊎_elim
-          (λ (t : (j ≡ id) × (V.Both xs ys ≡ v)). subst (Knows k.all id k.taken id j) t.1 (t.0, t.0, known.1, seen.1))
-          (λ (t : (j ≢ id) × (get_elem? views j ≡ some v)). others k.all k.all k.pushed_at id k.taken k.taken k.popped_at id j v (λ _. refl) (λ h. absurd (t.0 (h ∙ sym known.0))) (λ _. refl) (λ h. absurd (ne (h ∙ sym seen.0))) (k.each_seat j v t.1))
-          (at_set views id j (V.Both xs ys) v e));
-    }
+    let seen = k.each_seat there (V.Pops ys) (sym (set_else views id there (V.Both xs ys) apart) ∙ beside) in
+    kept_at k id id (join_knows (Knows k.all id k.taken id) views id (V.Both xs ys) there V.Spent (refl, refl, known.1, seen.1) tt
+    (λ j v near far e. others k.all k.all k.pushed_at id k.taken k.taken k.popped_at id j v (λ _. refl) (λ h. absurd (near (h ∙ sym known.0))) (λ _. refl) (λ h. absurd (far (h ∙ sym seen.0))) (k.each_seat j v e)))
 
 pub merges : (id : ℕ) (v : View) (there : ℕ) (w : View) → v ≡ V.Pushes (pushed_of v) → w ≡ V.Pops (popped_of w) → Merges IsInOrder id v there w (whole v w) V.Spent
 merges id v there w is is' = subst (λ (z : View × View). Merges IsInOrder id z.0 there z.1 (whole z.0 z.1) V.Spent) (λ i. (sym is i, sym is' i)) (merges_both id (pushed_of v) there (popped_of w))
@@ -130,19 +105,9 @@ pub learns_nothing : (id : ℕ) (v : View) → Learns IsInOrder id v (λ items. 
 learns_nothing id v items views k at = tt
 
 moves_pops : (id : ℕ) (ys : List Item) → Forks IsInOrder id (V.Pops ys) V.Spent (V.Pops ys)
-moves_pops id ys items views k at = let known = k.each_seat id (V.Pops ys) at in let q : ℕ = length (set views id V.Spent) in record {
-  all = k.all;
-  pushed_at = k.pushed_at;
-  taken = k.taken;
-  popped_at = q;
-  order = k.order;
-  numbered = k.numbered;
-  each_seat = λ j v e. ⊎_elim
-      (set_knows (Knows k.all k.pushed_at k.taken q) views id V.Spent tt
-      (λ i u ne a. others k.all k.all k.pushed_at k.pushed_at k.taken k.taken k.popped_at q i u (λ _. refl) (λ _. refl) (λ _. refl) (λ h. absurd (ne (h ∙ sym known.0))) (k.each_seat i u a)) j v)
-      (λ t. subst (Knows k.all k.pushed_at k.taken q j) t.1 (t.0, known.1))
-      (at_end (set views id V.Spent) (V.Pops ys) v j e);
-}
+moves_pops id ys items views k at = let known = k.each_seat id (V.Pops ys) at in let q : ℕ = length (set views id V.Spent) in
+    kept_at k k.pushed_at q (split_knows (Knows k.all k.pushed_at k.taken q) views id V.Spent (V.Pops ys) tt (refl, known.1)
+    (λ j v ne e. others k.all k.all k.pushed_at k.pushed_at k.taken k.taken k.popped_at q j v (λ _. refl) (λ _. refl) (λ _. refl) (λ h. absurd (ne (h ∙ sym known.0))) (k.each_seat j v e)))
 
 pub moves : (id : ℕ) (v : View) → v ≡ V.Pops (popped_of v) → Forks IsInOrder id v V.Spent v
 moves id v is = subst (λ (z : View). Forks IsInOrder id z V.Spent z) (sym is) (moves_pops id (popped_of v))

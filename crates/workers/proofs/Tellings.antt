@@ -216,19 +216,15 @@ module _ {D : Type 0} (file : D → List ℕ) (leaves : D → List ℕ → Type 
       let c = subst (λ (g : LogAnswer). CoverStep logs ring tick g left) now step in
       inr (tick, at, omega (arith, c.3))
 
+  -- what is written stands with other ticks told, and another one acknowledged
+  abbrev written_as : {log : Log D} {ring : List Record} {covers told : List ℕ} {acked tick : ℕ} {down : Bool} {first : Told} {all : List Record} (w : Writes file leaves log ring covers acked down first all)
+      → LeavesOut told all (w.given ++ (with_work w.logs.switch ring ++ w.lost)) → Acknowledged told tick w.logs → Writes file leaves log ring told tick down first all
+  written_as w order acknowledged = record { logs = w.logs; stands = w.stands; given = w.given; lost = w.lost; told = w.told; order = order; one_job = w.one_job; none_lost = w.none_lost; acknowledged = acknowledged }
+
   -- more is told of open images
   abbrev written_later : (log : Log D) (ring : List Record) (covers later : List ℕ) (acked : ℕ) (down : Bool) (first : Told) (all : List Record) → Writes file leaves log ring covers acked down first all → Writes file leaves log ring (covers ++ later) acked down first all
-  written_later log ring covers later acked down first all w = record {
-    logs = w.logs;
-    stands = w.stands;
-    given = w.given;
-    lost = w.lost;
-    told = w.told;
-    order = leaves_later covers later all (w.given ++ (with_work w.logs.switch ring ++ w.lost)) w.order;
-    one_job = w.one_job;
-    none_lost = w.none_lost;
-    acknowledged = elim w.acknowledged [ inl has ↦ inl has | inr is ↦ inr (covered_later covers later acked is) ];
-  }
+  written_later log ring covers later acked down first all w = written_as w (leaves_later covers later all (w.given ++ (with_work w.logs.switch ring ++ w.lost)) w.order)
+      (elim w.acknowledged [ inl has ↦ inl has | inr is ↦ inr (covered_later covers later acked is) ])
 
   advanced : (log after : Log D) (ring left : List Record) (tick : ℕ) (covers : List ℕ) (given : LogAnswer) (acked acked' : ℕ) (down : Bool) (first : Told) (all : List Record) → QueueFollows log.keeper ring → Contains covers tick
       → (acked' ≡ acked) ⊎ (given ≡ answer.Acked acked') → (w : Writes file leaves log ring covers acked down first all) → (next : Logs) → LogStands file leaves after next → Advances tick w.logs ring given next left
@@ -268,20 +264,10 @@ module _ {D : Type 0} (file : D → List ℕ) (leaves : D → List ℕ → Type 
 
   -- what is acknowledged up to a tick is so up to one before it
   pub writes_below : (log : Log D) (ring : List Record) (covers : List ℕ) (acked fewer : ℕ) (down : Bool) (first : Told) (all : List Record) → fewer ≤ acked → Writes file leaves log ring covers acked down first all → Writes file leaves log ring covers fewer down first all
-  writes_below log ring covers acked fewer down first all few w = record {
-    logs = w.logs;
-    stands = w.stands;
-    given = w.given;
-    lost = w.lost;
-    told = w.told;
-    order = w.order;
-    one_job = w.one_job;
-    none_lost = w.none_lost;
-    acknowledged = elim w.acknowledged [
-      | inl logged ↦ inl (record { kept = omega (arith, few, logged.kept); switched = λ number is. let later = logged.switched number is in omega (arith, few, later) })
-      | inr covered ↦ inr (covered.0, covered.1, omega (arith, few, covered.2))
-    ];
-  }
+  writes_below log ring covers acked fewer down first all few w = written_as w w.order (elim w.acknowledged [
+    | inl logged ↦ inl (record { kept = omega (arith, few, logged.kept); switched = λ number is. let later = logged.switched number is in omega (arith, few, later) })
+    | inr covered ↦ inr (covered.0, covered.1, omega (arith, few, covered.2))
+  ])
 
   -- one more record is queued
   pub writes_more : (log : Log D) (ring more : List Record) (covers : List ℕ) (acked : ℕ) (down : Bool) (first : Told) (all : List Record) → down ≡ false → Writes file leaves log ring covers acked down first all → Writes file leaves log (ring ++ more) covers acked down first (all ++ more)

@@ -1,7 +1,6 @@
 -- What lower crates say of their values, as it is of a core's state.
-use Rattle.std.proofs.Common.{◌≡◌, ◌↔◌, ◌<◌, ◌+◌, ◌++◌, min, true, false, Bool, ℕ, List, [], ◌∷◌, ◌⊎◌, inl, inr, Option, Some, None, refl, sym, ap, subst, ◌∙◌, arith}
+use Rattle.std.proofs.Common.{◌≡◌, ◌↔◌, ◌<◌, ◌+◌, ◌++◌, min, true, false, Bool, ℕ, List, [], ◌∷◌, ◌⊎◌, inl, inr, Some, None, refl, sym, ap, subst, ◌∙◌, arith}
 use Rattle.world_actions.specs.declared.action.Action.{Action}
-use Rattle.capture_core.specs.declared.taker.Taken.{Taken}
 use Rattle.capture_core.specs.Content.{Content, Takes}
 use Rattle.file_format.specs.declared.slot.Slot.{Slot}
 use Rattle.file_format.specs.declared.slot.Slot.TheVariants.{A, B}
@@ -12,9 +11,9 @@ use Rattle.disk_model.specs.Fused.{Fails, CallsThrough}
 use Rattle.image_files.specs.declared.answer.ImageAnswer.{ImageAnswer}
 use Rattle.image_files.specs.declared.answer.ImageAnswer.TheVariants as image_answer
 use Rattle.image_files.specs.declared.phase.Phase.{Phase}
-use Rattle.image_files.specs.declared.phase.Phase.TheVariants.{Idle, Closing, ClosingSync, Header, Taking, Reading, Writing, BodySync, Opening, OpeningSync, Down}
+use Rattle.image_files.specs.declared.phase.Phase.TheVariants.{Idle, Taking, Reading, Down}
 use Rattle.image_files.specs.Images.{ImageFiles, StepsImages}
-use Rattle.image_files.specs.Progress.{Progress as ImageProgress, target_of, left_of, cells_taken, opened_keeper}
+use Rattle.image_files.specs.Progress.{target_of, left_of, cells_taken, opened_keeper}
 use Rattle.image_files.specs.Steps.{IfOpened, OnWorking, CallsIn as ImageCallsIn, HasCause}
 use Rattle.action_log.specs.declared.phase.Phase.{Phase as LogPhase}
 use Rattle.action_log.specs.declared.phase.Phase.TheVariants as log_phase
@@ -32,17 +31,6 @@ use Rattle.world_core.specs.declared.moves.Fate.{Fate}
 use Rattle.world_core.specs.declared.moves.Fate.TheVariants as fate_
 use Rattle.world_core.specs.State.{File, State, ImagesIn, LogIn, failures, HasFailed}
 use Rattle.world_core.specs.Moving.{calls_before_failure, CallsBy, FailsBy, CallsNone, StepsImageKeeper, StepsLogKeeper}
-
-module _ {S : Type 0} (content : S → Content) (took : S → Option Taken → S → Type 0)
-    (after_take : (old new : S) (given : Option Taken) → took old given new → Takes (content old) given (content new)) where
-  -- a step of the keeper, by the content of the store that it took from
-  pub steps_content : (cells : ℕ) (images : ImageFiles) (given : ImageAnswer) (next : ImageFiles) (old new : S)
-      → StepsImages took cells images given next old new → StepsImages Takes cells images given next (content old) (content new)
-  steps_content cells images image_answer.Idle next old new s = (s.0, s.1, ap content s.2)
-  steps_content cells images image_answer.Working next old new s =
-      (s.0, s.1, elim s.2 [ inl same ↦ inl (same.0, ap content same.1) | inr cell ↦ inr (cell.0, after_take old new (Some cell.0) cell.1, cell.2) ])
-  steps_content cells images (image_answer.Opened tick) next old new s = (s.0, s.1, s.2, s.3, s.4, ap content s.5)
-  steps_content cells images image_answer.Down next old new s = (s.0, s.1, s.2, ap content s.3)
 
 -- a store that was only read, and a tick that is the same
 pub only_read : (was now : State) (content : Content) (running : List Action) → content ≡ was.content → running ≡ was.running → was ≡ now
@@ -155,13 +143,7 @@ by_phase Idle t t' n n' c = inl (tt, c.0, c.1)
 by_phase Taking t t' n n' c = inl (tt, c.0, c.1)
 by_phase Down t t' n n' c = inl (tt, c.0, c.1)
 by_phase Reading t t' n n' c = inr (λ none. none, inr c)
-by_phase Closing t t' n n' c = inr (λ none. none, inl c)
-by_phase ClosingSync t t' n n' c = inr (λ none. none, inl c)
-by_phase Header t t' n n' c = inr (λ none. none, inl c)
-by_phase Writing t t' n n' c = inr (λ none. none, inl c)
-by_phase BodySync t t' n n' c = inr (λ none. none, inl c)
-by_phase Opening t t' n n' c = inr (λ none. none, inl c)
-by_phase OpeningSync t t' n n' c = inr (λ none. none, inl c)
+by_phase phase t t' n n' c = inr (λ none. none, inl c)
 
 exchanged : (phase : Phase) (one one' other other' : File) → IsCalled phase one one' other other' → IsCalled phase other other' one one'
 exchanged phase one one' other other' (inl (none, first, second)) = inl (none, second, first)
@@ -192,13 +174,7 @@ module _ (fate : Fate) (t at st nt n an sn nn : File) (mt : IsMoved fate t at st
   images_called Taking c = neither c
   images_called Down c = neither c
   images_called Reading c = second_called c
-  images_called Closing c = first_called c
-  images_called ClosingSync c = first_called c
-  images_called Header c = first_called c
-  images_called Writing c = first_called c
-  images_called BodySync c = first_called c
-  images_called Opening c = first_called c
-  images_called OpeningSync c = first_called c
+  images_called phase c = first_called c
 
   log_called : (phase : LogPhase) (queue : List Record) → LogCallsIn called at st an sn phase queue → LogCallsIn (CallsBy fate) t nt n nn phase queue
   log_called Ready [] c = neither c
@@ -209,14 +185,16 @@ module _ (fate : Fate) (t at st nt n an sn nn : File) (mt : IsMoved fate t at st
   log_called log_phase.BodySync queue c = first_called c
   log_called log_phase.Gate queue c = first_called c
   log_called GateSync queue c = first_called c
-  log_called log_phase.Closing queue c = second_called c
-  log_called log_phase.ClosingSync queue c = second_called c
-  log_called log_phase.Header queue c = second_called c
-  log_called log_phase.HeaderSync queue c = second_called c
-  log_called log_phase.Opening queue c = second_called c
-  log_called log_phase.OpeningSync queue c = second_called c
+  log_called phase queue c = second_called c
 
 module _ (fate : Fate) (a aa sa na b ab sb nb : File) (ma : IsMoved fate a aa sa na) (mb : IsMoved fate b ab sb nb) where
+  -- what a step does to what two armed files hold, the move does to what the files hold
+  moved_step : {Next : Type 0} (Held : FileState → FileState → Type 0) (Holds : Next → FileState → FileState → Type 0) (Step : Next → Type 0)
+      → (Held aa.inner ab.inner → (next : Next) × Holds next sa.inner sb.inner × Step next) → Held a.inner b.inner → (next : Next) × Holds next na.inner nb.inner × Step next
+  moved_step Held Holds Step step has =
+      let n = step (subst (λ (f : File). Held f.inner ab.inner) (sym ma.armed_is) (subst (λ (f : File). Held a.inner f.inner) (sym mb.armed_is) has)) in
+      (n.0, subst (λ (f : File). Holds n.0 f.inner nb.inner) (sym ma.new_is) (subst (λ (f : File). Holds n.0 sa.inner f.inner) (sym mb.new_is) n.1), n.2)
+
   images_called_at : (slot : Slot) (phase : Phase) → ImageCallsIn phase called (of_slot slot aa ab) (of_slot slot sa sb) (of_slot slot ab aa) (of_slot slot sb sa)
       → ImageCallsIn phase (CallsBy fate) (of_slot slot a b) (of_slot slot na nb) (of_slot slot b a) (of_slot slot nb na)
   images_called_at A phase c = images_called fate a aa sa na b ab sb nb ma mb phase c
@@ -252,18 +230,10 @@ when_opened image_answer.Working P Q h = tt
 when_opened (image_answer.Opened tick) P Q h = h
 when_opened image_answer.Down P Q h = tt
 
-armed_images : (keeper : ImageProgress) (images : ImageFiles) (fate : Fate) (a armed_a stepped_a new_a b armed_b stepped_b new_b : File) → IsMoved fate a armed_a stepped_a new_a → IsMoved fate b armed_b stepped_b new_b
-    → ImagesIn keeper images a b → ImagesIn keeper images armed_a armed_b
-armed_images keeper images fate a aa sa na b ab sb nb ma mb has = subst (λ f. ImagesIn keeper images f ab) (sym ma.armed_is) (subst (λ f. ImagesIn keeper images a f) (sym mb.armed_is) has)
-
-moved_images : (keeper : ImageProgress) (images : ImageFiles) (fate : Fate) (a armed_a stepped_a new_a b armed_b stepped_b new_b : File) → IsMoved fate a armed_a stepped_a new_a → IsMoved fate b armed_b stepped_b new_b
-    → ImagesIn keeper images stepped_a stepped_b → ImagesIn keeper images new_a new_b
-moved_images keeper images fate a aa sa na b ab sb nb ma mb has = subst (λ f. ImagesIn keeper images f nb) (sym ma.new_is) (subst (λ f. ImagesIn keeper images sa f) (sym mb.new_is) has)
-
 -- a step of the keeper between two armed files
 pub record StepsArmedImages (was : State) (armed_a armed_b : File) (given : ImageAnswer) (stepped_a stepped_b : File) (new : State) : Type 0 where
   pub rest : new ≡ record was { content = new.content; images = new.images; image_a = new.image_a; image_b = new.image_b }
-  pub stands : (images : ImageFiles) → ImagesIn was.images images armed_a armed_b → (next : ImageFiles) × ImagesIn new.images next stepped_a stepped_b × StepsImages Takes was.images.cells images given next was.content new.content
+  pub stands : (images : ImageFiles) → ImagesIn was.images images armed_a.inner armed_b.inner → (next : ImageFiles) × ImagesIn new.images next stepped_a.inner stepped_b.inner × StepsImages Takes was.images.cells images given next was.content new.content
   pub cells : new.images.cells ≡ was.images.cells
   pub idle : (given ≡ image_answer.Idle) ↔ (was.images.phase ≡ Idle)
   pub down : (given ≡ image_answer.Down) ↔ (new.images.phase ≡ Down)
@@ -283,9 +253,8 @@ image_step_at fate was old new given aa ab sa sb e ma mb s =
     let may = may_call phase aa sa ab sb called_in in
     subst (λ o. StepsImageKeeper fate o given new) e (record {
       rest = s.rest;
-      stands = λ images has.
-          (let n = s.stands images (armed_images was.images images fate was.image_a aa sa new.image_a was.image_b ab sb new.image_b ma mb has) in
-          (n.0, moved_images new.images n.0 fate was.image_a aa sa new.image_a was.image_b ab sb new.image_b ma mb n.1, n.2));
+      stands = λ images. moved_step fate was.image_a aa sa new.image_a was.image_b ab sb new.image_b ma mb (ImagesIn was.images images) (ImagesIn new.images)
+          (λ next. StepsImages Takes was.images.cells images given next was.content new.content) (s.stands images);
       cells = s.cells;
       idle = s.idle;
       down = s.down;
@@ -307,18 +276,10 @@ log_counts : (given : LogAnswer) (down : Bool) (a new_a b new_b : ℕ) → (give
 log_counts given true a na b nb is same = inl (is.1 refl)
 log_counts given false a na b nb is same = inr (same refl)
 
-armed_log : (keeper : LogProgress) (place : LogPlace) (fate : Fate) (a armed_a stepped_a new_a b armed_b stepped_b new_b : File) → IsMoved fate a armed_a stepped_a new_a → IsMoved fate b armed_b stepped_b new_b
-    → LogIn keeper place a b → LogIn keeper place armed_a armed_b
-armed_log keeper place fate a aa sa na b ab sb nb ma mb has = subst (λ f. LogIn keeper place f ab) (sym ma.armed_is) (subst (λ f. LogIn keeper place a f) (sym mb.armed_is) has)
-
-moved_log : (keeper : LogProgress) (place : LogPlace) (fate : Fate) (a armed_a stepped_a new_a b armed_b stepped_b new_b : File) → IsMoved fate a armed_a stepped_a new_a → IsMoved fate b armed_b stepped_b new_b
-    → LogIn keeper place stepped_a stepped_b → LogIn keeper place new_a new_b
-moved_log keeper place fate a aa sa na b ab sb nb ma mb has = subst (λ f. LogIn keeper place f nb) (sym ma.new_is) (subst (λ f. LogIn keeper place sa f) (sym mb.new_is) has)
-
 pub record StepsArmedLog (was : State) (armed_a armed_b : File) (given : LogAnswer) (stepped_a stepped_b : File) (new : State) : Type 0 where
   pub rest : new ≡ record was { queue = new.queue; log = new.log; log_a = new.log_a; log_b = new.log_b }
   pub front : was.queue ≡ taken was.log was.queue ++ new.queue
-  pub stands : (place : LogPlace) → LogIn was.log place armed_a armed_b → (next : LogPlace) × LogIn new.log next stepped_a stepped_b × JournalStep place was.queue given next new.queue
+  pub stands : (place : LogPlace) → LogIn was.log place armed_a.inner armed_b.inner → (next : LogPlace) × LogIn new.log next stepped_a.inner stepped_b.inner × JournalStep place was.queue given next new.queue
   pub follows : QueueFollows new.log new.queue
   pub end : end_of new.log new.queue ≡ end_of was.log was.queue
   pub idle : (given ≡ log_answer.Idle) ↔ ((was.log.down ≡ false) × (was.log.phase ≡ Ready) × (was.queue ≡ []))
@@ -344,12 +305,7 @@ by_log_phase log_phase.RetiringSync queue c c' o o' h = inr (inl h)
 by_log_phase log_phase.BodySync queue c c' o o' h = inr (inl h)
 by_log_phase log_phase.Gate queue c c' o o' h = inr (inl h)
 by_log_phase GateSync queue c c' o o' h = inr (inl h)
-by_log_phase log_phase.Closing queue c c' o o' h = inr (inr h)
-by_log_phase log_phase.ClosingSync queue c c' o o' h = inr (inr h)
-by_log_phase log_phase.Header queue c c' o o' h = inr (inr h)
-by_log_phase log_phase.HeaderSync queue c c' o o' h = inr (inr h)
-by_log_phase log_phase.Opening queue c c' o o' h = inr (inr h)
-by_log_phase log_phase.OpeningSync queue c c' o o' h = inr (inr h)
+by_log_phase phase queue c c' o o' h = inr (inr h)
 
 log_exchanged : (phase : LogPhase) (queue : List Record) (one one' other other' : File) → IsLogCalled phase queue one one' other other' → IsLogCalled phase queue other other' one one'
 log_exchanged phase queue one one' other other' (inl none) = inl none
@@ -395,9 +351,8 @@ log_step_at fate was old new given aa ab sa sb e ma mb s =
     subst (λ o. StepsLogKeeper fate o given new) e (record {
       rest = s.rest;
       front = s.front;
-      stands = λ place has.
-          (let n = s.stands place (armed_log was.log place fate was.log_a aa sa new.log_a was.log_b ab sb new.log_b ma mb has) in
-          (n.0, moved_log new.log n.0 fate was.log_a aa sa new.log_a was.log_b ab sb new.log_b ma mb n.1, n.2));
+      stands = λ place. moved_step fate was.log_a aa sa new.log_a was.log_b ab sb new.log_b ma mb (LogIn was.log place) (LogIn new.log)
+          (λ next. JournalStep place was.queue given next new.queue) (s.stands place);
       follows = s.follows;
       end = s.end;
       idle = s.idle;

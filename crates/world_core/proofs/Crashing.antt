@@ -69,21 +69,21 @@ keeper_up true tick keeper idle = begun_up keeper.target_shut
 
 module _ (keepers : KeeperLaws) (cells : ℕ) (newest : Option (Slot × ℕ)) (tick : ℕ) (words : List ℕ) (round : Bool) (image_a image_b log_a log_b : List ℕ) (new : State) (b : Begins cells newest tick words round image_a image_b log_a log_b new)
     (some : 1 ≤ cells) (few : cells ≤ CELLS) (numbered : tick ≤ TICK_MAX) (images : ImageFiles) (told : IsTold cells newest images image_a image_b) where
-  made : ImagesIn (made_keeper cells newest (is_shut image_a) (is_shut image_b)) images new.image_a new.image_b
+  made : ImagesIn (made_keeper cells newest (is_shut image_a) (is_shut image_b)) images new.image_a.inner new.image_b.inner
   made = keepers.made cells newest (is_shut image_a) (is_shut image_b) images new.image_a new.image_b some few (only image_a new.image_a b.file_a) (only image_b new.image_b b.file_b)
       (tells keepers image_a new.image_a b.file_a) (tells keepers image_b new.image_b b.file_b)
       (subst (λ f. IsTold cells newest images f new.image_b.inner.content) (sym b.file_a.content) (subst (λ f. IsTold cells newest images image_a f) (sym b.file_b.content) told))
 
-  begun_images : (r : Bool) → ImagesIn (started_keeper r tick (made_keeper cells newest (is_shut image_a) (is_shut image_b))) (images_begun r tick images) new.image_a new.image_b
+  begun_images : (r : Bool) → ImagesIn (started_keeper r tick (made_keeper cells newest (is_shut image_a) (is_shut image_b))) (images_begun r tick images) new.image_a.inner new.image_b.inner
   begun_images false = made
   begun_images true = keepers.begun (made_keeper cells newest (is_shut image_a) (is_shut image_b)) tick images new.image_a new.image_b refl numbered made
 
   has_images : HasImages new (images_begun round tick images)
-  has_images = subst (λ k. ImagesIn k (images_begun round tick images) new.image_a new.image_b) (sym b.images) (begun_images round)
+  has_images = subst (λ k. ImagesIn k (images_begun round tick images) new.image_a.inner new.image_b.inner) (sym b.images) (begun_images round)
 
   has_log : (before_a before_b : Segment) → IsSegment log_a before_a → IsSegment log_b before_b → HasLog new (start_of tick before_a before_b (start_moves (is_shut log_a) (is_shut log_b)))
   has_log before_a before_b reads_a reads_b =
-      subst (λ k. LogIn k (start_of tick before_a before_b (start_moves (is_shut log_a) (is_shut log_b))) new.log_a new.log_b) (sym b.log)
+      subst (λ k. LogIn k (start_of tick before_a before_b (start_moves (is_shut log_a) (is_shut log_b))) new.log_a.inner new.log_b.inner) (sym b.log)
       (keepers.begins tick (is_shut log_a) (is_shut log_b) new.log_a new.log_b before_a before_b numbered (only log_a new.log_a b.file_la) (only log_b new.log_b b.file_lb)
       (tells keepers log_a new.log_a b.file_la) (tells keepers log_b new.log_b b.file_lb)
       (subst (λ f. IsSegment f before_a) (sym b.file_la.content) reads_a) (subst (λ f. IsSegment f before_b) (sym b.file_lb.content) reads_b))
@@ -106,9 +106,11 @@ begins_core queues keepers cells newest tick words round image_a image_b log_a l
     let q = queues.begins tick (is_shut log_a) (is_shut log_b) in
     let log_is = sym b.log in
     record {
-      some_cells = subst (λ n. 1 ≤ n) (sym b.cells_are) some;
-      few_cells = subst (λ n. n ≤ CELLS) (sym b.cells_are) few;
-      keeper_cells = ap (λ (k : Progress). k.cells) b.images ∙ keeper_cells_are round tick (made_keeper cells newest (is_shut image_a) (is_shut image_b)) ∙ sym b.cells_are;
+      cells = record {
+        some_cells = subst (λ n. 1 ≤ n) (sym b.cells_are) some;
+        few_cells = subst (λ n. n ≤ CELLS) (sym b.cells_are) few;
+        keeper_cells = ap (λ (k : Progress). k.cells) b.images ∙ keeper_cells_are round tick (made_keeper cells newest (is_shut image_a) (is_shut image_b)) ∙ sym b.cells_are;
+      };
       live = record {
         last = words;
         after_ended = ap (λ n. after_ticks n past.history.ticks) b.cells_are ∙ after;
@@ -117,11 +119,13 @@ begins_core queues keepers cells newest tick words round image_a image_b log_a l
         running = b.running ∙ sym idle;
       };
       counted = record {
-        ended = b.ended ∙ sym count;
-        since = b.since ∙ sym (ap (λ (s : Standing). s.since) standing);
-        numbered = subst (λ n. n ≤ TICK_MAX) (sym b.ended) numbered;
-        few = omega (arith, b.since);
-        within = omega (arith, b.since);
+        numbers = record {
+          ended = b.ended ∙ sym count;
+          since = b.since ∙ sym (ap (λ (s : Standing). s.since) standing);
+          numbered = subst (λ n. n ≤ TICK_MAX) (sym b.ended) numbered;
+          few = omega (arith, b.since);
+          within = omega (arith, b.since);
+        };
         queue_follows = subst (λ k. QueueFollows k new.queue) log_is (subst (QueueFollows (begun tick (is_shut log_a) (is_shut log_b))) (sym b.queue) q.0);
         queue_end = ap (λ k. end_of k new.queue) b.log ∙ ap (end_of (begun tick (is_shut log_a) (is_shut log_b))) b.queue ∙ q.1
             ∙ ap (λ n. record { base = n; count = 0 }) (let e : tick ≡ new.ended - new.since = omega (arith, b.ended, b.since) in e) ∙ ap (λ n. record { base = new.ended - new.since; count = n }) (sym b.since);
@@ -135,10 +139,12 @@ begins_core queues keepers cells newest tick words round image_a image_b log_a l
       in_step = subst (λ n. InStep n past.history.ticks past.acknowledged new.content (images_begun round tick images) (InStart (start_at tick before_a before_b)) new.queue) (sym b.cells_are)
           (subst (InStep cells past.history.ticks past.acknowledged new.content (images_begun round tick images) (InStart (start_at tick before_a before_b))) (sym b.queue) in_step);
       at_rest = b.running;
-      is_image_known = known ∙ sym (with_round_known round tick images);
-      start_left = ap (λ (s : Standing). s.start_left) standing;
-      image_down = ap (λ (s : Standing). s.is_image_down) standing ∙ keeper_up round tick (made_keeper cells newest (is_shut image_a) (is_shut image_b)) refl ∙ ap (λ (k : Progress). is_down k.phase) (sym b.images);
-      log_down = ap (λ (s : Standing). s.is_log_down) standing ∙ ap (λ (k : LogProgress). k.down) (sym b.log);
-      round = ap (λ (s : Standing). s.round) standing ∙ with_round_tick round tick images no_round;
-      newest = ap (λ (s : Standing). s.newest) standing ∙ ap newest_tick (sym newest_is ∙ sym (with_round_newest round tick images));
+      told = record {
+        is_image_known = known ∙ sym (with_round_known round tick images);
+        start_left = ap (λ (s : Standing). s.start_left) standing;
+        image_down = ap (λ (s : Standing). s.is_image_down) standing ∙ keeper_up round tick (made_keeper cells newest (is_shut image_a) (is_shut image_b)) refl ∙ ap (λ (k : Progress). is_down k.phase) (sym b.images);
+        log_down = ap (λ (s : Standing). s.is_log_down) standing ∙ ap (λ (k : LogProgress). k.down) (sym b.log);
+        round = ap (λ (s : Standing). s.round) standing ∙ with_round_tick round tick images no_round;
+        newest = ap (λ (s : Standing). s.newest) standing ∙ ap newest_tick (sym newest_is ∙ sym (with_round_newest round tick images));
+      };
     }

@@ -3,7 +3,7 @@ use Rattle.std.proofs.Common.{◌≡◌, ◌↔◌, ℕ, ◌<◌, Bool, true, fa
 use Rattle.world_actions.specs.declared.action.Action.{Action}
 use Rattle.world_actions.specs.declared.refusal.Refusal.TheVariants.{Starting, LogDown, ImageDown, OpenTick, Busy, NothingNew, QueueFull}
 use Rattle.image_files.specs.declared.phase.Phase.{Phase}
-use Rattle.image_files.specs.declared.phase.Phase.TheVariants.{Idle, Closing, ClosingSync, Header, Taking, Reading, Writing as WritingChunk, BodySync, Opening, OpeningSync, Down}
+use Rattle.image_files.specs.declared.phase.Phase.TheVariants.{Idle}
 use Rattle.image_files.specs.Images.{Round, round_in}
 use Rattle.world_core.specs.Standing.{tick_refusal, mark_refusal, is_starting, is_round_open, is_log_waiting, mark_refusal_at, queue_most}
 use Rattle.world_core.specs.Past.{Past}
@@ -27,32 +27,14 @@ true_iff false n h = not_lt n (λ e. (let g : false ≡ true = h.1 e in absurd (
 
 idle_or_not : (p : Phase) → (is_in_round p ≡ false → p ≡ Idle)
 idle_or_not Idle e = refl
-idle_or_not Closing e = absurd (let g = e in cc)
-idle_or_not ClosingSync e = absurd (let g = e in cc)
-idle_or_not Header e = absurd (let g = e in cc)
-idle_or_not Taking e = absurd (let g = e in cc)
-idle_or_not Reading e = absurd (let g = e in cc)
-idle_or_not WritingChunk e = absurd (let g = e in cc)
-idle_or_not BodySync e = absurd (let g = e in cc)
-idle_or_not Opening e = absurd (let g = e in cc)
-idle_or_not OpeningSync e = absurd (let g = e in cc)
-idle_or_not Down e = absurd (let g = e in cc)
+idle_or_not p e = absurd (let g = e in cc)
 
 in_round : (p : Phase) (opened : Bool) → (p ≡ Idle → opened ≡ false) → ((p ≡ Idle → ⊥) → opened ≡ true) → is_in_round p ≡ opened
 in_round Idle o none some = sym (none refl)
-in_round Closing o none some = sym (some (λ e. let g = e in cc))
-in_round ClosingSync o none some = sym (some (λ e. let g = e in cc))
-in_round Header o none some = sym (some (λ e. let g = e in cc))
-in_round Taking o none some = sym (some (λ e. let g = e in cc))
-in_round Reading o none some = sym (some (λ e. let g = e in cc))
-in_round WritingChunk o none some = sym (some (λ e. let g = e in cc))
-in_round BodySync o none some = sym (some (λ e. let g = e in cc))
-in_round Opening o none some = sym (some (λ e. let g = e in cc))
-in_round OpeningSync o none some = sym (some (λ e. let g = e in cc))
-in_round Down o none some = sym (some (λ e. let g = e in cc))
+in_round p o none some = sym (some (λ e. let g = e in cc))
 
 pub starting_is : KeeperLaws → (past : Past) (state : State) → IsCoreAt past state → state.log.starting ≡ is_starting past.standing
-starting_is laws past state c = true_iff state.log.starting c.place.left (laws.left state.log state.log_a state.log_b c.place c.has_log) ∙ ap (nat_lt 0) (sym c.start_left)
+starting_is laws past state c = true_iff state.log.starting c.place.left (laws.left state.log state.log_a state.log_b c.place c.has_log) ∙ ap (nat_lt 0) (sym c.told.start_left)
 
 pub round_is : KeeperLaws → (past : Past) (state : State) (c : IsCoreAt past state) → is_in_round state.images.phase ≡ is_some (round_in c.images)
 round_is laws past state c = in_round state.images.phase (is_some (round_in c.images))
@@ -64,7 +46,7 @@ some_tick None = refl
 some_tick (Some round) = refl
 
 open_is : (past : Past) (state : State) (c : IsCoreAt past state) → is_round_open past.standing ≡ is_some (round_in c.images)
-open_is past state c = ap is_some c.round ∙ some_tick (round_in c.images)
+open_is past state c = ap is_some c.told.round ∙ some_tick (round_in c.images)
 
 pub waiting_is : KeeperLaws → (past : Past) (state : State) → IsCoreAt past state → (state.log.starting && is_in_round state.images.phase) ≡ is_log_waiting past.standing
 waiting_is laws past state c = (λ i. starting_is laws past state c i && (round_is laws past state c ∙ sym (open_is past state c)) i)
@@ -76,12 +58,12 @@ mark_refusal_is laws past state c =
     let st = past.standing in
     let queued = length state.queue in
     ap (λ b. mark_refusal b state.log.down (is_down state.images.phase) (is_in_round state.images.phase) state.ended (newest_tick state.images.newest) queued state.running) (starting_is laws past state c)
-    ∙ ap (λ b. mark_refusal (is_starting st) b (is_down state.images.phase) (is_in_round state.images.phase) state.ended (newest_tick state.images.newest) queued state.running) (sym c.log_down)
-    ∙ ap (λ b. mark_refusal (is_starting st) st.is_log_down b (is_in_round state.images.phase) state.ended (newest_tick state.images.newest) queued state.running) (sym c.image_down)
+    ∙ ap (λ b. mark_refusal (is_starting st) b (is_down state.images.phase) (is_in_round state.images.phase) state.ended (newest_tick state.images.newest) queued state.running) (sym c.told.log_down)
+    ∙ ap (λ b. mark_refusal (is_starting st) st.is_log_down b (is_in_round state.images.phase) state.ended (newest_tick state.images.newest) queued state.running) (sym c.told.image_down)
     ∙ ap (λ b. mark_refusal (is_starting st) st.is_log_down st.is_image_down b state.ended (newest_tick state.images.newest) queued state.running) (round_is laws past state c ∙ sym (open_is past state c))
     ∙ ap (λ n. mark_refusal (is_starting st) st.is_log_down st.is_image_down (is_round_open st) n (newest_tick state.images.newest) queued state.running) c.counted.ended
     ∙ ap (λ n. mark_refusal (is_starting st) st.is_log_down st.is_image_down (is_round_open st) (length past.history.ticks) n queued state.running)
-    (ap newest_tick (laws.newest state.images c.images state.image_a state.image_b c.has_images) ∙ sym c.newest)
+    (ap newest_tick (laws.newest state.images c.images state.image_a state.image_b c.has_images) ∙ sym c.told.newest)
     ∙ ap (λ r. mark_refusal (is_starting st) st.is_log_down st.is_image_down (is_round_open st) (length past.history.ticks) st.newest queued r) c.live.running
 
 -- ---- what no refusal says

@@ -4,7 +4,7 @@ use Rattle.world_actions.specs.declared.action.Action.{Action}
 use Rattle.capture_core.specs.declared.taker.Taken.{Taken}
 use Rattle.capture_core.specs.Content.{Content, Takes}
 use Rattle.image_files.specs.declared.phase.Phase.{Phase}
-use Rattle.image_files.specs.declared.phase.Phase.TheVariants.{Idle, Closing, ClosingSync, Header, Taking, Reading, Writing as WritingChunk, BodySync, Opening, OpeningSync, Down}
+use Rattle.image_files.specs.declared.phase.Phase.TheVariants.{Idle, Down}
 use Rattle.image_files.specs.declared.answer.ImageAnswer.{ImageAnswer}
 use Rattle.image_files.specs.declared.answer.ImageAnswer.TheVariants as given_
 use Rattle.image_files.specs.Images.{Round, ImageFiles, NoneYet, Newest, round_in, newest_in, with_cell, with_taken, with_opened, StepsImages}
@@ -21,7 +21,7 @@ use Rattle.capture_core.specs.Taken.{taken_of}
 use Rattle.image_files.specs.Progress.{Progress, cells_taken, moves_left, left_of, opened_keeper, newest_tick}
 use Rattle.std.specs.Prelude.{slice_get}
 use Rattle.world_core.specs.Moving.{StepsImageKeeper}
-use Rattle.world_core.specs.Facts.{IsCoreAt, is_known}
+use Rattle.world_core.specs.Facts.{HasEnded, IsCoreAt, is_known}
 
 -- ---- what the answer tells
 
@@ -41,17 +41,8 @@ phase_down : (p : Phase) → p ≡ Down → true ≡ is_down p
 phase_down p e = sym (ap is_down e)
 
 phase_up : (p : Phase) → (p ≡ Down → ⊥) → is_down p ≡ false
-phase_up Idle h = refl
-phase_up Closing h = refl
-phase_up ClosingSync h = refl
-phase_up Header h = refl
-phase_up Taking h = refl
-phase_up Reading h = refl
-phase_up WritingChunk h = refl
-phase_up BodySync h = refl
-phase_up Opening h = refl
-phase_up OpeningSync h = refl
 phase_up Down h = absurd (h refl)
+phase_up p h = refl
 
 both_up : (old new : Phase) (given : ImageAnswer) → (given ≡ given_.Down → ⊥) → (given ≡ given_.Down) ↔ (new ≡ Down) → (old ≡ Down → given ≡ given_.Down) → is_down old ≡ is_down new
 both_up old new given h down stays = phase_up old (λ e. h (stays e)) ∙ sym (phase_up new (λ e. h (down.1 e)))
@@ -141,29 +132,29 @@ image_keeps laws past old new fate given c d =
     let moved : State = record old { content = new.content; images = new.images; image_a = new.image_a; image_b = new.image_b } in
     let s = d.stands c.images c.has_images in
     let steps : StepsImages Takes old.cells c.images given s.0 old.content new.content = subst (λ n. StepsImages Takes n c.images given s.0 old.content new.content) c.keeper_cells s.2 in
-    let round = round_after old.cells old.content new.content past.standing past.history.running fate c.images given s.0 steps c.round in
-    let newest = newest_after old.cells old.content new.content past.standing past.history.running fate c.images given s.0 steps c.newest in
+    let round = round_after old.cells old.content new.content past.standing past.history.running fate c.images given s.0 steps c.told.round in
+    let newest = newest_after old.cells old.content new.content past.standing past.history.running fate c.images given s.0 steps c.told.newest in
     let st = image_standing past.standing past.history.running fate given in
     let k = c.counted in
     let live = step_live old.cells old.content new.content c.images given s.0 steps in
     let is : IsCoreAt after moved = record {
-      some_cells = c.some_cells;
-      few_cells = c.few_cells;
-      keeper_cells = d.cells ∙ c.keeper_cells;
+      cells = record { some_cells = c.some_cells; few_cells = c.few_cells; keeper_cells = d.cells ∙ c.keeper_cells };
       live = record { last = c.live.last; after_ended = c.live.after_ended; live = c.live.live ∙ ap (λ w. Ok w) (sym live); all = ap length live ∙ c.live.all; running = c.live.running };
-      counted = record { ended = k.ended; since = k.since ∙ sym st.since; numbered = k.numbered; few = k.few; within = k.within; queue_follows = k.queue_follows; queue_end = k.queue_end; taken = k.taken; records = st.records ∙ k.records };
+      counted = record { numbers = subst (λ n. HasEnded past.history.ticks n old.ended old.since) (sym st.since) k.numbers; queue_follows = k.queue_follows; queue_end = k.queue_end; taken = k.taken; records = st.records ∙ k.records };
       images = s.0;
       place = c.place;
       has_images = s.1;
       has_log = c.has_log;
       in_step = laws.goes_on.image_step old.cells past.history.ticks past.acknowledged c.images c.place.journal old.queue given s.0 old.content new.content steps c.in_step;
       at_rest = c.at_rest;
-      is_image_known = known_after old.cells old.content new.content past.has_image c.images given s.0 steps c.is_image_known;
-      start_left = st.start_left ∙ c.start_left;
-      image_down = down_after past.standing past.history.running fate old.images.phase new.images.phase given d.down d.stays_down c.image_down;
-      log_down = st.log_down ∙ c.log_down;
-      round = round;
-      newest = newest;
+      told = record {
+        is_image_known = known_after old.cells old.content new.content past.has_image c.images given s.0 steps c.told.is_image_known;
+        start_left = st.start_left ∙ c.told.start_left;
+        image_down = down_after past.standing past.history.running fate old.images.phase new.images.phase given d.down d.stays_down c.told.image_down;
+        log_down = st.log_down ∙ c.told.log_down;
+        round = round;
+        newest = newest;
+      };
     } in
     subst (IsCoreAt after) (sym d.rest) is
 
@@ -183,16 +174,8 @@ no_empty_take laws keepers past old new c round is fewer t =
 -- a keeper in a round that isn't down has moves left
 some_left : (p : Phase) (keeper : Progress) → (p ≡ Idle → ⊥) → (p ≡ Down → ⊥) → 0 < moves_left p keeper
 some_left Idle k idle down = absurd (idle refl)
-some_left Closing k idle down = omega arith
-some_left ClosingSync k idle down = omega arith
-some_left Header k idle down = omega arith
-some_left Taking k idle down = omega arith
-some_left Reading k idle down = omega arith
-some_left WritingChunk k idle down = omega arith
-some_left BodySync k idle down = omega arith
-some_left Opening k idle down = omega arith
-some_left OpeningSync k idle down = omega arith
 some_left Down k idle down = absurd (down refl)
+some_left p k idle down = omega arith
 
 none_left : (keeper old : Progress) → keeper ≡ opened_keeper old → left_of keeper ≡ 0
 none_left keeper old e = ap left_of e
@@ -216,12 +199,12 @@ is_open : (standing : Option ℕ) (tick : ℕ) → standing ≡ Some tick → is
 is_open standing tick e = ap is_some e
 
 pub image_exact : (past : Past) (old new : State) (fate : Fate) (given : ImageAnswer) → IsCoreAt past old → StepsImageKeeper fate old given new → IsImageAnswer past.standing given
-image_exact past old new fate given_.Idle c d = c.round ∙ ap round_tick (d.stands c.images c.has_images).2.0
+image_exact past old new fate given_.Idle c d = c.told.round ∙ ap round_tick (d.stands c.images c.has_images).2.0
 image_exact past old new fate given_.Working c d =
     let s = (d.stands c.images c.has_images).2 in
-    (is_open past.standing.round s.0.tick (some_round past.standing.round (round_in c.images) s.0 c.round s.1), c.image_down ∙ phase_up old.images.phase (λ e. (let g = d.stays_down e in absurd (let h = g in cc))))
+    (is_open past.standing.round s.0.tick (some_round past.standing.round (round_in c.images) s.0 c.told.round s.1), c.told.image_down ∙ phase_up old.images.phase (λ e. (let g = d.stays_down e in absurd (let h = g in cc))))
 image_exact past old new fate (given_.Opened tick) c d =
     let s = (d.stands c.images c.has_images).2 in
-    (some_round past.standing.round (round_in c.images) s.0 c.round s.1 ∙ ap (λ t. Some t) (sym s.2), c.image_down ∙ phase_up old.images.phase (λ e. (let g = d.stays_down e in absurd (let h = g in cc))))
+    (some_round past.standing.round (round_in c.images) s.0 c.told.round s.1 ∙ ap (λ t. Some t) (sym s.2), c.told.image_down ∙ phase_up old.images.phase (λ e. (let g = d.stays_down e in absurd (let h = g in cc))))
 image_exact past old new fate given_.Down c d =
-    let s = (d.stands c.images c.has_images).2 in is_open past.standing.round s.0.tick (some_round past.standing.round (round_in c.images) s.0 c.round s.1)
+    let s = (d.stands c.images c.has_images).2 in is_open past.standing.round s.0.tick (some_round past.standing.round (round_in c.images) s.0 c.told.round s.1)

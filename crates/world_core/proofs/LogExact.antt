@@ -2,7 +2,7 @@
 use Rattle.std.proofs.Common.{◌≡◌, ℕ, ◌+◌, ◌<◌, inr, Bool, true, false, nat_lt, List, [], ◌∷◌, length, refl, sym, ap, ◌∙◌, arith}
 use Rattle.image_files.specs.Images.{ImageFiles, NoneYet, Newest}
 use Rattle.action_log.specs.declared.phase.Phase.{Phase}
-use Rattle.action_log.specs.declared.phase.Phase.TheVariants.{Retiring, RetiringSync, Ready, BodySync, Gate, GateSync, Closing, ClosingSync, Header, HeaderSync, Opening, OpeningSync}
+use Rattle.action_log.specs.declared.phase.Phase.TheVariants.{Retiring, RetiringSync, Ready}
 use Rattle.action_log.specs.declared.progress.Progress.{Progress}
 use Rattle.action_log.specs.declared.answer.LogAnswer.{LogAnswer}
 use Rattle.action_log.specs.declared.answer.LogAnswer.TheVariants as given_
@@ -32,20 +32,9 @@ use Rattle.world_core.proofs.Logging.{up_of, stays_down}
 work_in : (p : Phase) (other_shut : Bool) (queue : List Record) → ((p ≡ Ready) × (queue ≡ []) → ⊥) → 0 < rest_in p other_shut + queue_work queue
 work_in Ready shut [] h = absurd (h (refl, refl))
 work_in Ready shut (records.Tick tick ∷ queue) h = omega arith
-work_in Ready shut (records.Switch tick ∷ queue) h = omega arith
 work_in Retiring true queue h = omega arith
-work_in Retiring false queue h = omega arith
 work_in RetiringSync true queue h = omega arith
-work_in RetiringSync false queue h = omega arith
-work_in BodySync shut queue h = omega arith
-work_in Gate shut queue h = omega arith
-work_in GateSync shut queue h = omega arith
-work_in Closing shut queue h = omega arith
-work_in ClosingSync shut queue h = omega arith
-work_in Header shut queue h = omega arith
-work_in HeaderSync shut queue h = omega arith
-work_in Opening shut queue h = omega arith
-work_in OpeningSync shut queue h = omega arith
+work_in p shut queue h = omega arith
 
 pub no_work : (keeper : Progress) (queue : List Record) → keeper.phase ≡ Ready → queue ≡ [] → work_of keeper queue ≡ 0
 no_work keeper queue ready empty = λ i. rest_in (ready i) keeper.other_shut + queue_work (empty i)
@@ -82,11 +71,11 @@ receipt_in laws past old new tick (Newest images) (Writing logs) left next stand
 )
 
 pub log_exact : EventLaws → (past : Past) (old new : State) (fate : Fate) (given : LogAnswer) → IsCoreAt past old → is_log_waiting past.standing ≡ false → StepsLogKeeper fate old given new → IsLogAnswer past old given
-log_exact laws past old new fate given_.Idle c going d = (let i = d.idle.0 refl in inr (c.log_down ∙ i.0, no_work old.log old.queue i.1 i.2))
+log_exact laws past old new fate given_.Idle c going d = (let i = d.idle.0 refl in inr (c.told.log_down ∙ i.0, no_work old.log old.queue i.1 i.2))
 log_exact laws past old new fate given_.Working c going d =
-    (going, c.log_down ∙ was_up old new fate given_.Working d (λ e. let g = e in cc), has_work old new fate given_.Working d (λ e. let g = e in cc) (λ e. let g = e in cc))
+    (going, c.told.log_down ∙ was_up old new fate given_.Working d (λ e. let g = e in cc), has_work old new fate given_.Working d (λ e. let g = e in cc) (λ e. let g = e in cc))
 log_exact laws past old new fate (given_.Acked tick) c going d =
     let s = d.stands c.place c.has_log in
     let r = receipt_in laws past old new tick c.images c.place.journal c.place.left s.0 c.has_log c.in_step.phase s.2 in
-    (ap (nat_lt 0) (c.start_left ∙ r.0), c.log_down ∙ was_up old new fate (given_.Acked tick) d (λ e. let g = e in cc), has_work old new fate (given_.Acked tick) d (λ e. let g = e in cc) (λ e. let g = e in cc), r.1)
+    (ap (nat_lt 0) (c.told.start_left ∙ r.0), c.told.log_down ∙ was_up old new fate (given_.Acked tick) d (λ e. let g = e in cc), has_work old new fate (given_.Acked tick) d (λ e. let g = e in cc) (λ e. let g = e in cc), r.1)
 log_exact laws past old new fate given_.Down c going d = going

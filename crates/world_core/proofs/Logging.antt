@@ -20,7 +20,7 @@ use Rattle.world_core.specs.Past.{Past, past_after}
 use Rattle.world_core.specs.State.{State, HasLog}
 use Rattle.world_core.specs.Laws.{EventLaws}
 use Rattle.world_core.specs.Moving.{StepsLogKeeper}
-use Rattle.world_core.specs.Facts.{IsCoreAt, IsAtRest}
+use Rattle.world_core.specs.Facts.{HasEnded, IsCoreAt, IsAtRest}
 
 -- ---- what the answer tells
 
@@ -107,16 +107,10 @@ log_keeps laws past old new fate given c waits d =
     let st = log_standing past.standing past.history.running fate given in
     let k = c.counted in
     let is : IsCoreAt after moved = record {
-      some_cells = c.some_cells;
-      few_cells = c.few_cells;
-      keeper_cells = c.keeper_cells;
-      live = record { last = c.live.last; after_ended = c.live.after_ended; live = c.live.live; all = c.live.all; running = c.live.running };
+      cells = c.cells;
+      live = c.live;
       counted = record {
-        ended = k.ended;
-        since = k.since ∙ sym st.since;
-        numbered = k.numbered;
-        few = k.few;
-        within = k.within;
+        numbers = subst (λ n. HasEnded past.history.ticks n old.ended old.since) (sym st.since) k.numbers;
         queue_follows = d.follows;
         queue_end = d.end ∙ k.queue_end;
         taken = k.taken ++ map queued_of (taken old.log old.queue);
@@ -130,11 +124,13 @@ log_keeps laws past old new fate given c waits d =
           (laws.goes_on.log_step old.cells past.history.ticks past.acknowledged old.content c.images c.place old.queue given s.0 new.queue c.some_cells
           (none_waited old c.images c.place.journal c.place.left c.has_log waits) s.2 c.in_step);
       at_rest = log_rests old.running c.place.journal c.place.left old.queue given s.0 new.queue s.2 c.at_rest;
-      is_image_known = c.is_image_known;
-      start_left = left_after past.standing past.history.running fate c.place.journal c.place.left old.queue given s.0 new.queue s.2 (none_in old c.place.journal c.place.left c.has_log) c.start_left;
-      image_down = st.image_down ∙ c.image_down;
-      log_down = down_after past.standing past.history.running fate old.log.down new.log.down given d.down (stays_down old new fate given d) c.log_down;
-      round = st.round ∙ c.round;
-      newest = st.newest ∙ c.newest;
+      told = record {
+        is_image_known = c.told.is_image_known;
+        start_left = left_after past.standing past.history.running fate c.place.journal c.place.left old.queue given s.0 new.queue s.2 (none_in old c.place.journal c.place.left c.has_log) c.told.start_left;
+        image_down = st.image_down ∙ c.told.image_down;
+        log_down = down_after past.standing past.history.running fate old.log.down new.log.down given d.down (stays_down old new fate given d) c.told.log_down;
+        round = st.round ∙ c.told.round;
+        newest = st.newest ∙ c.told.newest;
+      };
     } in
     subst (IsCoreAt after) (sym d.rest) is

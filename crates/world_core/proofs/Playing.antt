@@ -68,9 +68,7 @@ action_keeps laws past old new action c none d =
     let s = has_started past old c none in
     let k = c.counted in
     let is : IsCoreAt after next = record {
-      some_cells = c.some_cells;
-      few_cells = c.few_cells;
-      keeper_cells = c.keeper_cells;
+      cells = c.cells;
       live = record {
         last = c.live.last;
         after_ended = c.live.after_ended;
@@ -78,19 +76,14 @@ action_keeps laws past old new action c none d =
         all = d.cells ∙ c.live.all;
         running = ap (λ r. r ++ action ∷ []) c.live.running;
       };
-      counted = record { ended = k.ended; since = k.since; numbered = k.numbered; few = k.few; within = k.within; queue_follows = k.queue_follows; queue_end = k.queue_end; taken = k.taken; records = k.records };
+      counted = record { numbers = k.numbers; queue_follows = k.queue_follows; queue_end = k.queue_end; taken = k.taken; records = k.records };
       images = c.images;
       place = c.place;
       has_images = c.has_images;
       has_log = c.has_log;
       in_step = record { store = laws.goes_on.writes old.cells past.history.ticks old.content new.content c.images (ap (λ (n : Content). n.left) d.content) d.covers c.in_step.store; phase = c.in_step.phase };
       at_rest = subst (λ j. IsAtRest j (old.running ++ action ∷ [])) (sym s.is_writing) tt;
-      is_image_known = c.is_image_known;
-      start_left = c.start_left;
-      image_down = c.image_down;
-      log_down = c.log_down;
-      round = c.round;
-      newest = c.newest;
+      told = c.told;
     } in
     subst (IsCoreAt after) (sym d.rest) is
 
@@ -124,9 +117,7 @@ end_keeps laws queues past old new number c none numbered few d =
     let base : (end_of old.log old.queue).base ≡ old.ended - old.since = ap (λ (e : QueueEnd). e.base) k.queue_end in
     let q = queues.tick old.log old.queue tick k.queue_follows (omega (arith, count)) (omega (arith, count, base, k.within)) in
     let is : IsCoreAt after next = record {
-      some_cells = c.some_cells;
-      few_cells = c.few_cells;
-      keeper_cells = c.keeper_cells;
+      cells = c.cells;
       live = record {
         last = old.content.live;
         after_ended = world_ended laws old.cells ticks past.history.running c.live.last old.content.live c.live.after_ended c.live.live;
@@ -135,11 +126,7 @@ end_keeps laws queues past old new number c none numbered few d =
         running = refl;
       };
       counted = record {
-        ended = omega (arith, k.ended, length-append ticks (past.history.running ∷ []));
-        since = ap (λ n. n + 1) k.since;
-        numbered = omega arith;
-        few = omega arith;
-        within = omega (arith, k.within);
+        numbers = record { ended = omega (arith, k.ended, length-append ticks (past.history.running ∷ [])); since = ap (λ n. n + 1) k.since; numbered = omega arith; few = omega arith; within = omega (arith, k.within) };
         queue_follows = q.0;
         queue_end = q.1 ∙ ap (λ n. record { base = n; count = (end_of old.log old.queue).count + 1 }) (let e : (end_of old.log old.queue).base ≡ old.ended + 1 - (old.since + 1) = omega (arith, base, k.within) in e) ∙ ap (λ n. record { base = old.ended + 1 - (old.since + 1); count = n + 1 }) count;
         taken = k.taken;
@@ -153,12 +140,7 @@ end_keeps laws queues past old new number c none numbered few d =
       in_step = subst (λ i. InStep old.cells (ticks ++ past.history.running ∷ []) past.acknowledged old.content i c.place.journal (old.queue ++ records.Tick tick ∷ [])) (sym s.is_newest)
           (subst (λ j. InStep old.cells (ticks ++ past.history.running ∷ []) past.acknowledged old.content (Newest s.newest) j (old.queue ++ records.Tick tick ∷ [])) (sym s.is_writing) in_step);
       at_rest = empty_rests c.place.journal [] refl;
-      is_image_known = c.is_image_known;
-      start_left = c.start_left;
-      image_down = c.image_down;
-      log_down = c.log_down;
-      round = c.round;
-      newest = c.newest;
+      told = c.told;
     } in
     subst (IsCoreAt after) (sym d.2) is
 
@@ -193,16 +175,10 @@ mark_keeps laws queues keepers past old new number c none idle at_rest news is_n
     subst (λ n. InStep old.cells ticks past.acknowledged new.content (with_round n (Newest s.newest)) (Writing s.logs) (old.queue ++ records.Switch n ∷ [])) (sym k.ended)
     (laws.goes_on.mark old.cells ticks past.acknowledged s.newest s.logs old.queue old.content new.content no_round above (c.live.after_ended ∙ ap (λ w. Ok w) same) c.live.all d.0 s.in_step) in
     let is : IsCoreAt after next = record {
-      some_cells = c.some_cells;
-      few_cells = c.few_cells;
-      keeper_cells = c.keeper_cells;
+      cells = c.cells;
       live = record { last = c.live.last; after_ended = c.live.after_ended; live = c.live.live ∙ ap (λ w. Ok w) (sym d.0.live); all = ap length d.0.live ∙ c.live.all; running = c.live.running };
       counted = record {
-        ended = k.ended;
-        since = refl;
-        numbered = k.numbered;
-        few = omega arith;
-        within = omega arith;
+        numbers = record { ended = k.ended; since = refl; numbered = k.numbered; few = omega arith; within = omega arith };
         queue_follows = q.0;
         queue_end = q.1 ∙ ap (λ n. record { base = n; count = 0 }) (let e : old.ended ≡ old.ended - 0 = omega arith in e);
         taken = k.taken;
@@ -215,11 +191,13 @@ mark_keeps laws queues keepers past old new number c none idle at_rest news is_n
       has_log = c.has_log;
       in_step = subst (λ j. InStep old.cells ticks past.acknowledged new.content (with_round old.ended (Newest s.newest)) j (old.queue ++ records.Switch old.ended ∷ [])) (sym s.is_writing) in_step;
       at_rest = c.at_rest;
-      is_image_known = c.is_image_known ∙ ap is_known s.is_newest;
-      start_left = c.start_left;
-      image_down = c.image_down ∙ ap is_down at_rest ∙ begun_up old.images.target_shut;
-      log_down = c.log_down;
-      round = refl;
-      newest = c.newest ∙ newest;
+      told = record {
+        is_image_known = c.told.is_image_known ∙ ap is_known s.is_newest;
+        start_left = c.told.start_left;
+        image_down = c.told.image_down ∙ ap is_down at_rest ∙ begun_up old.images.target_shut;
+        log_down = c.told.log_down;
+        round = refl;
+        newest = c.told.newest ∙ newest;
+      };
     } in
     subst (λ n. IsCoreAt (past_after past move.Mark (answer.Started n)) new) (sym is_number) (subst (IsCoreAt after) (sym d.1) is)

@@ -6,7 +6,6 @@ use Rattle.world_actions.specs.declared.refusal.Refusal.{Refusal}
 use Rattle.world_actions.specs.declared.refusal.Refusal.TheVariants.{NoImage, NoMemory}
 use Rattle.world_actions.specs.declared.world.TheConstants.{CELLS}
 use Rattle.world_ticks.specs.declared.tick.TheConstants.{TICK_MAX}
-use Rattle.file_format.specs.declared.slot.Slot.{Slot}
 use Rattle.disk_model.specs.CrashOutcome.{IsCrashOutcome}
 use Rattle.image_files.specs.Image.{Closed, image_of}
 use Rattle.image_files.specs.Images.{NoneYet, Newest}
@@ -171,24 +170,12 @@ stands_keeps events queues keepers safety past old new c left may (answer.Recove
     let k = recovered_keeps events queues keepers safety past old new c s.0 left.image_a.items left.image_b.items left.log_a.items left.log_b.items may.0 may.1 may.2 may.3 s.1 s.4 s.5 in
     subst (λ t. IsCoreAt (past_after past (move.Crash left) (answer.Recovered t from)) new) (sym s.2) (subst (λ f. IsCoreAt (past_after past (move.Crash left) (answer.Recovered s.0.tick f)) new) (sym s.3) k)
 stands_keeps events queues keepers safety past old new c left may answer.Blank s = blank_keeps events queues keepers safety past old new c left.image_a.items left.image_b.items left.log_a.items left.log_b.items may.0 may.1 may.2 may.3 s.0 s.1
-stands_keeps events queues keepers safety past old new c left may answer.Did s = absurd s
-stands_keeps events queues keepers safety past old new c left may (answer.Word word) s = absurd s
-stands_keeps events queues keepers safety past old new c left may (answer.Ended tick) s = absurd s
-stands_keeps events queues keepers safety past old new c left may (answer.Started tick) s = absurd s
-stands_keeps events queues keepers safety past old new c left may (answer.Image given) s = absurd s
-stands_keeps events queues keepers safety past old new c left may (answer.Log given) s = absurd s
-stands_keeps events queues keepers safety past old new c left may (answer.Refused refusal) s = absurd s
+stands_keeps events queues keepers safety past old new c left may given s = absurd s
 
 pub stands_exact : (state new : State) (cells : ℕ) (ia ib la lb : List ℕ) → MayLeave (files_in state) ia ib la lb → (given : Answer) → StandsOn cells ia ib la lb given new → IsCrashAnswer (files_in state) ia ib la lb given
 stands_exact state new cells ia ib la lb may (answer.Recovered tick from) s = (may, (s.0, s.1, s.2, s.3))
 stands_exact state new cells ia ib la lb may answer.Blank s = (may, s.0)
-stands_exact state new cells ia ib la lb may answer.Did s = absurd s
-stands_exact state new cells ia ib la lb may (answer.Word word) s = absurd s
-stands_exact state new cells ia ib la lb may (answer.Ended tick) s = absurd s
-stands_exact state new cells ia ib la lb may (answer.Started tick) s = absurd s
-stands_exact state new cells ia ib la lb may (answer.Image given) s = absurd s
-stands_exact state new cells ia ib la lb may (answer.Log given) s = absurd s
-stands_exact state new cells ia ib la lb may (answer.Refused refusal) s = absurd s
+stands_exact state new cells ia ib la lb may given s = absurd s
 
 pub refused_exact : SafetyLaws → (past : Past) (state : State) (c : IsCoreAt past state) (ia ib la lb : List ℕ) → MayLeave (files_in state) ia ib la lb → (refusal : Refusal)
     → (refusal ≡ NoMemory) ⊎ ((refusal ≢ NoImage) × Recovers ia ib la lb (Err refusal)) → IsCrashAnswer (files_in state) ia ib la lb (answer.Refused refusal)

@@ -29,7 +29,7 @@ by_known state ticks acknowledged (Newest images) safe = safe
 pub core_is_safe : SafetyLaws → (past : Past) (state : State) → IsCoreAt past state → AreSafe past.has_image (files_in state) state.cells past.history.ticks past.acknowledged
 core_is_safe laws past state c =
     let ticks = past.history.ticks in
-    subst (λ h. AreSafe h (files_in state) state.cells ticks past.acknowledged) (sym c.is_image_known)
+    subst (λ h. AreSafe h (files_in state) state.cells ticks past.acknowledged) (sym c.told.is_image_known)
     (by_known state ticks past.acknowledged c.images (laws.safe state ticks past.acknowledged c.images c.place c.keeper_cells c.has_images c.has_log c.in_step))
 
 -- the same of whatever may be left of each file

@@ -68,17 +68,7 @@ images_end fate (answer.Image image_answer.Idle) told result past old new is a =
 images_end fate (answer.Image image_answer.Down) told result past old new is a = inr refl
 images_end fate (answer.Log log_answer.Idle) told result past old new is a = absurd a.exact
 images_end fate (answer.Log log_answer.Down) told result past old new is a = absurd a.exact
-images_end fate answer.Did told result past old new is a = absurd is
-images_end fate (answer.Word word) told result past old new is a = absurd is
-images_end fate (answer.Ended tick) told result past old new is a = absurd is
-images_end fate (answer.Started tick) told result past old new is a = absurd is
-images_end fate (answer.Recovered tick from) told result past old new is a = absurd is
-images_end fate answer.Blank told result past old new is a = absurd is
-images_end fate (answer.Refused refusal) told result past old new is a = absurd is
-images_end fate (answer.Image image_answer.Working) told result past old new is a = absurd is
-images_end fate (answer.Image (image_answer.Opened tick)) told result past old new is a = absurd is
-images_end fate (answer.Log log_answer.Working) told result past old new is a = absurd is
-images_end fate (answer.Log (log_answer.Acked tick)) told result past old new is a = absurd is
+images_end fate last told result past old new is a = absurd is
 
 pub images_settle : (fate : Fate) (past : Past) (old : State) (told : ImageAnswer) (next : Past) (new : State) → RepeatsImages fate past old told next new → ImagesSettled next.standing
 images_settle fate past old told next new r =
@@ -112,8 +102,8 @@ log_settled standing past state c is (inl waits) = inr (inl waits)
 log_settled standing past state c is (inr done) =
     inr (inr (
       done.1,
-      no_start state.log state.queue c.place.journal c.place.left standing state refl c.has_log (sym (ap (λ (s : Standing). s.start_left) is) ∙ c.start_left)
-          (sym c.log_down ∙ ap (λ (s : Standing). s.is_log_down) is ∙ done.0) done.1,
+      no_start state.log state.queue c.place.journal c.place.left standing state refl c.has_log (sym (ap (λ (s : Standing). s.start_left) is) ∙ c.told.start_left)
+          (sym c.told.log_down ∙ ap (λ (s : Standing). s.is_log_down) is ∙ done.0) done.1,
     ))
 
 log_idle_after : (fate : Fate) (past : Past) (old new : State) → IsCoreAt (past_after past (move.Log fate) (answer.Log log_answer.Idle)) new → Answers past old (move.Log fate) (answer.Log log_answer.Idle) new → LogSettled past.standing new
@@ -125,17 +115,7 @@ log_end fate (answer.Log log_answer.Idle) told result past old new c is a = log_
 log_end fate (answer.Log log_answer.Down) told result past old new c is a = inl refl
 log_end fate (answer.Image image_answer.Idle) told result past old new c is a = absurd a.exact
 log_end fate (answer.Image image_answer.Down) told result past old new c is a = absurd a.exact
-log_end fate answer.Did told result past old new c is a = absurd is
-log_end fate (answer.Word word) told result past old new c is a = absurd is
-log_end fate (answer.Ended tick) told result past old new c is a = absurd is
-log_end fate (answer.Started tick) told result past old new c is a = absurd is
-log_end fate (answer.Recovered tick from) told result past old new c is a = absurd is
-log_end fate answer.Blank told result past old new c is a = absurd is
-log_end fate (answer.Refused refusal) told result past old new c is a = absurd is
-log_end fate (answer.Image image_answer.Working) told result past old new c is a = absurd is
-log_end fate (answer.Image (image_answer.Opened tick)) told result past old new c is a = absurd is
-log_end fate (answer.Log log_answer.Working) told result past old new c is a = absurd is
-log_end fate (answer.Log (log_answer.Acked tick)) told result past old new c is a = absurd is
+log_end fate last told result past old new c is a = absurd is
 
 pub log_settles : (fate : Fate) (past : Past) (old : State) (told : LogAnswer) (next : Past) (new : State) → RepeatsLog fate past old told next new → LogSettled next.standing new
 log_settles fate past old told next new r =
@@ -151,18 +131,9 @@ record IsSameImage (new old : Standing) : Type 0 where
   down : new.is_image_down ≡ old.is_image_down
 
 one_same : (standing : Standing) (running : List Action) (fate : Fate) (given : Answer) → IsSameImage (standing_after standing running (move.Log fate) given) standing
-one_same standing running fate answer.Did = record { round = refl; down = refl }
-one_same standing running fate (answer.Word word) = record { round = refl; down = refl }
-one_same standing running fate (answer.Ended tick) = record { round = refl; down = refl }
-one_same standing running fate (answer.Started tick) = record { round = refl; down = refl }
-one_same standing running fate (answer.Image given) = record { round = refl; down = refl }
-one_same standing running fate (answer.Log log_answer.Idle) = record { round = refl; down = refl }
 one_same standing running fate (answer.Log log_answer.Working) = record { round = refl; down = refl }
-one_same standing running fate (answer.Log (log_answer.Acked tick)) = record { round = refl; down = refl }
 one_same standing running fate (answer.Log log_answer.Down) = record { round = refl; down = refl }
-one_same standing running fate (answer.Recovered tick from) = record { round = refl; down = refl }
-one_same standing running fate answer.Blank = record { round = refl; down = refl }
-one_same standing running fate (answer.Refused refusal) = record { round = refl; down = refl }
+one_same standing running fate given = record { round = refl; down = refl }
 
 all_same : (fate : Fate) (past : Past) (answers : List Answer) → IsSameImage (past_of past (replicate (length answers) (move.Log fate)) answers).standing past.standing
 all_same fate past [] = record { round = refl; down = refl }

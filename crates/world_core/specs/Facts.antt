@@ -9,6 +9,7 @@ use Rattle.action_log.specs.declared.format.TheConstants.{SEGMENT_TICKS}
 use Rattle.action_log.specs.Progress.{QueueFollows, end_of}
 use Rattle.action_log.specs.Logs.{Journal, InStart, Writing, LogPlace}
 use Rattle.restart.specs.InStep.{InStep}
+use Rattle.world_core.specs.History.{History}
 use Rattle.world_core.specs.Standing.{Queued, queued_of}
 use Rattle.world_core.specs.Past.{Past}
 use Rattle.image_files.specs.Progress.{newest_tick}
@@ -23,31 +24,52 @@ abbrev pub is_known : ImageFiles → Bool
 is_known (NoneYet images) = false
 is_known (Newest images) = true
 
--- the numbers
+-- the cells of the world and of its image keeper
+pub record HasSize (cells keeper : ℕ) : Type 0 where
+  pub some_cells : 1 ≤ cells
+  pub few_cells : cells ≤ CELLS
+  pub keeper_cells : keeper ≡ cells
+
+-- how many ticks have ended, and how many since the last mark or start
+pub record HasEnded (ticks : List (List Action)) (told count recent : ℕ) : Type 0 where
+  pub ended : count ≡ length ticks
+  pub since : recent ≡ told
+  pub numbered : count ≤ TICK_MAX
+  pub few : recent ≤ SEGMENT_TICKS
+  pub within : recent ≤ count
+
+-- these numbers, and the queue
 pub record IsCounted (past : Past) (state : State) : Type 0 where
-  pub ended : state.ended ≡ length past.history.ticks
-  pub since : state.since ≡ past.standing.since
-  pub numbered : state.ended ≤ TICK_MAX
-  pub few : state.since ≤ SEGMENT_TICKS
-  pub within : state.since ≤ state.ended
+  pub numbers : HasEnded past.history.ticks past.standing.since state.ended state.since
+  pub open numbers use *
   pub queue_follows : QueueFollows state.log state.queue
   pub queue_end : end_of state.log state.queue ≡ record { base = state.ended - state.since; count = state.since }
   pub taken : List Queued
   pub records : past.standing.records ≡ taken ++ map queued_of state.queue
 
 -- the words
-pub record IsLive (past : Past) (state : State) : Type 0 where
+pub record IsLive (cells : ℕ) (history : History) (words : List ℕ) (actions : List Action) : Type 0 where
   pub last : List ℕ
-  pub after_ended : after_ticks state.cells past.history.ticks ≡ Ok last
-  pub live : after_actions last past.history.running ≡ Ok state.content.live
-  pub all : length state.content.live ≡ state.cells
-  pub running : state.running ≡ past.history.running
+  pub after_ended : after_ticks cells history.ticks ≡ Ok last
+  pub live : after_actions last history.running ≡ Ok words
+  pub all : length words ≡ cells
+  pub running : actions ≡ history.running
+
+-- what moves and answers tell of the keepers
+abbrev pub AreTold : Past → State → ImageFiles → LogPlace → Type 0
+AreTold past state images place = record {
+  is_image_known : past.has_image ≡ is_known images;
+  start_left : past.standing.start_left ≡ place.left;
+  image_down : past.standing.is_image_down ≡ is_down state.images.phase;
+  log_down : past.standing.is_log_down ≡ state.log.down;
+  round : past.standing.round ≡ option_map (λ (round : Round). round.tick) (round_in images);
+  newest : past.standing.newest ≡ newest_tick (newest_in images);
+}
 
 pub record IsCoreAt (past : Past) (state : State) : Type 0 where
-  pub some_cells : 1 ≤ state.cells
-  pub few_cells : state.cells ≤ CELLS
-  pub keeper_cells : state.images.cells ≡ state.cells
-  pub live : IsLive past state
+  pub cells : HasSize state.cells state.images.cells
+  pub open cells use *
+  pub live : IsLive state.cells past.history state.content.live state.running
   pub counted : IsCounted past state
   -- what the keepers stand for
   pub images : ImageFiles
@@ -56,10 +78,4 @@ pub record IsCoreAt (past : Past) (state : State) : Type 0 where
   pub has_log : HasLog state place
   pub in_step : InStep state.cells past.history.ticks past.acknowledged state.content images place.journal state.queue
   pub at_rest : IsAtRest place.journal state.running
-  -- what moves and answers tell of them
-  pub is_image_known : past.has_image ≡ is_known images
-  pub start_left : past.standing.start_left ≡ place.left
-  pub image_down : past.standing.is_image_down ≡ is_down state.images.phase
-  pub log_down : past.standing.is_log_down ≡ state.log.down
-  pub round : past.standing.round ≡ option_map (λ (round : Round). round.tick) (round_in images)
-  pub newest : past.standing.newest ≡ newest_tick (newest_in images)
+  pub told : AreTold past state images place

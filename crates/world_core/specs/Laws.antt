@@ -52,19 +52,19 @@ pub record KeeperLaws : Type 0 where
   pub made : (cells : ℕ) (newest : Option (Slot × ℕ)) (shut_a shut_b : Bool) (images : ImageFiles) (image_a image_b : File) → 1 ≤ cells → cells ≤ CELLS
       → Only image_a.inner.content (IsCrashOutcome image_a.inner) → Only image_b.inner.content (IsCrashOutcome image_b.inner)
       → TellsShut shut_a image_a.inner.content → TellsShut shut_b image_b.inner.content → IsTold cells newest images image_a.inner.content image_b.inner.content
-      → ImagesIn (made_keeper cells newest shut_a shut_b) images image_a image_b
+      → ImagesIn (made_keeper cells newest shut_a shut_b) images image_a.inner image_b.inner
   pub begun : (keeper : ImageProgress) (tick : ℕ) (images : ImageFiles) (image_a image_b : File) → keeper.phase ≡ Idle → tick ≤ TICK_MAX
-      → ImagesIn keeper images image_a image_b → ImagesIn (begun_keeper tick keeper) (with_round tick images) image_a image_b
-  pub newest : (keeper : ImageProgress) (images : ImageFiles) (image_a image_b : File) → ImagesIn keeper images image_a image_b → keeper.newest ≡ newest_in images
-  pub idle : (keeper : ImageProgress) (images : ImageFiles) (image_a image_b : File) → ImagesIn keeper images image_a image_b → keeper.phase ≡ Idle → round_in images ≡ None
-  pub round : (keeper : ImageProgress) (images : ImageFiles) (image_a image_b : File) → ImagesIn keeper images image_a image_b → (keeper.phase ≡ Idle → ⊥)
+      → ImagesIn keeper images image_a.inner image_b.inner → ImagesIn (begun_keeper tick keeper) (with_round tick images) image_a.inner image_b.inner
+  pub newest : (keeper : ImageProgress) (images : ImageFiles) (image_a image_b : File) → ImagesIn keeper images image_a.inner image_b.inner → keeper.newest ≡ newest_in images
+  pub idle : (keeper : ImageProgress) (images : ImageFiles) (image_a image_b : File) → ImagesIn keeper images image_a.inner image_b.inner → keeper.phase ≡ Idle → round_in images ≡ None
+  pub round : (keeper : ImageProgress) (images : ImageFiles) (image_a image_b : File) → ImagesIn keeper images image_a.inner image_b.inner → (keeper.phase ≡ Idle → ⊥)
       → (round : Round) × (round_in images ≡ Some round) × (round.tick ≡ keeper.tick) × (length round.taken ≡ cells_taken keeper)
-  pub left : (keeper : LogProgress) (log_a log_b : File) (place : LogPlace) → LogIn keeper place log_a log_b → IsTrue keeper.starting ↔ (0 < place.left)
-  pub ready : (keeper : LogProgress) (log_a log_b : File) (logs : Logs) (left : ℕ) → LogIn keeper (record { journal = Writing logs; left = left }) log_a log_b → keeper.phase ≡ Ready → is_idle logs
+  pub left : (keeper : LogProgress) (log_a log_b : File) (place : LogPlace) → LogIn keeper place log_a.inner log_b.inner → IsTrue keeper.starting ↔ (0 < place.left)
+  pub ready : (keeper : LogProgress) (log_a log_b : File) (logs : Logs) (left : ℕ) → LogIn keeper (record { journal = Writing logs; left = left }) log_a.inner log_b.inner → keeper.phase ≡ Ready → is_idle logs
   pub begins : (tick : ℕ) (shut_a shut_b : Bool) (log_a log_b : File) (before_a before_b : Segment) → tick ≤ TICK_MAX
       → Only log_a.inner.content (IsCrashOutcome log_a.inner) → Only log_b.inner.content (IsCrashOutcome log_b.inner) → TellsShut shut_a log_a.inner.content → TellsShut shut_b log_b.inner.content
       → IsSegment log_a.inner.content before_a → IsSegment log_b.inner.content before_b
-      → LogIn (begun_log tick shut_a shut_b) (start_of tick before_a before_b (start_moves shut_a shut_b)) log_a log_b
+      → LogIn (begun_log tick shut_a shut_b) (start_of tick before_a before_b (start_moves shut_a shut_b)) log_a.inner log_b.inner
 
 pub record SafetyLaws : Type 0 where
   pub safe : (state : State) (ticks : List (List Action)) (acknowledged : ℕ) (images : ImageFiles) (place : LogPlace) → state.images.cells ≡ state.cells → HasImages state images → HasLog state place

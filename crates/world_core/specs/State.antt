@@ -60,16 +60,16 @@ abbrev pub HasFailed : (one_before one_after other_before other_after : File) �
 HasFailed one_before one_after other_before other_after = Grew (failures one_before) (failures one_after) ⊎ Grew (failures other_before) (failures other_after)
 
 -- what an image keeper and its files stand for
-abbrev pub ImagesIn : ImageProgress → ImageFiles → (image_a image_b : File) → Type 0
+abbrev pub ImagesIn : ImageProgress → ImageFiles → (image_a image_b : FileState) → Type 0
 ImagesIn keeper images image_a image_b =
-    ImagesStand keeper images image_a.inner.content image_b.inner.content (IsCrashOutcome image_a.inner) (IsCrashOutcome image_b.inner)
+    ImagesStand keeper images image_a.content image_b.content (IsCrashOutcome image_a) (IsCrashOutcome image_b)
 
 abbrev pub HasImages : State → ImageFiles → Type 0
-HasImages state images = ImagesIn state.images images state.image_a state.image_b
+HasImages state images = ImagesIn state.images images state.image_a.inner state.image_b.inner
 
 -- what a log keeper and its files stand for
-abbrev pub LogIn : LogProgress → LogPlace → (log_a log_b : File) → Type 0
-LogIn keeper place log_a log_b = LogStands keeper log_a.inner.content log_b.inner.content (IsCrashOutcome log_a.inner) (IsCrashOutcome log_b.inner) place
+abbrev pub LogIn : LogProgress → LogPlace → (log_a log_b : FileState) → Type 0
+LogIn keeper place log_a log_b = LogStands keeper log_a.content log_b.content (IsCrashOutcome log_a) (IsCrashOutcome log_b) place
 
 abbrev pub HasLog : State → LogPlace → Type 0
-HasLog state place = LogIn state.log place state.log_a state.log_b
+HasLog state place = LogIn state.log place state.log_a.inner state.log_b.inner

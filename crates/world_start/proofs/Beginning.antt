@@ -9,9 +9,9 @@ use Rattle.disk_model.specs.Disk.{Only}
 use Rattle.disk_model.specs.declared.four_files.FourFiles.{FourFiles}
 use Rattle.file_format.specs.declared.slot.Slot.{Slot}
 use Rattle.image_files.specs.declared.phase.Phase.TheVariants.{Idle, Closing, Header}
-use Rattle.image_files.specs.Images.{ImageFiles, with_round}
-use Rattle.image_files.specs.Progress.{Progress as ImageProgress, made_keeper, begun_keeper}
-use Rattle.image_files.specs.Files.{Stands as ImagesStand, FitsFiles as ImagesFit, HoldsNewest, TellsShut, IsTold}
+use Rattle.image_files.specs.Images.{ImageFiles}
+use Rattle.image_files.specs.Progress.{Progress as ImageProgress, made_keeper}
+use Rattle.image_files.specs.Files.{Stands as ImagesStand, FitsFiles as ImagesFit, HoldsNewest, IsTold}
 use Rattle.action_log.specs.Segment.{Segment, IsSegment}
 use Rattle.action_log.specs.Progress.{begun, QueueFollows, end_of}
 use Rattle.action_log.specs.Files.{FitsFiles as LogFits}
@@ -22,7 +22,7 @@ use Rattle.restart.specs.InStep.{InStep}
 use Rattle.world_start.specs.declared.engine.Engine.{Engine}
 use Rattle.world_start.specs.Running.{CellsLeft}
 use Rattle.world_start.specs.Engine.{Follows}
-use Rattle.world_start.specs.Steps.{Begins, ImagesInOrder, LogInOrder}
+use Rattle.world_start.specs.Steps.{Begins, StartLaws, ImagesInOrder, LogInOrder}
 
 -- ---- the store
 
@@ -78,19 +78,7 @@ module _ {C D : Type 0} (content : C → Content) (file : D → List ℕ) (leave
         ring = b.ring;
       }
 
-  -- what the laws say of the files of keepers just made, nothing of which is unsynced
-  pub record StartLaws : Type 0 where
-    pub made : (cells : ℕ) (newest : Option (Slot × ℕ)) (shut_a shut_b : Bool) (images : ImageFiles) (image_a image_b : D) → 1 ≤ cells → cells ≤ CELLS
-        → Only (file image_a) (leaves image_a) → Only (file image_b) (leaves image_b) → TellsShut shut_a (file image_a) → TellsShut shut_b (file image_b) → IsTold cells newest images (file image_a) (file image_b)
-        → ImagesStand (made_keeper cells newest shut_a shut_b) images (file image_a) (file image_b) (leaves image_a) (leaves image_b)
-    pub round : (keeper : ImageProgress) (tick : ℕ) (images : ImageFiles) (image_a image_b : D) → keeper.phase ≡ Idle → tick ≤ TICK_MAX
-        → ImagesStand keeper images (file image_a) (file image_b) (leaves image_a) (leaves image_b) → ImagesStand (begun_keeper tick keeper) (with_round tick images) (file image_a) (file image_b) (leaves image_a) (leaves image_b)
-    pub log : (tick : ℕ) (shut_a shut_b : Bool) (log_a log_b : D) (before_a before_b : Segment) → tick ≤ TICK_MAX → Only (file log_a) (leaves log_a) → Only (file log_b) (leaves log_b)
-        → TellsShut shut_a (file log_a) → TellsShut shut_b (file log_b) → IsSegment (file log_a) before_a → IsSegment (file log_b) before_b
-        → LogStands (begun tick shut_a shut_b) (file log_a) (file log_b) (leaves log_a) (leaves log_b) (start_of tick before_a before_b (start_moves shut_a shut_b))
-    pub told : (bytes : List ℕ) → TellsShut (is_shut bytes) bytes
-
-  begun_images : StartLaws → (cells : ℕ) (newest : Option (Slot × ℕ)) (tick : ℕ) (round : Bool) (images : ImageFiles) (a b : D) → 1 ≤ cells → cells ≤ CELLS → tick ≤ TICK_MAX
+  begun_images : StartLaws file leaves → (cells : ℕ) (newest : Option (Slot × ℕ)) (tick : ℕ) (round : Bool) (images : ImageFiles) (a b : D) → 1 ≤ cells → cells ≤ CELLS → tick ≤ TICK_MAX
       → Only (file a) (leaves a) → Only (file b) (leaves b) → IsTold cells newest images (file a) (file b)
       → ImagesStand (started_keeper round tick (made_keeper cells newest (is_shut (file a)) (is_shut (file b)))) (images_begun round tick images) (file a) (file b) (leaves a) (leaves b)
   begun_images laws cells newest tick false images a b some few most oa ob told = laws.made cells newest (is_shut (file a)) (is_shut (file b)) images a b some few oa ob (laws.told (file a)) (laws.told (file b)) told
@@ -98,7 +86,7 @@ module _ {C D : Type 0} (content : C → Content) (file : D → List ℕ) (leave
       laws.round (made_keeper cells newest (is_shut (file a)) (is_shut (file b))) tick images a b refl most
       (laws.made cells newest (is_shut (file a)) (is_shut (file b)) images a b some few oa ob (laws.told (file a)) (laws.told (file b)) told)
 
-  pub start_follows : StartLaws → (cells : ℕ) (newest : Option (Slot × ℕ)) (tick : ℕ) (words : List ℕ) (engine : Engine C) (files : FourFiles D)
+  pub start_follows : StartLaws file leaves → (cells : ℕ) (newest : Option (Slot × ℕ)) (tick : ℕ) (words : List ℕ) (engine : Engine C) (files : FourFiles D)
       → Begins content cells newest tick words (file files.image_a) (file files.image_b) (file files.log_a) (file files.log_b) engine → 1 ≤ cells → cells ≤ CELLS → tick ≤ TICK_MAX
       → Only (file files.image_a) (leaves files.image_a) → Only (file files.image_b) (leaves files.image_b) → Only (file files.log_a) (leaves files.log_a) → Only (file files.log_b) (leaves files.log_b)
       → (images : ImageFiles) → IsTold cells newest images (file files.image_a) (file files.image_b)
@@ -112,15 +100,17 @@ module _ {C D : Type 0} (content : C → Content) (file : D → List ℕ) (leave
       let place = start_of tick before_a before_b (start_moves (is_shut (file files.log_a)) (is_shut (file files.log_b))) in
       record {
         images = begun_at;
-        place = place;
         has_images = subst (λ k. ImagesStand k begun_at (file files.image_a) (file files.image_b) (leaves files.image_a) (leaves files.image_b)) (sym b.images)
             (begun_images laws cells newest tick (has_round newest tick) images files.image_a files.image_b some few most oa ob told);
-        has_log = subst (λ k. LogStands k (file files.log_a) (file files.log_b) (leaves files.log_a) (leaves files.log_b) place) (sym b.log)
-            (laws.log tick (is_shut (file files.log_a)) (is_shut (file files.log_b)) files.log_a files.log_b before_a before_b most ola olb (laws.told (file files.log_a)) (laws.told (file files.log_b)) reads_a reads_b);
-        count = acknowledged;
-        at_least = omega arith;
-        in_step = subst (λ n. InStep n ticks acknowledged (content engine.store) begun_at place.journal engine.queue.items) (sym same)
-            (subst (λ q. InStep cells ticks acknowledged (content engine.store) begun_at place.journal q) (sym b.queue) step);
+        log = record {
+          place = place;
+          stands = subst (λ k. LogStands k (file files.log_a) (file files.log_b) (leaves files.log_a) (leaves files.log_b) place) (sym b.log)
+              (laws.log tick (is_shut (file files.log_a)) (is_shut (file files.log_b)) files.log_a files.log_b before_a before_b most ola olb (laws.told (file files.log_a)) (laws.told (file files.log_b)) reads_a reads_b);
+          count = acknowledged;
+          at_least = omega arith;
+          in_step = subst (λ n. InStep n ticks acknowledged (content engine.store) begun_at place.journal engine.queue.items) (sym same)
+              (subst (λ q. InStep cells ticks acknowledged (content engine.store) begun_at place.journal q) (sym b.queue) step);
+        };
         world = ap (λ n. after_ticks n ticks) same ∙ (world ∙ ap (λ (w : List ℕ). Ok w) (sym (built_live words (has_round newest tick) (content engine.store) b.store)));
         ended = b.ended ∙ count;
       }

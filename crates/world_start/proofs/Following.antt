@@ -1,12 +1,11 @@
 -- What runs of images and log do keeps the world in step with its ticks.
-use Rattle.std.proofs.Common.{◌≡◌, ◌↔◌, ℕ, zero, suc, Bool, IsTrue, ◌+◌, ◌-◌, ◌<◌, ◌≤◌, ◌⊎◌, inl, inr, List, [], ◌∷◌, ◌++◌, length, true, false, None, Ok, refl, sym, ap, subst, ◌∙◌, arith}
+use Rattle.std.proofs.Common.{◌≡◌, ◌↔◌, ℕ, zero, suc, Bool, IsTrue, ◌-◌, ◌<◌, ◌≤◌, ◌⊎◌, inl, inr, List, [], ◌∷◌, ◌++◌, length, true, false, None, Ok, refl, sym, ap, subst, ◌∙◌, arith}
 use Rattle.std.proofs.lemmas.List.{length-append, take_all}
 use Rattle.world_actions.specs.declared.action.Action.{Action}
 use Rattle.world_ticks.specs.After.{after_ticks}
 use Rattle.capture_core.specs.Content.{Content}
 use Rattle.circular_buffer.specs.Buffer.{Buffer}
 use Rattle.disk_model.specs.declared.four_files.FourFiles.{FourFiles}
-use Rattle.image_files.specs.declared.phase.Phase.TheVariants.{Closing, Header}
 use Rattle.image_files.specs.Images.{Images, ImageFiles, NoneYet, Newest, round_in}
 use Rattle.image_files.specs.Progress.{Progress as ImageProgress}
 use Rattle.image_files.specs.Files.{Stands as ImagesStand}
@@ -31,20 +30,10 @@ use Rattle.world_start.specs.Parts.{LogIsReady}
 -- ---- a log that is idle
 
 no_rest : (p : Phase) (shut : Bool) → rest_in p shut ≡ 0 → p ≡ phase.Ready
-no_rest phase.Retiring true e = absurd (let h = e in cc)
-no_rest phase.Retiring false e = absurd (let h = e in cc)
-no_rest phase.RetiringSync true e = absurd (let h = e in cc)
-no_rest phase.RetiringSync false e = absurd (let h = e in cc)
 no_rest phase.Ready shut e = refl
-no_rest phase.BodySync shut e = absurd (let h = e in cc)
-no_rest phase.Gate shut e = absurd (let h = e in cc)
-no_rest phase.GateSync shut e = absurd (let h = e in cc)
-no_rest phase.Closing shut e = absurd (let h = e in cc)
-no_rest phase.ClosingSync shut e = absurd (let h = e in cc)
-no_rest phase.Header shut e = absurd (let h = e in cc)
-no_rest phase.HeaderSync shut e = absurd (let h = e in cc)
-no_rest phase.Opening shut e = absurd (let h = e in cc)
-no_rest phase.OpeningSync shut e = absurd (let h = e in cc)
+no_rest phase.Retiring true e = absurd (let h = e in cc)
+no_rest phase.RetiringSync true e = absurd (let h = e in cc)
+no_rest p shut e = absurd (let h = e in cc)
 
 no_queue : (queue : List Record) → queue_work queue ≡ 0 → queue ≡ []
 no_queue [] e = refl
@@ -177,12 +166,8 @@ module _ {C D : Type 0} (content : C → Content) (file : D → List ℕ) (leave
       let on = goes ticks acknowledged f.place.journal old.queue.items (record { images = f.images; stands = f.has_images; count = f.count; at_least = f.at_least; in_step = f.in_step }) in
       record {
         images = on.images;
-        place = f.place;
         has_images = on.stands;
-        has_log = f.has_log;
-        count = on.count;
-        at_least = on.at_least;
-        in_step = on.in_step;
+        log = record { place = f.place; stands = f.has_log; count = on.count; at_least = on.at_least; in_step = on.in_step };
         world = ap (λ n. after_ticks n ticks) cells ∙ (f.world ∙ ap (λ (w : List ℕ). Ok w) (sym live));
         ended = f.ended;
       }
@@ -193,16 +178,10 @@ module _ {C D : Type 0} (content : C → Content) (file : D → List ℕ) (leave
       → (f : Follows content file leaves old files ticks acknowledged) → (old.log.starting ≡ false) ⊎ (round_in f.images ≡ None)
       → Follows content file leaves (record old { log = log; queue = queue }) (record files { log_a = a; log_b = b }) ticks acknowledged
   log_follows old files log queue a b ticks acknowledged goes f waits =
-      let on = goes old.images.cells ticks acknowledged (content old.store) f.images f.has_images.fits.in_order.some waits
-      (record { place = f.place; stands = f.has_log; count = f.count; at_least = f.at_least; in_step = f.in_step }) in
       record {
         images = f.images;
-        place = on.place;
         has_images = f.has_images;
-        has_log = on.stands;
-        count = on.count;
-        at_least = on.at_least;
-        in_step = on.in_step;
+        log = goes old.images.cells ticks acknowledged (content old.store) f.images f.has_images.fits.in_order.some waits f.log;
         world = f.world;
         ended = f.ended;
       }
@@ -222,13 +201,15 @@ module _ {C D : Type 0} (content : C → Content) (file : D → List ℕ) (leave
       let on = goes.all_acknowledged s.images.cells ticks f.count (content s.store) f.images logs.0 is_ready.0 empty in
       record {
         images = f.images;
-        place = f.place;
         has_images = f.has_images;
-        has_log = f.has_log;
-        count = length ticks;
-        at_least = omega (arith, f.ended);
-        in_step = subst (λ j. InStep s.images.cells ticks (length ticks) (content s.store) f.images j s.queue.items) (sym logs.1)
-            (subst (λ q. InStep s.images.cells ticks (length ticks) (content s.store) f.images (Writing logs.0) q) (sym idle.1) on);
+        log = record {
+          place = f.place;
+          stands = f.has_log;
+          count = length ticks;
+          at_least = omega (arith, f.ended);
+          in_step = subst (λ j. InStep s.images.cells ticks (length ticks) (content s.store) f.images j s.queue.items) (sym logs.1)
+              (subst (λ q. InStep s.images.cells ticks (length ticks) (content s.store) f.images (Writing logs.0) q) (sym idle.1) on);
+        };
         world = f.world;
         ended = f.ended;
       }

@@ -18,10 +18,8 @@ use Rattle.world_start.specs.Running.{IsFirst, LogGoes}
 
 -- a step acknowledges no less
 no_less : (acknowledged : ℕ) (given : LogAnswer) → acknowledged ≤ acknowledged_after acknowledged given
-no_less acknowledged answer.Idle = omega arith
-no_less acknowledged answer.Working = omega arith
 no_less acknowledged (answer.Acked tick) = omega arith
-no_less acknowledged answer.Down = omega arith
+no_less acknowledged given = omega arith
 
 -- the log waits for nothing after the start, or with no round in work
 waits_not : (keeper : Progress) (a b : List ℕ) (leaves_a leaves_b : List ℕ → Type 0) (journal : Journal) (left : ℕ) (images : ImageFiles)

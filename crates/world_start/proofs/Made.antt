@@ -2,6 +2,7 @@
 use Rattle.std.proofs.Common.{◌≡◌, ◌≤◌, ◌⊎◌, ℕ, false, inl, inr, List, [], ◌∷◌, length, replicate, None, Result, Ok, Err, refl, sym, ap, subst, ◌∙◌, arith}
 use Rattle.std.specs.Prelude.{IfOk, IfErr, OnOk}
 use Rattle.world_actions.specs.declared.refusal.Refusal.{Refusal}
+use Rattle.world_actions.specs.declared.refusal.Refusal.TheVariants.{Device, NotEmpty}
 use Rattle.world_actions.specs.declared.world.TheConstants.{CELLS}
 use Rattle.capture_core.specs.Content.{Content}
 use Rattle.disk_model.specs.FourFiles.{EachFile, KeepsFile}
@@ -13,10 +14,11 @@ use Rattle.action_log.specs.Segment.{ClosedSegment}
 use Rattle.recovery.specs.Sound.{IsSound, IsFresh}
 use Rattle.restart.specs.InStep.{WorldsGoOn, IsSafe}
 use Rattle.world_start.specs.declared.engine.Engine.{Engine}
-use Rattle.world_start.specs.Steps.{Begins, IsBegunFresh}
-use Rattle.world_start.specs.Opening.{AreRead}
-use Rattle.world_start.specs.Fresh.{AreClosed}
-use Rattle.world_start.proofs.Beginning.{StartLaws, start_follows}
+use Rattle.world_start.specs.Steps.{Begins, StartLaws, IsBegunFresh}
+use Rattle.world_start.specs.Engine.{Follows}
+use Rattle.world_start.specs.Opening.{AreRead, AreSynced, AreSound}
+use Rattle.world_start.specs.Fresh.{AreClosed, AreNotMade}
+use Rattle.world_start.proofs.Beginning.{start_follows}
 use Rattle.world_start.proofs.Recovered.{synced_on}
 use Rattle.world_start.proofs.Sound.{fewer_sound}
 
@@ -39,7 +41,7 @@ if_refused (Ok value) P Q f h = tt
 if_refused (Err refusal) P Q f h = f refusal h
 
 module _ {C D : Type 0} (content : C → Content) (file : D → List ℕ) (leaves : D → List ℕ → Type 0) where
-  pub fresh_begun : StartLaws content file leaves false → WorldsGoOn → (files left : FourFiles D) → EachFile files left (KeepsFile file leaves)
+  pub fresh_begun : StartLaws file leaves → WorldsGoOn → (files left : FourFiles D) → EachFile files left (KeepsFile file leaves)
       → (ia ib la lb : List ℕ) → AreRead file files ia ib la lb → AreClosed ia ib la lb → (cells : ℕ) → 1 ≤ cells → cells ≤ CELLS → (words : List ℕ) → words ≡ replicate cells 0
       → (engine : Engine C) → Begins content cells None 0 words ia ib la lb engine → IsBegunFresh content file leaves files cells engine left
   fresh_begun laws begins files left kept ia ib la lb read closed cells some few words zeros engine b =
@@ -73,6 +75,20 @@ module _ {C D : Type 0} (content : C → Content) (file : D → List ℕ) (leave
           (subst (λ f. Begins content cells None 0 words a b f d2 engine) ec (subst (λ f. Begins content cells None 0 words a b c f engine) ed e)))
 
 -- safe files of no ticks are of no world yet, or of one at tick 0
-pub safe_fresh : (images : ImageFiles) (a b la lb : List ℕ → Type 0) (cells count : ℕ) → IsSafe images a b la lb cells [] count → IsFresh a b la lb cells ⊎ IsSound a b la lb cells [] 0
+safe_fresh : (images : ImageFiles) (a b la lb : List ℕ → Type 0) (cells count : ℕ) → IsSafe images a b la lb cells [] count → IsFresh a b la lb cells ⊎ IsSound a b la lb cells [] 0
 safe_fresh (NoneYet images) a b la lb cells count s = inl s.0
 safe_fresh (Newest images) a b la lb cells count s = inr (fewer_sound a b la lb cells [] 0 count (omega arith) s)
+
+-- what a start that a device ended leaves of the files of a new world
+pub start_failed : {C D : Type 0} (content : C → Content) (file : D → List ℕ) (leaves : D → List ℕ → Type 0) (files left : FourFiles D) (cells : ℕ) (last : Engine C) (refusal : Refusal) → refusal ≡ Device
+    → (AreSynced file leaves files → (last.images.cells ≡ cells) × Follows content file leaves last left [] 0)
+    → ((f : Follows content file leaves last left [] 0) → IsSafe f.images (leaves left.image_a) (leaves left.image_b) (leaves left.log_a) (leaves left.log_b) last.images.cells [] f.count)
+    → AreNotMade file leaves files cells refusal left
+start_failed content file leaves files left cells last refusal is follows safe = record {
+  not_empty = λ other. absurd (let e : Device ≡ NotEmpty = sym is ∙ other in let h = e in cc);
+  kept = λ other. absurd (other is);
+  safe = λ synced closed.
+      (let f = follows synced in
+      subst (λ n. IsFresh (leaves left.image_a) (leaves left.image_b) (leaves left.log_a) (leaves left.log_b) n ⊎ AreSound file leaves left n [] 0) f.0
+      (safe_fresh f.1.images (leaves left.image_a) (leaves left.image_b) (leaves left.log_a) (leaves left.log_b) last.images.cells f.1.count (safe f.1)));
+}

@@ -22,10 +22,10 @@ use Rattle.recovery.specs.Restart.{CrashRestarts, Restarts, recovered_images}
 use Rattle.restart.specs.InStep.{WorldsGoOn}
 use Rattle.world_start.specs.declared.engine.Engine.{Engine}
 use Rattle.world_start.specs.Engine.{Follows}
-use Rattle.world_start.specs.Steps.{Begins}
+use Rattle.world_start.specs.Steps.{Begins, StartLaws}
 use Rattle.world_start.specs.Opening.{AreSynced, AreSound, AreRead, IsRead}
 use Rattle.image_files.proofs.SlotImages.{by_slot, by_other}
-use Rattle.world_start.proofs.Beginning.{StartLaws, start_follows, built_live, started_cells, started_newest}
+use Rattle.world_start.proofs.Beginning.{start_follows, built_live, started_cells, started_newest}
 
 pub if_err : {T : Type 0} (r : Result T Refusal) (refusal : Refusal) (P : Refusal → Type 0) → IsErrAnd r (λ e. e ≡ refusal) → P refusal → IfErr r P
 if_err (Ok value) refusal P h p = tt
@@ -57,7 +57,7 @@ module _ {C D : Type 0} (content : C → Content) (file : D → List ℕ) (leave
   sound_on files left kept cells ticks acknowledged s a b la lb ha hb hla hlb = s a b la lb (kept.image_a.crash a ha) (kept.image_b.crash b hb) (kept.log_a.crash la hla) (kept.log_b.crash lb hlb)
 
   -- what stands in sound files begins a start in step with the recovered ticks
-  pub recovered_follows : StartLaws content file leaves false → ReadsOnce → CrashRestarts → WorldsGoOn → ((disk : D) → leaves disk (file disk))
+  pub recovered_follows : StartLaws file leaves → ReadsOnce → CrashRestarts → WorldsGoOn → ((disk : D) → leaves disk (file disk))
       → (r : Recovery) (engine : Engine C) (files : FourFiles D) → IsWorld r.words → r.tick ≤ TICK_MAX
       → Recovers (file files.image_a) (file files.image_b) (file files.log_a) (file files.log_b) (Ok r)
       → Begins content (length r.words) (Some (r.slot, r.from)) r.tick r.words (file files.image_a) (file files.image_b) (file files.log_a) (file files.log_b) engine
@@ -85,7 +85,7 @@ module _ {C D : Type 0} (content : C → Content) (file : D → List ℕ) (leave
       )
 
   -- what was read, recovered and begun
-  pub is_read : StartLaws content file leaves false → ReadsOnce → CrashRestarts → WorldsGoOn → ((disk : D) → leaves disk (file disk))
+  pub is_read : StartLaws file leaves → ReadsOnce → CrashRestarts → WorldsGoOn → ((disk : D) → leaves disk (file disk))
       → (files left : FourFiles D) → EachFile files left (KeepsFile file leaves) → (ia ib la lb : List ℕ) → AreRead file files ia ib la lb
       → (r : Recovery) (n from : ℕ) (words : List ℕ) (engine : Engine C) → IsWorld r.words → r.tick ≤ TICK_MAX → words ≡ r.words → n ≡ length r.words → from ≡ r.from
       → Recovers ia ib la lb (Ok r) → Begins content n (Some (r.slot, r.from)) r.tick words ia ib la lb engine → IsRead content file leaves files engine from left
@@ -95,12 +95,14 @@ module _ {C D : Type 0} (content : C → Content) (file : D → List ℕ) (leave
       let named = subst (λ w. Begins content (length r.words) (Some (r.slot, r.from)) r.tick w ia ib la lb engine) is_words (subst (λ m. Begins content m (Some (r.slot, r.from)) r.tick words ia ib la lb engine) is_n b) in
       let begun = begins_on (length r.words) (Some (r.slot, r.from)) r.tick r.words engine (read.image_a_is ∙ sym kept.image_a.same_content) (read.image_b_is ∙ sym kept.image_b.same_content) (read.log_a_is ∙ sym kept.log_a.same_content) (read.log_b_is ∙ sym kept.log_b.same_content) named in
       record {
-        recovery = r;
-        recovers = there;
-        is_from = is_from;
-        words = built_live r.words (nat_lt r.from r.tick) (content engine.store) begun.store;
-        ended = begun.ended;
-        since = begun.since;
+        matches = record {
+          recovery = r;
+          recovers = there;
+          is_from = is_from;
+          words = built_live r.words (nat_lt r.from r.tick) (content engine.store) begun.store;
+          ended = begun.ended;
+          since = begun.since;
+        };
         newest = λ none. (let e : Some (r.slot, r.from) ≡ None = sym (ap (λ (k : ImageProgress). k.newest) begun.images ∙ started_newest (nat_lt r.from r.tick) r.tick _) ∙ none in absurd (let h = e in cc));
         follows = λ cells ticks acknowledged synced sound.
             recovered_follows laws once restarts begins stays r engine left world most here begun cells ticks acknowledged (synced_on files left kept synced) (sound_on files left kept cells ticks acknowledged sound);

@@ -6,7 +6,7 @@ use Rattle.capture_core.specs.declared.taker.Taken.{Taken}
 use Rattle.capture_core.specs.Taken.{taken_of}
 use Rattle.capture_core.specs.Content.{Content, Takes}
 use Rattle.image_files.specs.declared.phase.Phase.{Phase}
-use Rattle.image_files.specs.declared.phase.Phase.TheVariants.{Idle, Closing, ClosingSync, Header, Taking, Reading, Writing, BodySync, Opening, OpeningSync, Down}
+use Rattle.image_files.specs.declared.phase.Phase.TheVariants.{Idle, BodySync, Opening, OpeningSync, Down}
 use Rattle.image_files.specs.declared.answer.ImageAnswer.{ImageAnswer}
 use Rattle.image_files.specs.declared.answer.ImageAnswer.TheVariants as answer
 use Rattle.image_files.specs.Images.{ImageFiles, StepsImages}
@@ -15,6 +15,7 @@ use Rattle.image_files.specs.Steps.{IfOpened, OnWorking}
 use Rattle.image_files.specs.Files.{Stands}
 use Rattle.recovery.specs.Events.{acknowledged_opened}
 use Rattle.restart.specs.InStep.{InStep, WorldsGoOn}
+use Rattle.restart.proofs.Stepped.{steps_content}
 use Rattle.world_start.specs.Running.{CellsLeft, RoundTick, RoundGoes}
 
 none_long : {A : Type 0} (l : List A) → length l ≡ 0 → l ≡ []
@@ -31,23 +32,12 @@ left_none (entry ∷ left) e = absurd (let h = e in cc)
 
 -- a step acknowledges no less
 no_less : (acknowledged : ℕ) (given : ImageAnswer) → acknowledged ≤ acknowledged_opened acknowledged given
-no_less acknowledged answer.Idle = omega arith
-no_less acknowledged answer.Working = omega arith
 no_less acknowledged (answer.Opened tick) = omega arith
-no_less acknowledged answer.Down = omega arith
+no_less acknowledged given = omega arith
 
 -- ---- a step
 
 module _ {S : Type 0} (content : S → Content) (took : S → Option Taken → S → Type 0) (after_take : (old new : S) (given : Option Taken) → took old given new → Takes (content old) given (content new)) where
-  -- by the content of the store that it took from
-  steps_content : (cells : ℕ) (images : ImageFiles) (given : ImageAnswer) (next : ImageFiles) (old new : S)
-      → StepsImages took cells images given next old new → StepsImages Takes cells images given next (content old) (content new)
-  steps_content cells images answer.Idle next old new s = (s.0, s.1, ap content s.2)
-  steps_content cells images answer.Working next old new s =
-      (s.0, s.1, elim s.2 [ inl same ↦ inl (same.0, ap content same.1) | inr cell ↦ inr (cell.0, after_take old new (Some cell.0) cell.1, cell.2) ])
-  steps_content cells images (answer.Opened tick) next old new s = (s.0, s.1, s.2, s.3, s.4, ap content s.5)
-  steps_content cells images answer.Down next old new s = (s.0, s.1, s.2, ap content s.3)
-
   module _ {D : Type 0} (file : D → List ℕ) (leaves : D → List ℕ → Type 0) where
     pub round_steps : WorldsGoOn → (keeper next_keeper : Progress) (old new : S) (a next_a b next_b : D) (given : ImageAnswer)
         → next_keeper.cells ≡ keeper.cells
@@ -56,7 +46,7 @@ module _ {S : Type 0} (content : S → Content) (took : S → Option Taken → S
         → RoundGoes content file leaves keeper next_keeper old new a next_a b next_b
     round_steps goes_on keeper next_keeper old new a next_a b next_b given same stands ticks acknowledged journal queue r =
         let next = stands r.images r.stands in
-        let on = goes_on.image_step keeper.cells ticks r.count r.images journal queue given next.0 (content old) (content new) (steps_content keeper.cells r.images given next.0 old new next.2) r.in_step in
+        let on = goes_on.image_step keeper.cells ticks r.count r.images journal queue given next.0 (content old) (content new) (steps_content content took after_take keeper.cells r.images given next.0 old new next.2) r.in_step in
         record {
           images = next.0;
           stands = next.1;
@@ -125,16 +115,11 @@ module _ {S : Type 0} (content : S → Content) (took : S → Option Taken → S
 -- a keeper with no move left has no round in work, or is down
 by_phase : (phase : Phase) (keeper : Progress) → moves_left phase keeper ≡ 0 → (phase ≡ Idle) ⊎ (phase ≡ Down)
 by_phase Idle keeper none = inl refl
-by_phase Closing keeper none = absurd (omega (arith, none))
-by_phase ClosingSync keeper none = absurd (omega (arith, none))
-by_phase Header keeper none = absurd (omega (arith, none))
-by_phase Taking keeper none = absurd (omega (arith, none))
-by_phase Reading keeper none = absurd (omega (arith, none))
-by_phase Writing keeper none = absurd (omega (arith, none))
+by_phase Down keeper none = inr refl
 by_phase BodySync keeper none = absurd (let h = none in cc)
 by_phase Opening keeper none = absurd (let h = none in cc)
 by_phase OpeningSync keeper none = absurd (let h = none in cc)
-by_phase Down keeper none = inr refl
+by_phase phase keeper none = absurd (omega (arith, none))
 
 pub none_left : (keeper : Progress) → left_of keeper ≤ 0 → (keeper.phase ≡ Idle) ⊎ (keeper.phase ≡ Down)
 none_left keeper none = by_phase keeper.phase keeper (omega arith)

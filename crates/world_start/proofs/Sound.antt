@@ -1,6 +1,6 @@
 -- The files of a world that is followed are sound.
-use Rattle.std.proofs.Common.{◌≡◌, ◌≤◌, ℕ, false, List, take, Some, None, refl, sym, ap, subst, ◌∙◌, arith}
-use Rattle.std.proofs.lemmas.List.{length-take, take-take}
+use Rattle.std.proofs.Common.{◌≡◌, ◌≤◌, ℕ, false, List, length, take, Some, None, refl, sym, ap, subst, ◌∙◌, arith}
+use Rattle.std.proofs.lemmas.List.{length-take, take_all, take-take}
 use Rattle.world_actions.specs.declared.action.Action.{Action}
 use Rattle.world_ticks.specs.After.{after_ticks}
 use Rattle.capture_core.specs.Content.{Content}
@@ -60,16 +60,8 @@ safe_is_sound (NoneYet images) a b la lb cells ticks acknowledged has s = absurd
 safe_is_sound (Newest images) a b la lb cells ticks acknowledged has s = s
 
 pub fewer_sound : (a b la lb : List ℕ → Type 0) (cells : ℕ) (ticks : List (List Action)) (acknowledged count : ℕ) → acknowledged ≤ count → IsSound a b la lb cells ticks count → IsSound a b la lb cells ticks acknowledged
-fewer_sound a b la lb cells ticks acknowledged count fewer s x y z w hx hy hz hw =
-    let r = s x y z w hx hy hz hw in
-    let k = r.holds in
-    record {
-      a = r.a;
-      b = r.b;
-      reads_a = r.reads_a;
-      reads_b = r.reads_b;
-      holds = record { recovery = k.recovery; stands = k.stands; keeps = omega (arith, fewer, k.keeps); world = k.world; image_a_holds = k.image_a_holds; image_b_holds = k.image_b_holds };
-    }
+fewer_sound a b la lb cells ticks acknowledged count fewer s =
+    sound_of_more a b la lb cells ticks (length ticks) acknowledged count fewer (subst (λ t. IsSound a b la lb cells t count) (sym (take_all (length ticks) ticks (omega arith))) s)
 
 module _ {C D : Type 0} (content : C → Content) (file : D → List ℕ) (leaves : D → List ℕ → Type 0)
     (newest : (keeper : ImageProgress) (images : ImageFiles) (a b : D) → ImagesStand keeper images (file a) (file b) (leaves a) (leaves b) → keeper.newest ≡ newest_in images)

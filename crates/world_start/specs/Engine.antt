@@ -1,16 +1,14 @@
 -- A world's store, keepers and queue beside its four files: what is true of them whatever the disks are, and how they follow
 -- the ticks that ended.
-use Rattle.std.specs.Prelude.{◌≡◌, ◌≤◌, ℕ, List, length, Ok}
+use Rattle.std.specs.Prelude.{◌≡◌, ℕ, List, length, Ok}
 use Rattle.world_actions.specs.declared.action.Action.{Action}
 use Rattle.world_ticks.specs.After.{after_ticks}
 use Rattle.capture_core.specs.Content.{Content}
 use Rattle.disk_model.specs.declared.four_files.FourFiles.{FourFiles}
 use Rattle.image_files.specs.Images.{ImageFiles}
 use Rattle.image_files.specs.Files.{Stands as ImagesStand}
-use Rattle.action_log.specs.Logs.{LogPlace}
-use Rattle.action_log.specs.Stands.{Stands as LogStands}
-use Rattle.restart.specs.InStep.{InStep}
 use Rattle.world_start.specs.declared.engine.Engine.{Engine}
+use Rattle.world_start.specs.Running.{RoundFaults, LogFaults, LogGoesOn}
 
 -- ---- on files that keep to the disk model
 
@@ -18,11 +16,22 @@ module _ {C D : Type 0} (content : C → Content) (file : D → List ℕ) (leave
   -- these ticks have ended, so many of them at least are acknowledged, and store, keepers, queue and files follow them
   pub record Follows (engine : Engine C) (files : FourFiles D) (ticks : List (List Action)) (acknowledged : ℕ) : Type 0 where
     pub images : ImageFiles
-    pub place : LogPlace
     pub has_images : ImagesStand engine.images images (file files.image_a) (file files.image_b) (leaves files.image_a) (leaves files.image_b)
-    pub has_log : LogStands engine.log (file files.log_a) (file files.log_b) (leaves files.log_a) (leaves files.log_b) place
-    pub count : ℕ
-    pub at_least : acknowledged ≤ count
-    pub in_step : InStep engine.images.cells ticks count (content engine.store) images place.journal engine.queue.items
+    pub log : LogGoesOn file leaves engine.log engine.queue.items files.log_a files.log_b engine.images.cells ticks acknowledged (content engine.store) images
+    pub open log use {place, stands as has_log, count, at_least, in_step}
     pub world : after_ticks engine.images.cells ticks ≡ Ok (content engine.store).live
     pub ended : engine.ended ≡ length ticks
+
+  -- the ticks that an engine and its files follow, they still follow
+  abbrev pub StillFollows : (old : Engine C) (files : FourFiles D) (new : Engine C) (left : FourFiles D) → Type 0
+  StillFollows old files new left = (ticks : List (List Action)) (acknowledged : ℕ) → Follows old files ticks acknowledged → Follows new left ticks acknowledged
+
+-- ---- whatever the disks are
+
+module _ {C D : Type 0} (faults : D → ℕ) where
+  -- what the two counts of faults say of a run of images, and of a run of the log
+  abbrev pub ImageFaults : (old : Engine C) (files : FourFiles D) (new : Engine C) (left : FourFiles D) → Type 0
+  ImageFaults old files new left = RoundFaults old.images.phase new.images.phase (faults files.image_a) (faults left.image_a) (faults files.image_b) (faults left.image_b)
+
+  abbrev pub JournalFaults : (old : Engine C) (files : FourFiles D) (new : Engine C) (left : FourFiles D) → Type 0
+  JournalFaults old files new left = LogFaults old.log.down new.log.down (faults files.log_a) (faults left.log_a) (faults files.log_b) (faults left.log_b)

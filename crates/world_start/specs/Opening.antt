@@ -5,6 +5,7 @@ use Rattle.world_actions.specs.declared.refusal.Refusal.{Refusal}
 use Rattle.world_actions.specs.declared.refusal.Refusal.TheVariants.{Device, NoMemory}
 use Rattle.capture_core.specs.Content.{Content}
 use Rattle.disk_model.specs.Disk.{Only, Grew}
+use Rattle.disk_model.specs.FourFiles.{fault_counts}
 use Rattle.disk_model.specs.declared.four_files.FourFiles.{FourFiles}
 use Rattle.recovery.specs.Recovery.{Recovery, Recovers}
 use Rattle.recovery.specs.Sound.{IsSound}
@@ -50,30 +51,44 @@ IsRefused file honest files refusal =
 abbrev pub SomeGrew : List ℕ → List ℕ → Type 0
 SomeGrew old new = (place : ℕ) × (place < length old) × Grew (slice_index old place) (slice_index new place)
 
--- What was recovered: what recovery answers on bytes, which are what the files hold where they keep to the disk model.
-pub record IsRecovered {C D : Type 0} (content : C → Content) (file : D → List ℕ) (honest : Bool) (files : FourFiles D) (engine : Engine C) (tick from : ℕ) : Type 0 where
+-- a refusal by a device comes only where the count of a file's faults grew
+abbrev pub HasFaulted : {D : Type 0} → (faults : D → ℕ) → (files left : FourFiles D) → Refusal → Type 0
+HasFaulted faults files left refusal = refusal ≡ Device → SomeGrew (fault_counts faults files) (fault_counts faults left)
+
+-- what recovery answers on bytes, which are what the files hold where they keep to the disk model
+pub record RecoversBytes {D : Type 0} (file : D → List ℕ) (honest : Bool) (files : FourFiles D) : Type 0 where
   pub image_a : List ℕ
   pub image_b : List ℕ
   pub log_a : List ℕ
   pub log_b : List ℕ
   pub recovery : Recovery
   pub recovers : Recovers image_a image_b log_a log_b (Ok recovery)
+  pub read : IsTrue honest → AreRead file files image_a image_b log_a log_b
+
+-- what was recovered
+pub record IsRecovered {C D : Type 0} (content : C → Content) (file : D → List ℕ) (honest : Bool) (files : FourFiles D) (engine : Engine C) (tick from : ℕ) : Type 0 where
+  pub bytes : RecoversBytes file honest files
+  pub open bytes use *
   pub tick_is : tick ≡ recovery.tick
   pub from_is : from ≡ recovery.from
   pub words : (content engine.store).live ≡ recovery.words
   pub ended : engine.ended ≡ recovery.tick
-  pub read : IsTrue honest → AreRead file files image_a image_b log_a log_b
+
+-- the engine has what recovery answers on the files, and no tick since
+pub record MatchesRecovery {C D : Type 0} (content : C → Content) (file : D → List ℕ) (files : FourFiles D) (engine : Engine C) (from : ℕ) : Type 0 where
+  pub recovery : Recovery
+  pub recovers : RecoversFiles file files recovery
+  pub is_from : from ≡ recovery.from
+  pub words : (content engine.store).live ≡ recovery.words
+  pub ended : engine.ended ≡ recovery.tick
+  pub since : engine.since ≡ 0
 
 module _ {C D : Type 0} (content : C → Content) (file : D → List ℕ) (leaves : D → List ℕ → Type 0) where
   -- The engine begins the start of the recovered world. Where the files were sound for some ticks, it follows the recovered
   -- ones among them.
   pub record IsRead (files : FourFiles D) (engine : Engine C) (from : ℕ) (left : FourFiles D) : Type 0 where
-    pub recovery : Recovery
-    pub recovers : RecoversFiles file files recovery
-    pub is_from : from ≡ recovery.from
-    pub words : (content engine.store).live ≡ recovery.words
-    pub ended : engine.ended ≡ recovery.tick
-    pub since : engine.since ≡ 0
+    pub matches : MatchesRecovery content file files engine from
+    pub open matches use *
     pub newest : HasNewest engine.images
     pub follows : (cells : ℕ) (ticks : List (List Action)) (acknowledged : ℕ) → AreSynced file leaves files → AreSound file leaves files cells ticks acknowledged
         → (engine.images.cells ≡ cells) × Follows content file leaves engine left (take recovery.tick ticks) acknowledged

@@ -2,18 +2,25 @@
 -- functions alone.
 use Rattle.std.specs.Prelude.{◌≡◌, ◌≤◌, ◌⊎◌, ℕ, ◌-◌, Bool, true, false, IsTrue, List, [], All, length, Option}
 use Rattle.action_log.specs.Files.{FitsFiles as LogFits}
+use Rattle.action_log.specs.Logs.{start_of, start_moves}
 use Rattle.action_log.specs.Progress.{begun, QueueFollows, end_of, work_of}
+use Rattle.action_log.specs.Segment.{Segment, IsSegment}
+use Rattle.action_log.specs.Stands.{Stands as LogStands}
 use Rattle.capture_core.specs.Content.{Content}
+use Rattle.disk_model.specs.Disk.{Only}
 use Rattle.disk_model.specs.declared.four_files.FourFiles.{FourFiles}
 use Rattle.file_format.specs.declared.slot.Slot.{Slot}
-use Rattle.image_files.specs.Files.{FitsFiles as ImagesFit, HoldsNewest}
-use Rattle.image_files.specs.Progress.{made_keeper}
+use Rattle.image_files.specs.Files.{Stands as ImagesStand, FitsFiles as ImagesFit, HoldsNewest, TellsShut, IsTold}
+use Rattle.image_files.specs.Images.{ImageFiles, with_round}
+use Rattle.image_files.specs.Progress.{Progress as ImageProgress, made_keeper, begun_keeper}
 use Rattle.image_files.specs.declared.phase.Phase.TheVariants.{Idle, Down}
+use Rattle.restart.specs.InStep.{WorldsGoOn}
 use Rattle.restart.specs.Start.{has_round, started_keeper, IsBuilt, is_shut}
 use Rattle.world_start.specs.declared.engine.Engine.{Engine}
 use Rattle.restart.specs.declared.start.TheConstants.{QUEUE_RECORDS}
 use Rattle.world_start.specs.declared.recovering.Start.{Start}
 use Rattle.world_actions.specs.World.{IsWord}
+use Rattle.world_actions.specs.declared.world.TheConstants.{CELLS}
 use Rattle.world_ticks.specs.declared.tick.TheConstants.{TICK_MAX}
 use Rattle.world_start.specs.Running.{CellsLeft}
 use Rattle.world_start.specs.Engine.{Follows}
@@ -69,6 +76,20 @@ module _ {C : Type 0} (content : C → Content) where
     pub ring : engine.queue.capacity ≡ QUEUE_RECORDS
     pub ended : engine.ended ≡ tick
     pub since : engine.since ≡ 0
+
+-- what the laws say of keepers just made, on files of which nothing is unsynced, and of a world in step
+pub record StartLaws {D : Type 0} (file : D → List ℕ) (leaves : D → List ℕ → Type 0) : Type 0 where
+  pub made : (cells : ℕ) (newest : Option (Slot × ℕ)) (shut_a shut_b : Bool) (images : ImageFiles) (image_a image_b : D) → 1 ≤ cells → cells ≤ CELLS
+      → Only (file image_a) (leaves image_a) → Only (file image_b) (leaves image_b) → TellsShut shut_a (file image_a) → TellsShut shut_b (file image_b) → IsTold cells newest images (file image_a) (file image_b)
+      → ImagesStand (made_keeper cells newest shut_a shut_b) images (file image_a) (file image_b) (leaves image_a) (leaves image_b)
+  pub round : (keeper : ImageProgress) (tick : ℕ) (images : ImageFiles) (image_a image_b : D) → keeper.phase ≡ Idle → tick ≤ TICK_MAX
+      → ImagesStand keeper images (file image_a) (file image_b) (leaves image_a) (leaves image_b) → ImagesStand (begun_keeper tick keeper) (with_round tick images) (file image_a) (file image_b) (leaves image_a) (leaves image_b)
+  pub log : (tick : ℕ) (shut_a shut_b : Bool) (log_a log_b : D) (before_a before_b : Segment) → tick ≤ TICK_MAX → Only (file log_a) (leaves log_a) → Only (file log_b) (leaves log_b)
+      → TellsShut shut_a (file log_a) → TellsShut shut_b (file log_b) → IsSegment (file log_a) before_a → IsSegment (file log_b) before_b
+      → LogStands (begun tick shut_a shut_b) (file log_a) (file log_b) (leaves log_a) (leaves log_b) (start_of tick before_a before_b (start_moves shut_a shut_b))
+  pub told : (bytes : List ℕ) → TellsShut (is_shut bytes) bytes
+  pub queue : (tick : ℕ) (shut_a shut_b : Bool) → QueueFollows (begun tick shut_a shut_b) [] × (end_of (begun tick shut_a shut_b) [] ≡ record { base = tick; count = 0 })
+  pub goes_on : WorldsGoOn
 
 -- ---- making files
 

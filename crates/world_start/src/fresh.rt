@@ -3,16 +3,17 @@ ghost use Rattle.world_actions.specs.declared.world.TheConstants.{CELLS};
 ghost use Rattle.disk_model.specs.FourFiles.{EachFile, KeepsFile, fault_counts};
 ghost use Rattle.image_files.specs.declared.phase.Phase.TheVariants.{Down};
 ghost use Rattle.world_start.specs.Steps.{ImagesInOrder, LogInOrder, IsBegunFresh};
-ghost use Rattle.world_start.specs.Opening.{SomeGrew};
+ghost use Rattle.world_start.specs.Opening.{HasFaulted};
 ghost use Rattle.world_start.specs.Fresh.{AreMade, AreNotMade, FilesAreClosed};
 
 use crate::closed::are_closed;
 use crate::engine::Engine;
-use action_log::{log_outcomes, log_queues};
+use crate::laws::starts_begin;
+use action_log::log_outcomes;
 use capture_core::{Capture, PlainCopy};
 use disk_model::{Disk, FourFiles};
 use image_files::images_stay;
-use restart::{gates_are_told, worlds_are_safe, worlds_go_on, zeros};
+use restart::{worlds_are_safe, zeros};
 use std::alloc::Global;
 use world_actions::Refusal;
 
@@ -29,8 +30,7 @@ pub fn fresh_files<D: Disk>(
         ⊎ ((refused.1 ≡ Refusal.NoMemory) ⊎ (refused.1 ≡ Refusal.Device))) }
     ensures left { IsTrue D.honest → IfErr result (λ refused.
         AreNotMade D.content D.may_leave files cells refused.1 refused.0) }
-    ensures device { IfErr result (λ refused. refused.1 ≡ Refusal.Device
-        → SomeGrew (fault_counts D.faults files) (fault_counts D.faults refused.0)) }
+    ensures device { IfErr result (λ refused. HasFaulted D.faults files refused.0 refused.1) }
     ensures no_fault { IfOk result (λ made. fault_counts D.faults made ≡ fault_counts D.faults files) }
 {
     let mut files = files;
@@ -51,8 +51,7 @@ fn make_fresh<C: Capture, D: Disk>(
         ⊎ ((refusal ≡ Refusal.NoMemory) ⊎ (refusal ≡ Refusal.Device))) }
     ensures left { IsTrue D.honest → IfErr result (λ refusal.
         AreNotMade D.content D.may_leave files.old cells refusal files.new) }
-    ensures device { IfErr result (λ refusal. refusal ≡ Refusal.Device
-        → SomeGrew (fault_counts D.faults files.old) (fault_counts D.faults files.new)) }
+    ensures device { IfErr result (HasFaulted D.faults files.old files.new) }
     ensures no_fault { OnOk result (fault_counts D.faults files.new ≡ fault_counts D.faults files.old) }
 {
     images_stay::<D>();
@@ -81,14 +80,9 @@ fn begin_fresh<C: Capture, D: Disk>(
     ensures up { IfOk result (λ engine. (engine.images.phase ≡ Down → ⊥) × (engine.log.down ≡ false)) }
     ensures no_fault { IfOk result (λ engine.
         fault_counts D.faults files.new ≡ fault_counts D.faults files.old) }
-    ensures device { IfErr result (λ refusal. refusal ≡ Refusal.Device
-        → SomeGrew (fault_counts D.faults files.old) (fault_counts D.faults files.new)) }
+    ensures device { IfErr result (HasFaulted D.faults files.old files.new) }
 {
-    images_stay::<D>();
-    log_outcomes::<D>();
-    log_queues();
-    gates_are_told();
-    worlds_go_on();
+    starts_begin::<D>();
     let bytes = files.read_all(alloc)?;
     if !are_closed(alloc, &bytes) {
         return Err(Refusal::NotEmpty);

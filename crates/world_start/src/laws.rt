@@ -5,12 +5,13 @@ ghost use Rattle.world_start.specs.declared.engine.Engine.{Engine};
 ghost use Rattle.world_start.specs.Running.{HasNewest};
 ghost use Rattle.world_start.specs.Engine.{Follows};
 ghost use Rattle.world_start.specs.Opening.{AreSound};
+ghost use Rattle.world_start.specs.Steps.{StartLaws};
 
-use action_log::log_outcomes;
+use action_log::{log_outcomes, log_queues};
 use capture_core::Capture;
 use disk_model::Disk;
 use image_files::images_stay;
-use restart::worlds_are_safe;
+use restart::{gates_are_told, worlds_are_safe, worlds_go_on};
 
 /// Laws: the files of a world that follows its ticks are sound for them and the acknowledged count, once there is an image.
 /// After a start there is one.
@@ -25,4 +26,15 @@ pub fn followed_files_are_sound<C: Capture, D: Disk>()
     images_stay::<D>();
     log_outcomes::<D>();
     worlds_are_safe::<D>();
+}
+
+/// Laws: what keepers just made and their files stand for, of files of which nothing is unsynced, and that a world goes on in step.
+pub fn starts_begin<D: Disk>()
+    ensures { StartLaws D.content D.may_leave }
+{
+    images_stay::<D>();
+    log_outcomes::<D>();
+    log_queues();
+    gates_are_told();
+    worlds_go_on();
 }

@@ -1,15 +1,14 @@
 ghost use Rattle.std.specs.Prelude.{◌≡◌, IsTrue, IfOk, IfErr};
 ghost use Rattle.disk_model.specs.FourFiles.{EachFile, KeepsFile, fault_counts};
 ghost use Rattle.world_start.specs.Steps.{IsAhead};
-ghost use Rattle.world_start.specs.Opening.{SomeGrew, IsRead, IsRecovered, IsRefused};
+ghost use Rattle.world_start.specs.Opening.{HasFaulted, IsRead, IsRecovered, IsRefused};
 
 use crate::engine::Engine;
-use action_log::{log_outcomes, log_queues, segments_read_once};
+use crate::laws::starts_begin;
+use action_log::segments_read_once;
 use capture_core::Capture;
 use disk_model::{Disk, FourFiles};
-use image_files::images_stay;
 use recovery::{crash_restarts, recover};
-use restart::{gates_are_told, worlds_go_on};
 use std::alloc::Global;
 use world_actions::Refusal;
 
@@ -38,16 +37,11 @@ pub fn recover_world<C: Capture, D: Disk>(
     ensures refused { IfErr result (IsRefused D.content D.honest files.old) }
     ensures no_fault { IfOk result (λ begun.
         fault_counts D.faults files.new ≡ fault_counts D.faults files.old) }
-    ensures device { IfErr result (λ refusal. refusal ≡ Refusal.Device
-        → SomeGrew (fault_counts D.faults files.old) (fault_counts D.faults files.new)) }
+    ensures device { IfErr result (HasFaulted D.faults files.old files.new) }
 {
-    images_stay::<D>();
-    log_outcomes::<D>();
-    log_queues();
-    gates_are_told();
+    starts_begin::<D>();
     segments_read_once();
     crash_restarts();
-    worlds_go_on();
     let bytes = files.read_all(alloc)?;
     let found = recover(
         alloc,

@@ -20,6 +20,12 @@ pub const TO: &str = "to";
 /// The name of the group of the number of cells and the words.
 const CONTENT: &str = "content";
 
+/// What `recover` does.
+const RECOVER_ABOUT: &str = "Prints which world the files of a folder hold";
+
+/// What `status` does.
+const STATUS_ABOUT: &str = "Prints figures of the world in a folder, also while it is served";
+
 /// What the words ask for; the error has clap's text.
 pub fn matches_of<'a>(alloc: Global, words: &'a [String]) -> Result<ArgMatches<'a>, Error> {
     commands(alloc)?.try_get_matches_from(words)
@@ -32,9 +38,9 @@ fn commands<'a>(alloc: Global) -> Result<Command<'a>, AllocError> {
         .subcommand_required(true)
         .subcommand(steps_command(alloc))?
         .subcommand(create_command(alloc)?)?
-        .subcommand(recover_command(alloc)?)?
+        .subcommand(folder_command(alloc, "recover", RECOVER_ABOUT, RECOVER_HELP)?)?
         .subcommand(inspect_command(alloc)?)?
-        .subcommand(status_command(alloc)?)?
+        .subcommand(folder_command(alloc, "status", STATUS_ABOUT, STATUS_HELP)?)?
         .subcommand(backup_command(alloc)?)?
         .subcommand(serve_command(alloc)?)
 }
@@ -45,11 +51,22 @@ fn steps_command<'a>(alloc: Global) -> Command<'a> {
         .after_help(STEPS_HELP)
 }
 
+// A command on the world in a folder.
+fn folder_command<'a>(
+    alloc: Global,
+    name: &'a str,
+    about: &'a str,
+    after_help: &'a str,
+) -> Result<Command<'a>, AllocError> {
+    Command::new(alloc, name)
+        .about(about)
+        .after_help(after_help)
+        .arg(folder_argument(alloc))
+}
+
 fn create_command<'a>(alloc: Global) -> Result<Command<'a>, AllocError> {
-    Command::new(alloc, "create")
-        .about("Makes the files of a new world in a folder")
-        .after_help(CREATE_HELP)
-        .arg(folder_argument(alloc))?
+    let about = "Makes the files of a new world in a folder";
+    folder_command(alloc, "create", about, CREATE_HELP)?
         .arg(cells_argument(alloc))?
         .arg(list_argument(alloc))?
         .group(content_group(alloc)?)
@@ -61,69 +78,45 @@ fn content_group<'a>(alloc: Global) -> Result<ArgGroup<'a>, AllocError> {
     Ok(group.required(true))
 }
 
-fn recover_command<'a>(alloc: Global) -> Result<Command<'a>, AllocError> {
-    Command::new(alloc, "recover")
-        .about("Prints which world the files of a folder hold")
-        .after_help(RECOVER_HELP)
-        .arg(folder_argument(alloc))
-}
-
 fn inspect_command<'a>(alloc: Global) -> Result<Command<'a>, AllocError> {
-    Command::new(alloc, "inspect")
-        .about("Prints what each file of a folder holds, and which world they hold together")
-        .after_help(INSPECT_HELP)
-        .arg(folder_argument(alloc))?
-        .arg(words_argument(alloc))
-}
-
-fn status_command<'a>(alloc: Global) -> Result<Command<'a>, AllocError> {
-    Command::new(alloc, "status")
-        .about("Prints figures of the world in a folder, also while it is served")
-        .after_help(STATUS_HELP)
-        .arg(folder_argument(alloc))
+    let about = "Prints what each file of a folder holds, and which world they hold together";
+    folder_command(alloc, "inspect", about, INSPECT_HELP)?.arg(words_argument(alloc))
 }
 
 fn backup_command<'a>(alloc: Global) -> Result<Command<'a>, AllocError> {
-    Command::new(alloc, "backup")
-        .about("Copies the world in a folder, also while it is served")
-        .after_help(BACKUP_HELP)
-        .arg(folder_argument(alloc))?
-        .arg(to_argument(alloc))
+    let about = "Copies the world in a folder, also while it is served";
+    folder_command(alloc, "backup", about, BACKUP_HELP)?.arg(to_argument(alloc))
+}
+
+/// An argument with a value, by its long name.
+pub fn value_argument<'a>(alloc: Global, name: &'a str, value: &'a str, help: &'a str) -> Arg<'a> {
+    Arg::new(alloc, name)
+        .long(name)
+        .value_name(value)
+        .action(ArgAction::Set)
+        .help(help)
 }
 
 /// The argument that names a folder.
 pub fn folder_argument<'a>(alloc: Global) -> Arg<'a> {
-    Arg::new(alloc, FOLDER)
-        .long(FOLDER)
-        .value_name("FOLDER")
-        .required(true)
-        .action(ArgAction::Set)
-        .help("The folder of image.a, image.b, log.a and log.b")
+    let help = "The folder of image.a, image.b, log.a and log.b";
+    value_argument(alloc, FOLDER, "FOLDER", help).required(true)
 }
 
 fn cells_argument<'a>(alloc: Global) -> Arg<'a> {
-    Arg::new(alloc, CELLS)
-        .long(CELLS)
-        .value_name("N")
-        .value_parser(value_parser!(u32).range(1..=i64::from(world_actions::CELLS)))
-        .help("The number of cells, all 0")
+    value_argument(alloc, CELLS, "N", "The number of cells, all 0").value_parser(value_parser!(
+        u32
+    ).range(1..=i64::from(world_actions::CELLS)))
 }
 
 fn list_argument<'a>(alloc: Global) -> Arg<'a> {
-    Arg::new(alloc, WORDS)
-        .long(WORDS)
-        .value_name("FILE")
-        .action(ArgAction::Set)
-        .help("A file with the words of the cells, in the place of their number")
+    let help = "A file with the words of the cells, in the place of their number";
+    value_argument(alloc, WORDS, "FILE", help)
 }
 
 fn to_argument<'a>(alloc: Global) -> Arg<'a> {
-    Arg::new(alloc, TO)
-        .long(TO)
-        .value_name("FOLDER")
-        .required(true)
-        .action(ArgAction::Set)
-        .help("The folder of the copy, which has to be empty")
+    let help = "The folder of the copy, which has to be empty";
+    value_argument(alloc, TO, "FOLDER", help).required(true)
 }
 
 fn words_argument<'a>(alloc: Global) -> Arg<'a> {

@@ -2,7 +2,7 @@ ghost use Rattle.std.specs.Prelude.{◌≡◌, ◌≢◌, IfSome, IfNone};
 ghost use Rattle.world_server.specs.declared.socket.SocketMode.{SocketMode as Mode};
 ghost use Rattle.world_server.specs.Socket.{mode_word};
 
-use crate::arguments::{FOLDER, folder_argument};
+use crate::arguments::{FOLDER, folder_argument, value_argument};
 use crate::help::SERVE_HELP;
 use clap::error::Error;
 use clap::{Arg, ArgAction, ArgGroup, ArgMatches, Command, value_parser};
@@ -54,21 +54,16 @@ pub fn serve_command<'a>(alloc: Global) -> Result<Command<'a>, AllocError> {
 }
 
 fn method_argument<'a>(alloc: Global) -> Arg<'a> {
-    Arg::new(alloc, METHOD)
-        .long(METHOD)
-        .value_name("METHOD")
+    let help = "How the words of a tick are captured while play goes on";
+    value_argument(alloc, METHOD, "METHOD", help)
         .required(true)
         .value_parser(["zigzag", "pingpong"].as_slice())
-        .help("How the words of a tick are captured while play goes on")
 }
 
 fn every_argument<'a>(alloc: Global) -> Arg<'a> {
-    Arg::new(alloc, EVERY)
-        .long(EVERY)
-        .value_name("E")
+    value_argument(alloc, EVERY, "E", "After how many ticks an image is due")
         .default_value("64")
         .value_parser(value_parser!(u32).range(1..=65_536))
-        .help("After how many ticks an image is due")
 }
 
 fn every_of(given: &ArgMatches<'_>) -> Option<Every> {
@@ -76,28 +71,20 @@ fn every_of(given: &ArgMatches<'_>) -> Option<Every> {
 }
 
 fn port_argument<'a>(alloc: Global) -> Arg<'a> {
-    Arg::new(alloc, PORT)
-        .long(PORT)
-        .value_name("P")
-        .value_parser(value_parser!(u16))
-        .help("The port on 127.0.0.1, 0 for one that the system chooses")
+    let help = "The port on 127.0.0.1, 0 for one that the system chooses";
+    value_argument(alloc, PORT, "P", help).value_parser(value_parser!(u16))
 }
 
 fn socket_argument<'a>(alloc: Global) -> Arg<'a> {
-    Arg::new(alloc, SOCKET)
-        .long(SOCKET)
-        .value_name("PATH")
-        .action(ArgAction::Set)
-        .help("The path of a socket, in the place of a port")
+    let help = "The path of a socket, in the place of a port";
+    value_argument(alloc, SOCKET, "PATH", help)
 }
 
 fn socket_mode_argument<'a>(alloc: Global) -> Result<Arg<'a>, AllocError> {
-    Arg::new(alloc, SOCKET_MODE)
-        .long(SOCKET_MODE)
-        .value_name("MODE")
+    let help = "Who may connect to the socket: its owner, its group too, or everyone";
+    value_argument(alloc, SOCKET_MODE, "MODE", help)
         .default_value("0600")
         .value_parser(["0600", "0660", "0666"].as_slice())
-        .help("Who may connect to the socket: its owner, its group too, or everyone")
         .conflicts_with(PORT)
 }
 
@@ -130,12 +117,10 @@ fn mode_of(text: &str) -> Option<SocketMode>
 }
 
 fn clients_argument<'a>(alloc: Global) -> Arg<'a> {
-    Arg::new(alloc, CLIENTS)
-        .long(CLIENTS)
-        .value_name("K")
+    let help = "After how many connections it accepts no more";
+    value_argument(alloc, CLIENTS, "K", help)
         .required(true)
         .value_parser(value_parser!(u32).range(1..=100_000))
-        .help("After how many connections it accepts no more")
 }
 
 fn clients_of(given: &ArgMatches<'_>) -> Option<Clients> {
@@ -143,20 +128,15 @@ fn clients_of(given: &ArgMatches<'_>) -> Option<Clients> {
 }
 
 fn idle_argument<'a>(alloc: Global) -> Arg<'a> {
-    Arg::new(alloc, IDLE)
-        .long(IDLE)
-        .value_name("SECONDS")
-        .value_parser(value_parser!(u32).range(1..=86_400))
-        .help("After how many seconds of silence a client's session ends; never by default")
+    let help = "After how many seconds of silence a client's session ends; never by default";
+    value_argument(alloc, IDLE, "SECONDS", help).value_parser(value_parser!(u32).range(1..=86_400))
 }
 
 fn report_argument<'a>(alloc: Global) -> Arg<'a> {
-    Arg::new(alloc, REPORT)
-        .long(REPORT)
-        .value_name("SECONDS")
+    let help = "After how many seconds figures are printed, again and again; 0 for never";
+    value_argument(alloc, REPORT, "SECONDS", help)
         .default_value("0")
         .value_parser(value_parser!(u32).range(0..=86_400))
-        .help("After how many seconds figures are printed, again and again; 0 for never")
 }
 
 fn exit_argument<'a>(alloc: Global) -> Arg<'a> {

@@ -1,16 +1,16 @@
 -- What the calls of a store do to its words.
-use Rattle.std.proofs.Common.{◌≡◌, refl, sym, ◌∙◌, ap, ℕ, zero, suc, ◌+◌, ◌<◌, ◌≤◌, Bool, true, false, not, cond, List, [], ◌∷◌, length, drop, map, replicate, get_or, set, Some, None, arith, inl, inr, ◌-◌}
-use Rattle.std.proofs.lemmas.List.{length-map, length-drop, drop_more, drop_all, get_or-map}
+use Rattle.std.proofs.Common.{◌≡◌, refl, sym, ◌∙◌, ap, ℕ, zero, suc, ◌+◌, ◌<◌, ◌≤◌, Bool, true, false, not, cond, List, [], ◌∷◌, length, drop, map, replicate, get_or, set, Some, None, arith, inl, ◌-◌}
+use Rattle.std.proofs.lemmas.List.{length-map, length-drop, drop_more, get_or-map, set-get_or}
 use Rattle.std.proofs.Math.Seq.{drop-length}
 use Rattle.std.proofs.lemmas.List.Elements.{All-nil, All-cons, All-head, All-tail}
 use Rattle.std.specs.Option.{option_map}
-use Rattle.std.proofs.lemmas.Option.{slice_get_within, get_or_from_slice_get, none-some, slice_get-get_or, slice_get-map, slice_get_cases, slice_get_past}
+use Rattle.std.proofs.lemmas.Option.{slice_get_within, get_or_from_slice_get, slice_get-get_or, slice_get-map, slice_get_past}
 use Rattle.std.specs.List.{slice_get, All}
 use Rattle.world_actions.specs.World.{IsWord}
 use Rattle.capture_core.specs.declared.taker.Taken.TheVariants.{Word}
 use Rattle.capture_core.specs.Taken.{taken_of}
 use Rattle.capture_core.specs.Content.{all_touched, content_after, Marks, Takes}
-use Rattle.capture_core.proofs.ContentLemmas.{all_touched-set}
+use Rattle.capture_core.proofs.ContentLemmas.{all_touched-set, none_behind, takes_none}
 use Rattle.zigzag.specs.Zigzag.{Arrays, words_at, live_words, captured_words, content_of, IsInOrder, built_arrays, written_arrays, marked_arrays, taken_arrays}
 
 -- there is a word for each cell
@@ -29,31 +29,23 @@ get_or-words_at (mark ∷ marks) (x ∷ zeros) [] i p q r = absurd (omega (arith
 get_or-words_at (mark ∷ marks) (x ∷ zeros) (y ∷ ones) zero p q r = refl
 get_or-words_at (mark ∷ marks) (x ∷ zeros) (y ∷ ones) (suc i) p q r = get_or-words_at marks zeros ones i (omega (arith, p)) (omega (arith, q)) (omega (arith, r))
 
--- a write to array zero, to which the mark is set then
-words_at-set_zero : (marks : List Bool) (zeros ones : List ℕ) (i v : ℕ) → words_at (set marks i false) (set zeros i v) ones ≡ set (words_at marks zeros ones) i v
-words_at-set_zero [] zeros ones i v = refl
-words_at-set_zero (m ∷ marks) [] ones zero v = refl
-words_at-set_zero (m ∷ marks) [] ones (suc i) v = refl
-words_at-set_zero (m ∷ marks) (x ∷ zeros) [] zero v = refl
-words_at-set_zero (m ∷ marks) (x ∷ zeros) [] (suc i) v = refl
-words_at-set_zero (m ∷ marks) (x ∷ zeros) (y ∷ ones) zero v = refl
-words_at-set_zero (m ∷ marks) (x ∷ zeros) (y ∷ ones) (suc i) v = ap (λ words. cond m y x ∷ words) (words_at-set_zero marks zeros ones i v)
+-- a write to both arrays, and to the mark
+words_at-set_both : (marks : List Bool) (zeros ones : List ℕ) (i v w : ℕ) (mark : Bool) → words_at (set marks i mark) (set zeros i v) (set ones i w) ≡ set (words_at marks zeros ones) i (cond mark w v)
+words_at-set_both [] zeros ones i v w mark = refl
+words_at-set_both (m ∷ marks) [] ones zero v w mark = refl
+words_at-set_both (m ∷ marks) [] ones (suc i) v w mark = refl
+words_at-set_both (m ∷ marks) (x ∷ zeros) [] zero v w mark = refl
+words_at-set_both (m ∷ marks) (x ∷ zeros) [] (suc i) v w mark = refl
+words_at-set_both (m ∷ marks) (x ∷ zeros) (y ∷ ones) zero v w mark = refl
+words_at-set_both (m ∷ marks) (x ∷ zeros) (y ∷ ones) (suc i) v w mark = ap (λ words. cond m y x ∷ words) (words_at-set_both marks zeros ones i v w mark)
 
--- the same for array one
-words_at-set_one : (marks : List Bool) (zeros ones : List ℕ) (i v : ℕ) → words_at (set marks i true) zeros (set ones i v) ≡ set (words_at marks zeros ones) i v
-words_at-set_one [] zeros ones i v = refl
-words_at-set_one (m ∷ marks) [] ones zero v = refl
-words_at-set_one (m ∷ marks) [] ones (suc i) v = refl
-words_at-set_one (m ∷ marks) (x ∷ zeros) [] zero v = refl
-words_at-set_one (m ∷ marks) (x ∷ zeros) [] (suc i) v = refl
-words_at-set_one (m ∷ marks) (x ∷ zeros) (y ∷ ones) zero v = refl
-words_at-set_one (m ∷ marks) (x ∷ zeros) (y ∷ ones) (suc i) v = ap (λ words. cond m y x ∷ words) (words_at-set_one marks zeros ones i v)
-
--- the same for the array that a mark names
+-- a write to the array that the mark names then: the other one keeps its entry
 words_at-set : (marks : List Bool) (zeros ones : List ℕ) (i v : ℕ) (mark : Bool) →
     words_at (set marks i mark) (cond mark zeros (set zeros i v)) (cond mark (set ones i v) ones) ≡ set (words_at marks zeros ones) i v
-words_at-set marks zeros ones i v true = words_at-set_one marks zeros ones i v
-words_at-set marks zeros ones i v false = words_at-set_zero marks zeros ones i v
+words_at-set marks zeros ones i v true =
+    ap (λ (kept : List ℕ). words_at (set marks i true) kept (set ones i v)) (sym (set-get_or zeros i 0)) ∙ words_at-set_both marks zeros ones i (get_or zeros i 0) v true
+words_at-set marks zeros ones i v false =
+    ap (λ (kept : List ℕ). words_at (set marks i false) (set zeros i v) kept) (sym (set-get_or ones i 0)) ∙ words_at-set_both marks zeros ones i v (get_or ones i 0) false
 
 -- a write to array one, where the opposite of the mark does not look
 words_at-set_unseen_one : (marks : List Bool) (zeros ones : List ℕ) (i v : ℕ) → get_or marks i false ≡ true → words_at (map not marks) zeros (set ones i v) ≡ words_at (map not marks) zeros ones
@@ -182,16 +174,7 @@ takes-word store word is =
 
 -- a take where none is left
 pub takes-none : (store : Arrays) → None ≡ slice_get (captured_words store) store.taken → Takes (content_of store) None (content_of store)
-takes-none store is =
-    let end : drop store.taken (captured_words store) ≡ [] =
-    elim (slice_get_cases (captured_words store) store.taken).1 [
-      | inl (x, below, some, at) ↦ absurd (none-some x (is ∙ some))
-      | inr (past, none) ↦ drop_all store.taken (captured_words store) past
-    ] in
-    record {
-      gives = sym (ap (λ list. option_map taken_of (slice_get (map Some list) 0)) end);
-      rest = ap (λ left. record (content_of store) { left = left }) (ap (map Some) end ∙ sym (ap (λ list. drop 1 (map Some list)) end));
-    }
+takes-none store is = takes_none (content_of store) (ap (map Some) (none_behind (captured_words store) store.taken is))
 
 -- how many cells are left
 pub length-left : (store : Arrays) → IsInOrder store → length (content_of store).left ≡ length store.array_zero - store.taken

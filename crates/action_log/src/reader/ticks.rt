@@ -11,7 +11,7 @@ ghost use Rattle.action_log.specs.TickList.{actions_of};
 
 use crate::format::{ADD, CAP, GROUP_TICKS, SET, SWAP, TRANSFER, last_kind};
 use crate::tick_list::TickList;
-use file_format::{Format, OPEN_GATE, numbers_read_back, u16_at, u32_at, u64_at};
+use file_format::{Format, OPEN_GATE, u16_at, u32_at, u64_at};
 use std::alloc::Global;
 use world_actions::{Action, Refusal};
 use world_ticks::TICK_ACTIONS;
@@ -187,7 +187,6 @@ pub(super) fn count_all(format: Format, bytes: &[u8], most: usize) -> Option<Cou
     ensures none { IfNone result ((groups : List (List (List Action))) → groups_of format bytes.now ≡ Some groups
         → most < length (joined groups)) }
 {
-    numbers_read_back();
     let mut counts = Counts {
         groups: 0,
         ticks: 0,
@@ -264,7 +263,6 @@ fn read_groups(
         × AreAdded ticks actions.old.items ends.old.items actions.new.items ends.new.items) }
     ensures refused { IfErr result (RefusesWhere (ticks_of format bytes.now ≡ None)) }
 {
-    numbers_read_back();
     let mut rest = bytes;
     while let Some(group) = behind_gate(rest) {
         rest = read_group(format, group, actions, ends)?;

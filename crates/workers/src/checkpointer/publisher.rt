@@ -1,6 +1,6 @@
 //! Who tells the log writer of the images that are open.
 ghost use Rattle.std.specs.Prelude.{◌≡◌, true};
-ghost use Rattle.shared_capture.specs.CoverWord.{AreStored};
+ghost use Rattle.shared_capture.specs.CoverWord.{CoverState, AreStored};
 ghost use Rattle.workers.specs.Publishing.{IsNext, told};
 
 use shared_capture::{Back, CoverIn, CoverOut, Method, meet_cover};
@@ -13,8 +13,6 @@ pub struct Publisher {
 }
 
 impl Model for Publisher {
-    ghost use Rattle.shared_capture.specs.CoverWord.{CoverState};
-
     ghost Value = { CoverState };
 
     ghost view = { λ publisher. publisher.covers };

@@ -1,10 +1,9 @@
-ghost use Rattle.std.specs.Prelude.{◌≡◌, ◌⊎◌, ◌+◌, ◌<◌, ◌≤◌, ◌++◌, ◌∷◌, [], ℕ, List, None, true, false, IsTrue};
-ghost use Rattle.world_actions.specs.declared.action.Action.{Action};
+ghost use Rattle.std.specs.Prelude.{◌≡◌, ◌⊎◌, ◌+◌, ◌<◌, ◌≤◌, ◌++◌, ◌∷◌, [], None, true, false, IsTrue};
 ghost use Rattle.image_files.specs.declared.phase.Phase.TheVariants.{Idle, Down};
 ghost use Rattle.image_files.specs.Images.{round_in};
 ghost use Rattle.action_log.specs.Progress.{work_of};
-ghost use Rattle.world_start.specs.Running.{RoundTick, RoundFaults, LogFaults, IsFirst};
-ghost use Rattle.world_start.specs.Engine.{Follows};
+ghost use Rattle.world_start.specs.Running.{RoundTick, IsFirst};
+ghost use Rattle.world_start.specs.Engine.{StillFollows, ImageFaults, JournalFaults};
 ghost use Rattle.world_start.specs.Steps.{ImagesInOrder, LogInOrder};
 
 use crate::engine::Engine;
@@ -26,12 +25,8 @@ impl<C: Capture> Engine<C> {
         ensures same { self.new ≡ record self.old { store = self.new.store; images = self.new.images } }
         ensures same_files { files.new
             ≡ record files.old { image_a = files.new.image_a; image_b = files.new.image_b } }
-        ensures faults { RoundFaults self.old.images.phase self.new.images.phase
-            (D.faults files.old.image_a) (D.faults files.new.image_a)
-            (D.faults files.old.image_b) (D.faults files.new.image_b) }
-        ensures follows { IsTrue D.honest → (ticks : List (List Action)) (acknowledged : ℕ)
-            → Follows C.content D.content D.may_leave self.old files.old ticks acknowledged
-            → Follows C.content D.content D.may_leave self.new files.new ticks acknowledged }
+        ensures faults { ImageFaults D.faults self.old files.old self.new files.new }
+        ensures follows { IsTrue D.honest → StillFollows C.content D.content D.may_leave self.old files.old self.new files.new }
     {
         run_round(
             &mut self.store,
@@ -53,12 +48,8 @@ impl<C: Capture> Engine<C> {
         ensures same { self.new ≡ record self.old { log = self.new.log; queue = self.new.queue } }
         ensures same_files { files.new
             ≡ record files.old { log_a = files.new.log_a; log_b = files.new.log_b } }
-        ensures faults { LogFaults self.old.log.down self.new.log.down
-            (D.faults files.old.log_a) (D.faults files.new.log_a)
-            (D.faults files.old.log_b) (D.faults files.new.log_b) }
-        ensures follows { IsTrue D.honest → (ticks : List (List Action)) (acknowledged : ℕ)
-            → Follows C.content D.content D.may_leave self.old files.old ticks acknowledged
-            → Follows C.content D.content D.may_leave self.new files.new ticks acknowledged }
+        ensures faults { JournalFaults D.faults self.old files.old self.new files.new }
+        ensures follows { IsTrue D.honest → StillFollows C.content D.content D.may_leave self.old files.old self.new files.new }
     {
         images_stay::<D>();
         run_log(

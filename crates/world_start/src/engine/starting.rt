@@ -4,7 +4,7 @@ ghost use Rattle.file_format.specs.declared.slot.Slot.TheVariants.{A};
 ghost use Rattle.disk_model.specs.FourFiles.{fault_counts};
 ghost use Rattle.image_files.specs.declared.phase.Phase.TheVariants.{Idle, Down};
 ghost use Rattle.world_start.specs.Running.{HasNewest};
-ghost use Rattle.world_start.specs.Engine.{Follows};
+ghost use Rattle.world_start.specs.Engine.{Follows, StillFollows};
 ghost use Rattle.world_start.specs.Opening.{SomeGrew};
 ghost use Rattle.world_start.specs.Steps.{ImagesInOrder, LogInOrder, IsAtRest};
 
@@ -30,9 +30,7 @@ impl<C: Capture> Engine<C> {
         ensures cells { self.new.images.cells ≡ self.old.images.cells }
         ensures live { (C.content self.new.store).live ≡ (C.content self.old.store).live }
         ensures newest { HasNewest self.old.images → HasNewest self.new.images }
-        ensures follows { IsTrue D.honest → (ticks : List (List Action)) (acknowledged : ℕ)
-            → Follows C.content D.content D.may_leave self.old files.old ticks acknowledged
-            → Follows C.content D.content D.may_leave self.new files.new ticks acknowledged }
+        ensures follows { IsTrue D.honest → StillFollows C.content D.content D.may_leave self.old files.old self.new files.new }
         ensures acknowledges { IsTrue D.honest → (ticks : List (List Action)) (acknowledged : ℕ)
             → Follows C.content D.content D.may_leave self.old files.old ticks acknowledged
             → OnOk result (Follows C.content D.content D.may_leave self.new files.new ticks self.new.ended) }

@@ -7,7 +7,6 @@ use Rattle.action_log.specs.declared.format.TheConstants.{FIRST_GROUP, SEGMENT_T
 use Rattle.action_log.specs.Segment.{joined, MalformedSegment, OpenSegment}
 use Rattle.action_log.specs.Reading.{groups_of, ticks_of}
 use Rattle.action_log.proofs.ValueReadingLemmas.{from_place}
-use Rattle.action_log.proofs.ActionReadingLemmas.{Numbers}
 use Rattle.action_log.proofs.GroupReadingLemmas.{groups_by, ticks_by}
 use Rattle.action_log.proofs.ReadingLemmas.{within_bounds, behind_mark, gated_reads, within_few, within_many, reads_as}
 use Rattle.action_log.proofs.reader.judge.Goals as goal
@@ -21,33 +20,27 @@ too_many base count more = elim (cases_lt SEGMENT_TICKS count) [
 
 pub returns-in_default : goal.returns-in_default
 returns-in_default c =
-    let laws = c.numbers_read_back.ensures in
-    let numbers : Numbers = record { read = laws.read; spelled = laws.spelled; fits = laws.fits; len = laws.length } in
     let bytes = c.args.bytes.now in
-    reads_as numbers bytes MalformedSegment (λ i. Fits-lt-pow (c.type_inv.bytes i))
+    reads_as bytes MalformedSegment (λ i. Fits-lt-pow (c.type_inv.bytes i))
     (gated_reads bytes c.if-bytes-lt-HEADER_BYTES.false c.if-bytes-ne-OPEN_GATE.false
     ∙ ap (λ (mark : Option (Format × ℕ)). behind_mark mark (drop FIRST_GROUP bytes)) (sym c.in_default.ensures))
 
 pub returns-then-base-gt-TICK_MAX : goal.returns-then-base-gt-TICK_MAX
 returns-then-base-gt-TICK_MAX c =
-    let laws = c.numbers_read_back.ensures in
-    let numbers : Numbers = record { read = laws.read; spelled = laws.spelled; fits = laws.fits; len = laws.length } in
     let bytes = c.args.bytes.now in
     let body = drop FIRST_GROUP bytes in
-    reads_as numbers bytes MalformedSegment (λ i. Fits-lt-pow (c.type_inv.bytes i))
+    reads_as bytes MalformedSegment (λ i. Fits-lt-pow (c.type_inv.bytes i))
     (gated_reads bytes c.if-bytes-lt-HEADER_BYTES.false c.if-bytes-ne-OPEN_GATE.false
     ∙ ap (λ (mark : Option (Format × ℕ)). behind_mark mark body) (sym c.in-Some.ensures)
     ∙ within_many c.in-Some.base (ticks_of c.in-Some.format body) (λ ticks e. inr (omega (arith, c.if-base-gt-TICK_MAX.true))))
 
 pub returns-in-None : goal.returns-in-None
 returns-in-None c =
-    let laws = c.numbers_read_back.ensures in
-    let numbers : Numbers = record { read = laws.read; spelled = laws.spelled; fits = laws.fits; len = laws.length } in
     let bytes = c.args.bytes.now in
     let body = drop FIRST_GROUP bytes in
     let format = c.in-Some.format in
     let base = c.in-Some.base in
-    reads_as numbers bytes MalformedSegment (λ i. Fits-lt-pow (c.type_inv.bytes i))
+    reads_as bytes MalformedSegment (λ i. Fits-lt-pow (c.type_inv.bytes i))
     (gated_reads bytes c.if-bytes-lt-HEADER_BYTES.false c.if-bytes-ne-OPEN_GATE.false
     ∙ ap (λ (mark : Option (Format × ℕ)). behind_mark mark body) (sym c.in-Some.ensures)
     ∙ within_many base (ticks_of format body) (λ ticks e. (
@@ -57,8 +50,6 @@ returns-in-None c =
 
 pub returns-in-Some-count_all : goal.returns-in-Some-count_all
 returns-in-Some-count_all c =
-    let laws = c.numbers_read_back.ensures in
-    let numbers : Numbers = record { read = laws.read; spelled = laws.spelled; fits = laws.fits; len = laws.length } in
     let bytes = c.args.bytes.now in
     let body = drop FIRST_GROUP bytes in
     let format = c.in-Some.format in
@@ -68,7 +59,7 @@ returns-in-Some-count_all c =
     let are : groups_of format body ≡ Some groups = ap (groups_of format) (sym (from_place FIRST_GROUP bytes)) ∙ counted.1 in (
       groups,
       are,
-      reads_as numbers bytes (OpenSegment base (joined groups)) (λ i. Fits-lt-pow (c.type_inv.bytes i))
+      reads_as bytes (OpenSegment base (joined groups)) (λ i. Fits-lt-pow (c.type_inv.bytes i))
           (gated_reads bytes c.if-bytes-lt-HEADER_BYTES.false c.if-bytes-ne-OPEN_GATE.false
           ∙ ap (λ (mark : Option (Format × ℕ)). behind_mark mark body) (sym c.in-Some.ensures)
           ∙ ap (within_bounds base) (ticks_by format body (Some groups) are)

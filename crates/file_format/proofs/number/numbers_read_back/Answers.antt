@@ -1,24 +1,6 @@
-use Rattle.byteorder.specs.Numbers.{little_from-lt}
-use Rattle.file_format.specs.Number.{number_bytes, number_of}
-use Rattle.file_format.proofs.NumberLemmas.{bytes_of_number, length-number_bytes, number_is_bytes, number_of-append, number_of-number_bytes}
+use Rattle.file_format.specs.Number.{number_bytes}
+use Rattle.file_format.proofs.NumberLemmas.{number_is_bytes}
 use Rattle.file_format.proofs.number.numbers_read_back.Goals as goal
-
-pub returns-clause-read : goal.returns-clause-read
-returns-clause-read c = number_of-number_bytes
-
-pub returns-clause-spelled : goal.returns-clause-spelled
-unfolding number_bytes number_of
-returns-clause-spelled c = bytes_of_number
-
-pub returns-clause-front : goal.returns-clause-front
-returns-clause-front c = number_of-append
-
-pub returns-clause-fits : goal.returns-clause-fits
-unfolding number_of
-returns-clause-fits c = λ width bytes are_bytes. little_from-lt 0 width bytes are_bytes
-
-pub returns-clause-length : goal.returns-clause-length
-returns-clause-length c = length-number_bytes
 
 pub returns-clause-bytes : goal.returns-clause-bytes
 unfolding number_bytes

@@ -30,23 +30,21 @@ returns-in_err-start-clause-left g c = λ honest.
 
 pub returns-clause-started : goal.returns-clause-started
 returns-clause-started g c = λ honest.
-    let file = g.D.Disk.content in
-    let leaves = g.D.Disk.may_leave in
-    let last = c.start.new.self in
-    let after = c.start.new.files in
     let read = c.in_ok-begun.ensures.read honest in
-    let ended : last.ended ≡ read.recovery.tick = c.start.ensures.ended.0 ∙ read.ended in
+    let ended = c.start.ensures.ended.0 ∙ read.ended in
     record {
-      recovery = read.recovery;
-      recovers = read.recovers;
-      is_from = read.is_from;
-      words = c.start.ensures.live ∙ read.words;
-      ended = ended;
-      since = c.start.ensures.ended.1 ∙ read.since;
+      matches = record {
+        recovery = read.recovery;
+        recovers = read.recovers;
+        is_from = read.is_from;
+        words = c.start.ensures.live ∙ read.words;
+        ended = ended;
+        since = c.start.ensures.ended.1 ∙ read.since;
+      };
       follows = λ cells ticks acknowledged synced sound.
           (let f = read.follows cells ticks acknowledged synced sound in (
             c.start.ensures.cells ∙ f.0,
-            subst (λ n. Follows g.C.Capture.content file leaves last after (take read.recovery.tick ticks) n) ended (c.in_ok-start.ensures.acknowledges honest (take read.recovery.tick ticks) acknowledged f.1),
+            subst (λ n. Follows g.C.Capture.content g.D.Disk.content g.D.Disk.may_leave c.start.new.self c.start.new.files (take read.recovery.tick ticks) n) ended (c.in_ok-start.ensures.acknowledges honest (take read.recovery.tick ticks) acknowledged f.1),
           ));
     }
 
@@ -54,19 +52,7 @@ pub returns-clause-recovered : goal.returns-clause-recovered
 returns-clause-recovered g c =
     let read = c.in_ok-begun.ensures.recovered in
     let ended = c.start.ensures.ended.0 ∙ read.ended in
-    record {
-      image_a = read.image_a;
-      image_b = read.image_b;
-      log_a = read.log_a;
-      log_b = read.log_b;
-      recovery = read.recovery;
-      recovers = read.recovers;
-      tick_is = ended;
-      from_is = read.from_is;
-      words = c.start.ensures.live ∙ read.words;
-      ended = ended;
-      read = read.read;
-    }
+    record { bytes = read.bytes; tick_is = ended; from_is = read.from_is; words = c.start.ensures.live ∙ read.words; ended = ended }
 
 pub returns-in_err-start-clause-device : goal.returns-in_err-start-clause-device
 returns-in_err-start-clause-device g c =

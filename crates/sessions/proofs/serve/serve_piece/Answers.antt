@@ -7,7 +7,7 @@ use Rattle.sessions.proofs.ProgressLemmas.{goes_nothing, goes_then, early_after,
 use Rattle.sessions.proofs.serve.serve_piece.Goals as goal
 
 pub loop-at-init : goal.loop-at-init
-loop-at-init g c = record { within = omega arith; goes = ([], Appends-none _, goes_nothing g.X.World.runs c.args.world.now c.args.reader.now) }
+loop-at-init g c = record { within = omega arith; goes = ([], Appends-none _, goes_nothing g.X.World.runs c.args.world.now c.args.session.now.reader) }
 
 pub loop-at-preserved : goal.loop-at-preserved
 loop-at-preserved g c =
@@ -21,7 +21,7 @@ loop-at-preserved g c =
       goes = (
         inv.goes.0 ++ done.0,
         Appends-both _ _ _ inv.goes.0 done.0 inv.goes.1 done.1,
-        subst (λ (b : List ℕ). Goes g.X.World.runs c.args.world.now c.args.reader.now b c.serve_some.new.reader c.serve_some.new.world (inv.goes.0 ++ done.0)) (take-more c.loop-at.at c.in_ok-at.field-0 piece inv.within)
+        subst (λ (b : List ℕ). Goes g.X.World.runs c.args.world.now c.args.session.now.reader b c.serve_some.new.session.reader c.serve_some.new.world (inv.goes.0 ++ done.0)) (take-more c.loop-at.at c.in_ok-at.field-0 piece inv.within)
             (goes_then g.X.World.runs _ _ _ _ _ _ (take c.loop-at.at piece) _ inv.goes.0 done.0 inv.goes.2 done.2),
       );
     }
@@ -41,12 +41,12 @@ returns-in_err-at-clause-fault g c =
       elim fault.2 [
         | inl early ↦ inl (
           early.0,
-          subst (λ (b : List ℕ). EndsEarly g.X.World.runs c.args.world.now c.args.reader.now b c.serve_some.new.world (inv.goes.0 ++ fault.0)) (rest_of c.loop-at.at piece)
+          subst (λ (b : List ℕ). EndsEarly g.X.World.runs c.args.world.now c.args.session.now.reader b c.serve_some.new.world (inv.goes.0 ++ fault.0)) (rest_of c.loop-at.at piece)
               (early_after g.X.World.runs _ _ _ _ _ (take c.loop-at.at piece) _ inv.goes.0 fault.0 inv.goes.2 early.1),
         )
         | inr breaks ↦ inr (
           breaks.0,
-          subst (λ (b : List ℕ). BreaksOff g.X.World.runs c.args.world.now c.args.reader.now b c.serve_some.new.world (inv.goes.0 ++ fault.0)) (rest_of c.loop-at.at piece)
+          subst (λ (b : List ℕ). BreaksOff g.X.World.runs c.args.world.now c.args.session.now.reader b c.serve_some.new.world (inv.goes.0 ++ fault.0)) (rest_of c.loop-at.at piece)
               (breaks_after g.X.World.runs _ _ _ _ _ (take c.loop-at.at piece) _ inv.goes.0 fault.0 inv.goes.2 breaks.1),
         )
       ],

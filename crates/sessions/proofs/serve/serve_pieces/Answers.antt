@@ -13,7 +13,7 @@ returns-in_err-n-clause-fault g c =
     let inv = c.loop.invariant in
     let fault = c.in_err-n.ensures.fault in
     let p = err_from_is_err_and c.from_residual.result c.from_residual.ensures.1 in
-    rw (p.1, p.2) (inv.0, Consumes-kept _ _ _ inv.0 inv.1 fault.1, inv.2.0, inv.2.1, inr (fault.0, session_stops g.X.World.runs c.args.world.now c.loop.world c.loop.reader inv.0 inv.2.0 inv.2.2))
+    rw (p.1, p.2) (inv.0, Consumes-kept _ _ _ inv.0 inv.1 fault.1, inv.2.0, inv.2.1, inr (fault.0, session_stops g.X.World.runs c.args.world.now c.loop.world c.loop.session.reader inv.0 inv.2.0 inv.2.2))
 
 pub returns-then-n-eq0-clause-whole : goal.returns-then-n-eq0-clause-whole
 returns-then-n-eq0-clause-whole g c =
@@ -24,7 +24,7 @@ returns-then-n-eq0-clause-whole g c =
       subst (Consumes (g.R.Read.remaining c.args.r.now) (g.R.Read.remaining c.read_some.new.r)) (ap (λ k. inv.0 ++ take k piece) c.if-n-eq0.true ∙ append-nil inv.0) (Consumes-both _ _ _ inv.0 (take c.in_ok-n.n piece) inv.1 c.in_ok-n.ensures.took),
       inv.2.0,
       inv.2.1,
-      session_ends g.X.World.runs c.args.world.now c.loop.world c.loop.reader inv.0 inv.2.0 inv.2.2,
+      session_ends g.X.World.runs c.args.world.now c.loop.world c.loop.session.reader inv.0 inv.2.0 inv.2.2,
     )
 
 pub returns-in_err-serve_piece-clause-fault : goal.returns-in_err-serve_piece-clause-fault
@@ -55,4 +55,4 @@ loop-preserved g c =
 pub returns-clause-fault : goal.returns-clause-fault
 returns-clause-fault g c =
     let inv = c.loop.invariant in
-    (inv.0, inv.1, inv.2.0, inv.2.1, inr (refl, session_stops g.X.World.runs c.args.world.now c.loop.world c.loop.reader inv.0 inv.2.0 inv.2.2))
+    (inv.0, inv.1, inv.2.0, inv.2.1, inr (refl, session_stops g.X.World.runs c.args.world.now c.loop.world c.loop.session.reader inv.0 inv.2.0 inv.2.2))

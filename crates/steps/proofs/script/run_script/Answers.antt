@@ -1,7 +1,7 @@
-use Rattle.std.proofs.Common.{[], ◌++◌, take, rules}
+use Rattle.std.proofs.Common.{[], ◌++◌, take, refl, rules}
 use Rattle.std.proofs.lemmas.Result.{err_from_is_err_and}
 use Rattle.byte_streams.proofs.StreamLemmas.{Appends-none, Appends-both, consumed, none_left, if_some}
-use Rattle.steps.proofs.ProgressLemmas.{stands_fresh, cut_between}
+use Rattle.steps.proofs.ProgressLemmas.{stands_fresh, cut_behind, breaks_between}
 use Rattle.steps.proofs.script.run_script.Goals as goal
 
 pub loop-init : goal.loop-init
@@ -20,30 +20,22 @@ pub returns-in_err-finish-clause-cut_off : goal.returns-in_err-finish-clause-cut
 returns-in_err-finish-clause-cut_off g c =
     let fault = c.in_err-finish.ensures.fault in
     let p = err_from_is_err_and c.from_residual-in_err-finish.result c.from_residual-in_err-finish.ensures.1 in
-    rw (p.1, p.2) (if_some _ _ (λ input known.
-    let inv = c.loop.invariant.stands input known in
-    let run = inv.2 in
-    let none = none_left _ _ inv.0 _ c.in_ok-n.n inv.1 c.in_ok-n.ensures.took c.if-n-eq0.true (c.in_ok-n.ensures.end c.if-n-eq0.true) in
-    (run.0 ++ fault.1, fault.3.on input run.0 (rw (none) at run.2), Appends-both _ _ _ _ _ run.1 fault.2)))
+    rw (p.1, p.2) (cut_behind _ _ _ _ _ _ _ _ c.loop.invariant.stands fault.2 (λ rest known.
+    ([], none_left _ _ rest _ c.in_ok-n.n known c.in_ok-n.ensures.took c.if-n-eq0.true (c.in_ok-n.ensures.end c.if-n-eq0.true), fault.3)))
 
 pub returns-in_err-n-clause-cut_off : goal.returns-in_err-n-clause-cut_off
 returns-in_err-n-clause-cut_off g c =
     let p = err_from_is_err_and c.from_residual-in_err-n.result c.from_residual-in_err-n.ensures.1 in
-    rw (p.1, p.2) (if_some _ _ (λ input known.
-    let inv = c.loop.invariant.stands input known in
-    let run = inv.2 in
-    (run.0, cut_between input inv.0 run.0 _ _ run.2, run.1)))
+    rw (p.1, p.2) (cut_behind _ _ _ _ _ _ _ _ c.loop.invariant.stands (Appends-none _) (λ rest known. (rest, refl, breaks_between _ rest _)))
 
 pub returns-in_err-take_piece-clause-cut_off : goal.returns-in_err-take_piece-clause-cut_off
 returns-in_err-take_piece-clause-cut_off g c =
     let fault = c.in_err-take_piece.ensures.fault in
     let p = err_from_is_err_and c.from_residual-in_err-take_piece.result c.from_residual-in_err-take_piece.ensures.1 in
-    rw (p.1, p.2) (if_some _ _ (λ input known.
-    let inv = c.loop.invariant.stands input known in
-    let run = inv.2 in
-    let left = consumed _ _ inv.0 (take c.in_ok-n.n c.read_some.new.piece) inv.1 c.in_ok-n.ensures.took in
-    let breaks = fault.3 left.0 in
-    (run.0 ++ fault.1, breaks.on input run.0 (rw (left.2) at run.2), Appends-both _ _ _ _ _ run.1 fault.2)))
+    rw (p.1, p.2) (cut_behind _ _ _ _ _ _ _ _ c.loop.invariant.stands fault.2 (λ rest known.
+    let piece = take c.in_ok-n.n c.read_some.new.piece in
+    let left = consumed _ _ rest piece known c.in_ok-n.ensures.took in
+    (piece ++ left.0, left.2, fault.3 left.0)))
 
 pub loop-preserved : goal.loop-preserved
 loop-preserved g c =
@@ -57,8 +49,4 @@ loop-preserved g c =
     }
 
 pub returns-clause-cut_off : goal.returns-clause-cut_off
-returns-clause-cut_off g c =
-    if_some _ _ (λ input known.
-    let inv = c.loop.invariant.stands input known in
-    let run = inv.2 in
-    (run.0, cut_between input inv.0 run.0 _ _ run.2, run.1))
+returns-clause-cut_off g c = cut_behind _ _ _ _ _ _ _ _ c.loop.invariant.stands (Appends-none _) (λ rest known. (rest, refl, breaks_between _ rest _))

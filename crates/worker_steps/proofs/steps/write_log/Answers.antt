@@ -7,22 +7,5 @@ returns-then-has_work-clause-made g c =
     let old = c.args.log_writer.now in
     let up : old.down ≡ false = search rules in
     let left : 0 < work_of old.log.keeper old.ring.items = search rules in
-    let e = c.step.ensures in
-    inr (inl (
-      up,
-      left,
-      record {
-        same = e.same;
-        loads = e.loads;
-        word = e.word;
-        covered = e.covers;
-        acked = e.acked;
-        posts = e.posts;
-        lowers = λ stays. e.lowers stays left;
-        failures = e.faults;
-        asks = e.asks;
-        calls = e.calls;
-        cause = e.cause;
-        refused = e.refused;
-      },
-    ))
+    let lowers = λ (stays : c.step.new.self.down ≡ false). c.step.ensures.lowers stays left in
+    inr (inl (up, left, assumption))

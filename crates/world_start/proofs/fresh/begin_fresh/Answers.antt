@@ -9,13 +9,7 @@ returns-clause-begun g c = λ honest.
     let b = c.in_ok-bytes.ensures.bytes honest in
     if_ok c.begin.result _ (λ engine. IsBegunFresh g.C.Capture.content g.D.Disk.content g.D.Disk.may_leave c.args.files.now c.args.cells engine c.read_all.new.self)
     (λ engine begun. fresh_begun g.C.Capture.content g.D.Disk.content g.D.Disk.may_leave
-    (record {
-      made = c.images_stay.ensures.made;
-      round = c.images_stay.ensures.begun;
-      log = λ tick shut_a shut_b log_a log_b before_a before_b most oa ob ta tb. c.log_outcomes.ensures.begins tick shut_a shut_b log_a log_b before_a before_b most oa ob ta.yes ta.no tb.yes tb.no;
-      told = c.gates_are_told.ensures;
-    })
-    c.worlds_go_on.ensures c.args.files.now c.read_all.new.self (c.read_all.ensures.kept honest) bytes.image_a.items bytes.image_b.items bytes.log_a.items bytes.log_b.items
+    c.starts_begin.ensures c.starts_begin.ensures.goes_on c.args.files.now c.read_all.new.self (c.read_all.ensures.kept honest) bytes.image_a.items bytes.image_b.items bytes.log_a.items bytes.log_b.items
     (record { image_a_is = b.image_a; image_b_is = b.image_b; log_a_is = b.log_a; log_b_is = b.log_b })
     (c.if-not-are_closed.ensures.0 refl) c.args.cells c.requires.0 c.requires.1 c.deref.result.now (c.deref.ensures.value ∙ c.in_ok-words.ensures.zeros) engine begun)
     c.begin.ensures.begins

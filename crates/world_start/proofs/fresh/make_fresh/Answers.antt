@@ -1,16 +1,15 @@
-use Rattle.std.proofs.Common.{◌≡◌, ℕ, List, sym, subst, ◌∙◌, [], ◌⊎◌, false, arith}
+use Rattle.std.proofs.Common.{◌≡◌, ℕ, List, subst, ◌∙◌, [], false, arith}
 use Rattle.std.specs.Prelude.{OnOk, OnErr}
-use Rattle.world_actions.specs.declared.refusal.Refusal.TheVariants.{Device, NotEmpty}
+use Rattle.world_actions.specs.declared.refusal.Refusal.TheVariants.{Device}
 use Rattle.file_format.specs.declared.slot.Slot.TheVariants.{A}
 use Rattle.file_format.specs.Slot.{of_slot}
 use Rattle.disk_model.specs.FourFiles.{fault_counts}
 use Rattle.image_files.specs.declared.phase.Phase.TheVariants.{Idle}
 use Rattle.action_log.specs.Segment.{OpenSegment, IsSegment}
-use Rattle.recovery.specs.Sound.{IsFresh}
 use Rattle.world_start.specs.Steps.{IsAtRest}
 use Rattle.world_start.specs.Opening.{SomeGrew, AreSound}
 use Rattle.world_start.specs.Fresh.{AreMade, AreNotMade}
-use Rattle.world_start.proofs.Made.{on_ok, no_items, if_refused, safe_fresh}
+use Rattle.world_start.proofs.Made.{on_ok, no_items, if_refused, start_failed}
 use Rattle.world_start.proofs.Faults.{refused_device}
 use Rattle.world_start.proofs.Following.{log_is_ready}
 use Rattle.world_start.proofs.Sound.{started_sound, follows_safe}
@@ -50,23 +49,11 @@ returns-clause-made g c = λ honest.
 
 pub returns-clause-left : goal.returns-clause-left
 returns-clause-left g c = λ honest.
-    let content = g.C.Capture.content in
-    let file = g.D.Disk.content in
-    let leaves = g.D.Disk.may_leave in
-    let last = c.start.new.self in
-    let after = c.start.new.files in
-    let begun = c.in_ok-engine.ensures.begun honest in
-    if_refused c.start.result (λ r. r ≡ Device) (λ r. AreNotMade file leaves c.args.files.now c.args.cells r after)
-    (λ r is. record {
-      not_empty = λ other. absurd (let e : Device ≡ NotEmpty = sym is ∙ other in let h = e in cc);
-      kept = λ other. absurd (other is);
-      safe = λ synced closed.
-          (let f = begun.follows synced in
-          let on = c.start.ensures.follows honest [] 0 f.1 in
-          let s = safe_fresh on.images (leaves after.image_a) (leaves after.image_b) (leaves after.log_a) (leaves after.log_b) last.images.cells on.count
-          (follows_safe content file leaves c.images_stay.ensures.newest c.images_stay.ensures.left c.log_outcomes.ensures.reads c.worlds_are_safe.ensures last after [] 0 on) in
-          subst (λ n. IsFresh (leaves after.image_a) (leaves after.image_b) (leaves after.log_a) (leaves after.log_b) n ⊎ AreSound file leaves after n [] 0) (c.start.ensures.cells ∙ f.0) s);
-    })
+    let D = g.D.Disk in
+    if_refused c.start.result (λ r. r ≡ Device) (λ r. AreNotMade D.content D.may_leave c.args.files.now c.args.cells r c.start.new.files)
+    (λ r is. start_failed g.C.Capture.content D.content D.may_leave c.args.files.now c.start.new.files c.args.cells c.start.new.self r is
+    (λ synced. let f = (c.in_ok-engine.ensures.begun honest).follows synced in (c.start.ensures.cells ∙ f.0, c.start.ensures.follows honest [] 0 f.1))
+    (follows_safe g.C.Capture.content D.content D.may_leave c.images_stay.ensures.newest c.images_stay.ensures.left c.log_outcomes.ensures.reads c.worlds_are_safe.ensures c.start.new.self c.start.new.files [] 0))
     c.start.ensures.refused
 
 pub returns-clause-device : goal.returns-clause-device

@@ -44,7 +44,7 @@ returns-clause-ahead g c =
             holds_newest c.crash_restarts.ensures c.len-cells.result (recovery_of_answer found) bytes.image_a.items bytes.image_b.items bytes.log_a.items bytes.log_b.items (ap length (sym c.deref-5.ensures.value) ∙ all)
                 (recovers_on (Ok (recovery_of_answer found)) c.deref.ensures.value c.deref-2.ensures.value c.deref-3.ensures.value c.deref-4.ensures.value c.in_ok-found.ensures.recovered),
           ));
-      log = log_order g.C.Capture.content g.D.Disk.content g.D.Disk.may_leave g.D.Disk.honest c.log_queues.ensures.begins c.len-cells.result (Some (found.slot, found.from)) found.tick c.deref-5.result.now bytes.image_a.items bytes.image_b.items bytes.log_a.items bytes.log_b.items
+      log = log_order g.C.Capture.content g.D.Disk.content g.D.Disk.may_leave g.D.Disk.honest c.starts_begin.ensures.queue c.len-cells.result (Some (found.slot, found.from)) found.tick c.deref-5.result.now bytes.image_a.items bytes.image_b.items bytes.log_a.items bytes.log_b.items
           c.in_ok-engine.engine c.read_all.new.self begins c.in_ok-found.ensures.numbers.1
           (λ honest. let b = c.in_ok-bytes.ensures.bytes honest in let k = c.read_all.ensures.kept honest in (k.log_a.same_content ∙ sym b.log_a, k.log_b.same_content ∙ sym b.log_b));
       up = (
@@ -63,13 +63,7 @@ returns-clause-read g c = λ honest.
     let b = c.in_ok-bytes.ensures.bytes honest in
     let all : length c.deref-5.result.now ≡ c.len-cells.result = c.deref-5.ensures.len ∙ sym c.len-cells.ensures in
     is_read g.C.Capture.content g.D.Disk.content g.D.Disk.may_leave
-    (record {
-      made = c.images_stay.ensures.made;
-      round = c.images_stay.ensures.begun;
-      log = λ tick shut_a shut_b log_a log_b before_a before_b most oa ob ta tb. c.log_outcomes.ensures.begins tick shut_a shut_b log_a log_b before_a before_b most oa ob ta.yes ta.no tb.yes tb.no;
-      told = c.gates_are_told.ensures;
-    })
-    c.segments_read_once.ensures.once c.crash_restarts.ensures c.worlds_go_on.ensures (λ disk. g.met.D.Disk.stays disk honest)
+    c.starts_begin.ensures c.segments_read_once.ensures.once c.crash_restarts.ensures c.starts_begin.ensures.goes_on (λ disk. g.met.D.Disk.stays disk honest)
     c.args.files.now c.read_all.new.self (c.read_all.ensures.kept honest) bytes.image_a.items bytes.image_b.items bytes.log_a.items bytes.log_b.items
     (record { image_a_is = b.image_a; image_b_is = b.image_b; log_a_is = b.log_a; log_b_is = b.log_b })
     (recovery_of_answer found) c.len-cells.result found.from c.deref-5.result.now c.in_ok-engine.engine c.in_ok-found.ensures.world c.in_ok-found.ensures.numbers.1 c.deref-5.ensures.value
@@ -82,20 +76,22 @@ returns-clause-recovered g c =
     let found = c.in_ok-found.found in
     let b = c.in_ok-engine.ensures.begins in
     record {
-      image_a = c.deref.result.now;
-      image_b = c.deref-2.result.now;
-      log_a = c.deref-3.result.now;
-      log_b = c.deref-4.result.now;
-      recovery = recovery_of_answer found;
-      recovers = c.in_ok-found.ensures.recovered;
+      bytes = record {
+        image_a = c.deref.result.now;
+        image_b = c.deref-2.result.now;
+        log_a = c.deref-3.result.now;
+        log_b = c.deref-4.result.now;
+        recovery = recovery_of_answer found;
+        recovers = c.in_ok-found.ensures.recovered;
+        read = λ honest. (let b = c.in_ok-bytes.ensures.bytes honest in record {
+          image_a_is = c.deref.ensures.value ∙ b.image_a;
+          image_b_is = c.deref-2.ensures.value ∙ b.image_b;
+          log_a_is = c.deref-3.ensures.value ∙ b.log_a;
+          log_b_is = c.deref-4.ensures.value ∙ b.log_b;
+        });
+      };
       tick_is = b.ended;
       from_is = refl;
       words = built_live c.deref-5.result.now (nat_lt found.from found.tick) (g.C.Capture.content c.in_ok-engine.engine.store) b.store ∙ c.deref-5.ensures.value;
       ended = b.ended;
-      read = λ honest. (let b = c.in_ok-bytes.ensures.bytes honest in record {
-        image_a_is = c.deref.ensures.value ∙ b.image_a;
-        image_b_is = c.deref-2.ensures.value ∙ b.image_b;
-        log_a_is = c.deref-3.ensures.value ∙ b.log_a;
-        log_b_is = c.deref-4.ensures.value ∙ b.log_b;
-      });
     }

@@ -3,7 +3,6 @@ use mir.Facts.{Fits-lt-pow}
 use Rattle.action_log.specs.Segment.{joined}
 use Rattle.action_log.specs.TickList.{actions_of}
 use Rattle.action_log.proofs.GroupLemmas.{joined_with}
-use Rattle.action_log.proofs.ActionReadingLemmas.{Numbers}
 use Rattle.action_log.proofs.GroupReadingLemmas.{read_to_start, read_to_next, read_to_bad, read_to_end, read_to_many}
 use Rattle.action_log.proofs.TickListLemmas.{length-actions_of-append}
 use Rattle.action_log.proofs.reader.ticks.count_all.Goals as goal
@@ -23,29 +22,23 @@ returns-in_err-ticks-clause-none c =
 
 pub returns-then-ticks-most-clause-none : goal.returns-then-ticks-most-clause-none
 returns-then-ticks-most-clause-none c =
-    let laws = c.numbers_read_back.ensures in
-    let numbers : Numbers = record { read = laws.read; spelled = laws.spelled; fits = laws.fits; len = laws.length } in
     let read = c.loop-group.invariant.so_far in
     let group = c.in_ok-ticks.ensures.some in
-    let next = (read_to_next numbers c.args.format c.args.bytes.now read.done c.loop-group.rest.now c.in-Some.group.now group.0 c.in_ok-ticks.next.now read.so_far c.in-Some.ensures.gate group.1).0 in
+    let next = (read_to_next c.args.format c.args.bytes.now read.done c.loop-group.rest.now c.in-Some.group.now group.0 c.in_ok-ticks.next.now read.so_far c.in-Some.ensures.gate group.1).0 in
     λ groups e. (let many = read_to_many c.args.format c.args.bytes.now (read.done ++ group.0 ∷ []) c.in_ok-ticks.next.now groups next e in
     omega (arith, many, c.if-ticks-most.true, read.ticks_are, group.2, ap length (joined_with read.done group.0), length-append (joined read.done) group.0, c.loop-group.invariant.few))
 
 pub loop-group-smaller : goal.loop-group-smaller
 loop-group-smaller c =
-    let laws = c.numbers_read_back.ensures in
-    let numbers : Numbers = record { read = laws.read; spelled = laws.spelled; fits = laws.fits; len = laws.length } in
     let read = c.loop-group.invariant.so_far in
     let group = c.in_ok-ticks.ensures.some in
-    (read_to_next numbers c.args.format c.args.bytes.now read.done c.loop-group.rest.now c.in-Some.group.now group.0 c.in_ok-ticks.next.now read.so_far c.in-Some.ensures.gate group.1).1
+    (read_to_next c.args.format c.args.bytes.now read.done c.loop-group.rest.now c.in-Some.group.now group.0 c.in_ok-ticks.next.now read.so_far c.in-Some.ensures.gate group.1).1
 
 pub loop-group-preserved : goal.loop-group-preserved
 loop-group-preserved c =
-    let laws = c.numbers_read_back.ensures in
-    let numbers : Numbers = record { read = laws.read; spelled = laws.spelled; fits = laws.fits; len = laws.length } in
     let read = c.loop-group.invariant.so_far in
     let group = c.in_ok-ticks.ensures.some in
-    let next = read_to_next numbers c.args.format c.args.bytes.now read.done c.loop-group.rest.now c.in-Some.group.now group.0 c.in_ok-ticks.next.now read.so_far c.in-Some.ensures.gate group.1 in
+    let next = read_to_next c.args.format c.args.bytes.now read.done c.loop-group.rest.now c.in-Some.group.now group.0 c.in_ok-ticks.next.now read.so_far c.in-Some.ensures.gate group.1 in
     record {
       short = omega (arith, c.loop-group.invariant.short, next.1);
       few = omega (arith, c.if-ticks-most.false, c.loop-group.invariant.few);

@@ -4,7 +4,6 @@ use mir.Facts.{Fits-lt-pow}
 use Rattle.action_log.specs.Segment.{Tick, joined}
 use Rattle.action_log.specs.Reading.{AreAdded}
 use Rattle.action_log.proofs.GroupLemmas.{joined_with}
-use Rattle.action_log.proofs.ActionReadingLemmas.{Numbers}
 use Rattle.action_log.proofs.GroupReadingLemmas.{read_to_start, read_to_next, read_to_bad, read_to_end, ticks_by}
 use Rattle.action_log.proofs.TickListLemmas.{added_none, added_then}
 use Rattle.action_log.proofs.reader.ticks.read_groups.Goals as goal
@@ -27,22 +26,18 @@ returns-in_err-rest-clause-refused c =
 
 pub loop-group-smaller : goal.loop-group-smaller
 loop-group-smaller c =
-    let laws = c.numbers_read_back.ensures in
-    let numbers : Numbers = record { read = laws.read; spelled = laws.spelled; fits = laws.fits; len = laws.length } in
     let read = c.loop-group.invariant in
     let group = c.in_ok-rest.ensures.read in
-    (read_to_next numbers c.args.format c.args.bytes.now read.done c.loop-group.rest.now c.in-Some.group.now group.0 c.in_ok-rest.rest.now read.so_far c.in-Some.ensures.gate group.1).1
+    (read_to_next c.args.format c.args.bytes.now read.done c.loop-group.rest.now c.in-Some.group.now group.0 c.in_ok-rest.rest.now read.so_far c.in-Some.ensures.gate group.1).1
 
 pub loop-group-preserved : goal.loop-group-preserved
 loop-group-preserved c =
-    let laws = c.numbers_read_back.ensures in
-    let numbers : Numbers = record { read = laws.read; spelled = laws.spelled; fits = laws.fits; len = laws.length } in
     let read = c.loop-group.invariant in
     let group = c.in_ok-rest.ensures.read in
     record {
       done = read.done ++ group.0 ∷ [];
       added = subst (λ (l : List Tick). AreAdded l c.args.actions.now.items c.args.ends.now.items c.read_group.new.actions.items c.read_group.new.ends.items) (sym (joined_with read.done group.0)) (added_then (joined read.done) group.0 _ _ _ _ _ _ read.added group.2);
-      so_far = (read_to_next numbers c.args.format c.args.bytes.now read.done c.loop-group.rest.now c.in-Some.group.now group.0 c.in_ok-rest.rest.now read.so_far c.in-Some.ensures.gate group.1).0;
+      so_far = (read_to_next c.args.format c.args.bytes.now read.done c.loop-group.rest.now c.in-Some.group.now group.0 c.in_ok-rest.rest.now read.so_far c.in-Some.ensures.gate group.1).0;
     }
 
 pub returns-clause-read : goal.returns-clause-read

@@ -12,27 +12,10 @@ returns-in-A-clause-stands g c honest images stands =
     let old = c.args.self.now in
     let new = c.step_by_phase.new.self in
     let D = g.D.Disk in
-    kept_at_a g.T.Taker.took c.step_by_phase.result old new c.args.from.now c.step_by_phase.new.from
+    kept_at_a g.T.Taker.took g.D.Disk.honest honest c.step_by_phase.result old new c.args.from.now c.step_by_phase.new.from
     (D.content c.args.image_a.now) (D.content c.step_by_phase.new.target) (D.content c.args.image_b.now) (D.content c.step_by_phase.new.newest)
     (D.may_leave c.args.image_a.now) (D.may_leave c.step_by_phase.new.target) (D.may_leave c.args.image_b.now) (D.may_leave c.step_by_phase.new.newest) images
-    c.in-A.ensures
-    (record {
-      fits = e.fits honest;
-      endures = e.endures honest;
-      opened_image = e.opened honest;
-      took_cell = λ taking. let took = e.took taking in (took.0, took.1, took.2, took.3, took.4 honest);
-      not_took = e.not_took;
-      words = λ not_taking. e.done not_taking honest;
-      goes_on = e.goes_on;
-      takes = e.takes;
-      idle = e.idle;
-      down = e.down;
-      cells = e.cells;
-      ended = e.ended;
-      rests = e.rests;
-      stays = (e.newest honest).0;
-    })
-    stands
+    c.in-A.ensures (assumption e) stands
 
 pub returns-in-B-clause-stands : goal.returns-in-B-clause-stands
 returns-in-B-clause-stands g c honest images stands =
@@ -40,27 +23,10 @@ returns-in-B-clause-stands g c honest images stands =
     let old = c.args.self.now in
     let new = c.step_by_phase-in-B.new.self in
     let D = g.D.Disk in
-    kept_at_b g.T.Taker.took c.step_by_phase-in-B.result old new c.args.from.now c.step_by_phase-in-B.new.from
+    kept_at_b g.T.Taker.took g.D.Disk.honest honest c.step_by_phase-in-B.result old new c.args.from.now c.step_by_phase-in-B.new.from
     (D.content c.args.image_a.now) (D.content c.step_by_phase-in-B.new.newest) (D.content c.args.image_b.now) (D.content c.step_by_phase-in-B.new.target)
     (D.may_leave c.args.image_a.now) (D.may_leave c.step_by_phase-in-B.new.newest) (D.may_leave c.args.image_b.now) (D.may_leave c.step_by_phase-in-B.new.target) images
-    c.in-B.ensures
-    (record {
-      fits = e.fits honest;
-      endures = e.endures honest;
-      opened_image = e.opened honest;
-      took_cell = λ taking. let took = e.took taking in (took.0, took.1, took.2, took.3, took.4 honest);
-      not_took = e.not_took;
-      words = λ not_taking. e.done not_taking honest;
-      goes_on = e.goes_on;
-      takes = e.takes;
-      idle = e.idle;
-      down = e.down;
-      cells = e.cells;
-      ended = e.ended;
-      rests = e.rests;
-      stays = (e.newest honest).0;
-    })
-    stands
+    c.in-B.ensures (assumption e) stands
 
 pub returns-in-A-clause-took : goal.returns-in-A-clause-took
 returns-in-A-clause-took g c phase =

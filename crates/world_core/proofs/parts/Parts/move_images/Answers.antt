@@ -1,6 +1,7 @@
 use Rattle.std.proofs.Common.{None, refl, inl, inr, ap, ◌∙◌}
 use Rattle.image_files.specs.Progress.{Progress}
-use Rattle.world_core.proofs.Bridging.{steps_content, image_step_at, on_working, when_opened}
+use Rattle.restart.proofs.Stepped.{steps_content}
+use Rattle.world_core.proofs.Bridging.{image_step_at, on_working, when_opened}
 use Rattle.world_core.proofs.parts.Parts.move_images.Goals as goal
 
 pub returns : goal.returns

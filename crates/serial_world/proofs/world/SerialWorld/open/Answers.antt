@@ -1,6 +1,6 @@
 use Rattle.std.proofs.Common.{ap, sym, subst, ◌∙◌, take}
 use Rattle.world_start.specs.Engine.{Follows}
-use Rattle.serial_world.proofs.state.SerialState.open.Goals as goal
+use Rattle.serial_world.proofs.world.SerialWorld.open.Goals as goal
 
 pub returns-in-Ok-clause-opened : goal.returns-in-Ok-clause-opened
 returns-in-Ok-clause-opened g c = λ honest.

@@ -1,0 +1,11 @@
+use Rattle.world_start.proofs.laws.starts_begin.Goals as goal
+
+pub returns : goal.returns
+returns g c = record {
+  made = c.images_stay.ensures.made;
+  round = c.images_stay.ensures.begun;
+  log = λ tick shut_a shut_b log_a log_b before_a before_b most oa ob ta tb. c.log_outcomes.ensures.begins tick shut_a shut_b log_a log_b before_a before_b most oa ob ta.yes ta.no tb.yes tb.no;
+  told = c.gates_are_told.ensures;
+  queue = c.log_queues.ensures.begins;
+  goes_on = c.worlds_go_on.ensures;
+}
