@@ -24,7 +24,7 @@ TwoNumbers w v p = (p.0 < 256 ^ w) × (p.1 < 256 ^ v)
 abbrev two_bytes : ℕ → ℕ → ℕ × ℕ → List ℕ
 two_bytes w v p = number_bytes w p.0 ++ number_bytes v p.1
 
--- an action of a kind stands behind it
+-- an action of a kind follows its kind
 abbrev TakesKind : ℕ → List ℕ → Action → List ℕ → Type 0
 TakesKind kind bytes x rest = Takes (λ x. (kind_of x ≡ kind) × HasRoom x) action_bytes (kind ∷ bytes) x rest
 
@@ -37,7 +37,7 @@ add_made cell difference small fits =
     let same : cast_unsigned w64 (cast_signed w64 difference) ≡ difference = of_z-to_z {w = w64} {n = difference} (Fits-of_lt fits) in
     (ap (λ n. ADD ∷ (number_bytes 4 cell ++ number_bytes 8 n)) (sym same), refl, (small, sfits_to_z {w = w64} {n = difference} (Fits-of_lt fits)))
 
--- a count and so many
+-- a count, and as many values
 abbrev IsCounted : {X : Type 0} → (X → Type 0) → ℕ → ℕ → List X → Type 0
 IsCounted Is least most xs = (least ≤ length xs) × (length xs ≤ most) × AllByRecursion Is xs
 

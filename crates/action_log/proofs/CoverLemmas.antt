@@ -1,4 +1,4 @@
--- The records that a cover takes, and what it leaves.
+-- The records that a cover takes, and those that it leaves.
 use Rattle.std.proofs.Common.{◌≡◌, ◌⊎◌, inl, inr, ℕ, zero, suc, ◌+◌, ◌<◌, ◌≤◌, Bool, true, false, List, [], ◌∷◌, ◌++◌, length, take, drop, refl, sym, ap, subst, ◌∙◌, arith}
 use Rattle.std.specs.Prelude.{slice_get, Option, Some, None, unwrap_or, option_map, if◌then◌else◌, nat_eq}
 use Rattle.std.proofs.lemmas.Bool.{cases_lt}
@@ -61,7 +61,7 @@ some_by tick number true place n same is = elim (eqb_tells number tick) [
 ]
 some_by tick number false place n same is = inr (map_some place n is)
 
--- the switch stands in its place
+-- the switch is in its place
 pub place_is : (tick : ℕ) (queue : List Record) (n : ℕ) → switch_place tick queue ≡ Some n → (behind : List Record) × (drop n queue ≡ records.Switch tick ∷ behind) × (n < length queue)
 place_is tick [] n is = absurd cc
 place_is tick (records.Tick actions ∷ queue) n is =
@@ -112,7 +112,7 @@ by_place tick queue (Some n) is = let at = place_is tick queue n is in omega (ar
 pub before_switch_most : (tick : ℕ) (queue : List Record) → before_switch tick queue ≤ length queue
 before_switch_most tick queue = by_place tick queue (switch_place tick queue) refl
 
--- where there are some, the switch stands behind them
+-- if there are some, the switch is behind them
 abbrev pub IsBeforeSwitch : ℕ → List Record → ℕ → Type 0
 IsBeforeSwitch tick queue n = (n ≡ 0) ⊎ ((behind : List Record) × (drop n queue ≡ records.Switch tick ∷ behind))
 
@@ -133,9 +133,9 @@ pub answer_working : (tick : ℕ) (taken : List Record) → has_tick taken ≡ f
 answer_working tick [] is some = absurd (omega (arith, some))
 answer_working tick (first ∷ taken) is some = ap (λ b. if b then answer.Acked tick else answer.Working) is
 
--- ---- what stands behind the keeper
+-- ---- the records behind the keeper
 
--- the switch stands in front of what is left, and the queue ends as before
+-- the switch is in front of the records that are left, and the queue ends as before
 pub fits_from : (base count : ℕ) (queue : List Record) (n tick : ℕ) (behind : List Record) → drop n queue ≡ records.Switch tick ∷ behind → QueueFits base count queue
     → QueueFits base count (records.Switch tick ∷ behind) × (queue_end tick 0 behind ≡ queue_end base count queue)
 fits_from base count queue zero tick behind is fits = (subst (QueueFits base count) is fits, sym (ap (queue_end base count) is))
@@ -158,7 +158,7 @@ some_work [] some = omega (arith, some)
 some_work (records.Tick tick ∷ queue) some = omega arith
 some_work (records.Switch tick ∷ queue) some = omega arith
 
--- what is taken needed work
+-- the records that are taken needed work
 pub work_left : (queue : List Record) (n : ℕ) → 0 < n → n ≤ length queue → queue_work (drop n queue) < queue_work queue
 work_left [] n some le = absurd (omega (arith, some, le))
 work_left (x ∷ queue) zero some le = absurd (omega (arith, some))
@@ -176,7 +176,7 @@ busy true tick (inr is) = cc
 busy false tick (inl is) = cc
 busy false tick (inr is) = cc
 
--- a keeper that is ready goes on with what is left
+-- a keeper that is ready continues with the records that are left
 follows_by : (p : Phase) (base count next_base tick : ℕ) (queue : List Record) (n : ℕ) → p ≡ Ready → IsBeforeSwitch tick queue n → QueueFollowsIn p base count next_base queue
     → QueueFollowsIn p base count next_base (drop n queue) × (end_in p base count next_base (drop n queue) ≡ end_in p base count next_base queue)
 follows_by Ready base count next_base tick queue n is before fits = fits_left base count tick queue n before fits
@@ -192,7 +192,7 @@ work_falls keeper tick queue n most = elim (cases_lt 0 n) [
   | inr none ↦ inl (let e : n ≡ 0 = omega (arith, none) in ap (λ (m : ℕ). answer_of tick (take m queue)) e)
 ]
 
--- where it is Idle nothing was taken, and it is never Down
+-- if the answer is Idle, nothing was taken, and it is never Down
 pub none_taken : (tick : ℕ) (taken : List Record) → (answer_of tick taken ≡ answer.Idle) ⊎ (answer_of tick taken ≡ answer.Down) → taken ≡ []
 none_taken tick [] is = refl
 none_taken tick (first ∷ taken) is = absurd (busy (has_tick (first ∷ taken)) tick is)

@@ -15,9 +15,9 @@ use Rattle.action_log.specs.TickList.{actions_of}
 use Rattle.action_log.proofs.ValueReadingLemmas.{IsBytes-rest, bind_some, found_is, AreRead}
 use Rattle.action_log.proofs.ActionReadingLemmas.{group_reads, counted_bytes}
 
--- ---- some groups, and what ends them
+-- ---- some groups, and the bytes that end them
 
--- bytes are groups and what ends them
+-- bytes are groups and the end of the groups
 pub record TakesGroups (format : Format) (bytes : List ℕ) (groups : List (List Tick)) (rest : List ℕ) : Type 0 where
   pub parts : bytes ≡ flat_map group_bytes groups ++ rest
   pub is : AllByRecursion (IsGroup format) groups
@@ -36,7 +36,7 @@ more_groups format n bytes = group_at format bytes >>= (λ group. groups_at form
 abbrev no_more : List ℕ → Option (List (List Tick) × List ℕ)
 no_more bytes = Some ([], bytes)
 
--- the groups that are read, at most so many
+-- the groups that are read, up to a number of them
 abbrev pub groups_from : Format → ℕ → List ℕ → Option (List (List Tick))
 groups_from format n bytes = groups_at format n bytes >>= (λ found. Some found.0)
 
@@ -54,7 +54,7 @@ groups_next format n bytes rest group e =
     go None = refl
     go (Some others) = refl
 
--- what should be a group isn't
+-- the bytes where a group should be are no group
 groups_bad : (format : Format) (n : ℕ) (bytes : List ℕ) → group_at format bytes ≡ None → groups_from format (suc n) (OPEN_GATE ∷ bytes) ≡ None
 unfolding groups_at
 groups_bad format n bytes e = ap (λ o. (o >>= (λ group. groups_at format n group.1 >>= onto group.0)) >>= (λ found. Some found.0)) e
@@ -66,7 +66,7 @@ groups_end format zero bytes ends = refl
 groups_end format (suc n) [] ends = refl
 groups_end format (suc n) (gate ∷ bytes) ends = ap (λ o. o >>= (λ found. Some found.0)) (cond-false (eqb gate OPEN_GATE) (more_groups format n bytes) (no_more (gate ∷ bytes)) (ne_eqb gate OPEN_GATE ends))
 
--- ---- what is read so far
+-- ---- the part that is read so far
 
 -- the groups of bytes are those done and those of the bytes that are left
 pub record IsReadTo (format : Format) (bytes : List ℕ) (done : List (List Tick)) (rest : List ℕ) : Type 0 where
@@ -102,7 +102,7 @@ group_read format bytes done rest behind group next r fewer gate e fits =
     ] in
     go r.most refl
 
--- what should be a group isn't
+-- the bytes where a group should be are no group
 pub read_to_bad : (format : Format) (bytes : List ℕ) (done : List (List Tick)) (rest behind : List ℕ) → IsReadTo format bytes done rest → rest ≡ OPEN_GATE ∷ behind → group_at format behind ≡ None → groups_of format bytes ≡ None
 read_to_bad format bytes done rest behind r gate e =
     let go : (m : ℕ) → r.most ≡ m → groups_of format bytes ≡ None =
@@ -122,14 +122,14 @@ read_to_many format bytes done rest groups r e =
     let parts = bind_some (groups_from format r.most rest) (λ others. Some (done ++ others)) groups (sym r.all ∙ e) in
     omega (arith, ap (λ (l : List (List Tick)). length (joined l)) (found_is (done ++ parts.0) groups parts.2), ap length (flat_map-append (λ (group : List Tick). group) done parts.0), length-append (joined done) (joined parts.0))
 
--- of so many ticks some are read of bytes, which have so many actions, and these bytes are left
+-- some of the ticks are read from bytes, with their number of actions, and these bytes are left
 pub record IsGroupCounted (format : Format) (many counter actions : ℕ) (bytes rest : List ℕ) : Type 0 where
   pub ticks : List Tick
   pub read : AreRead (tick_at format) many counter ticks bytes rest
   pub actions_are : length (actions_of ticks) ≡ actions
   pub few : actions ≤ TICK_ACTIONS * counter
 
--- so many groups with so many ticks and actions are read of bytes, and these are left
+-- a number of groups, with their numbers of ticks and actions, is read from bytes, and these bytes are left
 pub record IsReadOver (format : Format) (bytes : List ℕ) (groups ticks actions : ℕ) (rest : List ℕ) : Type 0 where
   pub done : List (List Tick)
   pub groups_are : length done ≡ groups
@@ -137,13 +137,13 @@ pub record IsReadOver (format : Format) (bytes : List ℕ) (groups ticks actions
   pub actions_are : length (actions_of (joined done)) ≡ actions
   pub so_far : IsReadTo format bytes done rest
 
--- of so many actions some are read of bytes and stand behind others, and these bytes are left
+-- some of the actions are read from bytes and added behind others, and these bytes are left
 pub record IsTickRead (format : Format) (many counter : ℕ) (bytes rest : List ℕ) (before all : List Action) : Type 0 where
   pub tick : Tick
   pub read : AreRead (action_at format) many counter tick bytes rest
   pub all_are : all ≡ before ++ tick
 
--- of so many ticks some are read of bytes and added, and these bytes are left
+-- some of the ticks are read from bytes and added, and these bytes are left
 pub record IsGroupRead (format : Format) (many counter : ℕ) (bytes rest : List ℕ) (before : List Action) (ends : List ℕ) (all : List Action) (all_ends : List ℕ) : Type 0 where
   pub ticks : List Tick
   pub read : AreRead (tick_at format) many counter ticks bytes rest
@@ -159,7 +159,7 @@ pub record AreGroupsRead (format : Format) (bytes rest : List ℕ) (before : Lis
 pub ticks_by : (format : Format) (bytes : List ℕ) (read : Option (List (List Tick))) → groups_of format bytes ≡ read → ticks_of format bytes ≡ (read >>= (λ groups. Some (joined groups)))
 ticks_by format bytes read e = ap (λ (o : Option (List (List Tick))). o >>= (λ groups. Some (joined groups))) e
 
--- and they are those of some groups alone
+-- ticks that are read are those of some groups
 pub groups_by : (format : Format) (bytes : List ℕ) (ticks : List Tick) → ticks_of format bytes ≡ Some ticks → (groups : List (List Tick)) × (groups_of format bytes ≡ Some groups) × (joined groups ≡ ticks)
 groups_by format bytes ticks e =
     let all = bind_some (groups_of format bytes) (λ groups. Some (joined groups)) ticks e in

@@ -1,4 +1,4 @@
--- What each step does to what the log keeper tells recovery.
+-- The effect of each step on the log keeper's data for recovery.
 use Rattle.std.proofs.Common.{◌≡◌, ◌⊎◌, inl, inr, IsTrue, ℕ, ◌+◌, ◌-◌, ◌<◌, ◌≤◌, Bool, true, false, List, [], ◌++◌, length, refl, sym, ap, subst, ◌∙◌, arith, length-append}
 use Rattle.std.specs.Prelude.{Option, Some, None, if◌then◌else◌}
 use Rattle.file_format.specs.declared.slot.Slot.{Slot}
@@ -30,7 +30,7 @@ use Rattle.action_log.proofs.SlotLemmas.{HoldsNext, LastsNext}
 
 -- ---- by phase
 
--- a job that goes on isn't done
+-- a job that continues isn't done
 some_rest : (p : Phase) (shut : Bool) → goes_on p false ≡ true → 1 ≤ rest_in (phase_after p shut false) shut
 some_rest Retiring true is = omega arith
 some_rest Retiring false is = omega arith
@@ -82,13 +82,13 @@ never_acked : (k : Progress) → k.phase ≡ GateSync → k.starting ≡ true �
 never_acked k is starting order = let held : IsTrue (is_of_start GateSync true) = subst (λ (s : Bool). IsTrue (is_of_start GateSync s)) starting (of_start_at k GateSync is order) in absurd cc
 
 module _ (old new : Progress) (queue left : List Record) (a b new_a new_b : List ℕ) (leaves_a leaves_b new_leaves_a new_leaves_b : List ℕ → Type 0) where
-  -- what stands after the step
+  -- the place of the log after the step
   abbrev pub Next : Outcome → Journal → (n : ℕ) → Type 0
   Next o journal n = (next : LogPlace) × Stands new new_a new_b new_leaves_a new_leaves_b next × StepIn journal n queue (answer_by o) next left
 
   -- ---- in the start
 
-  -- the start goes on
+  -- the start continues
   still_starting : (start : Start) (n m : ℕ) → new.starting ≡ old.starting → new.next_base ≡ old.next_base → 0 < m → (new.down ≡ false → m ≡ rest_of new) → (s : StandsInStart old a b leaves_a leaves_b start n)
       → Holds new s.written new_a new_b → Endures new s.written new_a new_b new_leaves_a new_leaves_b → StandsInStart new new_a new_b new_leaves_a new_leaves_b (record start { begun = true }) m
   still_starting start n m same next_base some is s holds endures = record {
@@ -155,7 +155,7 @@ module _ (old new : Progress) (queue left : List Record) (a b new_a new_b : List
 
   -- ---- after the start
 
-  -- what the keeper stands for after a step
+  -- the place of the log that the keeper represents after a step
   after_start : (logs : Logs) (n : ℕ) (o : Outcome) (written : Written) (before : Segment) → n ≡ 0 → new.starting ≡ false → Holds new written new_a new_b → Endures new written new_a new_b new_leaves_a new_leaves_b → IsSegment written.before before
       → LogsStep logs queue (answer_by o) (logs_of new written before) left → Next o (Writing logs) n
   after_start logs n o written before none over holds endures was step = (
@@ -175,7 +175,7 @@ module _ (old new : Progress) (queue left : List Record) (a b new_a new_b : List
     stepped_as : (given : LogAnswer) (next : Logs) → LogsStep now queue given next left → LogsStep logs queue given next left
     stepped_as given next step = subst (λ (l : Logs). LogsStep l queue given next left) (sym s.is) step
 
-    -- the job goes on behind its call
+    -- the job continues after its call
     went_on : (failed : Bool) → goes_on old.phase failed ≡ true → new ≡ after_call old failed → logs_of new s.written logs.before ≡ now
     went_on failed is moved =
         let running = subst (λ (x : Bool). IsTrue (is_of_start old.phase x)) s.over s.holds.in_order.of_start in

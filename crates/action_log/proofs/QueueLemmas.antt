@@ -1,4 +1,4 @@
--- The ticks in front of a queue, and what its records need.
+-- The ticks in front of a queue, and the steps that its records need.
 use Rattle.std.proofs.Common.{◌≡◌, ◌⊎◌, inl, inr, Bool, ℕ, zero, suc, ◌+◌, ◌*◌, ◌<◌, ◌≤◌, List, [], ◌∷◌, ◌++◌, length, take, drop, refl, sym, ap, subst, ◌∙◌, arith, zero-add}
 use Rattle.std.specs.Prelude.{slice_get, get_or, Some, None}
 use Rattle.world_ticks.specs.Tick.{Actions}
@@ -23,7 +23,7 @@ length_group (suc n) [] = omega arith
 length_group (suc n) (records.Switch tick ∷ queue) = omega arith
 length_group (suc n) (records.Tick tick ∷ queue) = omega (arith, length_group n queue)
 
--- the next tick of a group stands in front of what is left of the queue
+-- the next tick of a group is in front of the rest of the queue
 pub record IsNext (group : List Tick) (queue : List Record) (i after : ℕ) : Type 0 where
   pub tick : Tick
   pub in_front : StartsWith tick (drop after queue) (drop i queue)
@@ -41,7 +41,7 @@ group_next (suc n) (records.Tick tick ∷ queue) (suc i) h =
 pub group_after : (n : ℕ) (queue : List Record) (i : ℕ) → i < length (group_of n queue) → IsNext (group_of n queue) queue i (i + 1)
 group_after n queue i h = let e : suc i ≡ i + 1 = omega arith in subst (λ (m : ℕ). IsNext (group_of n queue) queue i m) e (group_next n queue i h)
 
--- what starts with a tick has one in front
+-- a queue that starts with a tick has one in front
 pub starts_behind : (tick : Tick) (rest queue : List Record) → StartsWith tick rest queue → drop 1 queue ≡ rest
 starts_behind tick rest [] starts = absurd starts
 starts_behind tick rest (records.Tick first ∷ queue) starts = starts.1
@@ -62,14 +62,14 @@ group_has (suc n) (records.Switch tick ∷ queue) i h = absurd (omega (arith, h)
 group_has (suc n) (records.Tick tick ∷ queue) zero h = (tick, refl)
 group_has (suc n) (records.Tick tick ∷ queue) (suc i) h = group_has n queue i (omega (arith, h))
 
--- the group stands in front of what is left
+-- the group is in front of the records that are left
 pub group_front : (n : ℕ) (queue : List Record) → StandBefore (group_of n queue) queue (drop (length (group_of n queue)) queue)
 group_front zero queue = refl
 group_front (suc n) [] = refl
 group_front (suc n) (records.Switch tick ∷ queue) = refl
 group_front (suc n) (records.Tick tick ∷ queue) = (refl, group_front n queue)
 
--- no tick follows it but where it has as many as it may
+-- no tick follows it, except if it has as many as it may
 pub group_most : (n : ℕ) (queue : List Record) → (length (group_of n queue) ≡ n) ⊎ (ticks_before (drop (length (group_of n queue)) queue) ≡ [])
 group_most zero queue = inl refl
 group_most (suc n) [] = inr refl
@@ -106,7 +106,7 @@ queue_left (suc n) base count (records.Tick tick ∷ queue) fits =
     let e : (count + 1) + length (group_of n queue) ≡ count + suc (length (group_of n queue)) = omega arith in
     subst (λ (m : ℕ). QueueFits base m (drop (length (group_of n queue)) queue)) e (queue_left n base (count + 1) queue fits.2)
 
--- the same base and count stand behind the queue once a group is taken
+-- the queue ends with the same base and count once a group is taken
 pub queue_end_left : (n base count : ℕ) (queue : List Record) → queue_end base (count + length (group_of n queue)) (drop (length (group_of n queue)) queue) ≡ queue_end base count queue
 queue_end_left zero base count queue = let e : count + 0 ≡ count = omega arith in ap (λ (m : ℕ). queue_end base m queue) e
 queue_end_left (suc n) base count [] = let e : count + 0 ≡ count = omega arith in ap (λ (m : ℕ). queue_end base m []) e

@@ -20,7 +20,7 @@ length-ends_from : (n : ℕ) (ticks : List Tick) → length (ends_from n ticks) 
 length-ends_from n [] = refl
 length-ends_from n (tick ∷ ticks) = ap suc (length-ends_from (n + length tick) ticks)
 
--- ticks are cut out again where they end
+-- ticks are cut out again at their ends
 cut_back : (n : ℕ) (ticks : List Tick) → cut_from n (ends_from n ticks) (actions_of ticks) ≡ ticks
 cut_back n [] = refl
 cut_back n (tick ∷ ticks) =
@@ -38,7 +38,7 @@ cut_is ticks actions ends list = ap (λ l. cut_from 0 l actions) list.ends_are �
 pub as_many : (ticks : List Tick) (actions : List Action) (ends : List ℕ) → IsListOf ticks actions ends → length ends ≡ length ticks
 as_many ticks actions ends list = ap length list.ends_are ∙ length-ends_from 0 ticks
 
--- where a tick stands among the actions of all, which begin at a place
+-- the place of a tick among the actions of all ticks, which begin at a place
 record IsPlace (ticks : List Tick) (n i start end : ℕ) : Type 0 where
   first : n ≤ start
   forward : start ≤ end
@@ -75,7 +75,7 @@ place n (tick ∷ ticks) (suc i) below =
           ∙ later.is;
     }
 
--- where a tick of a list stands among the actions
+-- the place of a tick of a list among the actions
 pub record IsPlaceIn (ticks : List Tick) (actions : List Action) (i start end : ℕ) : Type 0 where
   pub below : i < length ticks
   pub forward : start ≤ end
@@ -123,11 +123,11 @@ added_tick tick a b e f end actions is ends = record {
   ends_are = ends ∙ ap (λ k. e ++ k ∷ []) (is ∙ ap length actions ∙ length-append a tick);
 }
 
--- what is added to nothing
+-- items that are added to an empty list
 pub added_list : (ticks : List Tick) (actions : List Action) (ends : List ℕ) → AreAdded ticks [] [] actions ends → IsListOf ticks actions ends
 added_list ticks actions ends added = record { actions_are = added.actions_are; ends_are = added.ends_are }
 
--- so many actions
+-- the number of actions
 pub length-actions_of-append : (xs ys : List Tick) → length (actions_of (xs ++ ys)) ≡ length (actions_of xs) + length (actions_of ys)
 length-actions_of-append xs ys = ap length (actions_of-append xs ys) ∙ length-append (actions_of xs) (actions_of ys)
 

@@ -1,4 +1,4 @@
--- What it is to read a value, several of them, or a count and so many, whatever the values are.
+-- The reading of a value, of several values, or of a count and as many values, for any kind of value.
 use Rattle.std.proofs.Common.{◌≡◌, ℕ, zero, suc, ◌+◌, ◌-◌, ◌<◌, ◌≤◌, ◌⊎◌, inl, inr, Bool, true, false, cond, not, ◌||◌, ltb, List, [], ◌∷◌, ◌++◌, length, take, drop, Option, Some, None, refl, sym, ap, subst, ◌∙◌, append_assoc, arith}
 use Rattle.std.specs.List.{flat_map, AllByRecursion}
 use Rattle.std.proofs.lemmas.Bool.{le-ltb, lt-ltb, cond-true, cond-false}
@@ -7,7 +7,7 @@ use Rattle.file_format.specs.Number.{IsBytes}
 use Rattle.action_log.specs.Reading.{◌>>=◌, Reader, number_at, several_at, counted_at}
 use Rattle.action_log.specs.Spellings.{NoneBeginsAnother}
 
--- ---- bytes, and what may be found
+-- ---- bytes, and the results of looking at them
 
 pub IsBytes-drop : (n : ℕ) (bytes : List ℕ) → IsBytes bytes → IsBytes (drop n bytes)
 IsBytes-drop n bytes h i = rw get_or-drop (h (n + i))
@@ -23,7 +23,7 @@ pub guard_some : {X : Type 0} (b : Bool) (o : Option X) (y : X) → cond b None 
 guard_some true o y e = absurd cc
 guard_some false o y e = (refl, e)
 
--- what is found by a test is found on one of its sides
+-- a result of a test is the result of one of its sides
 pub chosen : {X : Type 0} (b : Bool) (one other : Option X) (y : X) → cond b one other ≡ Some y → ((b ≡ true) × (one ≡ Some y)) ⊎ ((b ≡ false) × (other ≡ Some y))
 chosen true one other y e = inl (refl, e)
 chosen false one other y e = inr (refl, e)
@@ -62,11 +62,11 @@ pub not_true : (b : Bool) → not b ≡ true → b ≡ false
 not_true true h = absurd cc
 not_true false h = refl
 
--- all that stands from a place on
+-- all items from a place on
 pub from_place : (place : ℕ) (bytes : List ℕ) → take (length bytes - place) (drop place bytes) ≡ drop place bytes
 from_place place bytes = take_all (length bytes - place) (drop place bytes) (omega (arith, length-drop place bytes))
 
--- ---- what it is to read
+-- ---- the meaning of reading
 
 -- the front of these bytes is the spelling of such a value, and these follow
 pub record Takes {X : Type 0} (Is : X → Type 0) (spelling : X → List ℕ) (bytes : List ℕ) (x : X) (rest : List ℕ) : Type 0 where
@@ -79,7 +79,7 @@ pub record Reads {X : Type 0} (one : Reader X) (Is : X → Type 0) (spelling : X
   pub takes : (bytes : List ℕ) (x : X) (rest : List ℕ) → IsBytes bytes → one bytes ≡ Some (x, rest) → Takes Is spelling bytes x rest
   pub again : (x : X) (rest : List ℕ) → Is x → one (spelling x ++ rest) ≡ Some (x, rest)
 
--- what is read again is spelled apart
+-- values that are read again have spellings that are no prefixes of one another
 pub apart : {X : Type 0} (one : Reader X) (Is : X → Type 0) (spelling : X → List ℕ) → Reads one Is spelling → NoneBeginsAnother Is spelling
 apart one Is spelling r x y more other f g e =
     let pair = found_is (x, more) (y, other) (sym (r.again x more f) ∙ ap one e ∙ r.again y other g) in
@@ -139,7 +139,7 @@ several_all one done (suc m) bytes none = absurd (omega (arith, none))
 
 -- ---- counting
 
--- of so many values these are read of bytes, and these bytes are left
+-- these values are read from bytes, and these bytes are left
 pub record AreRead {X : Type 0} (one : Reader X) (many counter : ℕ) (values : List X) (bytes rest : List ℕ) : Type 0 where
   pub so_many : length values ≡ counter
   pub within : counter ≤ many

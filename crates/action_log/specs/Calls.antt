@@ -1,4 +1,4 @@
--- Which of its two disks a step calls: that of the current segment, or the other one.
+-- The disk that a step calls: that of the current segment, or the other one.
 use Rattle.std.specs.Prelude.{◌≡◌, Bool, List, [], ◌∷◌}
 use Rattle.disk_model.specs.Disk.{Call, CalledOnce}
 use Rattle.action_log.specs.declared.phase.Phase.{Phase}
@@ -11,17 +11,19 @@ module _ {D : Type 0} (called : D → Call → Bool → D → Type 0) (current_b
   abbrev pub CallsCurrent : Type 0
   CallsCurrent = CalledOnce called current_before current_after × (other_after ≡ other_before)
 
-  -- the other way round
+  -- the other disk is called, once, and the current segment's disk isn't
   abbrev pub CallsOther : Type 0
   CallsOther = (current_after ≡ current_before) × CalledOnce called other_before other_after
 
-  -- the call for the record in front: a tick begins a group, a switch a segment, and without a record there is none
+  -- the call for the record in front: a tick begins a group, and a switch begins a segment; without a record there is no
+  -- call
   abbrev pub CallsFor : List Record → Type 0
   CallsFor [] = (current_after ≡ current_before) × (other_after ≡ other_before)
   CallsFor (records.Tick tick ∷ queue) = CallsCurrent
   CallsFor (records.Switch tick ∷ queue) = CallsOther
 
-  -- the call of a phase: a segment is retired and a group written on the current segment's disk, a segment made on the other
+  -- the call of a phase: on the current segment's disk to retire a segment or write a group, on the other one to make a
+  -- segment
   abbrev pub CallsIn : Phase → List Record → Type 0
   CallsIn Ready queue = CallsFor queue
   CallsIn Retiring queue = CallsCurrent

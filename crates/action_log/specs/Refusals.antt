@@ -1,11 +1,11 @@
--- Why no further tick may end.
+-- The reasons why no further tick may end.
 use Rattle.std.specs.Prelude.{ℕ, Bool, Option, Some, None, nat_le, if◌then◌else◌}
 use Rattle.world_actions.specs.declared.refusal.Refusal.{Refusal}
 use Rattle.world_actions.specs.declared.refusal.Refusal.TheVariants.{LogDown, TicksEnded, SegmentFull}
 use Rattle.world_ticks.specs.declared.tick.TheConstants.{TICK_MAX}
 use Rattle.action_log.specs.declared.format.TheConstants.{SEGMENT_TICKS}
 
--- why no further tick may end, if so: the first line that holds
+-- the reason why no further tick may end, if there is one; the first line that holds decides
 abbrev pub tick_refusal : (down : Bool) → (ended since : ℕ) → Option Refusal
 tick_refusal down ended since =
     if down then Some LogDown else

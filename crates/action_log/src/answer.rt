@@ -1,11 +1,11 @@
 use std::marker::Model;
 
-/// What came of a step of the log keeper.
+/// The result of a step of the log keeper.
 #[derive(Clone, Copy, Debug, PartialEq, Eq)]
 pub enum LogAnswer {
     /// There is nothing to do.
     Idle,
-    /// A job goes on, or has ended.
+    /// A job continues, or has ended.
     Working,
     /// A group is durable, up to this tick.
     Acked(Receipt),
@@ -13,9 +13,9 @@ pub enum LogAnswer {
     Down,
 }
 
-/// That every tick up to this one is durable: those above the current segment's base in that segment, or, where a cover
-/// gave it, all of them in the image that its caller knew to be open. Only a keeper of this crate makes one. Contracts
-/// see that tick.
+/// The proof that every tick up to this one is durable. The ticks above the current segment's base are in that segment.
+/// If a cover gave the receipt, all of them are in the image that its caller knew to be open. Only a keeper of this crate
+/// makes one. Contracts see that tick.
 #[derive(Clone, Copy, Debug, PartialEq, Eq)]
 pub struct Receipt {
     tick: u64,
@@ -40,7 +40,7 @@ impl Receipt {
         Receipt { tick }
     }
 
-    /// The last of these ticks.
+    /// Returns the last of these ticks.
     pub fn tick(self) -> u64
         ensures { result ≡ self }
     {

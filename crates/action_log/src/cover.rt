@@ -5,7 +5,7 @@ use crate::answer::{LogAnswer, Receipt};
 use crate::record::Record;
 use circular_buffer::HeapCircularBuffer;
 
-/// Takes the records before the first switch at this tick, and tells what that comes to.
+/// Takes the records before the first switch at this tick, and returns the answer.
 pub fn take_covered(queue: &mut HeapCircularBuffer<Record>, tick: u64) -> LogAnswer
     ensures answer { result ≡ answer_of tick (take (before_switch tick queue.old.items) queue.old.items) }
     ensures left { queue.new.items ≡ drop (before_switch tick queue.old.items) queue.old.items }
@@ -23,7 +23,7 @@ pub fn take_covered(queue: &mut HeapCircularBuffer<Record>, tick: u64) -> LogAns
     }
 }
 
-// The place of the first switch at this tick.
+// Returns the place of the first switch at this tick.
 fn switch_place(queue: &HeapCircularBuffer<Record>, tick: u64) -> Option<usize>
     ensures { result ≡ switch_place tick queue.now.items }
 {
@@ -36,7 +36,7 @@ fn switch_place(queue: &HeapCircularBuffer<Record>, tick: u64) -> Option<usize>
     None
 }
 
-// Whether a tick is among the first records, of which there are so many.
+// True if a tick is among the first `count` records.
 fn has_tick_before(queue: &HeapCircularBuffer<Record>, count: usize) -> bool
     ensures { result ≡ has_tick (take count queue.now.items) }
 {

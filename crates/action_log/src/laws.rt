@@ -18,15 +18,15 @@ ghost use Rattle.action_log.specs.Stands.{Stands};
 
 use disk_model::Disk;
 
-/// Laws: no spelling of an action, a tick or a group of a format begins another one's of the same format, and each list
-/// of bytes reads in one way.
+/// Laws: no spelling of an action, a tick or a group is a prefix of another one's of the same format. Each list of bytes
+/// reads in exactly one way.
 pub fn segments_read_once()
     ensures apart { LawOfSpellings }
     ensures once { ReadsOnce }
     ensures each { EachReads }
 {}
 
-/// Laws: which records may be queued behind others, and what stands behind them then.
+/// Laws: the records that may be queued behind others, and the base and count after them.
 pub fn log_queues()
     ensures begins { (tick : ℕ) (shut_a shut_b : Bool) → QueueFollows (begun tick shut_a shut_b) []
         × (end_of (begun tick shut_a shut_b) [] ≡ record { base = tick; count = 0 }) }
@@ -42,9 +42,10 @@ pub fn log_queues()
         × (end_of keeper (queue ++ records.Switch tick ∷ []) ≡ record { base = tick; count = 0 }) }
 {}
 
-/// Laws: what a keeper and its two files stand for, from the beginning of the start on, and that they read so
-/// whatever a crash leaves of them. A keeper just made fits its files by their contents alone, and one that is
-/// ready has nothing in work and nothing unsynced; its segment is open, with the ticks that it counts.
+/// Laws: a keeper and its two files represent a place of the log, from the beginning of the start on. The files read as
+/// that place says, whatever a crash leaves of them. A new keeper fits its files by their contents alone. A keeper that
+/// is ready has nothing in work and nothing unsynced. After the start its segment is then open, with the ticks that it
+/// counts.
 pub fn log_outcomes<D: Disk>()
     ensures reads { (keeper : Progress) (a b : _) (place : LogPlace)
         → Stands keeper (D.content a) (D.content b) (D.may_leave a) (D.may_leave b) place

@@ -3,7 +3,7 @@ ghost use Rattle.action_log.specs.Steps.{answer_by};
 
 use crate::answer::{LogAnswer, Receipt};
 
-/// What a step did, with what its answer leaves out.
+/// The outcome of a step, with more detail than its answer.
 #[derive(Clone, Copy, Debug, PartialEq, Eq)]
 pub enum Outcome {
     /// Nothing: there is no job, and nothing is queued.
@@ -12,20 +12,20 @@ pub enum Outcome {
     TookGroup { failed: bool },
     /// It took a switch from the queue, and made its first call.
     TookSwitch { failed: bool },
-    /// A call in the middle of a job went well.
+    /// A call succeeded that is neither the first one for a queued record nor the last one of a job.
     Working,
-    /// The last call of a switch, or of the start, went well: the other segment is the current one.
+    /// The last call of a switch, or of the start, succeeded: the other segment is now the current one.
     Switched,
-    /// The last call of a group went well.
+    /// The last call of a group succeeded.
     Acked(Receipt),
-    /// A call failed, that wasn't a job's first one.
+    /// A call failed that wasn't the first one for a queued record.
     Failed,
     /// Nothing: a call failed in an earlier step.
     Down,
 }
 
 impl Outcome {
-    /// What the keeper answers.
+    /// Returns the answer of the keeper.
     pub fn answer(self) -> LogAnswer
         ensures { result ≡ answer_by self }
     {

@@ -14,17 +14,18 @@ use std::alloc::Global;
 use world_actions::Refusal;
 use world_ticks::TICK_MAX;
 
-/// How a segment reads.
+/// The reading of a segment.
 #[derive(Drop)]
 pub enum LogState {
     /// It is closed, and holds nothing.
     Closed,
-    /// It is open: its ticks in order, the first of which is the one after `base`.
+    /// It is open. `ticks` are its ticks in order, and the first of them is the one after `base`.
     Open { base: u64, ticks: TickList },
 }
 
-/// Reads a segment of either format, as recovery does. It refuses `BadLog` exactly where it is malformed, and
-/// `NoMemory` only where it has a tick: it is judged, and its ticks are counted, before memory is asked for them.
+/// Reads a segment of either format, as recovery does. It refuses with `BadLog` exactly if the segment is malformed. It
+/// refuses with `NoMemory` only if the segment has a tick. The segment is judged, and its ticks are counted, before
+/// memory is taken for them.
 pub fn read_log(alloc: Global, bytes: &[u8]) -> Result<LogState, Refusal>
     ensures reads { IfOk result (λ state. IsSegment bytes.now (segment_in state)) }
     ensures refuses { IfErr result (λ refusal. (refusal ≡ Refusal.NoMemory) ⊎ ((refusal ≡ Refusal.BadLog)
@@ -49,7 +50,7 @@ pub fn read_log(alloc: Global, bytes: &[u8]) -> Result<LogState, Refusal>
     }
 }
 
-/// How many groups an open segment has; `None` where it is closed or malformed. It takes no memory.
+/// Returns the number of groups of an open segment, or `None` if the segment is closed or malformed. It takes no memory.
 pub fn count_groups(bytes: &[u8]) -> Option<usize>
     ensures open { IfSome result (λ count. (base : ℕ) × (ticks : List (List Action))
         × (segment : IsOpenSegment bytes.now base ticks) × (count ≡ length segment.groups)) }
@@ -63,7 +64,7 @@ pub fn count_groups(bytes: &[u8]) -> Option<usize>
     }
 }
 
-// How a segment reads, as far as that is known without memory for its ticks.
+// The reading of a segment, as far as it is known without memory for its ticks.
 #[derive(Clone, Copy)]
 enum Judged {
     Closed,

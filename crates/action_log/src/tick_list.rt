@@ -4,7 +4,7 @@ use std::alloc::Global;
 use std::marker::Model;
 use world_actions::Action;
 
-/// The ticks of a segment, in order: all their actions in one list, and where each tick ends in it.
+/// The ticks of a segment, in order: all their actions in one list, and the end of each tick in it.
 #[derive(Drop)]
 pub struct TickList {
     actions: Vec<Action>,
@@ -28,7 +28,7 @@ impl TickList {
     ghost use Rattle.action_log.specs.Segment.{Tick};
     ghost use Rattle.action_log.specs.TickList.{actions_of, IsListOf};
 
-    /// No tick. It takes no memory.
+    /// Makes a list without a tick. It takes no memory.
     pub fn new(alloc: Global) -> Self
         ensures { result ≡ [] }
     {
@@ -38,7 +38,7 @@ impl TickList {
         }
     }
 
-    /// The ticks with these actions and these ends.
+    /// Makes the list of the ticks with these actions and these ends.
     pub(crate) fn of_parts(actions: Vec<Action>, ends: Vec<usize>) -> Self
         requires { (ticks : List Tick) × IsListOf ticks actions.items ends.items }
         ensures { (ticks : List Tick) → IsListOf ticks actions.items ends.items → result ≡ ticks }
@@ -46,21 +46,21 @@ impl TickList {
         TickList { actions, ends }
     }
 
-    /// How many ticks there are.
+    /// Returns the number of ticks.
     pub fn len(&self) -> usize
         ensures { result ≡ length self.now }
     {
         self.ends.len()
     }
 
-    /// The actions of all ticks.
+    /// Returns the actions of all ticks.
     pub fn actions(&self) -> &[Action]
         ensures { result.now ≡ actions_of self.now }
     {
         &self.actions
     }
 
-    /// The actions of a tick, the first of which is 0.
+    /// Returns the actions of a tick. The first tick is number 0.
     pub fn get(&self, i: usize) -> Option<&[Action]>
         ensures some { IfSome result (λ tick. (i < length self.now) × (tick.now ≡ get_or self.now i [])) }
         ensures none { IfNone result (length self.now ≤ i) }
@@ -71,7 +71,7 @@ impl TickList {
     }
 }
 
-// Where a tick begins: where the one before it ends.
+// Returns the place where a tick begins, which is the end of the one before it.
 fn start_of(ends: &[usize], i: usize) -> usize
     requires { i ≤ length ends.now }
     ensures { result ≡ get_or (0 ∷ ends.now) i 0 }
@@ -79,7 +79,7 @@ fn start_of(ends: &[usize], i: usize) -> usize
     if i == 0 { 0 } else { ends[i - 1] }
 }
 
-// The actions from one place to another.
+// Returns the actions from one place to another.
 fn part(actions: &[Action], start: usize, end: usize) -> &[Action]
     requires forward { start ≤ end }
     requires within { end ≤ length actions.now }

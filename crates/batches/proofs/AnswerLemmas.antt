@@ -55,7 +55,7 @@ with_written words play action (Ok next) is p =
     accepted_writes-snoc words play.words next play.accepted action p.done both.1
 with_written words play action (Err refusal) is p = sym (append-nil (accepted_writes words play.accepted))
 
--- what is written goes on
+-- the writes of one more request follow those before it
 pub written_step : (words : List ℕ) (play : Play) (request : Request) → IsPlayed words play → accepted_writes words (after_request play request).accepted ≡ accepted_writes words play.accepted ++ writes_by play request
 written_step words play (Act action) p = with_written words play action (decision play.words play.accepted action) refl p
 written_step words play (Get cell) p = sym (append-nil (accepted_writes words play.accepted))

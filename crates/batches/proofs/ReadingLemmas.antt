@@ -29,7 +29,7 @@ begun_kept before old new b other requests kept begun = record {
   kept_is = kept ∙ (ap (λ k. kept_of (k ++ b ∷ [])) begun.kept_is ∙ sym (kept_of-snoc begun.line b));
 }
 
--- the line that ends means what is kept of it
+-- the line that ends has the meaning of its kept bytes
 line_means : (before : List ℕ) (old : Reading) (meaning : Option Command) → KeptMeans Means old.kept meaning → (begun : IsBegun before old) → Means begun.line meaning
 line_means before old meaning means begun = means begun.line (sym begun.kept_is)
 
@@ -38,7 +38,7 @@ all_lines before old meaning means begun =
     subst (λ bytes. AreLines bytes (begun.meanings ++ meaning ∷ [])) (sym (append_assoc begun.before begun.line (10 ∷ [])) ∙ ap (λ l. l ++ 10 ∷ []) (sym begun.split))
     (lines_then begun.before (begun.line ++ 10 ∷ []) begun.meanings (meaning ∷ []) begun.lines (line_ends begun.line meaning begun.unbroken (line_means before old meaning means begun)))
 
--- a line that asks for something, where there is room for it
+-- a line with a request, if there is room for it
 pub begun_more : (before : List ℕ) (old new : Reading) (meaning : Option Command) (request : Request) → KeptMeans Means old.kept meaning → request_of meaning ≡ Some request → length old.requests < BATCH_LINES
     → new.requests ≡ old.requests ++ request ∷ [] → new.kept ≡ [] → IsBegun before old → IsBegun (before ++ 10 ∷ []) new
 begun_more before old new meaning request means asks room requests kept begun = record {
@@ -53,7 +53,7 @@ begun_more before old new meaning request means asks room requests kept begun = 
   kept_is = kept;
 }
 
--- and where there is none
+-- a line with a request, if there is no room for it
 pub begun_too_much : (before : List ℕ) (old : Reading) (meaning : Option Command) (request : Request) → KeptMeans Means old.kept meaning → request_of meaning ≡ Some request → BATCH_LINES ≤ length old.requests
     → IsBegun before old → IsTooMuch (before ++ 10 ∷ [])
 begun_too_much before old meaning request means asks full begun = record {

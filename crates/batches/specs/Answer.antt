@@ -23,18 +23,18 @@ begun words = record { words = words; accepted = [] }
 abbrev pub refusal_text : Refusal → List ℕ
 refusal_text refusal = 45 ∷ decimal (code_of refusal)
 
--- `+`, or `-` and the code, by what is decided on an action: a full tick first
+-- `+`, or `-` and the code, by the decision on an action; a full tick is refused first
 abbrev pub action_reply : Result (List ℕ) Refusal → List ℕ
 action_reply (Ok words) = codes "+"
 action_reply (Err refusal) = refusal_text refusal
 
--- for a read `=` and the word
+-- the reply to a request; that to a read is `=` and the word
 abbrev pub reply : Play → Request → List ℕ
 reply play (Act action) = action_reply (decision play.words play.accepted action)
 reply play (Get cell) = if is_outside play.words cell then refusal_text BadCell else 61 ∷ decimal (slice_index play.words cell)
 reply play Bad = refusal_text BadLine
 
--- what comes of an action
+-- the play after an action, by the decision on it
 abbrev pub with_action : Play → Action → Result (List ℕ) Refusal → Play
 with_action play action (Ok words) = record { words = words; accepted = play.accepted ++ action ∷ [] }
 with_action play action (Err refusal) = play
@@ -44,12 +44,12 @@ after_request play (Act action) = with_action play action (decision play.words p
 after_request play (Get cell) = play
 after_request play Bad = play
 
--- what is written by an action that was decided so
+-- the writes of an action, if the decision accepts it
 abbrev pub writes_if : Result (List ℕ) Refusal → List Write → List Write
 writes_if (Ok words) writes = writes
 writes_if (Err refusal) writes = []
 
--- what a request writes
+-- the writes of a request
 abbrev pub writes_by : Play → Request → List Write
 writes_by play (Act action) = writes_if (decision play.words play.accepted action) (writes_of play.words action)
 writes_by play (Get cell) = []
@@ -57,12 +57,12 @@ writes_by play Bad = []
 
 -- ---- all requests
 
--- each sees what was accepted before it
+-- the play after all requests; each sees what was accepted before it
 abbrev pub after_requests : Play → List Request → Play
 after_requests play [] = play
 after_requests play (request ∷ requests) = after_requests (after_request play request) requests
 
--- a space and the reply to each
+-- a space and the reply, for each request
 abbrev pub replies : Play → List Request → List ℕ
 replies play [] = []
 replies play (request ∷ requests) = 32 ∷ (reply play request ++ replies (after_request play request) requests)
@@ -79,6 +79,6 @@ accepted_of requests words = (after_requests (begun words) requests).accepted
 abbrev pub words_after : List Request → List ℕ → List ℕ
 words_after requests words = (after_requests (begun words) requests).words
 
--- the line that tells a refused batch
+-- the line that answers a refused batch
 abbrev pub fault_text : Refusal → List ℕ
 fault_text refusal = codes "fault " ++ (decimal (code_of refusal) ++ 10 ∷ [])

@@ -1,4 +1,4 @@
--- What the lines of a client ask for, and how they fall into batches.
+-- The requests of a client's lines, and how the lines form batches.
 use Rattle.std.specs.Prelude.{ℕ, List, [], ◌∷◌, Option, Some, None, ◌==◌, if◌then◌else◌}
 use Rattle.line_grammar.specs.declared.command.Command.{Command}
 use Rattle.line_grammar.specs.declared.command.Command.TheVariants as command
@@ -11,7 +11,7 @@ pub record Requests : Type 0 where
   pub list : List Request
   pub room : ℕ
 
--- what a line with this meaning asks for: nothing is asked for by the `end` of a batch
+-- the request of a line with this meaning; the `end` of a batch has none
 abbrev pub request_of : Option Command → Option Request
 request_of None = Some Bad
 request_of (Some (command.Act action)) = Some (Act action)
@@ -49,7 +49,7 @@ abbrev pub onto_first : Request → List (List Request) → List Request → Bat
 onto_first request [] rest = record { ended = []; rest = request ∷ rest }
 onto_first request (first ∷ more) rest = record { ended = (request ∷ first) ∷ more; rest = rest }
 
--- a line at the front: an `end` ends a batch of nothing before it
+-- a line at the front; an `end` there ends an empty batch
 abbrev pub onto : Option Request → Batches → Batches
 onto None batches = record { ended = [] ∷ batches.ended; rest = batches.rest }
 onto (Some request) batches = onto_first request batches.ended batches.rest

@@ -17,8 +17,8 @@ const FRAME_BYTES: usize = 27;
 /// The bytes of a reply and the space before it, at most.
 const REPLY_BYTES: usize = 22;
 
-/// Runs a batch on a store as the tick of this number, into an empty tick, and puts the line that answers it into `text`, in
-/// the place of what that held. All growths are made first: if one is refused, store and tick stay.
+/// Runs a batch on a store as the tick of this number, into an empty tick. The line that answers it replaces the content of
+/// `text`. All memory is taken first: if it is refused, store and tick stay as they are.
 pub fn answer_text<C: Cells>(
     text: &mut Vec<u8>,
     c: &mut C,
@@ -49,7 +49,7 @@ pub fn answer_text<C: Cells>(
     Ok(())
 }
 
-/// A law: what a batch's accepted actions are a tick, and lead to the world after the batch.
+/// A law: the accepted actions of a batch are a tick, and lead to the world after the batch.
 pub fn answers_are_ticks()
     ensures accepted { (requests : List Asked) (words : List ℕ)
         → after_actions words (accepted_of requests words) ≡ Ok (words_after requests words) }
@@ -57,7 +57,7 @@ pub fn answers_are_ticks()
         → length (accepted_of requests words) ≤ TICK_ACTIONS }
 {}
 
-// Does what a request asks for, and appends a space and the reply.
+// Runs a request, and appends a space and the reply.
 fn put_reply<C: Cells>(c: &mut C, t: &mut Tick, request: Request, text: &mut Vec<u8>)
     requires tick_room { t.old.room ≡ 0 → TICK_ACTIONS ≤ length t.old.list }
     requires text_room { length text.old.items + REPLY_BYTES ≤ vec_capacity text.old }

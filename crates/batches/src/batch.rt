@@ -7,12 +7,12 @@ use world_actions::{Action, Refusal};
 /// The greatest number of lines of a batch before its `end`.
 pub const BATCH_LINES: usize = 1_024;
 
-/// A law: how many lines a batch may have. Clients depend on the number.
+/// A law: the greatest number of lines of a batch. Clients depend on the number.
 pub fn batch_numbers()
     ensures { BATCH_LINES ≡ 1_024 }
 {}
 
-/// What one line of a batch asks for.
+/// The request of one line of a batch.
 #[derive(Clone, Copy, Debug, PartialEq, Eq)]
 pub enum Request {
     /// A change of the world.
@@ -23,8 +23,7 @@ pub enum Request {
     Bad,
 }
 
-/// The lines of a batch before its `end`, read. Contracts see its requests, and for how many more it has
-/// memory.
+/// The lines of a batch before its `end`, as requests. Contracts see the requests, and for how many more there is memory.
 #[derive(Drop)]
 pub struct Batch {
     requests: Vec<Request>,
@@ -64,7 +63,7 @@ impl Batch {
         &self.requests
     }
 
-    /// Whether the batch takes no more requests.
+    /// True if the batch takes no more requests.
     pub fn is_full(&self) -> bool
         ensures { IsTrue result ↔ (BATCH_LINES ≤ length self.now.list) }
     {
@@ -80,7 +79,7 @@ impl Batch {
         }
     }
 
-    /// The same requests in memory of their own: in that of this spare batch, if it has room for them.
+    /// Copies the requests to memory of their own: that of this spare batch, if it has room for them.
     pub fn try_copy(&self, spare: Batch) -> Result<Batch, Refusal>
         ensures list { IfOk result (λ batch. batch.list ≡ self.now.list) }
         ensures memory { IfErr result (λ refusal. refusal ≡ Refusal.NoMemory) }

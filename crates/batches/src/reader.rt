@@ -12,7 +12,7 @@ use std::alloc::Global;
 use std::marker::Model;
 use world_actions::Refusal;
 
-/// What came of some bytes.
+/// The result of reading some bytes.
 #[derive(Clone, Copy, Debug, PartialEq, Eq)]
 pub enum Fed {
     /// No batch has ended.
@@ -23,8 +23,8 @@ pub enum Fed {
     TooLong,
 }
 
-/// Reads batches from bytes that come in pieces of any length. It keeps at most 81 bytes of a line, which
-/// is one more than a line that means something can have.
+/// Reads batches from bytes that come in pieces of any length. It keeps at most 81 bytes of a line, which is one more than a
+/// line with a meaning can have.
 #[derive(Drop)]
 pub struct BatchReader {
     line: KeptLine,
@@ -44,7 +44,7 @@ impl Model for BatchReader {
 }
 
 impl BatchReader {
-    /// A reader of which nothing was read. It reserves all that it ever uses.
+    /// A reader that has read nothing. It reserves all memory that it ever uses.
     pub fn new(alloc: Global) -> Result<Self, Refusal>
         ensures fresh { IfOk result (λ reader. reader ≡ record { requests = []; kept = [] }) }
         ensures begun { IfOk result (IsBegun []) }
@@ -56,7 +56,7 @@ impl BatchReader {
         })
     }
 
-    /// The batch that has ended, or as far as it is read.
+    /// The batch that has ended, or the part of it that is read so far.
     pub fn batch(&self) -> &Batch
         ensures { result.now.list ≡ self.now.requests }
     {
@@ -130,7 +130,7 @@ impl BatchReader {
     }
 }
 
-// What a line with this meaning asks for, nothing where it ends its batch.
+// The request of a line with this meaning, or `None` if the line ends its batch.
 fn asked_by(meaning: Option<Command>) -> Option<Request>
     ensures { result ≡ request_of meaning }
 {
@@ -142,7 +142,7 @@ fn asked_by(meaning: Option<Command>) -> Option<Request>
     }
 }
 
-// What a line means of which these bytes are kept.
+// Reads a line of which these bytes are kept.
 fn read_kept(kept: &[u8]) -> Option<Command>
     ensures { KeptMeans Means kept.now result }
 {

@@ -1,4 +1,4 @@
--- What a reader has left and a writer holds.
+-- The bytes that a reader has left, and those that a writer holds.
 use Rattle.std.proofs.Common.{IfSome, refl, ap, sym, subst, ◌-◌, ◌∙◌, ◌≡◌, ℕ, ◌+◌, ◌≤◌, List, [], ◌++◌, append_assoc, append-nil, length, take, drop, Option, Some, None}
 use Rattle.std.proofs.Math.Seq.{take-add}
 use Rattle.std.proofs.lemmas.List.{take-append-drop, take_rest}
@@ -15,7 +15,7 @@ Appends-both (Some xs) None last done more one two = absurd one
 Appends-both (Some xs) (Some ys) None done more one two = absurd two
 Appends-both (Some xs) (Some ys) (Some zs) done more one two = two ∙ (ap (λ l. l ++ more) one ∙ append_assoc xs done more)
 
--- what a reader has left after it gave these bytes
+-- the bytes that a reader has left after it gave these bytes
 pub consumed : (old new : Option (List ℕ)) (rest bytes : List ℕ) → old ≡ Some rest → Consumes old new bytes
     → (left : List ℕ) × (new ≡ Some left) × (rest ≡ bytes ++ left)
 consumed None new rest bytes known consumes = absurd (known_some known)
@@ -25,7 +25,7 @@ consumed None new rest bytes known consumes = absurd (known_some known)
 consumed (Some xs) None rest bytes known consumes = absurd consumes
 consumed (Some xs) (Some ys) rest bytes known consumes = (ys, refl, (let e : xs ≡ rest = cc in sym e ∙ consumes))
 
--- a reader that fails has the same left
+-- a reader that fails has the same bytes left
 pub kept : (old new : Option (List ℕ)) (rest : List ℕ) → old ≡ Some rest → Keeps old new → new ≡ Some rest
 kept None new rest known keeps = cc
 kept (Some xs) None rest known keeps = absurd keeps
@@ -35,7 +35,7 @@ pub if_some : {A : Type 0} (o : Option A) (P : A → Type 0) → ((a : A) → o 
 if_some None P f = tt
 if_some (Some a) P f = f a refl
 
--- what was written so far is a front
+-- the bytes that were written so far are a front
 pub front_taken : (n : ℕ) (bytes : List ℕ) → IsFront (take n bytes) bytes
 front_taken n bytes = (drop n bytes, sym (take-append-drop n bytes))
 
@@ -63,7 +63,7 @@ none_left old new rest bytes n known took none ends =
     let empty : left.0 ≡ [] = rw left.1 at ends in
     left.2 ∙ (ap (λ k. take k bytes ++ left.0) none ∙ empty)
 
--- ---- what was consumed in parts
+-- ---- input that was consumed in parts
 
 pub Consumes-none : (known : Option (List ℕ)) → Consumes known known []
 Consumes-none None = tt

@@ -5,8 +5,8 @@ ghost use Rattle.byte_streams.specs.Front.{IsFront};
 use std::io::{ErrorKind, Read, Write};
 use world_actions::Refusal;
 
-/// Reads the next bytes, none only at the end of the input. A read that was interrupted is tried
-/// again, as std does; any other failure is `Device`.
+/// Reads the next bytes. It reads none only at the end of the input. An interrupted read is tried again, as std does. Any
+/// other failure is `Device`.
 pub fn read_some<R: Read>(r: &mut R, piece: &mut [u8]) -> Result<usize, Refusal>
     requires { 0 < length piece.old }
     ensures count { IfOk result (λ n. n ≤ length piece.new) }
@@ -24,7 +24,7 @@ pub fn read_some<R: Read>(r: &mut R, piece: &mut [u8]) -> Result<usize, Refusal>
     Err(Refusal::Device)
 }
 
-/// Writes bytes to the last one, or a front of them and then `Device`.
+/// Writes all bytes. If it returns `Device`, it has written a front of them.
 pub fn write_whole<W: Write>(w: &mut W, bytes: &[u8]) -> Result<(), Refusal>
     ensures whole { OnOk result (Appends (W.contents w.old) (W.contents w.new) bytes.now) }
     ensures fault { IfErr result (λ refusal. (refusal ≡ Refusal.Device)
@@ -40,8 +40,8 @@ pub fn write_whole<W: Write>(w: &mut W, bytes: &[u8]) -> Result<(), Refusal>
     Err(Refusal::Device)
 }
 
-// Writes a front of the bytes, and nothing only where it fails. A write that was interrupted is tried
-// again, as std does; any other failure is `Device`.
+// Writes a front of the bytes. It writes nothing only if it fails. An interrupted write is tried again, as std does. Any
+// other failure is `Device`.
 fn write_some<W: Write>(w: &mut W, bytes: &[u8]) -> Result<usize, Refusal>
     ensures count { IfOk result (λ n. n ≤ length bytes.now) }
     ensures some { IfOk result (λ n. 0 < n) }

@@ -1,4 +1,4 @@
--- Contents of stores, and what writes do to them.
+-- The contents of stores, and the effect of writes on them.
 use Rattle.std.proofs.Common.{◌≡◌, refl, sym, ◌∙◌, ap, ℕ, suc, zero, Bool, true, List, [], ◌∷◌, length, drop, replicate, set, ◌≢◌, subst, inl, inr, false, Some, None}
 use Rattle.std.proofs.lemmas.List.{length-set, drop_all}
 use Rattle.std.proofs.lemmas.Option.{none-some, same_Some, slice_get_cases}
@@ -10,7 +10,7 @@ use Rattle.world_ticks.specs.Cells.{Access, Read, Wrote, Accesses, writes_among,
 use Rattle.capture_core.specs.Taken.{taken_of}
 use Rattle.capture_core.specs.Content.{Content, all_touched, content_after, Takes, Covers}
 
--- where all are the same, writing that again changes nothing
+-- if all items are the same, writing that item again changes nothing
 set-replicate : (n i : ℕ) (b : Bool) → set (replicate n b) i b ≡ replicate n b
 set-replicate zero i b = refl
 set-replicate (suc n) zero b = refl
@@ -27,7 +27,7 @@ pub length-written : (words : List ℕ) (writes : List Write) → length (writte
 length-written words [] = refl
 length-written words (write ∷ writes) = length-written (set words write.cell write.word) writes ∙ length-set words write.cell write.word
 
--- any accesses, by what one of them does
+-- any accesses, by the effect of one of them
 content-accesses : {S : Type 0} (content : S → Content) (accessed : S → Access → S → Type 0)
     → ((old new : S) (access : Access) → accessed old access new → content new ≡ content_after (content old) (writes_among (access ∷ [])))
     → (accesses : List Access) (old new : S) → Accesses accessed old accesses new → content new ≡ content_after (content old) (writes_among accesses)
@@ -46,7 +46,7 @@ content-performs content accessed one old new writes performs =
     content-accesses content accessed one performs.accesses old new performs.lead
     ∙ ap (λ all. content_after (content old) all) performs.all_writes
 
--- what a list has at another place than the one that was written
+-- a write leaves the item at any other place
 slice_get-set_other : {X : Type 0} (xs : List X) (i k : ℕ) (x : X) → k ≢ i → slice_get (set xs i x) k ≡ slice_get xs k
 slice_get-set_other [] i k x other = refl
 slice_get-set_other (y ∷ ys) zero zero x other = absurd (other refl)
@@ -54,7 +54,7 @@ slice_get-set_other (y ∷ ys) zero (suc k) x other = refl
 slice_get-set_other (y ∷ ys) (suc i) zero x other = refl
 slice_get-set_other (y ∷ ys) (suc i) (suc k) x other = slice_get-set_other ys i k x (λ e. other (ap suc e))
 
--- what a list has at a place that was written is what was written
+-- the item at a written place is the written one
 slice_get-set_same : {X : Type 0} (xs : List X) (i : ℕ) (x y : X) → slice_get (set xs i x) i ≡ Some y → y ≡ x
 slice_get-set_same [] i x y at = absurd (none-some y at)
 slice_get-set_same (z ∷ zs) zero x y at = sym (same_Some x y at)
@@ -72,19 +72,19 @@ covers-write image write store covers k untouched =
           ∙ sym (slice_get-set_other store.live write.cell k write.word other)
     ]
 
--- and so after any writes
+-- the same after any writes
 pub covers-writes : (image : List ℕ) (store : Content) (writes : List Write) → Covers image store → Covers image (content_after store writes)
 covers-writes image store [] covers = covers
 covers-writes image store (write ∷ writes) covers = covers-writes image (content_after store (write ∷ [])) writes (covers-write image write store covers)
 
--- nothing stands behind a place where a list has no entry
+-- after a place without an entry, a list has no entry
 pub none_behind : {X : Type 0} (entries : List X) (place : ℕ) → None ≡ slice_get entries place → drop place entries ≡ []
 none_behind entries place is = elim (slice_get_cases entries place).1 [
   | inl (x, below, some, at) ↦ absurd (none-some x (is ∙ some))
   | inr (past, none) ↦ drop_all place entries past
 ]
 
--- a take where none is left
+-- a take if none is left
 pub takes_none : (store : Content) → store.left ≡ [] → Takes store None store
 takes_none store end = record {
   gives = sym (ap (λ list. option_map taken_of (slice_get list 0)) end);

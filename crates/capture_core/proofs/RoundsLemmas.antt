@@ -13,7 +13,7 @@ use Rattle.capture_core.specs.Content.{Content, Covers, content_after, Marks, Ta
 use Rattle.capture_core.specs.Rounds.{with_taken, write_of}
 use Rattle.capture_core.proofs.ContentLemmas.{covers-write}
 
--- the head of what is left is the element where it begins
+-- the first of the items that are left is the item at the place where they begin
 slice_get-drop : {X : Type 0} (n : ℕ) (xs : List X) → slice_get (drop n xs) 0 ≡ slice_get xs n
 slice_get-drop zero [] = refl
 slice_get-drop zero (x ∷ xs) = refl
@@ -59,21 +59,21 @@ written-more words changes i d below =
     snoc words [] last = refl
     snoc words (change ∷ changes) last = snoc (set words change.0 change.1) changes last
 
--- a round in work: so many cells of it are in the image, and so many of the changes are made
+-- a round in work: i of its cells are in the image, and i of the changes are made
 pub record Copying (old marked : Content) (image0 : List ℕ) (changes : List (ℕ × ℕ)) (i : ℕ) (now : Content) (image : List ℕ) : Type 0 where
   pub left : now.left ≡ drop i marked.left
   pub front : image ≡ take i old.live ++ drop i image0
   pub live : now.live ≡ written old.live (map write_of (take i changes))
   pub covered : Covers old.live now
 
--- where a round in work may go on by a take
+-- a round in work may continue by a take
 pub record GoesOn (old marked : Content) (image0 : List ℕ) (i : ℕ) : Type 0 where
   pub marks : Marks old marked
   pub covers : Covers image0 old
   pub cells : length image0 ≡ length old.live
   pub below : i < length image0
 
--- after a take all stands one cell further, but for the change that is next
+-- after a take everything is one cell further, except the next change
 record Took (old marked : Content) (image0 : List ℕ) (changes : List (ℕ × ℕ)) (i : ℕ) (now : Content) (image : List ℕ) : Type 0 where
   pub left : now.left ≡ drop (i + 1) marked.left
   pub front : image ≡ take (i + 1) old.live ++ drop (i + 1) image0
@@ -107,7 +107,7 @@ copying-write {old} {marked} {image0} {changes} {i} copying on answer next takes
       covered = subst (λ (store : Content). Covers old.live store) (sym is) (covers-write old.live (write_of (get_or changes i d)) next t.covered);
     }
 
--- a take, where all changes are made
+-- a take, if all changes are made
 pub copying-kept : {old marked : Content} {image0 : List ℕ} {changes : List (ℕ × ℕ)} {i : ℕ} {now : Content} {image : List ℕ}
     → Copying old marked image0 changes i now image → GoesOn old marked image0 i
     → (answer : Option Taken) (next : Content) → Takes now answer next → (image' : List ℕ) → image' ≡ with_taken image i answer

@@ -1,4 +1,4 @@
--- Images of rounds.
+-- The images of rounds.
 use Rattle.std.specs.Prelude.{ℕ, ◌<◌, List, Option, Some, None, slice_set}
 use Rattle.world_actions.specs.World.{IsWord}
 use Rattle.world_actions.specs.Effect.{Write}

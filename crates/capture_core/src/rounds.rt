@@ -8,8 +8,8 @@ use crate::capture::Capture;
 use crate::taker::{Taken, Taker};
 use world_ticks::Cells;
 
-/// Marks a store and takes the round into an image, which then has the words of the mark. After each
-/// take the next of the changes, a cell and its new word, is written.
+/// Marks a store and takes the round into an image, which then has the words at the mark. A change is a cell and its new
+/// word. After each take the next change is written.
 pub fn copy_round<C: Capture>(store: &mut C, image: &mut [u64], changes: &[(usize, u64)])
     requires closed { (C.content store.old).left ≡ [] }
     requires cells { length image.old ≡ length (C.content store.old).live }
@@ -20,7 +20,7 @@ pub fn copy_round<C: Capture>(store: &mut C, image: &mut [u64], changes: &[(usiz
     ensures live { (C.content store.new).live
         ≡ written (C.content store.old).live (map write_of changes.now) }
 
-    // So the next round may go into the same image.
+    // With this fact the next round may go into the same image.
     ensures covered { Covers image.new (C.content store.new) }
     ensures closed { (C.content store.new).left ≡ [] }
 {

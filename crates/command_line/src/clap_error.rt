@@ -4,7 +4,8 @@ ghost use Rattle.clap.specs.Values.{kind_of};
 use crate::not_run::NotRun;
 use clap::error::{Error, ErrorKind};
 
-/// A command line that isn't right, or that asks for help or the version. It prints clap's text, but for want of memory.
+/// A command line that isn't right, or that asks for help or the version. It prints clap's text, except if memory is
+/// lacking.
 pub fn refused<R: Print + Eprint>(rt: &R, error: &Error) -> NotRun
     ensures memory { kind_of error.now ≡ ErrorKind.OutOfMemory → result ≡ NotRun.NoMemory }
     ensures told { (kind_of error.now ≡ ErrorKind.DisplayHelp) ⊎ (kind_of error.now ≡ ErrorKind.DisplayVersion)

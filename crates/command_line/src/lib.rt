@@ -1,4 +1,4 @@
-//! What a program does with its command line before its own work, and its exit status.
+//! The work of a program on its command line, before its own work, and its exit status.
 #![tactic(auto)]
 
 mod clap_error;

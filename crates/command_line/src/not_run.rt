@@ -5,9 +5,9 @@ use std::process::ExitCode;
 /// Why a program does none of its work.
 #[derive(Clone, Copy, Debug, PartialEq, Eq)]
 pub enum NotRun {
-    /// Help or the version was asked for, and told.
+    /// Help or the version was asked for, and printed.
     Told,
-    /// The command line is wrong, and the user was told why.
+    /// The command line is wrong, and the reason was printed.
     Mistaken,
     /// There is no memory for its words.
     NoMemory,
@@ -18,7 +18,7 @@ impl NotRun {
     ghost use Rattle.std.specs.Process.{exit_status};
     ghost use Rattle.command_line.specs.declared.not_run.NotRun.TheVariants.{Told, Mistaken, NoMemory};
 
-    /// The exit status for it. Want of memory, which nobody was told of yet, is told on standard error.
+    /// Returns the exit status. Want of memory wasn't reported before, so it is printed on standard error.
     pub fn report<R: Eprint>(self, rt: &R) -> ExitCode
         ensures told { self ≡ Told → exit_status result ≡ 0 }
         ensures mistaken { self ≡ Mistaken → exit_status result ≡ 2 }

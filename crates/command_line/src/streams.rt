@@ -9,7 +9,7 @@ use std::os::fd::{AsRawFd, IntoRawFd};
 const STANDARD_ERROR: i32 = 2;
 
 /// Takes each standard stream that is closed by /dev/null, up to the end of the program. Without it the system gives
-/// descriptor 0, 1 or 2 to the next file that the program opens, and text for people is written into that file. It
+/// descriptor 0, 1 or 2 to the next file that the program opens. Text for people is then written into that file. It
 /// returns /dev/null at a descriptor above them: the system gives the lowest one that is free, so none of them is.
 pub fn take_standard_streams<R: Files<File = File>>(rt: &R) -> io::Result<File>
     ensures { IfOk result (λ null. pos 2 <ℤ file_raw_fd null) }

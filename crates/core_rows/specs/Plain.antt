@@ -11,7 +11,7 @@ use Rattle.core_rows.specs.declared.asked.Asked.TheVariants as asked
 use Rattle.core_rows.specs.declared.told.Told.{Told}
 use Rattle.core_rows.specs.declared.told.Told.TheVariants as told
 
--- the move that is asked, where it is no crash
+-- the move that is asked, if it is no crash
 abbrev pub move_of : Asked → Option Move
 move_of (asked.Act action) = Some (move.Act action)
 move_of (asked.Get cell) = Some (move.Get cell)
@@ -23,7 +23,7 @@ move_of (asked.Cover tick) = Some (move.Cover tick)
 move_of asked.Crash = None
 move_of asked.ImpossibleCrash = None
 
--- what an answer tells
+-- an answer as a plain value
 abbrev pub told_of : Answer → Told
 told_of answer.Did = told.Did
 told_of (answer.Word word) = told.Word word

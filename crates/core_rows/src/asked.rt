@@ -13,7 +13,7 @@ pub enum Asked {
     Get(u32),
     /// The end of the running tick.
     End,
-    /// The begin of a round.
+    /// The beginning of a round.
     Mark,
     /// A step of the images.
     Image(Fate),
@@ -21,14 +21,14 @@ pub enum Asked {
     Log(Fate),
     /// A cover of the image of this tick.
     Cover(u64),
-    /// A crash that leaves bytes which it may leave.
+    /// A crash that leaves bytes that it may leave.
     Crash,
-    /// A crash that leaves bytes which none may leave.
+    /// A crash that leaves bytes that no crash may leave.
     ImpossibleCrash,
 }
 
 impl Asked {
-    /// As the core takes it, where it is no crash.
+    /// The move of the core, or `None` for a crash.
     pub fn as_move(self) -> Option<Move>
         ensures { result ≡ move_of self }
     {

@@ -33,16 +33,16 @@ pub enum Told {
     LogAcked(u64),
     /// The log is down.
     LogDown,
-    /// The world after this tick stands, from the image of that one.
+    /// Recovery built the world after `tick`, from the image of the tick `from`.
     Recovered { tick: u64, from: u64 },
-    /// No image stands.
+    /// Recovery found no image.
     Blank,
     /// The move was refused.
     Refused(Refusal),
 }
 
 impl Told {
-    /// What an answer tells.
+    /// Turns an answer into a plain value.
     pub fn of(given: Answer) -> Self
         ensures { result ≡ told_of given }
     {

@@ -1,4 +1,4 @@
--- What the list of a filled file has at each place, and that a crash may leave it.
+-- The item at each place of the list of a filled file; a crash may leave that list.
 use Rattle.std.proofs.Common.{◌≡◌, ℕ, zero, suc, ◌+◌, ◌<◌, ◌≤◌, ◌⊎◌, inl, inr, Bool, true, false, List, [], ◌∷◌, ◌++◌, length, take, get_or, if◌then◌else◌, refl, sym, ap, ◌∙◌, arith}
 use Rattle.file_format.specs.Number.{IsBytes}
 use Rattle.std.proofs.lemmas.Bool.{cases_lt}

@@ -1,4 +1,4 @@
--- What a file keeps while it is written and synced.
+-- The facts that a file keeps while it is written and synced.
 use Rattle.std.proofs.Common.{◌≡◌, ℕ, ◌+◌, ◌-◌, ◌<◌, ◌≤◌, max, min, List, Bool, true, false, ◌++◌, length, get_or, take, drop, replicate, refl, sym, ◌∙◌, ap, arith, inl, inr}
 use Rattle.std.proofs.lemmas.List.{length-replicate, take-append-drop, length-take, get_or-take, get_or-replicate, get_or_past, get_or_append_left, get_or-append_right, ext_get_or}
 use Rattle.std.proofs.lemmas.Bool.{cases_lt}
@@ -10,7 +10,7 @@ use Rattle.disk_model.proofs.BytesLemmas.{bytes-overwritten}
 use Rattle.disk_model.proofs.OverwrittenLemmas.{length-overwritten, overwritten_before, overwritten_after}
 use Rattle.disk_model.proofs.OutcomeLemmas.{marked_inside}
 
--- where no write of this span reaches, the content is the durable byte
+-- at a place that no write of this span reaches, the content is the durable byte
 agrees_after : (durable content : List ℕ) (table : List Bool) (at : ℕ) (bytes : List ℕ) → at ≤ length content → IsInOrder durable content table
     → (place : ℕ) → place < length durable → ¬ Marked (overwritten table at (replicate (length bytes) true)) place → get_or (overwritten content at bytes) place 0 ≡ get_or durable place 0
 agrees_after durable content table at bytes inside order place short none =
@@ -68,7 +68,7 @@ synced_content durable content table first short order none =
 false-true : false ≡ true → ⊥
 false-true e = cc
 
--- where the marks from the first one on are cleared, none is left
+-- if the marks from the first one on are cleared, none is left
 pub none_left : (table : List Bool) (first n : ℕ) → ((place : ℕ) → place < first → ¬ Marked table place) → (place : ℕ) → ¬ Marked (take first table ++ replicate n false) place
 none_left table first n none place marked =
     let front = take first table in

@@ -1,4 +1,4 @@
--- What a crash may leave after each call.
+-- The bytes that a crash may leave after each call.
 use Rattle.std.proofs.Common.{◌≡◌, ◌⊎◌, ℕ, ◌+◌, ◌-◌, ◌<◌, ◌≤◌, max, min, List, [], Bool, true, false, ◌++◌, length, get_or, take, drop, replicate, sym, ◌∙◌, ap, subst, arith, length-append, length-drop, inl, inr}
 use Rattle.std.proofs.lemmas.List.{nil_from_length, append-nil, length-take, length-replicate, get_or-replicate, get_or-take, get_or-drop, same_lists, take-take, take_all, drop_all, ext_get_or}
 use Rattle.std.proofs.lemmas.Bool.{cases_lt}
@@ -20,7 +20,7 @@ marked_inside table at n place inside from to =
     overwritten_inside table at (replicate n true) inside place false from (omega (arith, length-replicate n true))
     ∙ get_or-replicate n (place - at) true false (omega arith)
 
--- A write may have left these bytes only where it began with bytes that could be left before.
+-- A write may leave these bytes only if it began with bytes that could be left before.
 module _ (old new : FileState) (at : ℕ) (bytes left : List ℕ) (inside : at ≤ length old.content) (writes : Writes at bytes old new) (outcome : IsCrashOutcome new left) where
   abbrev durable : List ℕ
   durable = old.durable

@@ -1,4 +1,4 @@
--- What a write that may be torn leaves of a gate.
+-- The gates that a write that may be torn can leave.
 use Rattle.std.proofs.Common.{◌≡◌, ◌⊎◌, inl, inr, ℕ, ◌<◌, List, [], ◌∷◌, length, sym, ◌∙◌, ap, get_or, arith}
 use Rattle.std.proofs.lemmas.List.{get_or-take}
 use Rattle.std.proofs.lemmas.Bool.{cases_eq}
@@ -6,7 +6,7 @@ use Rattle.file_format.specs.declared.gate.TheConstants.{OPEN_GATE}
 use Rattle.file_format.specs.Gate.{HasShutGate}
 use Rattle.disk_model.specs.Disk.{Torn, overwritten}
 
--- a write leaves what stands before it
+-- a write leaves the bytes before it
 torn_before : (old new : List ℕ) (at n : ℕ) → Torn at n old new → (i d : ℕ) → i < at → get_or new i d ≡ get_or old i d
 torn_before old new at n torn i d low = sym (get_or-take at new i d low) ∙ ap (λ (list : List ℕ). get_or list i d) torn.before ∙ get_or-take at old i d low
 

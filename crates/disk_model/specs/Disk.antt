@@ -1,4 +1,4 @@
--- What the calls of a disk do to its file, and to what a crash may leave of it.
+-- The effect of a disk's calls on its file, and on the bytes that a crash may leave of it.
 use Rattle.std.specs.Prelude.{◌≡◌, ◌⊎◌, ℕ, ◌+◌, ◌-◌, ◌^◌, ◌≤◌, min, max, Bool, true, false, List, ◌++◌, length, take, drop, Result, Ok, Err, IfErr}
 use Rattle.std.proofs.Common.{arith}
 use Rattle.world_actions.specs.declared.refusal.Refusal.{Refusal}
@@ -8,23 +8,23 @@ use Rattle.world_actions.specs.declared.refusal.Refusal.TheVariants.{Device}
 abbrev pub overwritten : {A : Type 0} → List A → ℕ → List A → List A
 overwritten old at items = take at old ++ items ++ drop (at + length items) old
 
--- A write of n bytes that isn't known to have been whole: any bytes in its range, the same elsewhere, and a length
--- between the one before it and the one that it would have given.
+-- A write of n bytes that isn't known to be whole. Its range has any bytes, and the other places keep theirs. The length
+-- is between the old one and the one that a whole write gives.
 pub record Torn (at n : ℕ) (old new : List ℕ) : Type 0 where
   pub before : take at new ≡ take at old
   pub after : drop (at + n) new ≡ drop (at + n) old
   pub no_shorter : length old ≤ length new
   pub no_longer : length new ≤ max (length old) (at + n)
 
--- each new outcome of a crash is an old outcome after a step
+-- each new outcome of a crash comes from an old outcome by a step
 abbrev pub Follows : (List ℕ → List ℕ → Type 0) → (List ℕ → Type 0) → (List ℕ → Type 0) → Type 0
 Follows step old new = (left : List ℕ) → new left → (before : List ℕ) × old before × step before left
 
--- each new outcome of a crash was one before
+-- each new outcome of a crash is also an old outcome
 abbrev pub Within : (List ℕ → Type 0) → (List ℕ → Type 0) → Type 0
 Within old new = (left : List ℕ) → new left → old left
 
--- a crash leaves this and nothing else
+-- a crash can leave nothing other than this file
 abbrev pub Only : List ℕ → (List ℕ → Type 0) → Type 0
 Only file outcomes = (left : List ℕ) → outcomes left → left ≡ file
 
@@ -35,7 +35,7 @@ last_count = 2 ^ 64 - 1
 pub min-last_count : (faults : ℕ) → min faults last_count ≤ last_count
 min-last_count faults = omega arith
 
--- the count of faults after a call: one more after a failure, except at the last value
+-- the count of faults after a call: after a failure it is one greater, or still at its last value
 abbrev pub counted : {T : Type 0} → ℕ → Result T Refusal → ℕ
 counted faults (Ok value) = faults
 counted faults (Err refusal) = min (faults + 1) last_count
@@ -44,7 +44,7 @@ counted faults (Err refusal) = min (faults + 1) last_count
 abbrev pub Grew : ℕ → ℕ → Type 0
 Grew before now = now ≡ min (before + 1) last_count
 
--- the only refusal of a device
+-- if this is a refusal, it is `Device`
 abbrev pub IsDeviceFault : {T : Type 0} → Result T Refusal → Type 0
 IsDeviceFault result = IfErr result (λ refusal. refusal ≡ Device)
 
@@ -59,11 +59,11 @@ pub data Call : Type 0 where
 abbrev pub CalledOnce : {S : Type 0} → (S → Call → Bool → S → Type 0) → S → S → Type 0
 CalledOnce called old new = (call : Call) × (succeeded : Bool) × called old call succeeded new
 
--- nothing was called, or one call was made
+-- no call or one call was made
 abbrev pub CalledAtMostOnce : {S : Type 0} → (S → Call → Bool → S → Type 0) → S → S → Type 0
 CalledAtMostOnce called old new = (new ≡ old) ⊎ CalledOnce called old new
 
--- one of two disks was called, once, or none was
+-- at most one call was made, of one of two disks
 abbrev pub OneCalledAtMostOnce : {S : Type 0} → (S → Call → Bool → S → Type 0) → (one_before one_after other_before other_after : S) → Type 0
 OneCalledAtMostOnce called one_before one_after other_before other_after =
     (CalledAtMostOnce called one_before one_after × (other_after ≡ other_before))

@@ -1,4 +1,4 @@
--- How a file in memory is kept, and how its state is stored.
+-- The fields of a file in memory, and the way in which its state is stored.
 use Rattle.std.specs.Prelude.{◌≡◌, ℕ, ◌<◌, ◌≤◌, List, Bool, length, refl}
 use Rattle.std.specs.Coded.{Coded, code_by, coded×, coded_ℕ, coded_bool, coded_list}
 use Rattle.std.proofs.Props.{props}
@@ -7,14 +7,15 @@ use mathlib.Core.Path.{ap}
 use base.Stored.{coded_sub}
 use Rattle.disk_model.specs.FileState.{FileState, IsInOrder, Marked}
 
--- The file's lists, the first place that may be unsynced, and the room to make all of the content durable.
+-- The file's lists are in order. No place before the first one that may be unsynced is unsynced. There is room to make
+-- all of the content durable.
 pub record IsKept (durable content : List ℕ) (unsynced : List Bool) (first_unsynced room : ℕ) : Type 0 where
   pub in_order : IsInOrder durable content unsynced
   pub front_durable : first_unsynced ≤ length durable
   pub front_synced : (place : ℕ) → place < first_unsynced → ¬ Marked unsynced place
   pub room_for_content : length content ≤ room
 
--- there is one proof of the order at most
+-- there is at most one proof of the order
 pub in_order_prop : (durable content : List ℕ) (unsynced : List Bool) → IsProp (IsInOrder durable content unsynced)
 in_order_prop durable content unsynced = hlevel props
 

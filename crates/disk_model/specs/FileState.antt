@@ -1,4 +1,4 @@
--- A file in memory as contracts see it, and what its calls do to it.
+-- A file in memory as contracts see it, and the effect of its calls.
 use Rattle.std.specs.Prelude.{◌≡◌, ◌⊎◌, ℕ, ◌+◌, ◌<◌, ◌≤◌, min, List, Bool, true, false, length, get_or, replicate}
 use Rattle.file_format.specs.Number.{IsBytes}
 use Rattle.disk_model.specs.Disk.{overwritten, last_count, Call, Write, Sync}
@@ -7,7 +7,8 @@ use Rattle.disk_model.specs.Disk.{overwritten, last_count, Call, Write, Sync}
 abbrev pub Marked : List Bool → ℕ → Type 0
 Marked table place = get_or table place false ≡ true
 
--- The content is no shorter than the durable bytes, has them outside of unsynced writes, and has a mark for each place.
+-- The content is no shorter than the durable bytes, and has them outside of unsynced writes. There is a mark for each
+-- place of the content.
 pub record IsInOrder (durable content : List ℕ) (unsynced : List Bool) : Type 0 where
   pub durable_bytes : IsBytes durable
   pub content_bytes : IsBytes content
@@ -15,7 +16,8 @@ pub record IsInOrder (durable content : List ℕ) (unsynced : List Bool) : Type 
   pub no_shorter : length durable ≤ length content
   pub agrees : (place : ℕ) → place < length durable → ¬ Marked unsynced place → get_or content place 0 ≡ get_or durable place 0
 
--- what is durable, what reads give, for each place of it whether it lies in an unsynced write, and how many calls failed
+-- the durable bytes, the content that reads give, a mark for each place of it in an unsynced write, and the number of
+-- failed calls
 pub record FileState : Type 0 where
   pub durable : List ℕ
   pub content : List ℕ
@@ -31,13 +33,13 @@ IsUnsynced file place = Marked file.unsynced place
 abbrev pub IsUncertain : FileState → ℕ → Type 0
 IsUncertain file place = IsUnsynced file place ⊎ (length file.durable ≤ place)
 
--- these bytes are durable and are what reads give, and no write is unsynced
+-- these bytes are durable, reads give them, and no write is unsynced
 pub record IsSynced (bytes : List ℕ) (file : FileState) : Type 0 where
   pub durable : file.durable ≡ bytes
   pub content : file.content ≡ bytes
   pub none_unsynced : (place : ℕ) → ¬ IsUnsynced file place
 
--- a write that was carried out: nothing of it is durable, and its whole range is marked
+-- a write that was carried out: the durable bytes stay, and its whole range is marked
 pub record Writes (at : ℕ) (bytes : List ℕ) (old new : FileState) : Type 0 where
   pub durable : new.durable ≡ old.durable
   pub content : new.content ≡ overwritten old.content at bytes

@@ -1,9 +1,9 @@
--- A disk with a fuse as contracts see it, and what one call of it does.
+-- A disk with a fuse as contracts see it, and the effect of one call of it.
 use Rattle.std.specs.Prelude.{◌≡◌, ℕ, zero, suc, ◌+◌, min, Bool, false, Option, Some, None, refl, if◌then◌else◌}
 use Rattle.std.specs.Coded.{Coded, code_by, coded×, coded_ℕ, coded_option}
 use Rattle.disk_model.specs.Disk.{last_count, Call, Write}
 
--- the disk below, how many calls still succeed before the one that fails, and how often it was the fuse that failed one
+-- the disk below, the number of calls that pass before the one that fails, and the number of calls that the fuse failed
 pub record Fuse (D : Type 0) : Type 0 where
   pub inner : D
   pub left : Option ℕ
@@ -15,7 +15,7 @@ fuse_code {D} code =
     code_by (D × (Option ℕ × ℕ)) (coded× code (coded× (coded_option coded_ℕ) coded_ℕ)) (λ disk. (disk.inner, (disk.left, disk.faults)))
     (λ parts. record { inner = parts.0; left = parts.1.0; faults = parts.1.1 }) (λ _. refl)
 
--- how many calls still succeed before the one that fails, after a call
+-- after a call, the number of calls that pass before the one that fails
 abbrev pub counted_down : Option ℕ → Option ℕ
 counted_down None = None
 counted_down (Some zero) = None
@@ -26,7 +26,7 @@ module _ {D : Type 0} where
   abbrev pub IsDue : Fuse D → Type 0
   IsDue disk = disk.left ≡ Some 0
 
-  -- how often a call failed, by the disk below or by the fuse
+  -- the number of calls that failed, by the disk below or by the fuse, up to its last value
   abbrev pub fault_count : (D → ℕ) → Fuse D → ℕ
   fault_count faults disk = min (faults disk.inner + disk.faults) last_count
 
@@ -34,14 +34,15 @@ module _ {D : Type 0} where
   abbrev pub more_faults : Fuse D → ℕ
   more_faults disk = min (disk.faults + 1) last_count
 
-  -- The call that is due: a write is made below, and counted as failed where the disk below made it; any other isn't made.
+  -- The call that is due to fail. A write is made below, and counted as failed if the disk below made it. Any other call
+  -- isn't made, and is counted.
   abbrev pub Fails : (called : D → Call → Bool → D → Type 0) → (old : Fuse D) → Call → (new : Fuse D) → Type 0
   Fails called old (Write at bytes) new =
       (made : Bool) × called old.inner (Write at bytes) made new.inner × (new.faults ≡ (if made then more_faults old else old.faults))
   Fails called old other new = (new.inner ≡ old.inner) × (new.faults ≡ more_faults old)
 
-  -- One call of a disk with a fuse, which counts it: the one that is due fails, and the disk below makes any other and
-  -- answers so.
+  -- One call of a disk with a fuse. The fuse counts it. If the call is due, it fails. Otherwise the disk below makes it,
+  -- and its answer is the answer.
   pub record CallsThrough (called : D → Call → Bool → D → Type 0) (old : Fuse D) (call : Call) (succeeded : Bool) (new : Fuse D) : Type 0 where
     pub counts : new.left ≡ counted_down old.left
     pub due : IsDue old → (succeeded ≡ false) × Fails called old call new

@@ -1,9 +1,9 @@
--- A file of the operating system as contracts see it, and what one call of it does.
+-- A file of the operating system as contracts see it, and the effect of one call of it.
 use Rattle.std.specs.Prelude.{◌≡◌, ℕ, ◌+◌, ◌≤◌, min, max, Bool, true, false, length, refl}
 use Rattle.std.specs.Coded.{Coded, code_by, coded×, coded_ℕ}
 use Rattle.disk_model.specs.Disk.{last_count, Call, Write}
 
--- how long the file is at least, and how often a call of it failed
+-- a length that the file has at least, and the number of its calls that failed
 pub record KnownFile : Type 0 where
   pub known_length : ℕ
   pub faults : ℕ
@@ -17,8 +17,8 @@ known_code =
 abbrev pub after_failure : KnownFile → KnownFile
 after_failure file = record file { faults = min (file.faults + 1) last_count }
 
--- A call that succeeded or failed: a failure is counted, and changes nothing of what is known. A write succeeds only where
--- it begins inside the known length or at its end, and the file is then as long as the write reaches.
+-- A call that succeeded or failed. A failure is counted, and the known length stays. A write succeeds only if it begins
+-- at a place up to the known length. The known length is then the greater one of the old length and the end of the write.
 abbrev pub CallsFile : KnownFile → Call → (succeeded : Bool) → KnownFile → Type 0
 CallsFile old call false new = new ≡ after_failure old
 CallsFile old (Write at bytes) true new = (at ≤ old.known_length) × (new ≡ record old { known_length = max old.known_length (at + length bytes) })

@@ -4,25 +4,25 @@ ghost use Rattle.disk_model.specs.Disk.{overwritten, Torn, Follows, Only, Within
 
 use world_actions::Refusal;
 
-/// A file whose calls may fail, and of which a crash may leave more than one outcome.
+/// A file whose calls may fail. A crash may leave it in one of several outcomes.
 pub trait Disk {
     /// The bytes that a read gives.
     ghost content: { Self → List ℕ };
 
-    /// What a crash may leave now.
+    /// A crash now may leave these bytes.
     ghost may_leave: { Self → List ℕ → Type 0 };
 
-    /// Whether each file of this type keeps to the disk model. Of another nothing is said but its
-    /// faults and its calls.
+    /// True if each file of this type keeps to the disk model. If it is false, contracts state only the faults and the
+    /// calls.
     ghost honest: { Bool };
 
-    /// How often the device failed, up to the last value of the count.
+    /// The number of failures of the device, up to the last value of the count.
     ghost faults: { Self → ℕ };
 
     /// This call, which succeeded or failed, may lead from the first state to the second.
     ghost called: { Self → Call → Bool → Self → Type 0 };
 
-    /// The length of the content.
+    /// Returns the length of the content.
     fn len(&mut self) -> Result<u64, Refusal>
         ensures length { IsTrue honest → IfOk result (λ len. len ≡ length (content self.old)) }
         ensures content { IsTrue honest → content self.new ≡ content self.old }
@@ -43,8 +43,8 @@ pub trait Disk {
         ensures device { IsDeviceFault result }
         ensures called { called self.old (Read at (length into.old)) (is_ok result) self.new };
 
-    /// Writes over what is there, and past the end. Until a sync a crash may leave any bytes in the
-    /// range. After a failure reads may give any bytes there too.
+    /// Writes over the bytes from a place on, and past the end. Until a sync a crash may leave any bytes in the range.
+    /// After a failure reads may give any bytes there too.
     fn write_at(&mut self, at: u64, bytes: &[u8]) -> Result<(), Refusal>
         requires { IsTrue honest → at ≤ length (content self.old) }
         ensures written { IsTrue honest
@@ -57,7 +57,7 @@ pub trait Disk {
         ensures device { IsDeviceFault result }
         ensures called { called self.old (Write at bytes.now) (is_ok result) self.new };
 
-    /// Afterwards a crash leaves what a read gives. A failed sync makes nothing durable.
+    /// Makes the content durable: a crash then leaves the bytes that a read gives. A failed sync makes nothing durable.
     fn sync(&mut self) -> Result<(), Refusal>
         ensures durable { IsTrue honest
             → OnOk result (Only (content self.old) (may_leave self.new)) }
@@ -67,13 +67,13 @@ pub trait Disk {
         ensures device { IsDeviceFault result }
         ensures called { called self.old Sync (is_ok result) self.new };
 
-    /// A crash may leave what a read gives.
+    /// A crash may leave the bytes that a read gives.
     ghost stays: { (disk : Self) → IsTrue Self.honest → may_leave disk (content disk) };
 
-    /// A crash leaves bytes, so what reads give are bytes too.
+    /// A crash leaves bytes, so reads give bytes too.
     ghost are_bytes: { (disk : Self) (left : List ℕ) → IsTrue Self.honest → may_leave disk left
         → IsBytes left };
 
-    /// The count is below its bound.
+    /// The count is at most its bound.
     ghost few_faults: { (disk : Self) → faults disk ≤ last_count };
 }

@@ -11,8 +11,8 @@ use std::marker::Model;
 use std::os::unix::fs::FileExt;
 use world_actions::Refusal;
 
-/// A file of the operating system. Contracts see how long it is at least, and how often a call of it
-/// failed, and nothing of what it holds. Each read and each write is one call of the system.
+/// A file of the operating system. Contracts see a length that it has at least, and the number of its calls that failed.
+/// They see nothing of its content. Each read and each write is one call of the system.
 #[derive(Drop)]
 pub struct FileDisk {
     file: File,
@@ -32,8 +32,7 @@ impl Model for FileDisk {
 }
 
 impl FileDisk {
-    /// Takes a regular file that isn't open for appending, and syncs it: what it reads as is then what
-    /// a crash leaves.
+    /// Takes a regular file that isn't open for appending, and syncs it. A crash then leaves the bytes that reads give.
     pub fn open(file: File) -> Result<FileDisk, Refusal>
         ensures no_faults { IfOk result (λ disk. disk.faults ≡ 0) }
         ensures device { IsDeviceFault result }
@@ -43,7 +42,7 @@ impl FileDisk {
         FileDisk::opened(file, synced, metadata)
     }
 
-    // What the system answered to the sync, and of the file.
+    // Makes the disk from the system's answers to the sync and to the query of the file.
     fn opened(
         file: File,
         synced: io::Result<()>,
@@ -65,7 +64,7 @@ impl FileDisk {
         }
     }
 
-    // What the system answered; its error is a failure.
+    // Takes an answer of the system. Its error counts as a failure.
     fn answered<T>(&mut self, answer: io::Result<T>) -> Result<T, Refusal>
         ensures ok { IfOk answer (λ value. (result ≡ Ok value) × (self.new ≡ self.old)) }
         ensures err { OnErr answer ((result ≡ Err Refusal.Device) × (self.new ≡ after_failure self.old)) }
@@ -76,7 +75,8 @@ impl FileDisk {
         }
     }
 
-    // What the system answered where it was asked to move so many bytes: fewer are a failure of this kind.
+    // Takes the system's answer to a call that was to move `asked` bytes. If it moved fewer, that is a failure of the
+    // kind `short`.
     fn moved(
         &mut self,
         answer: io::Result<usize>,
@@ -94,7 +94,7 @@ impl FileDisk {
         Ok(())
     }
 
-    // What the system answered to a write of so many bytes up to this end.
+    // Takes the system's answer to a write of `asked` bytes up to the place `end`.
     fn wrote(&mut self, answer: io::Result<usize>, asked: usize, end: u64) -> Result<(), Refusal>
         ensures whole { IsOk result ↔ (answer ≡ Ok asked) }
         ensures ok { OnOk result (self.new
@@ -117,14 +117,14 @@ impl FileDisk {
         Err(Refusal::Device)
     }
 
-    /// Why the last call failed that did, for who tells it.
+    /// Takes the reason of the last failed call, for callers that report it.
     pub fn take_failure(&mut self) -> Option<io::Error>
         ensures { self.new ≡ self.old }
     {
         self.failure.take()
     }
 
-    /// The same, and it stays.
+    /// Returns the same reason, and keeps it.
     pub fn failure(&self) -> Option<&io::Error> {
         self.failure.as_ref()
     }
@@ -158,8 +158,8 @@ impl Disk for FileDisk {
         self.moved(answer, into.len(), ErrorKind::UnexpectedEof)
     }
 
-    /// A write that begins past the known length fails, and isn't made: a failed write may have made
-    /// the file longer, but it isn't known how much.
+    /// A write that begins past the known length fails, and isn't made. A failed write may have made the file longer, by
+    /// an unknown length.
     fn write_at(&mut self, at: u64, bytes: &[u8]) -> Result<(), Refusal> {
         match at.checked_add(bytes.len() as u64) {
             Some(end) if at <= self.known_length => {

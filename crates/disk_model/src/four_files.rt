@@ -4,7 +4,7 @@ use crate::{Disk, read_all};
 use std::alloc::Global;
 use world_actions::Refusal;
 
-/// The four files of a world, or what is told of each.
+/// The four files of a world, or a value for each.
 #[derive(Drop)]
 pub struct FourFiles<T> {
     pub image_a: T,
@@ -16,7 +16,7 @@ pub struct FourFiles<T> {
 impl<D: Disk> FourFiles<D> {
     ghost use Rattle.disk_model.specs.FourFiles.{EachFile, KeepsFile, fault_counts, OneGrew};
 
-    /// All bytes of each file, up to the first that is refused.
+    /// Reads all bytes of each file, in order. The first refusal ends it.
     pub fn read_all(&mut self, alloc: Global) -> Result<FourFiles<Vec<u8>>, Refusal>
         ensures bytes { IsTrue D.honest → IfOk result (λ read.
             EachFile self.old read (λ disk bytes. bytes.items ≡ D.content disk)) }

@@ -6,8 +6,8 @@ use crate::Disk;
 use std::marker::Model;
 use world_actions::Refusal;
 
-/// A disk whose calls can be let fail. Contracts see the disk below, how many calls still succeed
-/// before the one that fails, and how many the fuse failed.
+/// A disk whose calls can be made to fail. Contracts see the disk below, the number of calls that pass before the one
+/// that fails, and the number that the fuse failed.
 #[derive(Drop)]
 pub struct Fused<D> {
     inner: D,
@@ -26,7 +26,7 @@ impl<D> Model for Fused<D> {
 }
 
 impl<D> Fused<D> {
-    /// A disk that isn't armed.
+    /// Makes a disk that isn't armed.
     pub fn new(inner: D) -> Self
         ensures { result ≡ record { inner = inner; left = None; faults = 0 } }
     {
@@ -37,7 +37,7 @@ impl<D> Fused<D> {
         }
     }
 
-    /// The disk below.
+    /// Returns the disk below.
     pub fn inner(&self) -> &D
         ensures { result.now ≡ self.now.inner }
     {
@@ -56,7 +56,7 @@ impl<D> Fused<D> {
         inner
     }
 
-    /// Lets the k-th call from now fail, and the calls after it go on.
+    /// Arms the fuse: the k-th call from now fails, and the calls after it pass.
     pub fn arm(&mut self, k: u64)
         requires { 1 ≤ k }
         ensures { self.new ≡ record self.old { left = Some (k - 1) } }
@@ -64,14 +64,14 @@ impl<D> Fused<D> {
         self.left = Some(k - 1);
     }
 
-    /// Lets no call fail.
+    /// Disarms the fuse: every call passes.
     pub fn disarm(&mut self)
         ensures { self.new ≡ record self.old { left = None } }
     {
         self.left = None;
     }
 
-    // Counts a call, and answers whether it is to fail.
+    // Counts a call, and returns true if it is to fail.
     fn burns(&mut self) -> bool
         ensures counts { self.new ≡ record self.old { left = counted_down self.old.left } }
         ensures due { IsTrue result ↔ IsDue self.old }
@@ -133,7 +133,7 @@ impl<D: Disk> Disk for Fused<D> {
         self.inner.read_at(at, into)
     }
 
-    /// The write that is due is made below, and fails then.
+    /// The write that is due is made below, and then reported as failed.
     fn write_at(&mut self, at: u64, bytes: &[u8]) -> Result<(), Refusal> {
         let burns = self.burns();
         self.inner.write_at(at, bytes)?;

@@ -6,19 +6,19 @@ use crate::model_file::ModelFile;
 use std::alloc::Global;
 use world_actions::Refusal;
 
-/// Which of the bytes that a crash may leave of a file it leaves.
+/// A choice among the bytes that a crash may leave of a file.
 #[derive(Clone, Copy, Debug, PartialEq, Eq)]
 pub enum Leaving {
     /// The durable bytes.
     Lose,
     /// The bytes that reads give.
     Keep,
-    /// As many bytes as reads give: this one at each uncertain place, and the durable ones.
+    /// As many bytes as reads give: this byte at each uncertain place, and the durable bytes elsewhere.
     Fill(u8),
 }
 
 impl ModelFile {
-    /// What a crash that leaves so leaves of the file; it may always do so.
+    /// Returns the bytes that a crash of this kind leaves of the file. A crash may always leave them.
     pub fn left_by(&self, alloc: Global, leaving: Leaving) -> Result<Vec<u8>, Refusal>
         ensures left { IfOk result (λ left. left.items ≡ left_by leaving self.now) }
         ensures allowed { IfOk result (λ left. IsCrashOutcome self.now left.items) }

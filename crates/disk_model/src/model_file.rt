@@ -10,13 +10,13 @@ use std::alloc::Global;
 use std::marker::Model;
 use world_actions::Refusal;
 
-/// A file in memory that is exactly the disk model. Contracts see what is durable, what reads give,
-/// and which places lie in unsynced writes.
+/// A file in memory that is exactly the disk model. Contracts see the durable bytes, the content that reads give, and the
+/// places that lie in unsynced writes.
 #[derive(Drop)]
 pub struct ModelFile {
     durable: Vec<u8>,
     content: Vec<u8>,
-    // For each place of the content, whether it lies in an unsynced write.
+    // For each place of the content, true if it lies in an unsynced write.
     unsynced: Vec<bool>,
     // No place below this one lies in an unsynced write.
     first_unsynced: usize,
@@ -42,8 +42,8 @@ impl Model for ModelFile {
 }
 
 impl ModelFile {
-    /// A file with these bytes, all of them durable. It takes memory for as many bytes and marks
-    /// again.
+    /// Makes a file with these bytes, all of them durable. It takes memory for a copy of the bytes, and for a mark for
+    /// each.
     pub fn new(alloc: Global, bytes: Vec<u8>) -> Result<Self, Refusal>
         ensures synced { IfOk result (IsSynced bytes.items) }
         ensures leaves { IfOk result (λ file. Only bytes.items (IsCrashOutcome file)) }
@@ -61,7 +61,7 @@ impl ModelFile {
         })
     }
 
-    /// Takes the memory for a file of this length: until a crash no write within it takes any.
+    /// Takes the memory for a file of this length. Until a crash no write within that length takes any.
     pub fn reserve(&mut self, len: u64) -> Result<(), Refusal>
         ensures same { self.new ≡ self.old }
         ensures memory { IfErr result (λ refusal. refusal ≡ Refusal.NoMemory) }
@@ -73,21 +73,21 @@ impl ModelFile {
         Ok(())
     }
 
-    /// The bytes that are durable.
+    /// Returns the bytes that are durable.
     pub fn durable(&self) -> &[u8]
         ensures { result.now ≡ self.now.durable }
     {
         &self.durable
     }
 
-    /// The bytes that reads give.
+    /// Returns the bytes that reads give.
     pub fn now(&self) -> &[u8]
         ensures { result.now ≡ self.now.content }
     {
         &self.content
     }
 
-    /// Whether a crash may change the byte at a place, or leave none there.
+    /// True if a crash may change the byte at a place, or leave none there.
     pub fn uncertain(&self, place: u64) -> bool
         ensures { IsTrue result ↔ IsUncertain self.now place }
     {
@@ -95,7 +95,7 @@ impl ModelFile {
         place >= self.durable.len() || self.unsynced[place]
     }
 
-    /// Whether a crash may leave these bytes. It takes no memory.
+    /// True if a crash may leave these bytes. It takes no memory.
     pub fn allows(&self, left: &[u8]) -> bool
         ensures { IsTrue result ↔ IsCrashOutcome self.now left.now }
     {
@@ -110,8 +110,8 @@ impl ModelFile {
         true
     }
 
-    /// Stops the file, leaving these bytes, which are durable afterwards. It refuses exactly the
-    /// bytes that a crash may not leave, and hands the file back then. It takes no memory.
+    /// Crashes the file: it then has these bytes, all of them durable. It refuses exactly the bytes that a crash may not
+    /// leave, and then hands the file back. It takes no memory.
     pub fn crash(self, left: Vec<u8>) -> Result<ModelFile, (ModelFile, Refusal)>
         ensures allowed { OnOk result (IsCrashOutcome self left.items) }
         ensures synced { IfOk result (IsSynced left.items) }
@@ -188,15 +188,15 @@ impl Disk for ModelFile {
         Ok(())
     }
 
-    /// It takes memory only where it goes past the end. A growth that is refused is a fault, and
-    /// the write then counts as none.
+    /// It takes memory only if it goes past the end. If that memory is refused, the call fails and is counted as a fault,
+    /// and nothing is written.
     fn write_at(&mut self, at: u64, bytes: &[u8]) -> Result<(), Refusal>
         requires { at ≤ length self.old.content }
         ensures writes { OnOk result (Writes at bytes.now self.old self.new) }
         ensures fails { OnErr result (self.new ≡ after_fault self.old) }
         ensures inside_succeeds { at + length bytes.now ≤ length self.old.content → IsOk result }
 
-        // What each disk says.
+        // The contract of `Disk`.
         ensures written { OnOk result
             (self.new.content ≡ overwritten self.old.content at bytes.now) }
         ensures torn { OnErr result (Torn at (length bytes.now) self.old.content self.new.content) }
@@ -223,7 +223,7 @@ impl Disk for ModelFile {
         ensures syncs { Syncs self.old self.new }
         ensures succeeds { IsOk result }
 
-        // What each disk says.
+        // The contract of `Disk`.
         ensures called { Calls self.old Sync (is_ok result) self.new }
         ensures crash { Within (IsCrashOutcome self.old) (IsCrashOutcome self.new) }
     {

@@ -1,11 +1,11 @@
-// Lists of one item a place: room for more of them, and writes over some.
+// Lists with one item for each place: room for more items, and writes over some.
 ghost use Rattle.std.specs.Prelude.{◌≡◌, ◌+◌, ◌≤◌, ◌-◌, ◌++◌, true, false, length, take, drop, replicate, OnOk, OnErr, IsOk, vec_capacity, max};
 ghost use Rattle.disk_model.specs.Disk.{overwritten};
 
 use std::alloc::AllocError;
 
-// Writes bytes over those from a place on, and past the end, and marks their places. It makes room
-// for that, and for the sync or crash after it. A refusal changes nothing.
+// Writes bytes over those from a place on, and past the end, and marks their places. It makes room for this write, and
+// for the sync or crash after it. A refusal changes nothing.
 pub(crate) fn write_marked(
     durable: &mut Vec<u8>,
     content: &mut Vec<u8>,
@@ -36,7 +36,7 @@ pub(crate) fn write_marked(
     Ok(())
 }
 
-// Makes room for so many items in all.
+// Makes room for `count` items in all.
 pub(crate) fn grow<T>(items: &mut Vec<T>, count: usize) -> Result<(), AllocError>
     ensures items { items.new.items ≡ items.old.items }
     ensures room { OnOk result (count ≤ vec_capacity items.new) }
@@ -67,7 +67,7 @@ fn put_inside(items: &mut [u8], at: usize, bytes: &[u8])
     items[at..at + bytes.len()].copy_from_slice(bytes);
 }
 
-// Marks so many places from one on, and past the end. There is room for them.
+// Marks `count` places from the place `at` on, and past the end. There is room for them.
 fn mark(marks: &mut Vec<bool>, at: usize, count: usize)
     requires at_most_end { at ≤ length marks.old.items }
     requires room { at + count ≤ vec_capacity marks.old }
@@ -88,7 +88,7 @@ fn mark_inside(marks: &mut [bool], at: usize, count: usize)
     marks[at..at + count].fill(true);
 }
 
-// Leaves marks for so many places, none of them marked from one on.
+// Leaves marks for `count` places, and clears those from the place `at` on.
 pub(crate) fn clear_from(marks: &mut Vec<bool>, at: usize, count: usize)
     requires at_most_count { at ≤ count }
     requires at_most_end { count ≤ length marks.old.items }
@@ -98,7 +98,7 @@ pub(crate) fn clear_from(marks: &mut Vec<bool>, at: usize, count: usize)
     let _ = marks.resize(count, false);
 }
 
-// Takes the bytes from a place on from other bytes. There is room for them.
+// Copies the bytes from a place on from other bytes. There is room for them.
 pub(crate) fn copy_from(items: &mut Vec<u8>, from: &[u8], at: usize)
     requires at_most_end { at ≤ length items.old.items }
     requires within { at ≤ length from.now }

@@ -5,7 +5,7 @@ use crate::Disk;
 use std::alloc::Global;
 use world_actions::Refusal;
 
-/// All bytes of a file, in one read.
+/// Reads all bytes of a file, in one read.
 pub fn read_all<D: Disk>(alloc: Global, disk: &mut D) -> Result<Vec<u8>, Refusal>
     ensures bytes { IsTrue D.honest → IfOk result (λ bytes. bytes.items ≡ D.content disk.old) }
     ensures kept { IsTrue D.honest → KeepsFile D.content D.may_leave disk.old disk.new }

@@ -15,7 +15,7 @@ byte_at-pow (suc k) x = refl
 byte_at-small : (k x : ℕ) → byte_at k x < 256
 byte_at-small k x = rw (byte_at-pow k x) (mod-lt (x / 256 ^ k) (omega arith))
 
--- the bytes above the lowest are those of what is left without it
+-- the bytes above the lowest are those of the number without its lowest byte
 higher_bytes : (k j b y : ℕ) → b < 256 → bytes_low_first (suc j) k (b + 256 * y) ≡ bytes_low_first j k y
 higher_bytes zero j b y small = refl
 higher_bytes (suc k) j b y small =
@@ -25,7 +25,7 @@ higher_bytes (suc k) j b y small =
     let first : byte_at (suc j) (b + 256 * y) ≡ byte_at j y = byte_at-pow (suc j) (b + 256 * y) ∙ ap (λ (x : ℕ). x % 256) shift ∙ sym (byte_at-pow j y) in
     rw (first, higher_bytes k (suc j) b y small) refl
 
--- the bytes of the number that the first bytes give are those
+-- the number in the first bytes has these bytes
 bytes_of_number : (k : ℕ) (bytes : List ℕ) → IsBytes bytes → k ≤ length bytes → bytes_low_first 0 k (little_from 0 k bytes) ≡ take k bytes
 bytes_of_number zero bytes are_bytes long = refl
 bytes_of_number (suc k) [] are_bytes long = absurd (omega arith)
@@ -50,7 +50,7 @@ pub number_of-number_bytes : (width number : ℕ) (rest : List ℕ) → number <
 unfolding number_bytes number_of
 number_of-number_bytes width number rest small = little_number-reads_back width number rest small
 
--- what follows the bytes of a number says nothing of it
+-- the bytes after those of a number don't affect the number
 pub number_of-append : (width : ℕ) (bytes rest : List ℕ) → width ≤ length bytes → number_of width (bytes ++ rest) ≡ number_of width bytes
 unfolding number_of
 number_of-append width bytes rest long = little_from-append width bytes rest long
@@ -60,10 +60,10 @@ pub number_bytes-number_of : (width : ℕ) (bytes : List ℕ) → IsBytes bytes 
 unfolding number_bytes number_of
 number_bytes-number_of width bytes are_bytes long = bytes_of_number width bytes are_bytes long
 
--- a number of so many bytes fits into them
+-- a number from this many bytes fits into them
 pub number_of-below : (width : ℕ) (bytes : List ℕ) → IsBytes bytes → number_of width bytes < 256 ^ width
 unfolding number_of
 number_of-below width bytes are_bytes = little_from-lt 0 width bytes are_bytes
 
--- what the law of numbers says
+-- the statement of the law of numbers
 pub ruleset number_laws = (number_of-number_bytes, number_bytes-number_of, number_of-append, number_of-below, length-number_bytes)

@@ -3,7 +3,7 @@ ghost use Rattle.file_format.specs.Number.{IsBytes, number_bytes, number_of};
 
 use byteorder::{ByteOrder, LittleEndian};
 
-/// The number in the two bytes from a place on.
+/// Returns the number in the two bytes from a place on.
 pub fn u16_at(bytes: &[u8], place: usize) -> u16
     requires { place + 2 ≤ length bytes.now }
     ensures { result ≡ number_of 2 (drop place bytes.now) }
@@ -11,7 +11,7 @@ pub fn u16_at(bytes: &[u8], place: usize) -> u16
     LittleEndian::read_u16(&bytes[place..])
 }
 
-/// The number in the four bytes from a place on.
+/// Returns the number in the four bytes from a place on.
 pub fn u32_at(bytes: &[u8], place: usize) -> u32
     requires { place + 4 ≤ length bytes.now }
     ensures { result ≡ number_of 4 (drop place bytes.now) }
@@ -19,7 +19,7 @@ pub fn u32_at(bytes: &[u8], place: usize) -> u32
     LittleEndian::read_u32(&bytes[place..])
 }
 
-/// The number in the eight bytes from a place on.
+/// Returns the number in the eight bytes from a place on.
 pub fn u64_at(bytes: &[u8], place: usize) -> u64
     requires { place + 8 ≤ length bytes.now }
     ensures { result ≡ number_of 8 (drop place bytes.now) }
@@ -79,7 +79,7 @@ pub fn write_u64_at(bytes: &mut [u8], place: usize, number: u64)
     bytes[place..place + 8].copy_from_slice(&number.to_le_bytes());
 }
 
-/// Laws: a number is read back from its bytes, whatever follows, and bytes are those of their number.
+/// Laws: a number is read back from its bytes, whatever follows. Bytes are those of the number that is read from them.
 #[tactic(auto, using(crate::proofs::NumberLemmas::number_laws))]
 pub fn numbers_read_back()
     ensures read { (width number : ℕ) (rest : List ℕ) → number < 256 ^ width

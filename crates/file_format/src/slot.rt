@@ -11,7 +11,7 @@ impl Slot {
     ghost use Rattle.std.specs.Prelude.{◌≡◌};
     ghost use Rattle.file_format.specs.Slot.{other_slot};
 
-    /// The other file of the kind.
+    /// Returns the other file of the kind.
     pub fn other(self) -> Slot
         ensures { result ≡ other_slot self }
     {

@@ -171,7 +171,7 @@ module _ (keeper : Progress) (old newest : List ℕ) (phase : keeper.phase ≡ O
         ∙ ap (Image.Open keeper.tick) (words_behind (overwritten old 0 (1 ∷ [])) old refl 17 keeper.written (omega arith) ∙ sym (done_whole keeper old newest order.1)))
   ]
 
-  -- what a crash leaves after the write, whole or not
+  -- the bytes that a crash leaves after the write, whole or not
   module _ (new : List ℕ) (same : drop 1 new ≡ drop 1 old) (before after : List ℕ → Type 0) (follows : Follows (Torn 0 1) before after) (read : Image) (stood : TargetEndures keeper.phase keeper read old newest before) where
     left_so : (left : List ℕ) → after left → (image_of left ≡ Image.Closed) ⊎ (image_of left ≡ Image.Open keeper.tick (done keeper old newest))
     left_so left outcome =
@@ -188,7 +188,7 @@ module _ (keeper : Progress) (old newest : List ℕ) (phase : keeper.phase ≡ O
         subst (λ (words : List ℕ). IsTarget keeper.cells read (Some (record { tick = keeper.tick; taken = words })) (image_of left)) (sym (done_behind keeper Down old new newest same))
         (inr (⊎_elim (λ closed. inl closed) (λ is. inr (is, length_done keeper old newest order.0 order.1)) (left_so left outcome)))
 
--- where the open gate can't be made durable, a crash leaves a closed file or the whole image
+-- if the open gate can't be made durable, a crash leaves a closed file or the whole image
 pub opened_down : (keeper : Progress) (old newest : List ℕ) → keeper.phase ≡ OpeningSync → Fits keeper old newest → (new : List ℕ) → new ≡ old → (before after : List ℕ → Type 0) → Within before after
     → (read : Image) → TargetEndures keeper.phase keeper read old newest before → TargetEndures Down (record keeper { phase = Down }) read new newest after
 opened_down keeper old newest phase fits new same before after within read stood left outcome =
@@ -197,7 +197,7 @@ opened_down keeper old newest phase fits new same before after within read stood
     subst (λ (words : List ℕ). IsTarget keeper.cells read (Some (record { tick = keeper.tick; taken = words })) (image_of left)) (sym (done_behind keeper Down old new newest (ap (drop 1) same)))
     (inr (⊎_elim (λ closed. inl closed) (λ is. inr (is, length_done keeper old newest order.0 order.1)) (was left (within left outcome))))
 
--- where it is made durable, the image is opened, and the files have changed their parts
+-- if it is made durable, the image is opened, and the files have exchanged their parts
 module _ (keeper : Progress) (old newest : List ℕ) (phase : keeper.phase ≡ OpeningSync) (fits : Fits keeper old newest) (new : List ℕ) (same : new ≡ old) where
   opened_order : PhaseFits OpeningSync keeper
   opened_order = in_phase keeper fits.in_order phase
@@ -228,7 +228,7 @@ module _ (keeper : Progress) (old newest : List ℕ) (phase : keeper.phase ≡ O
     durable = λ left outcome. only left outcome ∙ sym same;
   }
 
--- what a crash may leave then
+-- the bytes that a crash may leave then
 pub opened_endures : (keeper : Progress) (old newest new words : List ℕ) (before beside after : List ℕ → Type 0) (tick : ℕ) (read : Image) → IsOpenedImage keeper words new after tick
     → Endures keeper read old newest before beside → Endures (opened_keeper keeper) (image_of newest) newest new beside after
 opened_endures keeper old newest new words before beside after tick read image stood = record {

@@ -14,7 +14,7 @@ use Rattle.image_files.proofs.WordLemmas.{words_from-push, length-words_from}
 take_written : (old items rest : List ℕ) (at end : ℕ) → at ≤ length old → end ≡ at + length items → take end (take at old ++ items ++ rest) ≡ take at old ++ items
 take_written old items rest at end inside is = take_at (take at old ++ items) rest end (omega (arith, is, length-append (take at old) items, length-take at old))
 
--- what is written to the front of a buffer stands at the front of what it is lent as
+-- the bytes that are written to the front of a buffer are at the front of the lent slice
 pub front_of : (n len : ℕ) (front rest lent : List ℕ) → lent ≡ take len (front ++ rest) → n ≤ len → n ≤ length front → take n lent ≡ take n front
 front_of n len front rest lent is fits inside = ap (take n) is ∙ take-take n len (front ++ rest) fits ∙ take-append-le n front rest inside
 

@@ -76,7 +76,7 @@ image_in : (newest : Option (Slot × ℕ)) (file words : List ℕ) → IfSome ne
 image_in None file words is some = absurd (cc some)
 image_in (Some image) file words is some = (image.1, is)
 
--- it has room for its words, and these may stand in cells
+-- the newest image's file has room for its words, and cells may hold these
 newest_file : (keeper : Progress) (target newest : List ℕ) → Fits keeper target newest → is_some keeper.newest ≡ true
     → (17 + 8 * keeper.cells ≤ length newest) × (list_all is_word (words_from newest 17 keeper.cells) ≡ true)
 newest_file keeper target newest fits some =

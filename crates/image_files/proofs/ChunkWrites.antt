@@ -40,7 +40,7 @@ words_before xs ys at place (suc n) same inside long_x long_y =
     ap (λ (x : ℕ). x ∷ words_from xs (place + 8) n) (number_before xs ys at place same (omega arith) long_x long_y)
     ∙ ap (λ (l : List ℕ). number_at ys place ∷ l) (words_before xs ys at (place + 8) n same (omega arith) long_x long_y)
 
--- ---- where no word is the newest image's
+-- ---- chunks without a word of the newest image
 
 same_words : (cells : List Taken) (a b : List ℕ) → has_same cells ≡ false → filled_words cells a ≡ filled_words cells b
 same_words [] a b none = refl
@@ -128,7 +128,7 @@ module _ (keeper : Progress) (old newest : List ℕ) (phase : keeper.phase ≡ W
     words = ap (list_all is_word) words_after ∙ list_all-append is_word (words_from old 17 keeper.written) words ∙ rw (body.words, fits.chunk) refl;
   }
 
-  -- the round goes on, or all is written
+  -- the round continues, or all is written
   by_count : (P : Phase → Type 0) → (keeper.written + length keeper.chunk < keeper.cells → P Taking) → (keeper.written + length keeper.chunk ≡ keeper.cells → P BodySync) → P (after_chunk keeper)
   by_count P more all = elim (cases_Bool (keeper.written + length keeper.chunk == keeper.cells)) [
     | inl whole ↦ let same : keeper.written + length keeper.chunk ≡ keeper.cells = grind (arith, nat_tests) in rw whole (all same)

@@ -1,4 +1,4 @@
--- What a crash leaves, and how a round begins.
+-- The bytes that a crash leaves, and the beginning of a round.
 use Rattle.std.proofs.Common.{◌≡◌, inl, inr, ⊎_elim, ℕ, ◌≤◌, List, [], Bool, true, Option, Some, None, length, refl, sym, ◌∙◌, ap, subst, arith}
 use Rattle.std.specs.Prelude.{IfSome, is_some}
 use Rattle.disk_model.specs.Disk.{Only}

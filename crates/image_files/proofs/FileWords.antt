@@ -12,7 +12,7 @@ use Rattle.image_files.specs.Files.{done_in}
 
 -- a step whose round writes the file of this slot
 module _ (old new : Progress) (slot : Slot) (is : slot ≡ target_of old.newest) (a a' b b' : List ℕ) where
-  -- the words so far stay, where the one slot is the target before and the other one after
+  -- the words so far stay, if the one slot is the target before and the other one after
   abbrev Words : Slot → Slot → Type 0
   Words s t = done new (of_slot t a' b') (of_slot t b' a') ≡ done old (of_slot s a b) (of_slot s b a)
 

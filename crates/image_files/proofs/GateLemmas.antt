@@ -1,4 +1,4 @@
--- What a gate says of a whole file.
+-- The facts on a whole file that follow from its gate.
 use Rattle.std.proofs.Common.{◌≡◌, ℕ, ◌<◌, List, arith}
 use Rattle.std.proofs.lemmas.Grind.{common_steps}
 use Rattle.std.proofs.lemmas.Bool.Decides.{nat_tests}

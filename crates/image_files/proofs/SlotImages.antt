@@ -1,4 +1,4 @@
--- Of two files the image in a slot is the image of the file there.
+-- The image in a slot is the image of the file there.
 use Rattle.std.proofs.Common.{◌≡◌, ℕ, List, refl}
 use Rattle.file_format.specs.declared.slot.Slot.{Slot}
 use Rattle.file_format.specs.declared.slot.Slot.TheVariants.{A, B}

@@ -1,4 +1,4 @@
--- The bytes of an image, and what they read as.
+-- The bytes of an image, and their reading.
 use Rattle.std.proofs.Common.{◌≡◌, ℕ, zero, suc, ◌+◌, ◌*◌, ◌^◌, ◌<◌, ◌≤◌, List, [], ◌∷◌, ◌++◌, Bool, true, false, Option, Some, None, ◌&&◌, cond, length, get_or, take, drop, refl, sym, ◌∙◌, ap, subst, arith, length-append, length-drop}
 use Rattle.std.proofs.lemmas.List.{append_assoc, take-append-drop, drop-drop, drop_more, get_or-drop}
 use Rattle.std.proofs.Math.Seq.{take-add}
@@ -34,9 +34,9 @@ words_pass words all = list_all-from_AllPass is_word words (λ i d lt. test_of (
 pub words_limited : (words : List ℕ) → list_all is_word words ≡ true → All IsWord words
 words_limited words pass = let each = AllPass-from_list_all is_word words pass in λ i d lt. le_of (get_or words i d) 999999999999999999 (each i d lt)
 
--- ---- what is written is read
+-- ---- written images are read back
 
--- a number that may stand in a cell has 8 bytes
+-- a number that a cell may hold has 8 bytes
 pub word_fits : (word : ℕ) → is_word word ≡ true → word < 256 ^ 8
 word_fits word pass = let small = le_of word 999999999999999999 pass in omega arith
 
@@ -105,7 +105,7 @@ image_read format tick words rest small world most =
     length-words [] = refl
     length-words (w ∷ words) = let e = length-words words in omega (arith, e, length-append (number_bytes 8 w) (flat_map (number_bytes 8) words), length-number_bytes 8 w)
 
--- ---- what is read is spelled
+-- ---- read images are spelled
 
 chosen : (a : Bool) (read : Image) (t : ℕ) (ws : List ℕ) → cond a read Image.Closed ≡ Image.Open t ws → (a ≡ true) × (read ≡ Image.Open t ws)
 chosen true read t ws is = (refl, is)
@@ -142,7 +142,7 @@ pub most_of : (format : Format) → cells_most format ≤ 1048576
 most_of First = omega arith
 most_of Second = omega arith
 
--- what an open image's file has
+-- the parts of an open image's file
 pub record OpenFile (file : List ℕ) (tick : ℕ) (words : List ℕ) : Type 0 where
   pub gate : get_or file 0 0 ≡ 1
   pub format : Format
@@ -187,7 +187,7 @@ number_spelled : (spelled : (width : ℕ) (bytes : List ℕ) → IsBytes bytes �
 number_spelled spelled bytes place are_bytes room =
     spelled 8 (drop place bytes) (λ i. subst (λ (x : ℕ). x < 256) (sym (get_or-drop place bytes i 0)) (are_bytes (place + i))) (omega (arith, length-drop place bytes))
 
--- the bytes of the words that stand in bytes are these, where numbers are read from the bytes that they have
+-- the words in bytes have these bytes again, if a number that is read from bytes has those bytes
 pub words_spelled : (spelled : (width : ℕ) (bytes : List ℕ) → IsBytes bytes → width ≤ length bytes → number_bytes width (number_of width bytes) ≡ take width bytes)
     (bytes : List ℕ) (place n : ℕ) → IsBytes bytes → place + 8 * n ≤ length bytes → flat_map (number_bytes 8) (words_from bytes place n) ≡ take (8 * n) (drop place bytes)
 words_spelled spelled bytes place zero are_bytes room = refl

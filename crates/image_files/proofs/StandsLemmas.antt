@@ -1,4 +1,4 @@
--- A step keeps what the keeper and its files stand for.
+-- After a step the keeper and its files still represent images.
 use Rattle.std.proofs.Common.{◌≡◌, ◌⊎◌, inl, inr, ◌↔◌, ℕ, List, [], true, false, Option, Some, None, length, refl, sym, ◌∙◌, ap, subst, Bool, IsTrue}
 use Rattle.std.specs.Prelude.{IfSome, IfNone, is_some, option_map, ⊤}
 use Rattle.disk_model.specs.Disk.{Within}
@@ -19,7 +19,7 @@ use Rattle.image_files.specs.Calls.{TookCell}
 use Rattle.image_files.proofs.TakeLemmas.{length-done}
 use Rattle.image_files.specs.Files.{Stands, StandsFor, IsHeld, before_in}
 
--- what a step says of a keeper, its taker, and the contents and outcomes of its two files
+-- the facts of a step on a keeper, its taker, and the contents and outcomes of its two files
 pub record Stepped {S : Type 0} (took : S → Option Taken → S → Type 0) (honest : Bool) (given : ImageAnswer) (old new : Progress) (from to : S) (target target' newest newest' : List ℕ) (left left' beside beside' : List ℕ → Type 0) : Type 0 where
   pub fits : IsTrue honest → IfOpened given (Fits new newest' target') (Fits new target' newest')
   pub endures : IsTrue honest → (before : Image) → Endures old before target newest left beside → IfOpened given (Endures new (image_of newest') newest' target' beside' left') (Endures new before target' newest' left' beside')
@@ -76,7 +76,7 @@ round_stands images keeper target newest held busy =
 words_on : (old new : Progress) (newest newest' : List ℕ) → new.newest ≡ old.newest → new.cells ≡ old.cells → newest' ≡ newest → newest_words new newest' ≡ newest_words old newest
 words_on old new newest newest' same cells stays = rw (same, cells, stays) refl
 
--- what is held stays, where the round so far does
+-- the images that are held stay if the round so far stays
 held_on : (images : ImageFiles) (old new : Progress) (target target' newest newest' : List ℕ) → new.newest ≡ old.newest → new.cells ≡ old.cells → newest' ≡ newest → round_of new target' newest' ≡ round_of old target newest
     → IsHeld images old target newest → IsHeld images new target' newest'
 held_on (NoneYet images) old new target target' newest newest' same cells stays round held = (same ∙ held.0, ap image_of stays ∙ held.1, held.2 ∙ sym round)
@@ -96,7 +96,7 @@ module _ {S : Type 0} (took : S → Option Taken → S → Type 0) (honest : Boo
   abbrev Step : ImageAnswer → Type 0
   Step given = Stepped took honest given old new from to target target' newest newest' left left' beside beside'
 
-  -- what a step with this answer keeps
+  -- the facts that a step with this answer keeps
   abbrev Kept : ImageAnswer → Type 0
   Kept given = (next : ImageFiles) × IfOpened given (StandsFor new next newest' target' beside' left') (StandsFor new next target' newest' left' beside') × StepsImages took old.cells images given next from to
 
@@ -246,14 +246,14 @@ module _ {S : Type 0} (took : S → Option Taken → S → Type 0) (honest : Boo
 -- ---- by the files' names
 
 module _ {S : Type 0} (took : S → Option Taken → S → Type 0) (honest : Bool) (sure : IsTrue honest) (given : ImageAnswer) (old new : Progress) (from to : S) (a a' b b' : List ℕ) (left_a left_a' left_b left_b' : List ℕ → Type 0) (images : ImageFiles) where
-  -- what a step by the files' names keeps
+  -- the facts that a step by the files' names keeps
   abbrev FilesKept : Type 0
   FilesKept = (next : ImageFiles) × Stands new next a' b' left_a' left_b' × StepsImages took old.cells images given next from to
 
   abbrev StandsAt : ImageFiles → Slot → Type 0
   StandsAt next target = StandsFor new next (of_slot target a' b') (of_slot target b' a') (in_slot target left_a' left_b') (beside_slot target left_a' left_b')
 
-  -- where the image was opened, the files have changed their parts
+  -- if the image was opened, the files have exchanged their parts
   at_target : (given : ImageAnswer) (next : ImageFiles) (slot : Slot) → slot ≡ target_of old.newest → IfOpened given (new ≡ opened_keeper old) ((new.tick ≡ old.tick) × (new.newest ≡ old.newest))
       → IfOpened given (StandsAt next (other_slot slot)) (StandsAt next slot) → StandsAt next (target_of new.newest)
   at_target (answer.Opened tick) next slot is ended stands =

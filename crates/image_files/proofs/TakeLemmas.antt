@@ -1,4 +1,4 @@
--- What a take keeps.
+-- The facts that a take keeps.
 use Rattle.std.proofs.Common.{◌≡◌, inl, inr, ℕ, ◌+◌, ◌<◌, ◌≤◌, List, [], ◌∷◌, ◌++◌, true, Option, Some, None, length, get_or, drop, refl, sym, ◌∙◌, ap, subst, arith, length-append}
 use Rattle.std.proofs.lemmas.List.{append_assoc, get_or-drop}
 use Rattle.std.proofs.lemmas.List.Folds.{list_all-append}
@@ -89,7 +89,7 @@ module _ (keeper : Progress) (cell : Taken) (phase : keeper.phase ≡ Taking) (o
         let shut = subst (λ (p : Phase). TargetEndures p keeper before target newest outcomes) phase stood in
         by_cases (λ next. TargetEndures next (took next) before target newest outcomes) (λ b. shut) (λ b. shut) (λ b. shut)
 
-    -- its word stands at its place
+    -- its word is at its place
     took_word : done (with_taken_cell cell keeper) target newest ≡ done keeper target newest ++ word_of cell (get_or (newest_words keeper newest) (length (done keeper target newest)) 0) ∷ []
     took_word =
         let written = words_from target 17 keeper.written in

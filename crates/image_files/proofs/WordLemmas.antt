@@ -1,4 +1,4 @@
--- Numbers and words that stand in bytes.
+-- Numbers and words in bytes.
 use Rattle.std.proofs.Common.{◌≡◌, ℕ, zero, suc, ◌+◌, ◌*◌, ◌^◌, ◌<◌, ◌≤◌, true, List, [], ◌∷◌, ◌++◌, length, get_or, take, drop, refl, sym, ◌∙◌, ap, arith, length-drop}
 use Rattle.std.proofs.lemmas.List.{take-append-drop, drop_at, length-take}
 use Rattle.std.proofs.lemmas.List.Folds.{list_all-append}

@@ -1,5 +1,5 @@
 -- Inside: for the contracts of this crate's private functions.
--- What a step does by its phase, and what a call of one of the two files keeps.
+-- The effect of a step by its phase, and the facts that a call of one of the two files keeps.
 use Rattle.std.specs.Prelude.{◌≡◌, ℕ, ◌+◌, ◌*◌, Bool, Option, Some, None, is_some, List, [], ◌∷◌, ◌++◌, length, map, IsTrue, nat_lt, if◌then◌else◌, ◌==◌, ◌&&◌}
 use Rattle.capture_core.specs.declared.taker.Taken.{Taken}
 use Rattle.capture_core.specs.declared.taker.Taken.TheVariants.{Word}
@@ -15,7 +15,7 @@ use Rattle.image_files.specs.Steps.{IsOnlyRead, IsOpenedImage}
 
 -- ---- how a call changes the keeper
 
--- what follows a take, with these cells in the chunk
+-- the phase after a take, with these cells in the chunk
 abbrev pub after_take : Progress → List Taken → Phase
 after_take keeper chunk =
     if nat_lt (length chunk) (chunk_size keeper) then Taking else (if is_some keeper.newest && has_same chunk then Reading else Writing)
@@ -24,12 +24,12 @@ after_take keeper chunk =
 abbrev pub with_taken_cell : Taken → Progress → Progress
 with_taken_cell cell keeper = record keeper { chunk = keeper.chunk ++ cell ∷ []; phase = after_take keeper (keeper.chunk ++ cell ∷ []) }
 
--- the cells of the chunk in work, each with its word, where the newest image has these
+-- the cells of the chunk in work, each with its word, given the bytes of the newest image's file
 abbrev pub read_cells : Progress → (newest : List ℕ) → List Taken
 read_cells keeper newest =
     map (λ word. Word word) (filled_words keeper.chunk (words_from newest (HEADER_BYTES + WORD_BYTES * keeper.written) (length keeper.chunk)))
 
--- what follows the write of a chunk
+-- the phase after the write of a chunk
 abbrev pub after_chunk : Progress → Phase
 after_chunk keeper = if keeper.written + length keeper.chunk == keeper.cells then BodySync else Taking
 
@@ -37,7 +37,7 @@ after_chunk keeper = if keeper.written + length keeper.chunk == keeper.cells the
 abbrev pub with_chunk_written : Progress → Progress
 with_chunk_written keeper = record keeper { phase = after_chunk keeper; chunk = []; written = keeper.written + length keeper.chunk }
 
--- ---- what a step does by its phase
+-- ---- the effect of a step by its phase
 
 -- the keeper after a take that gave this
 abbrev pub TookCell : Option Taken → Progress → Progress → Type 0
@@ -46,7 +46,7 @@ TookCell (Some cell) old new = IsTakenWord cell × (new ≡ with_taken_cell cell
 
 -- ---- by a call of the target, whatever the newest image's file holds
 
--- the two files go on to hold what the keeper takes them to hold
+-- if the two files fit the keeper before the call, they fit it after the call
 abbrev pub KeepsFits : Bool → (old new : Progress) → (before after : List ℕ) → Type 0
 KeepsFits honest old new before after = IsTrue honest → (newest : List ℕ) → Fits old before newest → Fits new after newest
 
@@ -54,7 +54,7 @@ KeepsFits honest old new before after = IsTrue honest → (newest : List ℕ) �
 abbrev pub KeepsWords : Bool → (old new : Progress) → (before after : List ℕ) → Type 0
 KeepsWords honest old new before after = IsTrue honest → (newest : List ℕ) → Fits old before newest → done new after newest ≡ done old before newest
 
--- what a crash may leave of the target goes on to be what the phase says
+-- the phase's claim on the bytes that a crash may leave of the target holds after the call too
 abbrev pub KeepsOutcomes : Bool → (old new : Progress) → (before after : List ℕ) → (outcomes_before outcomes_after : List ℕ → Type 0) → Type 0
 KeepsOutcomes honest old new before after outcomes_before outcomes_after =
     IsTrue honest → (read : Image) (newest : List ℕ) → Fits old before newest
@@ -66,14 +66,14 @@ pub record GoesOn {D : Type 0} (honest : Bool) (content : D → List ℕ) (may_l
   pub done : KeepsWords honest old new (content before) (content after)
   pub endures : KeepsOutcomes honest old new (content before) (content after) (may_leave before) (may_leave after)
 
--- the image of the round was opened, and the two files have changed their parts
+-- the image of the round was opened, and the two files have exchanged their parts
 pub record Opens {D : Type 0} (honest : Bool) (content : D → List ℕ) (may_leave : D → List ℕ → Type 0) (old new : Progress) (before after : D) (tick : ℕ) : Type 0 where
   pub fits : IsTrue honest → (newest : List ℕ) → Fits old (content before) newest → Fits new newest (content after)
   pub opened : IsTrue honest → (newest : List ℕ) → Fits old (content before) newest → IsOpenedImage old (done old (content before) newest) (content after) (may_leave after) tick
 
 -- ---- by a call of the newest image's file, whatever the target holds
 
--- the two files go on to hold what the keeper takes them to hold, the words so far stay, and the file is only read
+-- the two files still fit the keeper, the words so far stay, and the file is only read
 pub record Reads {D : Type 0} (honest : Bool) (content : D → List ℕ) (may_leave : D → List ℕ → Type 0) (old new : Progress) (before after : D) : Type 0 where
   pub fits : IsTrue honest → (target : List ℕ) → Fits old target (content before) → Fits new target (content after)
   pub done : IsTrue honest → (target : List ℕ) → Fits old target (content before) → done new target (content after) ≡ done old target (content before)

@@ -1,4 +1,4 @@
--- A keeper and image.a and image.b, by their own names.
+-- A keeper and its files image.a and image.b, by the names of the files.
 use Rattle.std.specs.Prelude.{◌≡◌, ℕ, Bool, true, false, Option, Some, None, List, length}
 use Rattle.file_format.specs.declared.slot.Slot.{Slot}
 use Rattle.file_format.specs.Slot.{of_slot, in_slot, beside_slot}
@@ -9,7 +9,7 @@ use Rattle.image_files.specs.Images.{ImageFiles, NoneYet, Newest}
 use Rattle.image_files.specs.Progress.{Progress, target_of, done, newest_words, round_of}
 use Rattle.image_files.specs.Keeper.{Fits, Endures}
 
--- the two files hold what the keeper takes them to hold
+-- the contents of the two files are as the keeper's data says
 abbrev pub FitsFiles : Progress → (image_a image_b : List ℕ) → Type 0
 FitsFiles keeper image_a image_b = Fits keeper (of_slot (target_of keeper.newest) image_a image_b) (of_slot (target_of keeper.newest) image_b image_a)
 
@@ -17,42 +17,42 @@ FitsFiles keeper image_a image_b = Fits keeper (of_slot (target_of keeper.newest
 abbrev pub done_in : Progress → (image_a image_b : List ℕ) → List ℕ
 done_in keeper image_a image_b = done keeper (of_slot (target_of keeper.newest) image_a image_b) (of_slot (target_of keeper.newest) image_b image_a)
 
--- how the round's target read before it
+-- the reading of the round's target before the round
 abbrev pub before_in : ImageFiles → Image
 before_in (NoneYet images) = Closed
 before_in (Newest images) = images.before
 
--- the plain data are those of the keeper and its files
+-- the images, as plain data, are those of the keeper and its files
 abbrev pub IsHeld : ImageFiles → Progress → (target newest : List ℕ) → Type 0
 IsHeld (NoneYet images) keeper target newest =
     (keeper.newest ≡ None) × (image_of newest ≡ Closed) × (images.round ≡ round_of keeper target newest)
 IsHeld (Newest images) keeper target newest =
     (keeper.newest ≡ Some (images.slot, images.tick)) × (images.words ≡ newest_words keeper newest) × (images.round ≡ round_of keeper target newest)
 
--- The keeper and its two files stand for these images, also after a crash.
+-- The keeper and its two files represent these images, also after a crash.
 pub record StandsFor (keeper : Progress) (images : ImageFiles) (target newest : List ℕ) (target_outcomes newest_outcomes : List ℕ → Type 0) : Type 0 where
   pub fits : Fits keeper target newest
   pub endures : Endures keeper (before_in images) target newest target_outcomes newest_outcomes
   pub held : IsHeld images keeper target newest
 
--- the same by the files' names
+-- the same relation by the files' names
 abbrev pub Stands : Progress → ImageFiles → (image_a image_b : List ℕ) → (outcomes_a outcomes_b : List ℕ → Type 0) → Type 0
 Stands keeper images image_a image_b outcomes_a outcomes_b =
     StandsFor keeper images (of_slot (target_of keeper.newest) image_a image_b) (of_slot (target_of keeper.newest) image_b image_a)
     (in_slot (target_of keeper.newest) outcomes_a outcomes_b) (beside_slot (target_of keeper.newest) outcomes_a outcomes_b)
 
--- the same of two disks
+-- the same relation for two disks
 abbrev pub DisksStand : {D : Type 0} → (content : D → List ℕ) → (may_leave : D → List ℕ → Type 0) → Progress → ImageFiles → (image_a image_b : D) → Type 0
 DisksStand content may_leave keeper images image_a image_b = Stands keeper images (content image_a) (content image_b) (may_leave image_a) (may_leave image_b)
 
 -- ---- a keeper just made
 
--- whether a file is shut is told rightly
+-- the flag says correctly if the file is shut
 pub record TellsShut (shut : Bool) (file : List ℕ) : Type 0 where
   pub yes : shut ≡ true → HasShutGate file
   pub no : shut ≡ false → HasNoShutGate file
 
--- the images that a keeper just made is told of are those in the files
+-- no round is in work, and the files hold the images for which a new keeper is made
 abbrev pub IsTold : (cells : ℕ) → Option (Slot × ℕ) → ImageFiles → (image_a image_b : List ℕ) → Type 0
 IsTold cells newest (NoneYet images) image_a image_b =
     (newest ≡ None) × (images.round ≡ None) × (image_of image_a ≡ Closed) × (image_of image_b ≡ Closed)
@@ -60,7 +60,7 @@ IsTold cells newest (Newest images) image_a image_b =
     (newest ≡ Some (images.slot, images.tick)) × (images.round ≡ None) × (length images.words ≡ cells)
     × (image_of (of_slot images.slot image_a image_b) ≡ Open images.tick images.words) × (image_of (of_slot images.slot image_b image_a) ≡ images.before)
 
--- it is told of an image only where its file holds one, of so many words
+-- if a new keeper is made for an image, the file of that slot holds it, with `cells` words
 abbrev pub HoldsNewest : (cells : ℕ) → Option (Slot × ℕ) → (image_a image_b : List ℕ) → Type 0
 HoldsNewest cells None image_a image_b = Unit {0}
 HoldsNewest cells (Some (slot, tick)) image_a image_b =

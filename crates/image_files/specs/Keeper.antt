@@ -1,4 +1,4 @@
--- What a keeper and its two files have in common: the target of the round, and the newest image's file.
+-- The relations between a keeper and its two files: the target of the round, and the newest image's file.
 use Rattle.std.specs.Prelude.{◌≡◌, ◌⊎◌, ℕ, ◌+◌, ◌*◌, ◌≤◌, false, IsTrue, IfSome, Some, List, [], length}
 use Rattle.std.specs.List.{list_all}
 use Rattle.disk_model.specs.Disk.{Only}
@@ -13,7 +13,7 @@ use Rattle.image_files.specs.Images.{IsTarget}
 use Rattle.image_files.specs.Taken.{filled_words}
 use Rattle.image_files.specs.Progress.{Progress, IsInOrder, done, round_so_far}
 
--- ---- what reads of the files give
+-- ---- the results of reading the files
 
 -- the header, in the second format, and the words written so far
 pub record HasBody (keeper : Progress) (file : List ℕ) : Type 0 where
@@ -22,7 +22,7 @@ pub record HasBody (keeper : Progress) (file : List ℕ) : Type 0 where
   pub tick : tick_in file ≡ keeper.tick
   pub words : IsTrue (list_all is_word (words_from file HEADER_BYTES keeper.written))
 
--- what the target holds, by phase
+-- the content of the target, by phase
 abbrev pub TargetFits : Phase → Progress → List ℕ → Type 0
 TargetFits Idle keeper file = IsTrue keeper.target_shut → HasShutGate file
 TargetFits Closing keeper file = Unit {0}
@@ -32,7 +32,7 @@ TargetFits OpeningSync keeper file = HasOpenGate file × HasBody keeper file
 TargetFits Down keeper file = Unit {0}
 TargetFits phase keeper file = HasShutGate file × HasBody keeper file
 
--- The two files hold what the keeper takes them to hold.
+-- The contents of the two files are as the keeper's data says.
 pub record Fits (keeper : Progress) (target newest : List ℕ) : Type 0 where
   pub in_order : IsInOrder keeper
   pub image : IfSome keeper.newest (λ image. image_of newest ≡ Image.Open image.1 (words_from newest HEADER_BYTES keeper.cells))
@@ -40,13 +40,13 @@ pub record Fits (keeper : Progress) (target newest : List ℕ) : Type 0 where
   pub of_target : TargetFits keeper.phase keeper target
   pub chunk : IsTrue (list_all is_word (filled_words keeper.chunk []))
 
--- ---- what a crash may leave of them
+-- ---- the outcomes of a crash for them
 
--- a gate that is there and isn't open, whichever it leaves
+-- whatever a crash leaves has a gate, and the gate isn't open
 abbrev pub AllShut : (List ℕ → Type 0) → Type 0
 AllShut outcomes = (left : List ℕ) → outcomes left → HasShutGate left
 
--- of the target, by phase, where it read so before the round
+-- the claim on the target, by phase, given its reading before the round
 abbrev pub TargetEndures : Phase → Progress → (before : Image) → (target newest : List ℕ) → (List ℕ → Type 0) → Type 0
 TargetEndures Idle keeper before target newest outcomes = Only target outcomes × (image_of target ≡ before) × (keeper.target_shut ≡ false → HasNoShutGate target)
 TargetEndures Closing keeper before target newest outcomes = Only target outcomes × (image_of target ≡ before) × HasNoShutGate target
@@ -57,7 +57,7 @@ TargetEndures OpeningSync keeper before target newest outcomes = (left : List �
 TargetEndures Down keeper before target newest outcomes = (left : List ℕ) → outcomes left → IsTarget keeper.cells before (Some (round_so_far keeper target newest)) (image_of left)
 TargetEndures phase keeper before target newest outcomes = AllShut outcomes
 
--- of both: the newest image's file stays as it is
+-- the claims on both files; the newest image's file stays as it is
 pub record Endures (keeper : Progress) (before : Image) (target newest : List ℕ) (target_outcomes newest_outcomes : List ℕ → Type 0) : Type 0 where
   pub newest_stays : Only newest newest_outcomes
   pub newest_not_shut : keeper.newest_shut ≡ false → HasNoShutGate newest

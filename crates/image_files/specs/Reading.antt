@@ -1,4 +1,4 @@
--- What the reader answers.
+-- The answers of the reader.
 use Rattle.std.specs.Prelude.{◌≡◌, ℕ, List, Result, Ok, Err}
 use Rattle.world_actions.specs.declared.refusal.Refusal.{Refusal}
 use Rattle.world_actions.specs.declared.refusal.Refusal.TheVariants.{BadImage, NoMemory}
@@ -10,7 +10,7 @@ use Rattle.image_files.specs.declared.reader.ImageState.TheVariants as state
 abbrev pub IsOpenImage : Image → Type 0
 IsOpenImage image = (tick : ℕ) × (words : List ℕ) × (image ≡ Image.Open tick words)
 
--- an answer tells what the file is, and only an open image may want memory
+-- an answer says what the file is; only an open image may be refused for lack of memory
 abbrev pub ReadsAs : Result ImageState Refusal → Image → Type 0
 ReadsAs (Ok state.Closed) image = image ≡ Image.Closed
 ReadsAs (Ok (state.Open tick words)) image = image ≡ Image.Open tick words.items

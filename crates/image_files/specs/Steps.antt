@@ -1,4 +1,4 @@
--- What a step does to its keeper and its two disks, by its answer.
+-- The effect of a step on its keeper and its two disks, by its answer.
 use Rattle.std.specs.Prelude.{◌≡◌, ◌⊎◌, ℕ, Bool, Option, Some, None, List, [], ◌∷◌, ◌++◌, length, get_or, true, false, IsTrue, ⊤}
 use Rattle.file_format.specs.declared.gate.TheConstants.{CLOSED_GATE}
 use Rattle.file_format.specs.declared.format.Format.TheVariants.{Second}
@@ -15,7 +15,7 @@ use Rattle.image_files.specs.Progress.{Progress, newest_words}
 
 -- ---- by its answer
 
--- one fact where the step opened the image, else another
+-- the first fact if the step opened the image, else the second
 abbrev pub IfOpened : ImageAnswer → Type 0 → Type 0 → Type 0
 IfOpened (answer.Opened tick) P Q = P
 IfOpened other P Q = Q
@@ -25,7 +25,7 @@ abbrev pub OnOpened : ImageAnswer → (ℕ → Type 0) → Type 0
 OnOpened (answer.Opened tick) P = P tick
 OnOpened other P = ⊤
 
--- a fact where the round goes on
+-- a fact of a step after which the round continues
 abbrev pub OnWorking : ImageAnswer → Type 0 → Type 0
 OnWorking answer.Working P = P
 OnWorking other P = ⊤
@@ -40,7 +40,7 @@ CallsIn Down called target_before target_after newest_before newest_after = (tar
 CallsIn Reading called target_before target_after newest_before newest_after = (target_after ≡ target_before) × CalledOnce called newest_before newest_after
 CallsIn phase called target_before target_after newest_before newest_after = CalledOnce called target_before target_after × (newest_after ≡ newest_before)
 
--- what the answer says of the counts of faults: Down is answered where a call failed now, or one had failed before
+-- the cause of the answer in the counts of faults: with Down a call failed now or earlier, otherwise no call failed now
 abbrev pub HasCause : ImageAnswer → (was : Phase) → (target_before target_after newest_before newest_after : ℕ) → Type 0
 HasCause answer.Down was target_before target_after newest_before newest_after =
     (was ≡ Down) ⊎ FaultsBy true target_before target_after newest_before newest_after
@@ -54,7 +54,7 @@ closed file = overwritten file 0 (CLOSED_GATE ∷ [])
 abbrev pub IsOnlyRead : {D : Type 0} → Bool → (content : D → List ℕ) → (may_leave : D → List ℕ → Type 0) → (before after : D) → Type 0
 IsOnlyRead honest content may_leave before after = IsTrue honest → (content after ≡ content before) × Within (may_leave before) (may_leave after)
 
--- the words after a take: a cell's own, or the newest image's word of that cell, or 0 where there is no image
+-- the words after a take: it adds the cell's own word, or else the newest image's word, or 0 without an image
 abbrev pub TookWord : Option Taken → Progress → (newest done_before done_after : List ℕ) → Type 0
 TookWord None keeper newest done_before done_after = done_after ≡ done_before
 TookWord (Some cell) keeper newest done_before done_after =

@@ -17,7 +17,7 @@ progress_of keeper = record {
   chunk = keeper.chunk.items;
 }
 
--- it has room for a chunk, as cells and as bytes
+-- the keeper is in order, and has room for a chunk, as cells and as bytes
 pub record IsReady (keeper : Inside) : Type 0 where
   pub in_order : IsInOrder (progress_of keeper)
   pub room : CHUNK_CELLS ≤ vec_capacity keeper.chunk

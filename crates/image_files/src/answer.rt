@@ -1,9 +1,9 @@
-/// What came of a step.
+/// The result of a step.
 #[derive(Clone, Copy, Debug, PartialEq, Eq)]
 pub enum ImageAnswer {
     /// No round is in work.
     Idle,
-    /// The round goes on.
+    /// The round continues.
     Working,
     /// The image of this tick is durable, and the round has ended.
     Opened(u64),

@@ -8,10 +8,10 @@ use crate::format::WORD_BYTES;
 use capture_core::Taken;
 use file_format::{u64_at, write_u64_at};
 
-/// The cells that are written, and read from the newest image, at once.
+/// The number of cells that are written, and read from the newest image, at once.
 pub const CHUNK_CELLS: usize = 64;
 
-/// Whether the word of some cell is the newest image's.
+/// True if some cell's word is to come from the newest image.
 pub fn any_same(cells: &[Taken]) -> bool
     ensures { result ≡ has_same cells.now }
 {
@@ -23,7 +23,7 @@ pub fn any_same(cells: &[Taken]) -> bool
     false
 }
 
-/// Puts the words in these bytes in the place of the cells whose words are the newest image's.
+/// Gives the cells without a word of their own the words in these bytes, which are the newest image's.
 pub fn fill(cells: &mut [Taken], bytes: &[u8])
     requires { WORD_BYTES * length cells.old ≤ length bytes.now }
     ensures { cells.new ≡ map (λ word. Taken.Word word)
@@ -44,7 +44,7 @@ fn filled_cell(cell: Taken, bytes: &[u8], place: usize) -> Taken
     }
 }
 
-/// Writes the words of cells, 0 for one whose word is the newest image's.
+/// Writes the words of cells, and 0 for a cell without a word of its own.
 pub fn encode(buffer: &mut [u8], cells: &[Taken])
     requires { WORD_BYTES * length cells.now ≤ length buffer.old }
     ensures { take (WORD_BYTES * length cells.now) buffer.new

@@ -20,18 +20,18 @@ pub const FIRST_CELLS_MAX: u64 = 65_536;
 /// least is 1.
 pub const CELLS_MAX: u64 = 1_048_576;
 
-/// Where the tick stands, behind the gate and the number of cells, which has the mark of the format.
+/// The place of the tick, behind the gate and the number of cells. The number of cells has the mark of the format.
 pub const TICK_PLACE: usize = 9;
 
-/// The bytes of a word, and of each other number of an image.
+/// The number of bytes of a word, and of each other number of an image.
 pub const WORD_BYTES: usize = 8;
 
-/// The bytes of gate, number of cells and tick. The words follow.
+/// The number of bytes of the gate, the number of cells and the tick. The words follow.
 pub const HEADER_BYTES: usize = 17;
 
-/// Laws: the bytes of an image are read back in each format, whatever follows; an open file begins with
-/// the bytes of its image in one of them, which is of a world; and a file is closed where no whole header
-/// follows an open gate.
+/// Laws: the bytes of an image are read back in each format, whatever follows. An open file begins with the bytes of its
+/// image in one of the formats, and the image is of a world. A file reads as closed exactly if it is too short for a
+/// header or its gate isn't open.
 #[tactic(auto, unfolding(crate::specs::Image::image_of))]
 pub fn images_read_back()
     ensures read { (format : Format) (tick : ℕ) (words rest : List ℕ) → tick ≤ TICK_MAX
@@ -59,7 +59,7 @@ pub fn image_numbers()
     ensures limits { (LIMIT ≡ 999_999_999_999_999_999) × (TICK_MAX ≡ 1_000_000_000_000_000_000) }
 {}
 
-/// The greatest number of cells that an image of a format has.
+/// Returns the greatest number of cells that an image of a format may have.
 pub fn cells_most(format: Format) -> u64
     ensures { result ≡ cells_most format }
 {
@@ -69,8 +69,7 @@ pub fn cells_most(format: Format) -> u64
     }
 }
 
-/// Writes the number of cells and the tick to the front of a buffer, as they stand behind the gate in
-/// the second format.
+/// Writes the number of cells and the tick to the front of a buffer, as the second format has them behind the gate.
 #[tactic(auto, unfolding(file_format::specs::Number::number_bytes))]
 pub fn encode_header(buffer: &mut [u8], cells: u64, tick: u64)
     requires room { 2 * WORD_BYTES ≤ length buffer.old }
@@ -81,8 +80,8 @@ pub fn encode_header(buffer: &mut [u8], cells: u64, tick: u64)
     write_u64_at(buffer, WORD_BYTES, tick);
 }
 
-/// The number of cells in the header of a file. Nothing where the mark is of neither format, or its format
-/// has no image of so many.
+/// Returns the number of cells in the header of a file. It is `None` if the mark is of neither format, or its format has
+/// no image of so many cells.
 pub fn decode_cells(bytes: &[u8]) -> Option<u64>
     requires { MARK_END ≤ length bytes.now }
     ensures { result ≡ cells_in bytes.now }
@@ -94,7 +93,7 @@ pub fn decode_cells(bytes: &[u8]) -> Option<u64>
     Some(cells)
 }
 
-/// The tick in the header of a file.
+/// Returns the tick in the header of a file.
 pub fn decode_tick(bytes: &[u8]) -> u64
     requires { HEADER_BYTES ≤ length bytes.now }
     ensures { result ≡ tick_in bytes.now }

@@ -27,7 +27,7 @@ mod body;
 mod closing;
 mod opening;
 
-/// Writes the image of a round, a take or a call of a device at a time.
+/// Writes the image of a round, one take or one device call at a time.
 #[derive(Drop)]
 pub struct ImageKeeper {
     cells: usize,
@@ -54,10 +54,10 @@ impl Model for ImageKeeper {
 }
 
 impl ImageKeeper {
-    /// A keeper of two files for worlds of so many cells, with no round in work. It reserves all
-    /// that it ever uses. `shut` is exactly what `is_shut` says of the durable bytes of image.a and
-    /// image.b. A careful-looking `false` is the dangerous one: a file that is shut and told as not
-    /// shut is closed again, and a crash may leave it open then, over what is no image.
+    /// Makes a keeper of two files for a world of `cells` cells, with no round in work. It reserves all that it ever
+    /// uses. `shut` is exactly what `is_shut` returns for the durable bytes of image.a and image.b. Don't pass `false` to
+    /// be safe. A shut file is then closed again, and a crash during that write can leave it open over bytes that are no
+    /// image.
     pub fn new(
         alloc: Global,
         cells: u32,
@@ -90,21 +90,21 @@ impl ImageKeeper {
         })
     }
 
-    /// The file that the round writes, or the next one will.
+    /// Returns the file that the round writes, or the next round will.
     pub fn target(&self) -> Slot
         ensures { result ≡ target_of self.now.newest }
     {
         target_beside(self.newest)
     }
 
-    /// The file of the newest image, and its tick.
+    /// Returns the file of the newest image, and its tick.
     pub fn newest(&self) -> Option<(Slot, u64)>
         ensures { result ≡ self.now.newest }
     {
         self.newest
     }
 
-    /// How many moves the round can still need, 0 where none is in work or the keeper is down.
+    /// Returns the number of moves that the round can still need. It is 0 if no round is in work or the keeper is down.
     pub fn left(&self) -> u64
         ensures { result ≡ left_of self.now }
     {
@@ -125,29 +125,29 @@ impl ImageKeeper {
         }
     }
 
-    /// Whether a call of a device failed.
+    /// True if a call of a device failed.
     pub fn is_down(&self) -> bool
         ensures { IsTrue result ↔ (self.now.phase ≡ Down) }
     {
         self.phase == Phase::Down
     }
 
-    /// Whether a round is in work, also one in which the keeper went down.
+    /// True if a round is in work, also one in which the keeper went down.
     pub fn has_open_round(&self) -> bool
         ensures { IsTrue result ↔ (self.now.phase ≡ Idle → ⊥) }
     {
         self.phase != Phase::Idle
     }
 
-    /// Whether the next step takes a cell, and calls no device.
+    /// True if the next step takes a cell, and calls no device.
     pub fn takes_next(&self) -> bool
         ensures { IsTrue result ↔ (self.now.phase ≡ Taking) }
     {
         self.phase == Phase::Taking
     }
 
-    /// Begins a round: it needs a move for each cell, at most two for each chunk of 64, and six, two fewer
-    /// where the target is known to be shut.
+    /// Begins a round. It needs one move for each cell, at most two for each chunk of 64, and six others. These are four
+    /// if the target is known to be shut.
     pub fn begin(&mut self, tick: u64)
         requires idle { self.old.phase ≡ Idle }
         requires most { tick ≤ TICK_MAX }
@@ -168,8 +168,8 @@ impl ImageKeeper {
         };
     }
 
-    /// One take, or at most one call of a device. The two files are the keeper's own, which nothing else changes: the
-    /// round writes the one, and the other holds the newest image once there is one.
+    /// Makes the next step: one take, or at most one device call. The two files are the keeper's own, and nothing else
+    /// may change them. The round writes one of them. The other holds the newest image, once there is one.
     pub fn step_files<T: Taker, D: Disk>(
         &mut self,
         from: &mut T,
@@ -179,8 +179,8 @@ impl ImageKeeper {
         requires fits { IsTrue D.honest
             → FitsFiles self.old (D.content image_a.old) (D.content image_b.old) }
 
-        // Answers: Idle with no round in work, Opened where the last call of a round went well, which ends it, Down
-        // from a failed call on, else Working. With Idle, and once it is down, nothing changes.
+        // Answers: Idle if no round is in work. Opened if the last call of a round succeeded, which ends the round. Down
+        // from a failed call on. Else Working. With Idle, and once it is down, nothing changes.
         ensures idle { (result ≡ ImageAnswer.Idle) ↔ (self.old.phase ≡ Idle) }
         ensures ended { IfOpened result (self.new ≡ opened_keeper self.old)
             ((self.new.tick ≡ self.old.tick) × (self.new.newest ≡ self.old.newest)) }
@@ -189,21 +189,21 @@ impl ImageKeeper {
         ensures rests { (self.old.phase ≡ Idle) ⊎ (self.old.phase ≡ Down)
             → (self.new ≡ self.old) × (image_a.new ≡ image_a.old) × (image_b.new ≡ image_b.old) }
 
-        // Counts: a round that goes on has less left, but where a take gave no cell with cells still to be taken.
+        // Counts: a round that continues has less left, except if a take gave no cell while cells were still to be taken.
         ensures working { OnWorking result ((left_of self.new < left_of self.old)
             ⊎ ((cells_taken self.old < self.old.cells) × T.took from.old None from.new
             × (from.new ≡ from.old) × (self.new ≡ self.old))) }
         ensures cells { self.new.cells ≡ self.old.cells }
 
-        // Takes: a step takes a cell, or leaves the taker. All are taken where the image is opened.
+        // Takes: a step takes a cell, or leaves the taker. All cells are taken when the image is opened.
         ensures taken { ((from.new ≡ from.old)
             × IfOpened result ⊤ (cells_taken self.new ≡ cells_taken self.old))
             ⊎ ((cell : Taken) × T.took from.old (Some cell) from.new
             × (cells_taken self.new ≡ cells_taken self.old + 1)) }
         ensures all_taken { IfOpened result (cells_taken self.old ≡ self.old.cells) ⊤ }
 
-        // Words: a take adds the cell's own, or the newest image's word of that cell; no other step changes them. An
-        // opened image has those of the round, whatever a crash leaves.
+        // Words: a take adds the cell's own word, or the newest image's word of that cell. No other step changes the
+        // words. An opened image has the words of the round, whatever a crash leaves.
         ensures took { self.old.phase ≡ Taking → (cell : Option Taken) × T.took from.old cell from.new
             × (IsTrue D.honest → TookWord cell self.old
             (of_slot (target_of self.old.newest) (D.content image_b.old) (D.content image_a.old))
@@ -217,9 +217,9 @@ impl ImageKeeper {
             (of_slot (target_of self.old.newest) (D.content image_a.new) (D.content image_b.new))
             (in_slot (target_of self.old.newest) (D.may_leave image_a.new) (D.may_leave image_b.new))) }
 
-        // Disks: by the keeper's phase no call, or one on one of them, and the newest image's file is only read. Down
-        // comes only once a call failed, and no failure is passed over. A file is closed by the closed gate, and by no
-        // other byte.
+        // Disks: by the keeper's phase there is no call, or one call on one of the disks. The newest image's file is only
+        // read. Down comes only once a call failed, and no failure is passed over. A file is closed by the closed gate,
+        // and by no other byte.
         ensures newest { IsOnlyRead D.honest D.content D.may_leave
             (of_slot (target_of self.old.newest) image_b.old image_a.old)
             (of_slot (target_of self.old.newest) image_b.new image_a.new) }
@@ -234,8 +234,8 @@ impl ImageKeeper {
             (of_slot (target_of self.old.newest) (D.content image_a.new) (D.content image_b.new)
             ≡ closed (of_slot (target_of self.old.newest) (D.content image_a.old) (D.content image_b.old))) }
 
-        // Crashes: the next step may be made, and what keeper and files stand for goes on by takes and openings.
-        // `images_stay` begins it, and says what a crash leaves of files that stand for it.
+        // Crashes: the next step may be made. The images that keeper and files represent change by takes and openings.
+        // `images_stay` begins that relation, and states what a crash leaves of such files.
         ensures fits { IsTrue D.honest
             → FitsFiles self.new (D.content image_a.new) (D.content image_b.new) }
         ensures stands { IsTrue D.honest → (images : ImageFiles)
@@ -251,7 +251,8 @@ impl ImageKeeper {
 }
 
 impl ImageKeeper {
-    // A step by the keeper's phase: what it does to the phase, to the words so far, and to what a crash may leave.
+    // Makes a step by the keeper's phase. States its effect on the phase, on the words so far, and on the bytes that a
+    // crash may leave.
     #[tactic(auto, unfolding(crate::specs::Image::image_of))]
     fn step_by_phase<T: Taker, D: Disk>(
         &mut self,
@@ -262,7 +263,7 @@ impl ImageKeeper {
         requires fits { IsTrue D.honest
             → Fits self.old (D.content target.old) (D.content newest.old) }
 
-        // So the next step may be made. An opened image is the newest one, and its file that one's.
+        // The next step may be made. An opened image is the newest one, and its file is the newest image's file.
         ensures fits { IsTrue D.honest → IfOpened result
             (Fits self.new (D.content newest.new) (D.content target.new))
             (Fits self.new (D.content target.new) (D.content newest.new)) }
@@ -292,7 +293,7 @@ impl ImageKeeper {
         ensures counted { (self.old.phase ≡ Taking → ⊥) → IfOpened result
             (cells_taken self.old ≡ self.old.cells) (cells_taken self.new ≡ cells_taken self.old) }
 
-        // It goes on, but where a take gave no cell.
+        // It makes progress, except if a take gave no cell.
         ensures working { OnWorking result ((left_of self.new < left_of self.old)
             ⊎ ((self.old.phase ≡ Taking) × (cells_taken self.old < self.old.cells)
             × T.took from.old None from.new × (from.new ≡ from.old) × (self.new ≡ self.old))) }
@@ -357,7 +358,7 @@ fn answer(outcome: Result<(), Refusal>) -> ImageAnswer
     }
 }
 
-// The file that is not the newest image's.
+// Returns the file that is not the newest image's.
 fn target_beside(newest: Option<(Slot, u64)>) -> Slot
     ensures { result ≡ target_of newest }
 {

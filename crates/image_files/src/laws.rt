@@ -11,10 +11,10 @@ ghost use Rattle.image_files.specs.Files.{FitsFiles, DisksStand, HoldsNewest, Te
 
 use disk_model::Disk;
 
-/// Laws of a keeper and its files by their names: a keeper just made may step, and stands for the
-/// images that it was told of where nothing of the files is unsynced; the round that it begins begins
-/// in them; its newest image and its round are theirs; between two rounds nothing of the files is
-/// unsynced; and the images are what a crash may leave.
+/// Laws of a keeper and its files by their names. A new keeper may step. If nothing of the files is unsynced, it
+/// represents the images for which it was made. A round that it begins also begins in these images. Its newest image and
+/// its round are those of the images. Between two rounds nothing of the files is unsynced. Whatever a crash leaves holds
+/// these images.
 pub fn images_stay<D: Disk>()
     ensures fits { (cells : ℕ) (newest : Option (Slot × ℕ)) (shut_a shut_b : Bool)
         (image_a image_b : List ℕ) → 1 ≤ cells → cells ≤ CELLS_MAX

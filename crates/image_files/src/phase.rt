@@ -1,4 +1,4 @@
-/// What a keeper's next step does.
+/// The next step of a keeper.
 #[derive(Clone, Copy, Debug, PartialEq, Eq)]
 pub enum Phase {
     /// Nothing: no round is in work.
@@ -11,7 +11,7 @@ pub enum Phase {
     Header,
     /// Takes a cell of the chunk.
     Taking,
-    /// Reads the newest image's words of the chunk, of which it needs some.
+    /// Reads the newest image's words for the chunk, which needs some of them.
     Reading,
     /// Writes the chunk.
     Writing,

@@ -9,19 +9,19 @@ use std::alloc::Global;
 use world_actions::{LIMIT, Refusal};
 use world_ticks::TICK_MAX;
 
-/// What an image file holds.
+/// The content of an image file.
 #[derive(Debug, Drop)]
 pub enum ImageState {
     /// No image.
     Closed,
-    /// The words of a world as it was after this tick.
+    /// The words of a world after this tick.
     Open { tick: u64, words: Vec<u64> },
 }
 
 ghost use Rattle.image_files.specs.Reading.{ReadsAs};
 
-/// Reads a file of any bytes. It refuses `BadImage`, and `NoMemory` only for an image that is whole. Memory is asked for
-/// no more words than the file has bytes for, and each word is judged as it is read. Both formats are read.
+/// Reads a file of any bytes, in either format. It refuses with `BadImage`, and with `NoMemory` only for an image that is
+/// whole. It takes memory for no more words than the file has bytes for. Each word is judged as it is read.
 #[tactic(auto, unfolding(crate::specs::Image::image_of))]
 pub fn read_image(alloc: Global, bytes: &[u8]) -> Result<ImageState, Refusal>
     ensures { ReadsAs result (image_of bytes.now) }
@@ -40,7 +40,7 @@ pub fn read_image(alloc: Global, bytes: &[u8]) -> Result<ImageState, Refusal>
     Ok(ImageState::Open { tick, words })
 }
 
-// Whether a file is long enough for a word of each cell.
+// True if a file is long enough for a word of each cell.
 fn has_words(bytes: &[u8], cells: usize) -> bool
     requires { cells ≤ CELLS_MAX }
     ensures { result ≡ nat_le (HEADER_BYTES + WORD_BYTES * cells) (length bytes.now) }
@@ -48,7 +48,7 @@ fn has_words(bytes: &[u8], cells: usize) -> bool
     HEADER_BYTES + WORD_BYTES * cells <= bytes.len()
 }
 
-// The words of a file that has so many. Where there is no memory for them they are judged alone.
+// Reads the words of a file that is long enough for them. If there is no memory for them, they are only judged.
 fn read_words(alloc: Global, bytes: &[u8], cells: usize) -> Result<Vec<u64>, Refusal>
     requires { HEADER_BYTES + WORD_BYTES * cells ≤ length bytes.now }
     ensures read { IfOk result (λ words. (words.items ≡ words_from bytes.now HEADER_BYTES cells)
@@ -70,8 +70,8 @@ fn read_words(alloc: Global, bytes: &[u8], cells: usize) -> Result<Vec<u64>, Ref
     }
 }
 
-// Puts the words of a file into a list that has room for them, up to the first that may not stand in a cell. Whether
-// there is none.
+// Puts the words of a file into a list that has room for them, up to the first that a cell may not hold. Returns true if
+// there is no such word.
 fn push_words(words: &mut Vec<u64>, bytes: &[u8], cells: usize) -> bool
     requires long { HEADER_BYTES + WORD_BYTES * cells ≤ length bytes.now }
     requires none { words.old.items ≡ [] }

@@ -13,7 +13,7 @@ use Rattle.line_grammar.proofs.ReadingLemmas.{Decision, reading_exists, reading_
 use Rattle.line_grammar.proofs.WordLemmas.{same_cell, same_cell_number, same_first, same_second, none_rest}
 use Rattle.line_grammar.proofs.NumberLemmas.{length-cell, length-number, length-difference}
 
--- a cell in front of what is no rest of a command
+-- a cell in front of bytes that are no rest of a command
 module _ (words : List ℕ) (m : ℕ) (rest : List ℕ) (fits : m < 2 ^ 32) (split : words ≡ decimal m ++ (32 ∷ rest)) where
   -- no number after it: no set
   pub none_set : ((n : ℕ) → n < 2 ^ 64 → rest ≢ decimal n) → Means (codes "set " ++ words) None
@@ -116,7 +116,7 @@ Caps line = Pairs (λ cell value. Act (Cap cell value)) (2 ^ 64) line
 abbrev Gets : List ℕ → Type 0
 Gets line = (cell : ℕ) × (cell < 2 ^ 32) × (line ≡ spelling (Get cell))
 
--- whether a line spells a command of each kind
+-- the decision if a line spells a command of each kind
 pairs : (command : ℕ → ℕ → Command) (high : ℕ) (line : List ℕ) → Decision (Pairs command high line)
 pairs command high line = bounded _ (λ cell. bounded _ (λ n. same_text line (spelling (command cell n))) high) (2 ^ 32)
 
@@ -180,7 +180,7 @@ some_kind line (inr no_set) (inr no_add) (inr no_move) (inr no_swap) (inr no_cap
 some_kind line (inr no_set) (inr no_add) (inr no_move) (inr no_swap) (inr no_cap) (inr no_get) (inr no_end) =
     inr (λ found. no_kind line no_set no_add no_move no_swap no_cap no_get no_end found.0 found.1 found.2)
 
--- whether a line spells a command
+-- the decision if a line spells a command
 pub spelled : (line : List ℕ) → Decision ((command : Command) × IsInBounds command × (line ≡ spelling command))
 spelled line =
     some_kind line (sets line) (adds line) (moves line) (swaps line) (caps line) (gets line) (same_text line (spelling End))

@@ -1,4 +1,4 @@
--- What is kept of a line, byte by byte, and what it means.
+-- The bytes that are kept of a line, one by one, and their meaning.
 use Rattle.std.proofs.Common.{arith, refl, ap, sym, ◌∙◌, ◌≡◌, ◌≢◌, ◌<◌, ◌≤◌, ℕ, List, [], ◌∷◌, ◌++◌, length, take, Option, Some, None, ◌⊎◌, inl, inr}
 use Rattle.std.proofs.lemmas.Bool.{cases_lt}
 use Rattle.std.proofs.lemmas.List.{length-append, length-take-le, take-append-le, take_all}
@@ -6,7 +6,7 @@ use Rattle.line_grammar.specs.declared.command.TheConstants.{LINE_BYTES}
 use Rattle.line_grammar.specs.Reading.{IsReading}
 use Rattle.line_grammar.specs.Kept.{kept_of, KeptMeans, HasNoNewline}
 
--- with one byte more, where there is room and where there is none
+-- with one byte more, if there is room and if there is none
 pub keep_more : (kept : List ℕ) (b : ℕ) → length kept ≤ 80 → kept ++ b ∷ [] ≡ kept_of (kept ++ b ∷ [])
 keep_more kept b short = sym (take_all 81 (kept ++ b ∷ []) (simp length-append (omega arith)))
 

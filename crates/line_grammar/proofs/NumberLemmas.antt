@@ -11,16 +11,16 @@ use Rattle.std.proofs.lemmas.Fmt.{decimal_is_IsNumeral, decimal_nonempty, first_
 use Rattle.line_grammar.specs.Number.{StartsNumber}
 use Rattle.line_grammar.specs.Reading.{IsReading}
 
--- the number that digits go on to, after this one
+-- a number, continued by these digits
 abbrev read_on : ℕ → List ℕ → ℕ
 read_on n [] = n
 read_on n (c ∷ cs) = read_on (10 * n + (c - 48)) cs
 
--- it is the number that digits write
+-- continued from 0 it is the number that the digits write
 own : IsNumeralModel (λ ds. all_ascii_digits ds ≡ true) (read_on 0)
 own = numerals_by_fold _ (search rules) read_on (search rules)
 
--- a number's text starts as one
+-- the text of a number starts as a number
 pub starts_decimal : (n : ℕ) → n < 2 ^ 64 → StartsNumber (decimal n)
 starts_decimal n h =
     let numeral = decimal_is_IsNumeral n h in
@@ -50,7 +50,7 @@ reading_parsed {E} text (Ok n) starts parses =
     (rw parsed.1 fits, sym (rw parsed.1 (decimal-digits_value own text parsed.0.0 starts.nonempty starts.alone fits)))
 reading_parsed text (Err e) starts parses = λ n h is. let parsed = parse-decimal 64 n text (Err e) h h is parses in cc
 
--- what is no text is no number's
+-- a text that doesn't start as a number is no number's text
 pub not_text : (text : List ℕ) → ¬ (IsUtf8 text) → (n : ℕ) → n < 2 ^ 64 → text ≢ decimal n
 not_text text invalid n h is = invalid (rw is (IsUtf8-from_ascii (decimal n) (IsAscii-decimal n h)))
 

@@ -20,7 +20,7 @@ HasNoSpace-head b bs none = none 0 0 (omega arith)
 HasNoSpace-tail : (b : ℕ) (bs : List ℕ) → HasNoSpace (b ∷ bs) → HasNoSpace bs
 HasNoSpace-tail b bs none = λ k d below. none (suc k) d (omega arith)
 
--- where no byte before the place is a space
+-- no byte before the place is a space
 pub HasNoSpace-take : (words : List ℕ) (i : ℕ) → i ≤ length words → ((k : ℕ) → k < i → slice_index words k ≢ 32) → HasNoSpace (take i words)
 HasNoSpace-take words i within none = All-from_get_or (λ byte. byte ≢ 32) (take i words) 0 (λ k below.
     let inside : k < i = omega (arith, below, length-take {A = ℕ}) in
@@ -40,7 +40,7 @@ no_split [] (x ∷ a) b none is = cc
 no_split (y ∷ bs) [] b none is = HasNoSpace-head y bs none cc
 no_split (y ∷ bs) (x ∷ a) b none is = no_split bs a b (HasNoSpace-tail y bs none) cc
 
--- the bytes before the first space are the same in both readings, and so is the rest
+-- the bytes before the first space, and the rest, are the same in both readings
 pub same_split : (a c b d : List ℕ) → HasNoSpace a → HasNoSpace c → a ++ (32 ∷ b) ≡ c ++ (32 ∷ d) → (a ≡ c) × (b ≡ d)
 same_split [] [] b d none other is = (refl, cc)
 same_split [] (y ∷ c) b d none other is = absurd (HasNoSpace-head y c other cc)
@@ -49,7 +49,7 @@ same_split (x ∷ a) (y ∷ c) b d none other is =
     let rest = same_split a c b d (HasNoSpace-tail x a none) (HasNoSpace-tail y c other) cc in
     (cc, rest.1)
 
--- a cell at the front is the same in both readings, and so is what follows its space
+-- a cell at the front, and the bytes after its space, are the same in both readings
 pub same_cell : (m n : ℕ) (r s : List ℕ) → m < 2 ^ 32 → n < 2 ^ 32 → decimal m ++ (32 ∷ r) ≡ decimal n ++ (32 ∷ s)
     → (m ≡ n) × (r ≡ s)
 same_cell m n r s fits other_fits is =
@@ -63,7 +63,7 @@ same_cell_number m n r s fits other_fits r_fits s_fits is =
     let cells = same_cell m n (decimal r) (decimal s) fits other_fits is in
     (cells.0, decimal_injective r s r_fits s_fits cells.1)
 
--- words that go on in one way after their cell go on in no other
+-- words that continue in one way after their cell don't continue in another
 pub none_rest : (words : List ℕ) (m : ℕ) (rest other : List ℕ) → m < 2 ^ 32 → words ≡ decimal m ++ (32 ∷ rest) → rest ≢ other
     → (cell : ℕ) → cell < 2 ^ 32 → words ≢ decimal cell ++ (32 ∷ other)
 none_rest words m rest other fits split differs cell cell_fits is =

@@ -26,6 +26,6 @@ IsInBounds (Act (Cap cell value)) = (cell < 2 ^ 32) × (value < 2 ^ 64)
 IsInBounds (Get cell) = cell < 2 ^ 32
 IsInBounds End = Unit {0}
 
--- what a line means: the command that it spells, or nothing where it spells none
+-- the meaning of a line: the command that it spells, or nothing if it spells none
 abbrev pub Means : List ℕ → Option Command → Type 0
 Means line meaning = IsReading spelling IsInBounds line meaning

@@ -1,5 +1,5 @@
 -- Inside: for the proofs of this crate's private functions.
--- What separates words.
+-- The byte that separates words.
 use Rattle.std.specs.Prelude.{◌≢◌, ℕ, List, All}
 
 -- no byte is a space

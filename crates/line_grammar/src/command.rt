@@ -5,10 +5,10 @@ use crate::number::{read_cell, read_difference, read_number};
 use crate::word::{after, split_word};
 use world_actions::Action;
 
-/// The greatest number of bytes of a line that means something, its newline not counted.
+/// The greatest number of bytes of a line that means something, without its newline.
 pub const LINE_BYTES: usize = 80;
 
-/// What one line of a client or a script asks for.
+/// The command of one line of a client or a script.
 #[derive(Clone, Copy, Debug, PartialEq, Eq)]
 pub enum Command {
     /// A change of the world.
@@ -96,7 +96,7 @@ fn read_get(words: &[u8]) -> Option<Command>
     Some(Command::Get(read_cell(words)?))
 }
 
-// The cell at the front, and what follows the space after it.
+// Returns the cell at the front, and the bytes that follow the space after it.
 fn read_cell_word(words: &[u8]) -> Option<(u32, &[u8])>
     ensures found { IfSome result (λ found. words.now ≡ decimal found.0 ++ (32 ∷ found.1.now)) }
     ensures none { IfNone result ((cell : ℕ) (rest : List ℕ) → cell < 2 ^ 32

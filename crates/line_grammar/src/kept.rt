@@ -6,8 +6,8 @@ use std::alloc::Global;
 use std::marker::Model;
 use world_actions::Refusal;
 
-/// The bytes of a line that has not ended, as many as tell what it means: one more than a line that
-/// means something can have. Contracts see these bytes.
+/// The first bytes of a line that has not ended, as many as decide its meaning. These are at most one more than a line
+/// with a meaning can have. Contracts see these bytes.
 #[derive(Drop)]
 pub struct KeptLine {
     bytes: Vec<u8>,
@@ -25,7 +25,7 @@ impl Model for KeptLine {
 }
 
 impl KeptLine {
-    /// A line with no byte. It reserves all that it ever uses.
+    /// Makes a line with no byte. It reserves all that it ever uses.
     pub fn new(alloc: Global) -> Result<Self, Refusal>
         ensures empty { IfOk result (λ line. line ≡ []) }
         ensures memory { IfErr result (λ refusal. refusal ≡ Refusal.NoMemory) }
@@ -35,8 +35,7 @@ impl KeptLine {
         })
     }
 
-    /// Takes the line's next byte, and keeps it unless so many are kept that the line means nothing
-    /// whatever follows.
+    /// Takes the line's next byte. Keeps it, unless so many bytes are kept that the line means nothing, whatever follows.
     pub fn push(&mut self, byte: u8)
         ensures { self.new ≡ kept_of (self.old ++ byte ∷ []) }
     {
@@ -45,7 +44,7 @@ impl KeptLine {
         }
     }
 
-    /// The kept bytes.
+    /// Returns the kept bytes.
     pub fn bytes(&self) -> &[u8]
         ensures { result.now ≡ self.now }
     {

@@ -11,17 +11,18 @@ pub fn one_reading()
     ensures unique { (line : List ℕ) (a b : Option Command) → Means line a → Means line b → a ≡ b }
 {}
 
-/// A law: how long a line may be. Clients depend on the number.
+/// A law: the greatest length of a line. Clients depend on the number.
 pub fn line_numbers()
     ensures { LINE_BYTES ≡ 80 }
 {}
 
-/// A law: a longer line than `LINE_BYTES` means nothing.
+/// A law: each command's text has at most `LINE_BYTES` bytes, so a longer line means nothing.
 pub fn command_length()
     ensures { (command : Command) → IsInBounds command → length (spelling command) ≤ LINE_BYTES }
 {}
 
-/// Laws: what is kept of a line byte by byte is what is kept of it at once, and means what the line means.
+/// Laws: the bytes that are kept of a line one by one are those that are kept of it at once. They decide the line's
+/// meaning.
 pub fn kept_bytes()
     ensures next { (line : List ℕ) (byte : ℕ) → kept_of (line ++ byte ∷ []) ≡ kept_of (kept_of line ++ byte ∷ []) }
     ensures means { (kept : List ℕ) (meaning : Option Command) → Means kept meaning → KeptMeans Means kept meaning }

@@ -1,10 +1,9 @@
-//! The lines by which a client or a script asks something of a world.
+//! The lines by which a client or a script gives commands to a world.
 //!
-//! A line is `set CELL VALUE`, `add CELL DIFFERENCE`, `move FROM TO AMOUNT`, `swap CELL CELL`,
-//! `cap CELL VALUE`, `get CELL` or `end`, with one space between words and none at its ends. Each
-//! command has one text and each text at most one command: `read_command` gives the command whose
-//! text the line is, byte for byte, and nothing where there is none. The parts that other lines
-//! need, numbers and the words at the front of a line, are read the same way.
+//! A line is `set CELL VALUE`, `add CELL DIFFERENCE`, `move FROM TO AMOUNT`, `swap CELL CELL`, `cap CELL VALUE`, `end` or
+//! `get CELL`. It has one space between words, and none at its ends. Each command has one text, and each text has at most
+//! one command. `read_command` returns the command whose text is the line, byte for byte, or `None`. The parts that other
+//! lines need are read in the same way: numbers, and the words at the front of a line.
 #![tactic(auto)]
 
 mod command;

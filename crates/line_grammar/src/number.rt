@@ -16,7 +16,7 @@ pub fn read_number(text: &[u8]) -> Option<u64>
     digits.parse().ok()
 }
 
-// Whether the text starts with a digit, and with 0 only where nothing follows.
+// True if the text starts with a digit, and with 0 only if nothing follows.
 fn starts_number(text: &[u8]) -> bool
     ensures { IsTrue result ↔ StartsNumber text.now }
 {

@@ -12,8 +12,8 @@ use world_actions::{Action, Refusal};
 use world_ticks::{Tick, Words, act};
 use zigzag::Zigzag;
 
-/// Makes calls, each in a stretch of its own, in which who watches the allocations counts them
-/// (`scripts/count_allocations.py`), and tells of each the most that it is to make.
+/// Makes calls, each in a stretch of its own, and prints for each the most allocations that it may make. The script
+/// `scripts/count_allocations.py` counts those of each stretch.
 pub fn make_calls<R: Print + AllocGlobal>(rt: &R) -> Result<(), Error> {
     let mut words = Words::new(zeros(rt.alloc(), CELLS)?);
     do_action(rt, &mut words, &mut Tick::new(rt.alloc()))?;
@@ -24,7 +24,7 @@ pub fn make_calls<R: Print + AllocGlobal>(rt: &R) -> Result<(), Error> {
     recover_files(rt)
 }
 
-/// Tells the most allocations that a call is to make.
+/// Prints the most allocations that a call may make.
 pub fn tell_most<R: Print>(rt: &R, call: &str, most: u32) -> Result<(), Error> {
     println!(rt; "{call}: at most {most}")?;
     Ok(())
@@ -62,7 +62,7 @@ fn take_shared_rounds<R: Print + AllocGlobal>(rt: &R) -> Result<(), Error> {
     take_round(rt, "shared pingpong", Seats::new(front, back))
 }
 
-// A mark, and the takes of its round.
+// Makes a mark, and the takes of its round.
 fn take_round<R: Print + AllocGlobal, S: Store + Drop>(
     rt: &R,
     name: &str,

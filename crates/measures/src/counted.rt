@@ -7,7 +7,7 @@ use std::alloc::Global;
 use std::fmt::{self, Display, Formatter, Write};
 use world_actions::Refusal;
 
-/// What was asked of a disk: how many calls, how many of them syncs, and how many bytes were to be written and read.
+/// The calls on a disk: how many, how many of them syncs, and how many bytes they were to write and to read.
 #[derive(Clone, Copy)]
 pub struct Calls {
     pub made: u64,
@@ -17,7 +17,7 @@ pub struct Calls {
 }
 
 impl Calls {
-    /// Nothing was asked.
+    /// No calls.
     pub fn none() -> Self
         ensures { result ≡ no_calls }
     {
@@ -29,7 +29,7 @@ impl Calls {
         }
     }
 
-    /// What was asked of two disks.
+    /// The sums of the calls on two disks.
     pub fn both(self, other: Calls) -> Self
         ensures { result ≡ both_calls self other }
     {
@@ -41,7 +41,7 @@ impl Calls {
         }
     }
 
-    // One call more.
+    // Counts one more call.
     fn count(&mut self)
         ensures { self.new ≡ record self.old { made = sum_of self.old.made 1 } }
     {
@@ -77,7 +77,7 @@ pub fn empty_file(alloc: Global, bytes: u64) -> Result<File, Refusal> {
 }
 
 impl<D> Counted<D> {
-    /// A disk of which nothing was asked yet.
+    /// A disk on which no call is counted yet.
     pub fn new(inner: D) -> Self
         ensures { result ≡ record { inner = inner; calls = no_calls } }
     {
@@ -94,7 +94,7 @@ impl<D> Counted<D> {
         &self.inner
     }
 
-    /// What was asked since the last time.
+    /// Returns the calls since it was last asked, and begins to count anew.
     pub fn take_calls(&mut self) -> Calls
         ensures told { result ≡ self.old.calls }
         ensures begins { self.new ≡ record self.old { calls = no_calls } }
@@ -105,7 +105,7 @@ impl<D> Counted<D> {
     }
 }
 
-// It does what the disk below does, and counts each call.
+// Each call is made on the disk below, and counted.
 impl<D: Disk> Disk for Counted<D> {
     ghost content = { λ disk. D.content disk.inner };
 

@@ -11,21 +11,21 @@ use zigzag::Zigzag;
 /// How many rounds the list has.
 const ROUNDS: u32 = 5;
 
-/// How many cells are written before each.
+/// How many cells are written before each round.
 const WRITES: u32 = 1024;
 
-/// After how many takes a cell is written.
+/// How many takes are made between two writes of a round.
 const TAKES: usize = 16;
 
-/// How many cells were taken as words, and how many as unchanged.
+/// How many takes handed out a word, and how many handed out Same.
 #[derive(Clone, Copy)]
 struct Counts {
     words: u64,
     same: u64,
 }
 
-/// Tells of each store what its takes hand out, and how many bytes a cell needs: so many words, and so
-/// many marks, of which 64 stand in a word.
+/// Prints for each store what its takes hand out, and how many bytes a cell needs. A cell needs some words of 8 bytes, and
+/// some marks, of which 64 are in a word.
 pub fn tell_counts<R: Print + AllocGlobal>(rt: &R) -> Result<(), Error> {
     tell_owned(rt)?;
     tell_shared(rt)

@@ -10,7 +10,7 @@ use zigzag::Zigzag;
 /// How many cells are written before the round that is counted.
 const WRITES: u32 = 1024;
 
-/// Tells what is asked of the files of a log and of images.
+/// Prints the calls on the files of a log and of images.
 pub fn tell_devices<R: Print + AllocGlobal>(rt: &R) -> Result<(), Error> {
     let mut log = Log::new(rt.alloc())?;
     tell_log(rt, &mut log)?;
@@ -28,7 +28,7 @@ fn tell_log<R: Print + AllocGlobal>(rt: &R, log: &mut Log) -> Result<(), Error> 
     tell_switch(rt, log, "an open")
 }
 
-// A group of so many ticks of four actions.
+// Writes a group of so many ticks of four actions, and prints its calls.
 fn tell_group<R: Print + AllocGlobal>(rt: &R, log: &mut Log, ticks: usize) -> Result<(), Error> {
     log.push_group(rt.alloc(), ticks)?;
     log.write()?;
@@ -48,7 +48,8 @@ fn tell_round<R: Print + AllocGlobal, C: Capture>(rt: &R, method: &str) -> Resul
     tell_third_round(rt, method, &mut rounds)
 }
 
-// Both files have an image then, and the words of cells that weren't written are in the newest one.
+// Counts the third round. Both files have an image by then, and the newest one has the words of the cells that weren't
+// written since.
 fn tell_third_round<R: Print, C: Capture>(
     rt: &R,
     method: &str,

@@ -10,19 +10,19 @@ use world_ticks::Cells;
 /// How many reads or writes are timed at once.
 const TIMES: u32 = 1 << 22;
 
-/// How many passes over the cells make as many.
+/// How many passes over the cells make as many writes.
 const PASSES: u32 = 64;
 
 /// How many marks are timed in a turn.
 const MARKS: u32 = 112;
 
-/// How many cells are written before each.
+/// How many cells are written before each mark.
 const WRITES: u32 = 1024;
 
 /// How often the clock is timed in a turn.
 const CLOCKS: u32 = 1000;
 
-/// Where the cells and words begin, so that they are the same for each store.
+/// The seed of the cells and words, so that they are the same for each store.
 const SEED: u64 = 1;
 
 /// Times of one store: those of marks in nanoseconds, the others in picoseconds for one cell.
@@ -33,12 +33,12 @@ pub struct Figures {
     pub random_read: Times,
     pub take: Times,
     pub mark: Times,
-    /// The sum of the words that were read and taken: it is told, so that each word has to be.
+    /// The sum of the words that were read and taken. It is printed, so that the compiler can't leave out a read or a take.
     pub sum: u64,
 }
 
 impl Figures {
-    /// No time yet.
+    /// Figures without a time.
     pub fn new(alloc: Global) -> Self {
         Figures {
             random_write: Times::new(alloc),
@@ -94,7 +94,7 @@ impl Figures {
         Ok(self.take.push(picoseconds(time, takes))?)
     }
 
-    // The clock is called once before, since its first call after many writes takes longer.
+    // Times a mark. It calls the clock once before, because the first call after many writes takes longer.
     fn time_mark<R: Clock, S: Store>(
         &mut self,
         rt: &R,
@@ -112,7 +112,7 @@ impl Figures {
     }
 }
 
-/// The nanoseconds that two calls of the clock take, one after the other.
+/// Measures the nanoseconds between two calls of the clock, one right after the other.
 pub fn clock_time<R: Clock>(rt: &R, alloc: Global) -> Result<u64, Error> {
     let mut times = Times::new(alloc);
     for _ in 0..CLOCKS {

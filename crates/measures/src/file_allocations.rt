@@ -26,7 +26,7 @@ const LINES: &[u8] = b"set 0 5\nadd 0 2\nmove 0 1 3\nget 1\nend\n";
 /// More bytes than a file of the served world has.
 const FILE_BYTES: u64 = 1000;
 
-/// After how many ticks the served world makes a checkpoint: there is one.
+/// After how many ticks the served world makes a checkpoint. It has only one here.
 const EVERY: u32 = 1000;
 
 /// Makes all steps of a job of each keeper.

@@ -5,7 +5,7 @@ use crate::ticks::{ACTIONS, SEGMENT_ACTIONS};
 use crate::times::picoseconds;
 use anyhow::Error;
 
-/// Tells how fast both keepers are, beside `take`, the picoseconds of a take of Zigzag.
+/// Prints how fast both keepers are, beside `take`, the picoseconds of a take of Zigzag.
 pub fn tell_keepers<R: Print + AllocGlobal>(
     rt: &R,
     speed: &mut KeeperSpeed,
@@ -35,7 +35,7 @@ pub fn tell_keepers<R: Print + AllocGlobal>(
     tell_ratio(rt, "a cell written to a take of zigzag", cell, take, "8")
 }
 
-/// Tells how fast recovery is, beside `action`, the picoseconds of an action replayed.
+/// Prints how fast recovery is, beside `action`, the picoseconds of a replayed action.
 pub fn tell_recovery<R: Print + AllocGlobal>(
     rt: &R,
     speed: &mut RecoverySpeed,

@@ -24,16 +24,16 @@ const WRITES: u32 = 1024;
 /// Times of both keepers over files in memory, in picoseconds.
 #[derive(Drop)]
 pub struct KeeperSpeed {
-    /// A tick that the log writes, in a group of the most ticks.
+    /// The time of a tick that the log writes, in a group of the most ticks.
     pub tick: Times,
-    /// An action replayed.
+    /// The time of a replayed action.
     pub action: Times,
-    /// A cell of an image that is written of a round of Zigzag.
+    /// The time of a cell of an image, in a round of Zigzag.
     pub cell: Times,
 }
 
 impl KeeperSpeed {
-    /// No time yet.
+    /// Lists without a time.
     pub fn new(alloc: Global) -> Self {
         KeeperSpeed {
             tick: Times::new(alloc),

@@ -19,8 +19,7 @@ pub const GROUPS: usize = SEGMENT_TICKS / GROUP_TICKS;
 /// More bytes than a full segment of such ticks has, 2^22.
 const FILE_BYTES: u64 = 4_194_304;
 
-/// A log that is written: its keeper, what is queued for it, and its two files. `since` ticks are queued or written
-/// above `base`.
+/// A log that is written: its keeper, its queue, and its two files. `since` ticks are queued or written above `base`.
 #[derive(Drop)]
 pub struct Log {
     keeper: LogKeeper,
@@ -106,7 +105,7 @@ impl Log {
         Ok(())
     }
 
-    /// Writes what is queued.
+    /// Writes all queued records.
     pub fn write(&mut self) -> Result<(), Refusal>
         ensures { self.new ≡ self.old }
     {
@@ -139,7 +138,7 @@ impl Log {
             .step(&mut self.queue, &mut self.log_a, &mut self.log_b)
     }
 
-    /// What was asked of both files since the last time.
+    /// Returns the calls on both files since it was last asked.
     pub fn take_calls(&mut self) -> Calls
         ensures { self.new ≡ self.old }
     {

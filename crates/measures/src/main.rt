@@ -1,6 +1,7 @@
-//! The program `measures`: with no word it tells what the takes of each store hand out over one list of moves,
-//! and how much memory a cell needs, which is the same on each machine. With `all` it tells how fast the
-//! stores are on this one.
+//! The program `measures`. Without a command it counts what the takes of each store hand out over one list of moves, and how
+//! much memory a cell needs. It also counts the calls on the files of a log and of images. These figures are the same on
+//! each machine. With `all` it measures how fast the stores, the keepers and recovery are on this one. With `allocations` it
+//! makes calls whose allocations can be counted from outside.
 #![tactic(auto)]
 
 mod allocations;
@@ -85,7 +86,7 @@ fn measure_all<R: Print + AllocGlobal + Clock + Env + Files + Threads + Sync>(
     )
 }
 
-// Measures what is done with files, beside the picoseconds of a take of Zigzag.
+// Measures the keepers and recovery. `take` is the time of a take of Zigzag in picoseconds, for comparison.
 fn measure_files<R: Print + AllocGlobal + Clock + Env + Files>(
     rt: &R,
     take: u64,
@@ -95,7 +96,7 @@ fn measure_files<R: Print + AllocGlobal + Clock + Env + Files>(
     measure_recovery(rt, log.first_segment(), action)
 }
 
-// Measures both keepers, and gives the picoseconds of an action replayed.
+// Measures both keepers, and returns the time of a replayed action in picoseconds.
 fn measure_keepers<R: Print + AllocGlobal + Clock>(
     rt: &R,
     log: &mut Log,

@@ -19,7 +19,7 @@ use zigzag::Zigzag;
 /// The cells of each store that is measured.
 pub const CELLS: usize = 65_536;
 
-/// So many words, each 0.
+/// Returns so many words, each 0.
 pub fn zeros(alloc: Global, cells: usize) -> Result<Vec<u64>, AllocError>
     ensures limit { IfOk result (λ words. All IsWord words.items) }
     ensures cells { IfOk result (λ words. length words.items ≡ cells) }
@@ -121,7 +121,7 @@ pub fn measure_zigzag_pair<R: Threads + Clock + Sync>(
     Ok(time_pair(rt, CELLS, front, back)?)
 }
 
-/// The same of the method Ping-Pong.
+/// Measures the same for the method Ping-Pong.
 pub fn measure_ping_pong_pair<R: Threads + Clock + Sync>(
     rt: &R,
     alloc: Global,

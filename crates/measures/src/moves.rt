@@ -1,14 +1,14 @@
 use capture_core::{Taken, Taker};
 use world_ticks::Cells;
 
-/// The next of numbers that look random.
+/// The next pseudorandom number.
 pub fn next(number: u64) -> u64 {
     number
         .wrapping_mul(6_364_136_223_846_793_005)
         .wrapping_add(1_442_695_040_888_963_407)
 }
 
-/// Writes so many cells of a store of 65,536, at random. It gives the number that was last.
+/// Writes so many cells of a store of 65,536, at random. Returns the last pseudorandom number.
 pub fn write_at_random<C: Cells>(store: &mut C, seed: u64, times: u32) -> u64 {
     let mut number = seed;
     for _ in 0..times {
@@ -32,7 +32,7 @@ pub fn write_in_order<C: Cells>(store: &mut C, passes: u32) {
     }
 }
 
-/// Reads so many cells at random, and gives the sum of their words.
+/// Reads so many cells at random. Returns the sum of their words.
 pub fn read_at_random<C: Cells>(store: &mut C, seed: u64, times: u32) -> u64 {
     let mut number = seed;
     let mut sum = 0u64;
@@ -46,7 +46,7 @@ pub fn read_at_random<C: Cells>(store: &mut C, seed: u64, times: u32) -> u64 {
     sum
 }
 
-/// Takes so many cells, and gives the sum of their words.
+/// Takes so many cells. Returns the sum of their words.
 pub fn take_cells<T: Taker>(taker: &mut T, cells: usize) -> u64 {
     let mut sum = 0u64;
     for _ in 0..cells {

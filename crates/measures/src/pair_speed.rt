@@ -17,7 +17,7 @@ const WRITES: u32 = 1024;
 /// The most turns of one thread.
 const TURNS: u64 = 1 << 40;
 
-/// How often a thread did something, in how many nanoseconds.
+/// How often a thread did something, and in how many nanoseconds.
 #[derive(Clone, Copy)]
 pub struct Speed {
     times: u64,
@@ -34,7 +34,7 @@ impl Speed {
     }
 }
 
-/// What two threads did: writes, marks and takes.
+/// How fast two threads made writes, marks and takes.
 #[derive(Clone, Copy)]
 pub struct PairSpeed {
     pub writes: Speed,

@@ -21,22 +21,22 @@ const NAME: &str = "measures.image";
 /// Times of recovery, in nanoseconds.
 #[derive(Drop)]
 pub struct RecoverySpeed {
-    /// The file of an image of 65,536 cells, read.
+    /// The times of reading the file of an image of 65,536 cells.
     pub read: Times,
-    /// That image recovered.
+    /// The times of recovering that image.
     pub image: Times,
-    /// An image of 1,048,576 cells recovered.
+    /// The times of recovering an image of 1,048,576 cells.
     pub large_image: Times,
-    /// The image of 65,536 cells recovered with a full segment.
+    /// The times of recovering the image of 65,536 cells with a full segment.
     pub segment: Times,
-    /// The bytes of that segment.
+    /// How many bytes that segment has.
     pub segment_bytes: u64,
-    /// The sum of the ticks and words that were recovered: it is told, so that each has to be.
+    /// The sum of the recovered ticks and words. It is printed, so that the compiler can't leave out a recovery.
     pub sum: u64,
 }
 
 impl RecoverySpeed {
-    /// No time yet, of a segment of so many bytes.
+    /// Lists without a time, for a segment of so many bytes.
     pub fn new(alloc: Global, segment_bytes: u64) -> Self {
         RecoverySpeed {
             read: Times::new(alloc),
@@ -60,7 +60,7 @@ impl RecoverySpeed {
         self.time_large_image(rt)
     }
 
-    // Puts the image into a file, which is read each time.
+    // Writes the image to a file, and times reading that file and recovering its bytes.
     fn time_image<R: Clock + Files + Env + AllocGlobal>(
         &mut self,
         rt: &R,
@@ -120,7 +120,7 @@ impl RecoverySpeed {
     }
 }
 
-// Recovers from image.a and log.a, and gives a number for what stands there.
+// Times recovery from image.a and log.a. Returns a number made of the recovered world.
 fn time_recover<R: Clock>(
     rt: &R,
     alloc: Global,

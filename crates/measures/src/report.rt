@@ -4,7 +4,7 @@ use crate::pair_speed::PairSpeed;
 use anyhow::Error;
 use std::alloc::{AllocError, Global};
 
-/// Tells the clock's time and a line of each store's.
+/// Prints the time of the clock, and a line of times for each store.
 pub fn tell_figures<R: Print + AllocGlobal>(rt: &R, all: &mut AllFigures) -> Result<(), Error> {
     println!(rt;
         "two calls of the clock: {} ns, taken off each mark",
@@ -49,7 +49,7 @@ fn tell_store<R: Print + AllocGlobal>(
     Ok(())
 }
 
-/// Tells each ratio beside the most that it is to be.
+/// Prints each ratio beside its limit.
 pub fn tell_ratios<R: Print>(rt: &R, all: &mut AllFigures) -> Result<(), Error> {
     tell_mark_ratios(rt, all)?;
     tell_write_ratios(rt, all)?;
@@ -103,7 +103,7 @@ fn tell_write_ratios<R: Print>(rt: &R, all: &mut AllFigures) -> Result<(), Error
     Ok(())
 }
 
-/// Tells a ratio beside the most that it is to be.
+/// Prints a ratio beside its limit.
 pub fn tell_ratio<R: Print>(
     rt: &R,
     name: &str,
@@ -120,7 +120,7 @@ pub fn tell_ratio<R: Print>(
     Ok(())
 }
 
-/// Tells what two threads did in a second.
+/// Prints how many writes, marks and takes two threads made in a second.
 pub fn tell_pair<R: Print + AllocGlobal>(
     rt: &R,
     name: &str,

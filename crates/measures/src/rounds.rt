@@ -93,7 +93,7 @@ impl<C: Capture> Rounds<C> {
             .step_files(&mut self.store, &mut self.image_a, &mut self.image_b)
     }
 
-    /// What was asked of both files since the last time.
+    /// Returns the calls on both files since it was last asked.
     pub fn take_calls(&mut self) -> Calls
         ensures { self.new ≡ self.old }
     {

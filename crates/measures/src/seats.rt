@@ -23,7 +23,7 @@ impl<M: Method> WritingSeat<M> {
         WritingSeat { front, tick: 1 }
     }
 
-    /// Opens a round, and tells whether it did.
+    /// Opens a round if it can. Returns true if it did.
     pub fn try_mark(&mut self) -> bool {
         if self.tick > TICK_MAX || self.front.mark(self.tick).is_err() {
             return false;
@@ -110,7 +110,7 @@ impl<M: Method> Store for Seats<M> {
     }
 }
 
-/// Ends the round in work, if all its cells were taken, and tells whether it did.
+/// Ends the round in work if all its cells were taken. Returns true if it did.
 pub fn end_taken<M: Method>(back: &mut Back<M>) -> bool {
     if back.look().is_none() || back.take().is_some() {
         return false;

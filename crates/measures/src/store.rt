@@ -5,13 +5,13 @@ use zigzag::Zigzag;
 
 /// A store with rounds.
 pub trait Store: Cells + Taker {
-    /// Opens a round of the words as they are now, and tells whether it did.
+    /// Opens a round of the present words if it can. Returns true if it did.
     fn try_mark(&mut self) -> bool;
 
-    /// Finds the round that was opened, where takes need that.
+    /// Finds the opened round, if takes need that.
     fn find_round(&mut self);
 
-    /// Ends the round, all of whose cells were taken, where marks need that.
+    /// Ends the round, if marks need that. All its cells were taken.
     fn end_round(&mut self);
 }
 
@@ -45,7 +45,7 @@ impl Store for PingPong {
     fn end_round(&mut self) {}
 }
 
-/// Opens a round where none is open, and tells whether it did.
+/// Opens a round if none is open. Returns true if it did.
 pub fn mark_closed<C: Capture>(store: &mut C) -> bool {
     if store.open_round() {
         return false;

@@ -1,7 +1,7 @@
 use std::alloc::{AllocError, Global};
 use trial_kit::of_thousandths;
 
-/// Times of one thing, measured several times.
+/// The times of one operation, measured several times.
 #[derive(Drop)]
 pub struct Times {
     list: Vec<u64>,
@@ -10,7 +10,7 @@ pub struct Times {
 impl Times {
     ghost use Rattle.std.specs.Prelude.{◌≤◌};
 
-    /// No time yet.
+    /// A list without a time.
     pub fn new(alloc: Global) -> Self {
         Times {
             list: Vec::new(alloc),
@@ -22,7 +22,7 @@ impl Times {
         Ok(self.list.push(time)?)
     }
 
-    /// The time that so many of a hundred don't exceed, and 0 where there is none.
+    /// The time that so many of a hundred don't exceed, and 0 if there is none.
     pub fn percentile(&mut self, percent: u32) -> u64
         requires { (1 ≤ percent) × (percent ≤ 100) }
     {
@@ -36,7 +36,7 @@ impl Times {
     }
 }
 
-/// The picoseconds of one of so many things, of which all took so many nanoseconds.
+/// The picoseconds of each of so many things, which together took so many nanoseconds.
 pub fn picoseconds(nanoseconds: u64, things: u64) -> u64 {
     nanoseconds
         .saturating_mul(1000)

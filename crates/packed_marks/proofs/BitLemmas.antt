@@ -1,4 +1,4 @@
--- What becomes of the bits of a word, and of the marks in words.
+-- The bits of a word, and the marks in words, after each change.
 use Rattle.std.proofs.Common.{zero, suc, ◌≡◌, ◌≢◌, ℕ, ◌-◌, ◌*◌, ◌^◌, ◌<◌, ◌≤◌, ◌/◌, ◌%◌, eqb, not, List, ◌++◌, length, take, replicate, get_or, set, min, sym, refl, ap, ◌∙◌, arith, true, false, eq-eqb, bit_and, bit_or, w64, get_or-set_other, get_or-set_same, shl_exact, one-mul, lit<}
 use Rattle.std.proofs.lemmas.List.{get_or-replicate}
 use Rattle.std.proofs.lemmas.Nat.Bits.{bit_at_set_same, bit_at_set_other, bit_at_clear_same, bit_at_clear_other, bit_at-zero, bit_at_ones, bit_at_ones_above, bit_at_and, bit_at_not, bit_at-lt, shr_and_one}
@@ -38,7 +38,7 @@ pub zero_clear : (j : ℕ) → is_set 0 j ≡ false
 unfolding is_set
 zero_clear j = ap (λ (z : ℕ). eqb z 1) (bit_at-zero j)
 
--- and each in the word of ones
+-- each bit is set in the word of ones
 pub ones_set : (j : ℕ) → j < 64 → is_set 18446744073709551615 j ≡ true
 unfolding is_set
 ones_set j l = eq-eqb (bit_at 18446744073709551615 j) 1 (bit_at_ones 64 j l)
@@ -58,7 +58,7 @@ complement_set w j fits l = ap (λ (z : ℕ). eqb z 1) (bit_at_not w64 w j fits 
 low_mask : (k : ℕ) → k < 64 → 1 * 2 ^ k % 2 ^ 64 ≡ 2 ^ k
 low_mask k l = shl_exact {a = 1} 1 k 64 (lit< tt) (omega arith) ∙ one-mul (2 ^ k)
 
--- it leaves the bits below k
+-- the mask leaves the bits below k
 pub masked_low : (w k j : ℕ) → k < 64 → j < k → is_set (bit_and w (1 * 2 ^ k % 2 ^ 64 - 1)) j ≡ is_set w j
 unfolding is_set
 masked_low w k j l m =
@@ -67,7 +67,7 @@ masked_low w k j l m =
     let same : min (bit_at w j) (bit_at (2 ^ k - 1) j) ≡ bit_at w j = omega arith in
     ap (λ (z : ℕ). eqb (bit_at (bit_and w (z - 1)) j) 1) (low_mask k l) ∙ ap (λ (z : ℕ). eqb z 1) (bit_at_and w (2 ^ k - 1) j ∙ same)
 
--- and clears those from k on
+-- the mask clears the bits from k on
 pub masked_high : (w k j : ℕ) → k < 64 → k ≤ j → is_set (bit_and w (1 * 2 ^ k % 2 ^ 64 - 1)) j ≡ false
 unfolding is_set
 masked_high w k j l m =
@@ -77,11 +77,11 @@ masked_high w k j l m =
 
 -- ---- marks in words
 
--- where a word is replaced, marks of other words stay
+-- if a word is replaced, the marks of other words stay
 pub marked_else : (words : List ℕ) (k v j : ℕ) → j / 64 ≢ k → marked (set words k v) j ≡ marked words j
 marked_else words k v j ne = ap (λ (z : ℕ). is_set z (j % 64)) (get_or-set_other words k (j / 64) v 0 ne)
 
--- and its own are bits of the new word
+-- if a word is replaced, its own marks are the bits of the new word
 pub marked_here : (words : List ℕ) (k v j : ℕ) → k < length words → j / 64 ≡ k → marked (set words k v) j ≡ is_set v (j % 64)
 marked_here words k v j l e = ap (λ (z : ℕ). is_set (get_or (set words k v) z 0) (j % 64)) e ∙ ap (λ (z : ℕ). is_set z (j % 64)) (get_or-set_same words k v 0 l)
 
@@ -100,7 +100,7 @@ spare_cells words n i long ne l =
     ∙ ap (λ (z : ℕ). is_set (get_or words z 0) (i % 64)) (sym here)))
     (λ no. marked_else words (n / 64) (bit_and (get_or words (n / 64) 0) mask) i no)
 
--- and clears the bits past them
+-- the mask of the last word clears the bits past the cells
 pub spare_clear : (words : List ℕ) (n i : ℕ) → length words ≡ chunks n → n % 64 ≢ 0 → n ≤ i → i < 64 * length words →
     marked (set words (n / 64) (bit_and (get_or words (n / 64) 0) (1 * 2 ^ (n % 64) % 2 ^ 64 - 1))) i ≡ false
 spare_clear words n i long ne l m =

@@ -1,12 +1,12 @@
--- Marks of cells that stand 64 to a word.
+-- Marks of cells, 64 to a word.
 use Rattle.std.specs.Prelude.{◌≡◌, ℕ, ◌+◌, ◌*◌, ◌/◌, ◌%◌, ◌<◌, ◌≤◌, ◌==◌, List, length, slice_index, Bool, true, false}
 use Rattle.std.specs.Int.{bit_at}
 
--- how many words the marks of n cells take
+-- the number of words that the marks of n cells take
 abbrev pub chunks : ℕ → ℕ
 chunks n = (n + 63) / 64
 
--- whether bit j of a word is set
+-- true if bit j of a word is set
 unfoldable pub is_set : ℕ → ℕ → Bool
 is_set word j = bit_at word j == 1
 

@@ -3,14 +3,14 @@ ghost use Rattle.packed_marks.specs.Bits.{chunks, is_set, marked, AreSpareClear,
 
 use std::alloc::{AllocError, Global};
 
-/// How many words the marks of so many cells take.
+/// Returns the number of words that the marks of `cells` cells take.
 pub fn chunks_of(cells: usize) -> usize
     ensures { result ≡ chunks cells }
 {
     cells.div_ceil(64)
 }
 
-/// Whether a bit is set, the lowest being bit 0.
+/// True if a bit is set. The lowest bit is bit 0.
 pub fn has_bit(word: u64, bit: usize) -> bool
     requires { bit < 64 }
     ensures { result ≡ is_set word bit }
@@ -18,7 +18,7 @@ pub fn has_bit(word: u64, bit: usize) -> bool
     (word >> bit) & 1 == 1
 }
 
-/// The word with one bit set or cleared.
+/// Returns the word with one bit set or cleared.
 pub fn with_bit(word: u64, bit: usize, set: bool) -> u64
     requires { bit < 64 }
     ensures here { is_set result bit ≡ set }
@@ -31,7 +31,7 @@ pub fn with_bit(word: u64, bit: usize, set: bool) -> u64
     }
 }
 
-/// Mark words with the mark of each cell set, and no bit past the last cell.
+/// Makes mark words with the mark of each cell set, and no bit past the last cell.
 pub fn full_marks(alloc: Global, cells: usize) -> Result<Vec<u64>, AllocError>
     ensures { IfOk result (λ words. IsFull cells words.items) }
 {

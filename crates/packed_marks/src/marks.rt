@@ -25,7 +25,7 @@ impl Model for PackedMarks {
 }
 
 impl PackedMarks {
-    /// The marks of so many cells, all set or all clear.
+    /// Makes the marks of `cells` cells, all set or all clear.
     pub fn new(alloc: Global, cells: usize, set: bool) -> Result<Self, AllocError>
         ensures { IfOk result (λ marks. marks ≡ replicate cells set) }
     {
@@ -33,14 +33,14 @@ impl PackedMarks {
         Ok(PackedMarks { words, cells })
     }
 
-    /// How many cells there are.
+    /// Returns the number of cells.
     pub fn len(&self) -> usize
         ensures { result ≡ length self.now }
     {
         self.cells
     }
 
-    /// Whether a cell's mark is set.
+    /// True if a cell's mark is set.
     pub fn is_set(&self, i: usize) -> bool
         requires { i < length self.now }
         ensures { result ≡ slice_index_or self.now i false }
@@ -66,7 +66,7 @@ impl PackedMarks {
     }
 }
 
-// Mark words with the mark of each cell set, or with none set.
+// Makes mark words with the mark of each cell set, or with none set.
 fn equal_marks(alloc: Global, cells: usize, set: bool) -> Result<Vec<u64>, AllocError>
     ensures packed { IfOk result (λ words. IsPacked cells words.items) }
     ensures marks { IfOk result (λ words. marks_of cells words.items ≡ replicate cells set) }

@@ -1,4 +1,4 @@
--- What the calls of a store do to its words and marks.
+-- The effect of a store's calls on its words and marks.
 use Rattle.std.proofs.Common.{◌≡◌, refl, sym, ◌∙◌, ap, subst, inl, inr, ◌⊎◌, ℕ, zero, suc, ◌+◌, ◌-◌, ◌<◌, ◌≤◌, Bool, true, false, List, [], ◌∷◌, length, drop, replicate, get_or, set, Option, Some, None, arith, add-one}
 use Rattle.std.proofs.lemmas.List.{length-set, length-drop, length-replicate, drop_more, drop_all, take_all, get_or_read}
 use Rattle.std.proofs.lemmas.List.Elements.{All-set}
@@ -26,7 +26,7 @@ dirty_words-set (m ∷ marks) [] (suc i) v = refl
 dirty_words-set (m ∷ marks) (w ∷ words) zero v = refl
 dirty_words-set (m ∷ marks) (w ∷ words) (suc i) v = ap (λ list. then_some m w ∷ list) (dirty_words-set marks words i v)
 
--- a dirty mark says nothing of the entries after it
+-- a dirty mark doesn't affect the entries after it
 drop-dirty_words-set : (marks : List Bool) (words : List ℕ) (i : ℕ) (mark : Bool) → drop (i + 1) (dirty_words (set marks i mark) words) ≡ drop (i + 1) (dirty_words marks words)
 drop-dirty_words-set marks words i mark = rw add-one (go marks words i mark)
   where
@@ -44,7 +44,7 @@ dirty_words-clean (suc n) [] words' e f = absurd (omega (arith, e))
 dirty_words-clean (suc n) (w ∷ words) [] e f = absurd (omega (arith, f))
 dirty_words-clean (suc n) (w ∷ words) (x ∷ words') e f = ap (λ list. None ∷ list) (dirty_words-clean n words words' (omega (arith, e)) (omega (arith, f)))
 
--- an entry is its word where the mark is set, and nothing where it isn't
+-- an entry is its word if the mark is set, and nothing if it isn't
 slice_get-dirty_words : (marks : List Bool) (words : List ℕ) (i word : ℕ) → length marks ≡ length words → slice_get words i ≡ Some word →
     (slice_get (dirty_words marks words) i ≡ Some (Some word)) ⊎ ((slice_get (dirty_words marks words) i ≡ Some None) × (slice_get marks i ≡ Some false))
 slice_get-dirty_words [] words i word e at = absurd (omega (arith, e, slice_get_within words i word at))
@@ -76,14 +76,14 @@ in_order-written_arrays store i v ok word = record {
   clean = ok.clean;
 }
 
--- where nothing is left, every entry of the previous array is clean
+-- if nothing is left, every entry of the previous array is clean
 clean-at_end : (store : Arrays) → IsInOrder store → (content_of store).left ≡ [] → store.previous_dirty ≡ replicate (length store.live) false
 clean-at_end store ok none =
     let end : length store.live ≤ store.taken = omega (arith, length-left store ok, ap length none) in
     let all : store.taken ≡ length store.live = omega (arith, ok.taken_most) in
     sym (take_all store.taken store.previous_dirty (omega (arith, ok.previous_dirty_length))) ∙ ok.clean ∙ ap (λ n. replicate n false) all
 
--- and so does a mark
+-- a mark keeps a store in order
 pub in_order-swapped_arrays : (store : Arrays) → IsInOrder store → (content_of store).left ≡ [] → IsInOrder (swapped_arrays store)
 in_order-swapped_arrays store ok none = record {
   current_words_length = ok.previous_words_length;
@@ -102,7 +102,7 @@ in_order-swapped_arrays store ok none = record {
   clean = refl;
 }
 
--- a mark leaves the word of each dirty entry of what was the current array
+-- a mark leaves the word of each dirty entry of the array that was current
 pub marks-swapped_arrays : (store : Arrays) → IsInOrder store → Marks (content_of store) (content_of (swapped_arrays store))
 marks-swapped_arrays store ok = record {
   live = refl;
@@ -117,7 +117,7 @@ content_of-built_arrays words =
     ap (λ left. record { live = words; touched = replicate (length words) true; left = left })
     (drop_all (length words) (dirty_words (replicate (length words) false) words) (omega (arith, length-dirty_words (replicate (length words) false) words (length-replicate (length words) false))))
 
--- a take where a cell is left
+-- a take if a cell is left
 pub takes-entry : (store : Arrays) (entry : Option ℕ) → Some entry ≡ slice_get (previous_entries store) store.taken →
     Takes (content_of store) (Some (taken_of entry)) (content_of (taken_arrays store))
 takes-entry store entry is =
@@ -130,7 +130,7 @@ takes-entry store entry is =
       rest = ap (λ left. record (content_of store) { left = left }) (drop-dirty_words-set store.previous_dirty store.previous_words store.taken false ∙ sym (ap (λ list. drop 1 list) split));
     }
 
--- a take where none is left
+-- a take if none is left
 pub takes-none : (store : Arrays) → None ≡ slice_get (previous_entries store) store.taken → Takes (content_of store) None (content_of store)
 takes-none store is = takes_none (content_of store) (none_behind (previous_entries store) store.taken is)
 
@@ -146,7 +146,7 @@ get_or-dirty_words (m ∷ marks) [] i e lt = absurd (omega (arith, lt))
 get_or-dirty_words (m ∷ marks) (w ∷ words) zero e lt = refl
 get_or-dirty_words (m ∷ marks) (w ∷ words) (suc i) e lt = get_or-dirty_words marks words i (omega (arith, e)) (omega (arith, lt))
 
--- what a take finds, by what the code reads of the mark and the word
+-- the answer of a take, from the mark and the word that the code reads
 pub entry-is : (store : Arrays) (mark : Bool) (word : ℕ) (entry : Option ℕ) → IsInOrder store → store.taken < length store.live →
     mark ≡ get_or store.previous_dirty store.taken false → word ≡ get_or store.previous_words store.taken word →
     entry ≡ then_some mark word → Some entry ≡ slice_get (previous_entries store) store.taken

@@ -1,10 +1,10 @@
--- The live words, the two arrays of entries, and what each call does to them.
+-- The live words, the two arrays of entries, and the effect of each call on them.
 use Rattle.std.specs.Prelude.{◌≡◌, ◌≤◌, ◌+◌, ℕ, Bool, true, false, not, List, [], ◌∷◌, Option, length, take, drop, replicate, All, slice_set, if◌then◌else◌}
 use Rattle.std.specs.Bool.{then_some}
 use Rattle.world_actions.specs.World.{IsWord}
 use Rattle.capture_core.specs.Content.{Content}
 
--- the live words, the words and the dirty marks of both arrays, and how many cells of the round are taken
+-- the live words, the words and the dirty marks of both arrays, and the number of taken cells of the round
 pub record Arrays : Type 0 where
   pub live : List ℕ
   pub current_words : List ℕ
@@ -22,21 +22,21 @@ odd_words store = if store.odd_is_current then store.current_words else store.pr
 abbrev pub even_words : Arrays → List ℕ
 even_words store = if store.odd_is_current then store.previous_words else store.current_words
 
--- for each entry its word where it is dirty, or else nothing
+-- for each entry its word if it is dirty, else nothing
 abbrev pub dirty_words : List Bool → List ℕ → List (Option ℕ)
 dirty_words [] words = []
 dirty_words (dirty ∷ marks) [] = []
 dirty_words (dirty ∷ marks) (word ∷ words) = then_some dirty word ∷ dirty_words marks words
 
--- what takes find in the previous array
+-- the entries of the previous array, which takes hand out
 abbrev pub previous_entries : Arrays → List (Option ℕ)
 previous_entries store = dirty_words store.previous_dirty store.previous_words
 
--- the content of a store: a cell is touched where its entry in the current array is dirty
+-- the content of a store: a cell is touched if its entry in the current array is dirty
 abbrev pub content_of : Arrays → Content
 content_of store = record { live = store.live; touched = store.current_dirty; left = drop store.taken (previous_entries store) }
 
--- what is true of every store: a dirty entry of the current array has the live word, and a taken entry is clean
+-- the facts that hold for every store; a dirty entry of the current array has the live word, and a taken entry is clean
 pub record IsInOrder (store : Arrays) : Type 0 where
   pub current_words_length : length store.current_words ≡ length store.live
   pub current_dirty_length : length store.current_dirty ≡ length store.live
@@ -49,7 +49,8 @@ pub record IsInOrder (store : Arrays) : Type 0 where
   pub current : dirty_words store.current_dirty store.current_words ≡ dirty_words store.current_dirty store.live
   pub clean : take store.taken store.previous_dirty ≡ replicate store.taken false
 
--- all three are the words, odd is current with every entry dirty, even has none dirty, and no cell is left to take
+-- All three arrays are the words. Odd is current, with every entry dirty. Even has no dirty entry. No cell is left to
+-- take.
 abbrev pub built_arrays : List ℕ → Arrays
 built_arrays words = record {
   live = words;
@@ -61,7 +62,7 @@ built_arrays words = record {
   taken = length words;
 }
 
--- a write changes the live word and the entry of the current array, which is dirty then
+-- a write changes the live word and the entry of the current array, and makes that entry dirty
 abbrev pub written_arrays : Arrays → ℕ → ℕ → Arrays
 written_arrays store i v = record store {
   live = slice_set store.live i v;
@@ -80,7 +81,7 @@ swapped_arrays store = record store {
   taken = 0;
 }
 
--- a take of a cell cleans its entry, and goes on to the next
+-- a take of a cell cleans its entry, and moves to the next cell
 abbrev pub taken_arrays : Arrays → Arrays
 taken_arrays store = record store {
   previous_dirty = slice_set store.previous_dirty store.taken false;

@@ -13,8 +13,8 @@ use std::mem;
 use world_actions::Refusal;
 use world_ticks::Cells;
 
-/// A store of live words and two arrays of entries, odd and even, one of them current and the other
-/// previous. An entry is a word and a dirty mark.
+/// A store of live words and two arrays of entries, odd and even. One array is current and the other is previous. An
+/// entry is a word and a dirty mark.
 #[derive(Drop)]
 pub struct PingPong {
     live: Vec<u64>,
@@ -38,7 +38,7 @@ impl Model for PingPong {
 }
 
 impl PingPong {
-    /// A store of these words, with no round open. It takes all the memory that it will ever need.
+    /// Builds a store of these words, with no round open. It takes all the memory that it will ever need.
     pub fn new(alloc: Global, words: &[u64]) -> Result<Self, Refusal>
         requires { All IsWord words.now }
         ensures ok { IfOk result (λ store. store ≡ built_arrays words.now) }
@@ -56,7 +56,7 @@ impl PingPong {
         })
     }
 
-    /// The words of a cell's entries in array odd and array even, dirty or not.
+    /// Returns the words of a cell's entries in array odd and array even, dirty or not.
     pub fn arrays(&self, i: usize) -> (u64, u64)
         requires { i < length self.now.live }
         ensures odd { result.0 ≡ slice_index (odd_words self.now) i }
@@ -70,7 +70,7 @@ impl PingPong {
     }
 }
 
-// The calls by the arrays alone.
+// The calls, stated on the arrays alone.
 impl PingPong {
     fn put_word(&mut self, i: usize, v: u64)
         requires inside { i < length self.old.live }

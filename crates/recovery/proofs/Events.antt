@@ -1,4 +1,4 @@
--- Each event keeps what the law of recovery asks of the keepers' data.
+-- Each event keeps the premises of the law of recovery on the keepers' data.
 use Rattle.std.proofs.Common.{◌≡◌, ℕ, ◌+◌, ◌<◌, ◌≤◌, inl, inr, max, List, [], ◌∷◌, ◌++◌, length, take, drop, Option, Some, None, refl, sym, ap, subst, ◌∙◌, arith}
 use Rattle.std.proofs.lemmas.List.{append_assoc, length-append, length-drop, take_at, drop-append-le, take-append-le}
 use Rattle.std.proofs.lemmas.Bool.{cases_lt}
@@ -39,7 +39,7 @@ with_group_kept logs = record logs { kept = logs.kept ++ logs.pending; pending =
 abbrev pub with_switch : Logs → ℕ → Logs
 with_switch logs tick = record logs { switch = Some tick }
 
--- ---- what is acknowledged
+-- ---- the acknowledged ticks
 
 -- the greater of two numbers that are reached is
 pub reached_max : (m n end newest : ℕ) → Reached m end newest → Reached n end newest → Reached (max m n) end newest
@@ -78,7 +78,7 @@ logs_later ticks acknowledged newest newer logs le f = record {
   switch = switch_later newest newer logs logs.switch le f.switch;
 }
 
--- and acknowledges its tick
+-- an opened image acknowledges its tick
 pub logs_opened : (ticks : List (List Action)) (acknowledged newest newer : ℕ) (logs : Logs) → newest ≤ newer → LogsFollow ticks acknowledged newest logs → LogsFollow ticks (max acknowledged newer) newer logs
 logs_opened ticks acknowledged newest newer logs le f =
     let after = logs_later ticks acknowledged newest newer logs le f in
@@ -99,13 +99,13 @@ begins_lower : (low more : ℕ) (ticks : List ℕ) → low ≤ more → BeginFro
 begins_lower low more [] le h = tt
 begins_lower low more (tick ∷ ticks) le h = omega (arith, h)
 
--- the first switch isn't before the ticks that stand before it
+-- the first switch isn't earlier than the ticks before it in the queue
 pub first_switch : (taken : ℕ) (queue : List Record) → AreNumbered taken queue → BeginFrom taken (switches_in queue)
 first_switch taken [] n = tt
 first_switch taken (records.Tick tick ∷ queue) n = begins_lower taken (taken + 1) (switches_in queue) (omega arith) (first_switch (taken + 1) queue n)
 first_switch taken (records.Switch tick ∷ queue) n = omega (arith, n.0)
 
--- where a tick comes first, the segment has all ticks before it
+-- if a tick comes first, the segment has all ticks before it
 pub group_at : (logs : Logs) (taken newest : ℕ) (group : List (List Action)) (queue left : List Record) → StandBefore group queue left → 1 ≤ length group → HasUpTo logs taken newest queue → logs.base + length (logs.kept ++ logs.pending) ≡ taken
 group_at logs taken newest [] queue left stand some h = absurd (omega (arith, some))
 group_at logs taken newest (tick ∷ group) [] left stand some h = absurd stand
@@ -185,7 +185,7 @@ rise_more low newest mark (tick ∷ ticks) (one ∷ front) e lt rise =
     let rest : tick ∷ ticks ≡ front ++ newest ∷ [] = cc in
     (rise.0, rise_more tick newest mark ticks front rest lt rise.1)
 
--- and is greater than the newest image's tick
+-- the bases still rise with a mark that is greater than the newest image's tick
 pub rising_more : (before : Segment) (base newest mark : ℕ) (ticks earlier : List ℕ) → base_in before ++ base ∷ ticks ≡ earlier ++ newest ∷ [] → newest < mark → RiseFrom base ticks → RiseFrom base (ticks ++ mark ∷ [])
 rising_more ClosedSegment base newest mark ticks earlier e lt rise = rise_more base newest mark ticks earlier e lt rise
 rising_more MalformedSegment base newest mark ticks earlier e lt rise = rise_more base newest mark ticks earlier e lt rise
@@ -233,7 +233,7 @@ abbrev pub AreBelow : ℕ → List ℕ → Type 0
 AreBelow most [] = Unit {0}
 AreBelow most (tick ∷ ticks) = (tick < most) × AreBelow most ticks
 
--- what rises up to a tick is below it
+-- numbers that rise up to a tick are below it
 pub below_rising : (low tick : ℕ) (ticks later : List ℕ) → RiseFrom low (ticks ++ tick ∷ later) → (low < tick) × AreBelow tick ticks × RiseFrom low (tick ∷ later)
 below_rising low tick [] later rise = (rise.0, tt, rise)
 below_rising low tick (one ∷ ticks) later rise =

@@ -1,4 +1,4 @@
--- The law of recovery: what the two keepers say of their files makes the four of them sound.
+-- The law of recovery: the claims of the two keepers on their files make the four files sound.
 use Rattle.std.proofs.Common.{◌≡◌, ℕ, ◌+◌, ◌<◌, ◌≤◌, ◌⊎◌, inl, inr, Bool, true, false, cond, ltb, ◌||◌, List, [], ◌∷◌, ◌++◌, length, take, drop, Option, Some, None, Ok, Err, refl, sym, ap, subst, ◌∙◌, arith, eq-eqb}
 use Rattle.std.specs.Prelude.{IfSome}
 use Rattle.std.proofs.lemmas.Bool.{eqb-true, cond-true, cond-false, le-ltb, lt-ltb, cases_lt}
@@ -21,12 +21,12 @@ use Rattle.recovery.proofs.Tails.{IsBehind, closed_behind, earlier_behind, next_
 
 -- ---- the log
 
--- the current segment leads to the switch in work, which comes in no group
+-- if a switch is in work, no group is, and the current segment leads to the switch
 abbrev pub IsSwitchOf : (newest : ℕ) → Logs → Option ℕ → Type 0
 IsSwitchOf newest logs switch = IfSome switch (λ tick. (logs.base < tick) × (logs.pending ≡ []) × Reaches (logs.base + length logs.kept) tick newest)
 
--- from an image of this tick the log leads on: the current segment begins there, or the log is behind it, or
--- the other segment, which no switch has touched, begins there
+-- From an image of this tick the log leads on. The current segment begins there, or the log is behind it, or the other
+-- segment begins there and no switch has touched it.
 abbrev LeadsOn : List (List Action) → Logs → ℕ → Type 0
 LeadsOn ticks logs tick =
     (tick ≡ logs.base)
@@ -64,7 +64,7 @@ pub reached_newer : (acknowledged end newest newer : ℕ) → newest ≤ newer �
 reached_newer acknowledged end newest newer le (inl h) = inl h
 reached_newer acknowledged end newest newer le (inr h) = inr (omega (arith, h))
 
--- what the current segment has
+-- the ticks of the current segment
 record Has (ticks : List (List Action)) (acknowledged newest : ℕ) (logs : Logs) (now : Segment) : Type 0 where
   here : List (List Action)
   is : now ≡ OpenSegment logs.base here
@@ -250,7 +250,7 @@ still_holds cells ticks most more Closed le h = tt
 still_holds cells ticks most more Bad le h = h
 still_holds cells ticks most more (Open s v) le h = (omega (arith, h.0), h.1)
 
--- what is replayed on the picked image is a sound reading
+-- the replay on the picked image is a sound reading
 pub picked_reading : (cells : ℕ) (ticks : List (List Action)) (acknowledged t : ℕ) (image_a image_b : Image) (log_a log_b : Segment) (p : Picked cells ticks t image_a image_b) → is_bad_segment log_a ≡ false → is_bad_segment log_b ≡ false
     → (more : ℕ) (words : List ℕ) → recovery_from (Some p.image) log_a log_b ≡ Ok (record { tick = p.image.tick + more; from = p.image.tick; slot = p.image.slot; words = words })
     → acknowledged ≤ p.image.tick + more → IsWorldAt cells ticks (p.image.tick + more) words → IsSoundReading image_a image_b log_a log_b cells ticks acknowledged
@@ -335,7 +335,7 @@ image_leads ticks later images logs m (Some round) t is (inr e) =
     let bases : base_in logs.before ++ logs.base ∷ coming logs.switch later ≡ m.earlier ++ images.tick ∷ round.tick ∷ [] = subst (λ r. base_in logs.before ++ logs.base ∷ coming logs.switch later ≡ m.earlier ++ images.tick ∷ round_tick r) is m.bases in
     subst (λ n. LeadsOn ticks logs n) (sym e) (place_leads ticks logs round.tick later logs.before (m.earlier ++ images.tick ∷ []) [] refl (bases ∙ sym (append_assoc m.earlier (images.tick ∷ []) (round.tick ∷ []))) (omega arith) m.rising m.in_order)
 
--- what is picked is no older than the newest image
+-- the picked image is no older than the newest image
 not_older : (cells : ℕ) (ticks : List (List Action)) (newest : ℕ) (round : Option Round) (t : ℕ) → IsRoundOf cells ticks newest round → IsImageTick newest round t → newest ≤ t
 not_older cells ticks newest None t of e = omega (arith, e)
 not_older cells ticks newest (Some round) t of (inl e) = omega (arith, e)

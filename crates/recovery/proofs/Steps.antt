@@ -1,4 +1,4 @@
--- Each step of the log keeper keeps what the core keeps.
+-- Each step of the log keeper keeps the facts that hold between any two events.
 use Rattle.std.proofs.Common.{◌≡◌, ℕ, ◌+◌, ◌≤◌, max, inl, inr, List, [], ◌∷◌, ◌++◌, length, drop, Some, refl, sym, ap, subst, ◌∙◌, arith}
 use Rattle.std.proofs.lemmas.List.{append-nil, length-append, length-drop, drop_at, drop-drop}
 use Rattle.world_actions.specs.declared.action.Action.{Action}
@@ -109,7 +109,7 @@ module _ (cells : ℕ) (ticks : List (List Action)) (acknowledged : ℕ) (images
         };
       }
 
-  -- what a closed segment keeps, the next one's base reaches
+  -- the ticks of a closed segment reach up to the next one's base
   switch_kept : (mark newest : ℕ) → Reaches (logs.base + length logs.kept) mark newest → Reached acknowledged (logs.base + length logs.kept) newest → Reached acknowledged (mark + 0) newest
   switch_kept mark newest (inl e) (inl h) = inl (omega (arith, e, h))
   switch_kept mark newest (inr r) (inl h) = inl (omega (arith, r.0, h))
@@ -160,7 +160,7 @@ module _ (cells : ℕ) (ticks : List (List Action)) (acknowledged : ℕ) (images
   switching_keeps queue next left k s =
       subst (λ l. IsKept cells ticks acknowledged images l left) (sym s.is) (subst (λ q. IsKept cells ticks acknowledged images (switched_to logs s.tick) q) (sym s.queue_is) (keeps_switched s.tick queue k s.in_work))
 
-  -- where a group is in work, the segment has with it all ticks before the queue
+  -- if a group is in work, the segment has with it all ticks before the queue
   group_taken : (queue : List Record) (k : IsKept cells ticks acknowledged images logs queue) → 1 ≤ length logs.pending → logs.base + length (logs.kept ++ logs.pending) ≡ k.taken
   group_taken queue k some = elim k.has [ inl e ↦ e | inr h ↦ absurd (omega (arith, some, ap length h.0)) ]
 

@@ -1,4 +1,4 @@
--- What several steps of a keeper come to keeps what the law of recovery asks for.
+-- The combined effect of several keeper steps keeps the premises of the law of recovery.
 use Rattle.std.proofs.Common.{◌≡◌, ℕ, ◌+◌, max, List, [], ◌∷◌, ◌++◌, length, Some, refl, sym, subst, arith}
 use Rattle.world_actions.specs.declared.action.Action.{Action}
 use Rattle.world_ticks.specs.Tick.{Actions}

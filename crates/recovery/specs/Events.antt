@@ -1,4 +1,4 @@
--- The records that wait for the log, and how each event changes the keepers' data.
+-- The records that wait for the log, and the effect of each event on the keepers' data.
 use Rattle.std.specs.Prelude.{◌≡◌, ◌⊎◌, ℕ, ◌+◌, ◌<◌, ◌≤◌, List, [], ◌∷◌, ◌++◌, length, drop, max, Option, Some, None, Ok}
 use Rattle.world_actions.specs.declared.action.Action.{Action}
 use Rattle.action_log.specs.declared.record.Record.{Record}
@@ -30,12 +30,12 @@ switches_in [] = []
 switches_in (records.Tick tick ∷ queue) = switches_in queue
 switches_in (records.Switch tick ∷ queue) = tick ∷ switches_in queue
 
--- the switch in work, as if it stood in the queue, and the queue
+-- the switch in work, as if it were in front of the queue, and the queue
 abbrev pub with_work : Option ℕ → List Record → List Record
 with_work None queue = queue
 with_work (Some tick) queue = records.Switch tick ∷ queue
 
--- behind this many ticks each switch has the number of the ticks before it
+-- after this many ticks, each switch has the number of the ticks before it
 abbrev pub AreNumbered : ℕ → List Record → Type 0
 AreNumbered taken [] = Unit {0}
 AreNumbered taken (records.Tick tick ∷ queue) = AreNumbered (taken + 1) queue
@@ -46,8 +46,8 @@ abbrev pub IsSwitchFirst : List Record → Type 0
 IsSwitchFirst (records.Switch tick ∷ queue) = Unit {0}
 IsSwitchFirst queue = ⊥
 
--- The segment and the group in work have all ticks up to this one; or no group is in work, the ticks that the segment
--- lacks are in the newest image, and a switch comes next.
+-- Either the segment and the group in work have all ticks up to this one. Or no group is in work, the newest image has
+-- the ticks that the segment lacks, and a switch comes next.
 abbrev pub HasUpTo : Logs → (taken newest : ℕ) → List Record → Type 0
 HasUpTo logs taken newest queue =
     (logs.base + length (logs.kept ++ logs.pending) ≡ taken)
@@ -60,7 +60,7 @@ pub record AreAccepted (cells : ℕ) (ticks : List (List Action)) (images : Imag
   pub accepted : after_ticks cells ticks ≡ Ok last
   pub images_follow : ImagesFollow cells ticks images
 
--- the queue has what the log has still to take
+-- the queue has the records that the log has still to take
 pub record AreQueued (ticks : List (List Action)) (newest : ℕ) (logs : Logs) (queue : List Record) : Type 0 where
   pub taken : ℕ
   pub some_taken : taken ≤ length ticks
@@ -68,8 +68,8 @@ pub record AreQueued (ticks : List (List Action)) (newest : ℕ) (logs : Logs) (
   pub numbered : AreNumbered taken (with_work logs.switch queue)
   pub has : HasUpTo logs taken newest (with_work logs.switch queue)
 
--- What is kept between any two events after a start: all ended ticks were accepted, the data of both keepers follow
--- them and one another, and the queue has what the log has still to take.
+-- The facts that hold between any two events after a start. All ended ticks were accepted. The data of both keepers
+-- follow them and one another. The queue has the records that the log has still to take.
 pub record IsKept (cells : ℕ) (ticks : List (List Action)) (acknowledged : ℕ) (images : Images) (logs : Logs) (queue : List Record) : Type 0 where
   pub worlds : AreAccepted cells ticks images
   pub open worlds use *
@@ -80,29 +80,29 @@ pub record IsKept (cells : ℕ) (ticks : List (List Action)) (acknowledged : ℕ
 
 -- ---- the events
 
--- what is acknowledged after a step of the image keeper: the tick of an image that was opened
+-- the acknowledged count after a step of the image keeper: the tick of an opened image, if it is greater
 abbrev pub acknowledged_opened : ℕ → ImageAnswer → ℕ
 acknowledged_opened acknowledged (image_answer.Opened tick) = max acknowledged tick
 acknowledged_opened acknowledged answer = acknowledged
 
--- what is acknowledged after a step of the log keeper: the greatest tick of a receipt
+-- the acknowledged count after a step of the log keeper: the tick of a receipt, if it is greater
 abbrev pub acknowledged_after : ℕ → LogAnswer → ℕ
 acknowledged_after acknowledged (log_answer.Acked tick) = max acknowledged tick
 acknowledged_after acknowledged answer = acknowledged
 
--- a receipt's tick is the number of ended ticks, less those that still wait
+-- a receipt's tick is the number of ended ticks without those that still wait
 abbrev pub ReceiptIs : LogAnswer → (ticks : List (List Action)) → (left : List Record) → Type 0
 ReceiptIs (log_answer.Acked tick) ticks left = tick + length (ticks_in left) ≡ length ticks
 ReceiptIs answer ticks left = Unit {0}
 
--- Each event keeps it.
+-- Each event keeps these facts.
 pub record EventsKeep {S : Type 0} (took : S → Option Taken → S → Type 0) : Type 0 where
   -- a tick ends whose actions are all accepted, and is queued
   pub tick_ends : (cells : ℕ) (ticks : List (List Action)) (acknowledged : ℕ) (images : Images) (logs : Logs) (queue : List Record)
       (kept : IsKept cells ticks acknowledged images logs queue) (tick : Actions) (next : List ℕ) → after_actions kept.last tick.list ≡ Ok next
       → IsKept cells (ticks ++ tick.list ∷ []) acknowledged images logs (queue ++ records.Tick tick ∷ [])
-  -- with no round in work, and a tick ended since the newest image, the number of ended ticks is marked: a round begins at
-  -- it, and its switch is queued
+  -- No round is in work, and a tick ended since the newest image. A mark at the number of ended ticks begins a round, and
+  -- queues its switch.
   pub mark : (cells : ℕ) (ticks : List (List Action)) (acknowledged : ℕ) (images next : Images) (logs : Logs) (queue : List Record)
       → IsKept cells ticks acknowledged images logs queue → images.round ≡ None → images.tick < length ticks
       → with_round (length ticks) (Newest images) ≡ Newest next
@@ -123,7 +123,7 @@ pub record EventsKeep {S : Type 0} (took : S → Option Taken → S → Type 0) 
       (tick : ℕ) (answer : LogAnswer) (left : List Record)
       → IsKept cells ticks acknowledged images logs queue → tick ≤ images.tick → CoverStep logs queue tick answer left
       → IsKept cells ticks (acknowledged_after acknowledged answer) images logs left
-  -- each step's receipt is exact, and so is each cover's
+  -- the receipt of each step is exact, and the receipt of each cover too
   pub receipt : (cells : ℕ) (ticks : List (List Action)) (acknowledged : ℕ) (images : Images) (logs : Logs) (queue : List Record)
       (answer : LogAnswer) (next : Logs) (left : List Record)
       → IsKept cells ticks acknowledged images logs queue → LogsStep logs queue answer next left → ReceiptIs answer ticks left
@@ -131,7 +131,7 @@ pub record EventsKeep {S : Type 0} (took : S → Option Taken → S → Type 0) 
       (tick : ℕ) (answer : LogAnswer) (left : List Record)
       → IsKept cells ticks acknowledged images logs queue → CoverStep logs queue tick answer left → ReceiptIs answer ticks left
 
--- The same events as whole ones, for who knows only what came of a keeper's steps.
+-- The same events as whole ones, for callers that know only the results of a keeper's steps.
 pub record WholeEventsKeep : Type 0 where
   -- the words taken of the round in work are these
   pub taken : (cells : ℕ) (ticks : List (List Action)) (acknowledged : ℕ) (images : Images) (logs : Logs) (queue : List Record) (round : Round) (words : List ℕ)
@@ -156,9 +156,9 @@ pub record WholeEventsKeep : Type 0 where
 
 -- ---- the events of a start
 
--- Each event of a start keeps what `law_of_start` asks for.
+-- Each event of a start keeps the premises of `law_of_start`.
 pub record StartEventsKeep {S : Type 0} (took : S → Option Taken → S → Type 0) : Type 0 where
-  -- where the log was ahead of the image, the round of the recovered tick begins
+  -- if the log was ahead of the image, the round of the recovered tick begins
   pub round_begins : (cells : ℕ) (ticks : List (List Action)) (acknowledged : ℕ) (images next : Images) (from : ℕ) (start : Start)
       → 1 ≤ cells → IsStarting cells ticks acknowledged images from start → images.tick < start.tick
       → with_round start.tick (Newest images) ≡ Newest next → IsStarting cells ticks acknowledged next from start
@@ -168,16 +168,16 @@ pub record StartEventsKeep {S : Type 0} (took : S → Option Taken → S → Typ
       → IsStarting cells ticks acknowledged images from start → StepsImages took cells (Newest images) answer next old new
       → IsRoundOf cells ticks images.tick (round_in next)
       → (after : Images) × (next ≡ Newest after) × IsStarting cells ticks (acknowledged_opened acknowledged answer) after from start
-  -- a step of the log keeper, once the newest image is of the recovered tick: the start goes on, or ends, with its tick
-  -- as the newest image's and the segment's
+  -- A step of the log keeper, once the newest image is of the recovered tick. The start continues, or it ends with a
+  -- segment that begins at the recovered tick.
   pub log_step : (cells : ℕ) (ticks : List (List Action)) (acknowledged : ℕ) (images : Images) (from : ℕ) (start : Start)
       (left : ℕ) (answer : LogAnswer) (next : LogPlace)
       → 1 ≤ cells → IsStarting cells ticks acknowledged images from start → images.tick ≡ start.tick → images.round ≡ None
       → StartStep start left answer next
       → ((after : Start) × (next.journal ≡ InStart after) × IsStarting cells ticks acknowledged images from after)
       ⊎ ((next.journal ≡ Writing (started start.tick)) × IsKept cells ticks acknowledged images (started start.tick) [])
-  -- Of a fresh world's start a step of the image keeper, whose round is of zeros at tick 0 once all cells are taken. Until the
-  -- image is opened no segment is touched, and then the start goes on as after a recovery at tick 0.
+  -- A step of the image keeper in a fresh world's start. Its round is of zeros at tick 0 once all cells are taken. Until
+  -- the image is opened no segment is touched. Then the start continues as after a recovery at tick 0.
   pub first_image_step : (cells : ℕ) (images : FirstImages) (start : Start) (answer : ImageAnswer) (next : ImageFiles) (old new : S)
       → FirstFollows cells images start → StepsImages took cells (NoneYet images) answer next old new → IsFirstRound cells (round_in next)
       → ((after : FirstImages) × (next ≡ NoneYet after) × FirstFollows cells after start)

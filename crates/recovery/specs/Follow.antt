@@ -1,4 +1,4 @@
--- How the data of the two keepers follow the ticks that have ended, and the law that makes their files sound.
+-- The relation of the two keepers' data to the ticks that have ended, and the law that makes their files sound.
 use Rattle.std.specs.Prelude.{◌≡◌, ℕ, ◌+◌, ◌<◌, ◌≤◌, List, [], ◌∷◌, ◌++◌, ◌⊎◌, length, take, drop, Option, Some, None, IfSome, Ok}
 use Rattle.world_actions.specs.declared.action.Action.{Action}
 use Rattle.world_ticks.specs.After.{after_ticks}
@@ -7,24 +7,24 @@ use Rattle.action_log.specs.Segment.{Segment, ClosedSegment, MalformedSegment, O
 use Rattle.action_log.specs.Logs.{Logs, LogsAre}
 use Rattle.recovery.specs.Sound.{IsWorldAt, HoldsWorld, IsSound}
 
--- these ticks are those that ended after this one
+-- these ticks are the first ones that ended after this tick
 pub record FollowsFrom (ticks : List (List Action)) (base : ℕ) (some : List (List Action)) : Type 0 where
   pub ended : base + length some ≤ length ticks
   pub are : some ≡ take (length some) (drop base ticks)
 
--- the round's words are the world after its tick once all are taken
+-- the round is of a later tick than the newest image, and its words are the world after its tick once all are taken
 abbrev pub IsRoundOf : ℕ → List (List Action) → ℕ → Option Round → Type 0
 IsRoundOf cells ticks newest None = Unit {0}
 IsRoundOf cells ticks newest (Some round) = (newest < round.tick) × (length round.taken ≡ cells → IsWorldAt cells ticks round.tick round.taken)
 
--- the newest image and the other one are worlds of the ticks that have ended, and so is the round in work
+-- the newest image, the other image and the round in work are worlds after ticks that have ended
 pub record ImagesFollow (cells : ℕ) (ticks : List (List Action)) (images : Images) : Type 0 where
   pub newest : IsWorldAt cells ticks images.tick images.words
   pub before : HoldsWorld cells ticks images.tick images.before
   pub round : IsRoundOf cells ticks images.tick images.round
 
--- a segment that ends behind this tick leads to the next one's base: no tick is between, or those between are in the
--- newest image
+-- a segment that ends at this tick leads to the next one's base: no tick is between, or those between are in the newest
+-- image
 abbrev pub Reaches : (end base newest : ℕ) → Type 0
 Reaches end base newest = (end ≡ base) ⊎ ((end ≤ base) × (base ≤ newest))
 
@@ -34,8 +34,8 @@ LeadsTo ticks newest base ClosedSegment = Unit {0}
 LeadsTo ticks newest base MalformedSegment = ⊥
 LeadsTo ticks newest base (OpenSegment earlier before) = (earlier < base) × FollowsFrom ticks earlier before × Reaches (earlier + length before) base newest
 
--- The ticks of both segments are those that have ended, and all acknowledged ones are kept or in the newest image. The
--- current segment leads to the switch in work, which comes in no group.
+-- The ticks of both segments are those that have ended. All acknowledged ones are kept or in the newest image. If a
+-- switch is in work, no group is, and the current segment leads to the switch.
 pub record LogsFollow (ticks : List (List Action)) (acknowledged newest : ℕ) (logs : Logs) : Type 0 where
   pub taken : FollowsFrom ticks logs.base (logs.kept ++ logs.pending)
   pub acknowledges : (acknowledged ≤ logs.base + length logs.kept) ⊎ (acknowledged ≤ newest)
@@ -57,26 +57,27 @@ abbrev pub coming : Option ℕ → List ℕ → List ℕ
 coming None later = later
 coming (Some tick) later = tick ∷ later
 
--- each of these is greater than the one before it
+-- each of these numbers is greater than the one before it, and the first is greater than this one
 abbrev pub RiseFrom : ℕ → List ℕ → Type 0
 RiseFrom low [] = Unit {0}
 RiseFrom low (tick ∷ ticks) = (low < tick) × RiseFrom tick ticks
 
--- the first of these isn't below this one
+-- the first of these numbers isn't below this one
 abbrev pub BeginFrom : ℕ → List ℕ → Type 0
 BeginFrom low [] = Unit {0}
 BeginFrom low (tick ∷ ticks) = low ≤ tick
 
--- The bases that the segments have, and will have by the switches to come, rise, and the last of them are the ticks of
--- the newest image and of the round in work. No switch comes before a tick that the current segment has.
+-- The bases are those of the segments, and those of the switches to come. They rise from the current segment's base on.
+-- The last of them are the ticks of the newest image and of the round in work. No switch comes before a tick that the
+-- current segment has.
 pub record FollowMarks (later : List ℕ) (images : Images) (logs : Logs) : Type 0 where
   pub earlier : List ℕ
   pub bases : base_in logs.before ++ logs.base ∷ coming logs.switch later ≡ earlier ++ images.tick ∷ round_tick images.round
   pub rising : RiseFrom logs.base (coming logs.switch later)
   pub in_order : BeginFrom (logs.base + length (logs.kept ++ logs.pending)) (coming logs.switch later)
 
--- where all ended ticks were accepted, and the keepers' data follow them and one another, four files that are as the
--- keepers claim are sound
+-- All ended ticks were accepted, and the keepers' data follow them and one another. Then four files that are as the
+-- keepers claim are sound.
 abbrev pub LawOfRecovery : (image_a image_b log_a log_b : List ℕ → Type 0) → Type 0
 LawOfRecovery image_a image_b log_a log_b =
     (cells : ℕ) (ticks : List (List Action)) (acknowledged : ℕ) (last : List ℕ) (images : Images) (logs : Logs) (later : List ℕ)

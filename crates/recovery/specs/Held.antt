@@ -1,5 +1,5 @@
 -- Inside: for the proofs of this crate's private functions.
--- What the program holds of files.
+-- The contents of files as the program holds them.
 use Rattle.std.specs.Prelude.{◌≡◌, ◌+◌, ◌≤◌, List, length}
 use Rattle.world_actions.specs.World.{IsWorld}
 use Rattle.world_ticks.specs.declared.tick.TheConstants.{TICK_MAX}
@@ -17,7 +17,7 @@ IsBoundedImage Closed = Unit {0}
 IsBoundedImage Bad = ⊥
 IsBoundedImage (Open tick words) = (tick ≤ TICK_MAX) × IsWorld words
 
--- an open segment has so many ticks at most, with numbers in range
+-- an open segment has at most `SEGMENT_TICKS` ticks, with numbers in range
 abbrev pub IsBoundedSegment : Segment → Type 0
 IsBoundedSegment ClosedSegment = Unit {0}
 IsBoundedSegment MalformedSegment = ⊥
@@ -27,7 +27,7 @@ IsBoundedSegment (OpenSegment base ticks) = (length ticks ≤ SEGMENT_TICKS) × 
 abbrev pub newest_in : Found → Newest
 newest_in found = record { slot = found.slot; tick = found.tick; words = found.words.items }
 
--- so many ticks, and their actions
+-- the number of these ticks, and their actions
 pub record IsStretchOf (ticks : List Tick) (stretch : Stretch) : Type 0 where
   pub so_many : stretch.ticks ≡ length ticks
   pub actions_are : stretch.actions.now ≡ actions_of ticks

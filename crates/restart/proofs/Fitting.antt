@@ -1,4 +1,4 @@
--- A keeper just made fits the files that it was told of.
+-- A new keeper fits the files for which it was made.
 use Rattle.std.proofs.Common.{◌≡◌, ℕ, Bool, List, Option, Result, Ok, Err, sym, ap, subst, ◌∙◌}
 use Rattle.std.specs.Prelude.{IfOk}
 use Rattle.world_actions.specs.declared.refusal.Refusal.{Refusal}

@@ -1,4 +1,4 @@
--- Whether a gate is shut is told rightly.
+-- The test if a gate is shut is right.
 use Rattle.std.proofs.Common.{◌≡◌, ℕ, ◌⊎◌, inl, inr, Bool, true, false, ◌&&◌, not, nat_eq, nat_lt, eq-eqb, eqb-true, lt-ltb, ltb-true, List, length, get_or, refl, sym, ap, ◌∙◌, arith}
 use Rattle.std.proofs.lemmas.Bool.{cases_lt}
 use Rattle.file_format.specs.Gate.{HasShutGate, HasNoShutGate}

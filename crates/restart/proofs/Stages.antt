@@ -76,7 +76,7 @@ caught cells ticks acknowledged from old new image_answer.Working images start n
 caught cells ticks acknowledged from old new (image_answer.Opened tick) images start next after s e none f h = tick_same after (record { slot = other_slot images.slot; tick = s.0.tick; words = s.0.taken; before = Open images.tick images.words; round = None }) (sym e ∙ s.4) ∙ start_tick f.start_follows.round s.1
 caught cells ticks acknowledged from old new image_answer.Down images start next after s e none f h = tick_same after images (sym e ∙ s.2) ∙ h (sym (ap round_in (sym e ∙ s.2)) ∙ none)
 
--- and until then nothing is acknowledged
+-- until the first image is opened nothing is acknowledged
 still_none : (cells : ℕ) (old new : Content) (acknowledged : ℕ) (given : ImageAnswer) (images : FirstImages) (next : ImageFiles) (after : FirstImages) → StepsImages Takes cells (NoneYet images) given next old new → next ≡ NoneYet after
     → acknowledged_opened acknowledged given ≡ acknowledged
 still_none cells old new acknowledged image_answer.Idle images next after s e = refl

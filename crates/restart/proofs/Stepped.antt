@@ -1,4 +1,4 @@
--- Takes and openings keep what is true of the store and the round.
+-- Takes and openings keep the facts on the store and the round.
 use Rattle.std.proofs.Common.{◌≡◌, ℕ, ◌+◌, ◌<◌, inl, inr, List, [], ◌∷◌, ◌++◌, length, take, drop, replicate, get_or, Option, Some, None, option_map, Result, Ok, refl, sym, ap, subst, ◌∙◌, append_assoc, arith}
 use Rattle.std.specs.Prelude.{slice_get}
 use Rattle.std.proofs.lemmas.List.{take_all, take_at, length-append, append-nil, drop-drop, get_or-drop}

@@ -29,20 +29,20 @@ pub record IsBeforeFirst (cells : ℕ) (ticks : List (List Action)) (acknowledge
   pub follows : FirstFollows cells images start
   pub in_work : (round : Round) × (images.round ≡ Some round)
 
--- in a start, once there is an image: the log's part waits for the image of the start's tick
+-- in a start, once there is an image; if no round is in work, the newest image is of the start's tick
 pub record IsInStart (cells : ℕ) (ticks : List (List Action)) (acknowledged : ℕ) (images : Images) (start : Start) : Type 0 where
   pub from : ℕ
   pub starting : IsStarting cells ticks acknowledged images from start
   pub caught_up : images.round ≡ None → images.tick ≡ start.tick
 
--- nothing is queued in a start
+-- the phase of the world: nothing is queued in a start, and after it there is an image
 abbrev pub HasPhase : (cells : ℕ) → List (List Action) → (acknowledged : ℕ) → ImageFiles → Journal → List Record → Type 0
 HasPhase cells ticks acknowledged (NoneYet images) (InStart start) queue = IsBeforeFirst cells ticks acknowledged images start × (queue ≡ [])
 HasPhase cells ticks acknowledged (Newest images) (InStart start) queue = IsInStart cells ticks acknowledged images start × (queue ≡ [])
 HasPhase cells ticks acknowledged (NoneYet images) (Writing logs) queue = ⊥
 HasPhase cells ticks acknowledged (Newest images) (Writing logs) queue = IsKept cells ticks acknowledged images logs queue
 
--- these ticks have ended, so many of them are acknowledged, and the store and the keepers' data follow them
+-- these ticks have ended, this many of them are acknowledged, and the store and the keepers' data follow them
 pub record InStep (cells : ℕ) (ticks : List (List Action)) (acknowledged : ℕ) (content : Content) (images : ImageFiles) (journal : Journal) (queue : List Record) : Type 0 where
   pub store : StoreFollowsImages cells ticks content images
   pub phase : HasPhase cells ticks acknowledged images journal queue
@@ -52,11 +52,11 @@ abbrev pub NoneWaitedFor : Journal → ImageFiles → Type 0
 NoneWaitedFor (InStart start) images = round_in images ≡ None
 NoneWaitedFor (Writing logs) images = Unit {0}
 
--- ---- what begins it, and what keeps it
+-- ---- its beginning, and the events that keep it
 
--- What goes on between any two events, and a start begins it.
+-- The facts that hold between any two events: a start begins them, and each event keeps them.
 pub record WorldsGoOn : Type 0 where
-  -- A start after a recovery, on a store that was built of the recovered words, keeps the recovered ticks.
+  -- A start after a recovery, on a store that was built from the recovered words, keeps the recovered ticks.
   pub recovery : (cells : ℕ) (ticks : List (List Action)) (acknowledged : ℕ) (r : Recovery) (image_a image_b : Image) (log_a log_b : Segment) (content : Content)
       → 1 ≤ cells → Restarts cells ticks acknowledged r image_a image_b log_a log_b → IsBuilt r.words (nat_lt r.from r.tick) content
       → InStep cells (take r.tick ticks) acknowledged content
@@ -91,7 +91,8 @@ pub record WorldsGoOn : Type 0 where
       → InStep cells ticks acknowledged old images (Writing logs) queue
       → (after_ticks cells (ticks ++ tick.list ∷ []) ≡ Ok new.live)
       × InStep cells (ticks ++ tick.list ∷ []) acknowledged new images (Writing logs) (queue ++ records.Tick tick ∷ [])
-  -- with no round in work, and a tick ended since the newest image, the store is marked, and the switch of the mark is queued
+  -- No round is in work, and a tick ended since the newest image. The store is marked, and the switch of the mark is
+  -- queued.
   pub mark : (cells : ℕ) (ticks : List (List Action)) (acknowledged : ℕ) (images : Images) (logs : Logs) (queue : List Record) (old new : Content)
       → images.round ≡ None → images.tick < length ticks → after_ticks cells ticks ≡ Ok old.live → length old.live ≡ cells → Marks old new
       → InStep cells ticks acknowledged old (Newest images) (Writing logs) queue
@@ -100,7 +101,8 @@ pub record WorldsGoOn : Type 0 where
   pub all_acknowledged : (cells : ℕ) (ticks : List (List Action)) (acknowledged : ℕ) (content : Content) (images : ImageFiles) (logs : Logs)
       → logs.pending ≡ [] → InStep cells ticks acknowledged content images (Writing logs) []
       → InStep cells ticks (length ticks) content images (Writing logs) []
-  -- the store alone goes on through the writes of an action, and through the end of a tick; a round of which nothing is left is whole
+  -- The store alone keeps following the images through the writes of an action, and through the end of a tick. A round
+  -- with nothing left is whole.
   pub writes : WritesFollow
   pub ticks : TicksFollow
   pub all_taken : AllAreTaken
@@ -118,9 +120,9 @@ pub record IsSettled (cells : ℕ) (ticks : List (List Action)) (words : List �
   pub image : images.words ≡ words
   pub idle : is_idle logs
 
--- ---- what it gives
+-- ---- its consequences
 
--- before there is an image the files are those of a fresh world, and sound since
+-- before there is an image the files are those of a fresh world, and afterwards they are sound
 abbrev pub IsSafe : ImageFiles → (image_a image_b log_a log_b : List ℕ → Type 0) → (cells : ℕ) → List (List Action) → (acknowledged : ℕ) → Type 0
 IsSafe (NoneYet images) image_a image_b log_a log_b cells ticks acknowledged = IsFresh image_a image_b log_a log_b cells × (ticks ≡ []) × (acknowledged ≡ 0)
 IsSafe (Newest images) image_a image_b log_a log_b cells ticks acknowledged = IsSound image_a image_b log_a log_b cells ticks acknowledged

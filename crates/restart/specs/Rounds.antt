@@ -1,4 +1,4 @@
--- How a store follows the images: the round in work is of the words at its mark.
+-- A store follows the images: the round in work is of the words at its mark.
 use Rattle.std.specs.Prelude.{◌≡◌, ℕ, Bool, List, [], ◌++◌, length, drop, map, Option, Some, None}
 use Rattle.world_actions.specs.declared.action.Action.{Action}
 use Rattle.capture_core.specs.Content.{Content, Marks, Takes, Covers}
@@ -11,11 +11,12 @@ use Rattle.recovery.specs.Follow.{IsRoundOf}
 use Rattle.recovery.specs.Start.{IsFirstRound}
 use Rattle.restart.specs.Start.{IsBuilt, images_begun}
 
--- the words of what a round has left: of a cell that is the same the newest image's
+-- the words of the cells that a round has left; the word of a cell that is the same is the newest image's
 abbrev pub words_left : List (Option ℕ) → (newest : List ℕ) → List ℕ
 words_left left newest = filled_words (map taken_of left) newest
 
--- the words taken and those that are left are the words at the mark, which has those of the cells untouched since
+-- the words taken, followed by those that are left, are the words at the mark; these have the live word of each untouched
+-- cell
 pub record IsRoundOver (cells : ℕ) (newest taken marked : List ℕ) (content : Content) : Type 0 where
   pub whole : length marked ≡ cells
   pub words : taken ++ words_left content.left (drop (length taken) newest) ≡ marked
@@ -28,16 +29,16 @@ StoreFollows cells ticks content newest None = (content.left ≡ []) × Covers n
 StoreFollows cells ticks content newest (Some round) =
     (marked : List ℕ) × IsWorldAt cells ticks round.tick marked × IsRoundOver cells newest round.taken marked content
 
--- the words of the newest image, none before the first
+-- the words of the newest image, or none before the first
 abbrev pub words_of : ImageFiles → List ℕ
 words_of (NoneYet images) = []
 words_of (Newest images) = images.words
 
--- the same, of the images as they are
+-- the same relation for the images as they are
 abbrev pub StoreFollowsImages : (cells : ℕ) → List (List Action) → Content → ImageFiles → Type 0
 StoreFollowsImages cells ticks content images = StoreFollows cells ticks content (words_of images) (round_in images)
 
--- ---- what keeps it
+-- ---- the events that keep it
 
 -- a mark begins the round of the live words
 abbrev pub MarkFollows : Type 0
@@ -53,14 +54,14 @@ BuiltFollows =
     → length words ≡ cells → IsWorldAt cells ticks tick words → round_in images ≡ None → IsBuilt words round content
     → StoreFollowsImages cells ticks content (images_begun round tick images)
 
--- writes leave what is left of the round
+-- a store still follows its images after writes; these keep the rest of the round, and each image that covers the store
 abbrev pub WritesFollow : Type 0
 WritesFollow =
     (cells : ℕ) (ticks : List (List Action)) (old new : Content) (images : ImageFiles)
     → new.left ≡ old.left → ((image : List ℕ) → Covers image old → Covers image new)
     → StoreFollowsImages cells ticks old images → StoreFollowsImages cells ticks new images
 
--- more ticks end
+-- a store still follows its images after more ticks end
 abbrev pub TicksFollow : Type 0
 TicksFollow =
     (cells : ℕ) (ticks more : List (List Action)) (content : Content) (images : ImageFiles)
@@ -73,9 +74,9 @@ StepFollows =
     → StepsImages Takes cells images answer next old new
     → StoreFollowsImages cells ticks old images → StoreFollowsImages cells ticks new next
 
--- ---- what it gives
+-- ---- its consequences
 
--- behind that step the round is what recovery's law asks for
+-- after that step the round is as recovery's law requires
 abbrev pub RoundFollows : Type 0
 RoundFollows =
     (cells : ℕ) (ticks : List (List Action)) (images : Images) (answer : ImageAnswer) (next : ImageFiles) (old new : Content)
@@ -89,7 +90,7 @@ FirstRoundFollows =
     → StepsImages Takes cells (NoneYet images) answer next old new → IsFirstRound cells images.round
     → StoreFollowsImages cells [] new next → IsFirstRound cells (round_in next)
 
--- where nothing is left of a round all its cells are taken
+-- if nothing is left of a round, all its cells are taken
 abbrev pub AllAreTaken : Type 0
 AllAreTaken =
     (cells : ℕ) (ticks : List (List Action)) (content : Content) (images : ImageFiles) (round : Round)

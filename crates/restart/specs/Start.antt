@@ -1,4 +1,4 @@
--- What a start begins with.
+-- The parts of a start.
 use Rattle.std.specs.Prelude.{◌≡◌, ℕ, List, [], length, get_or, Bool, true, false, not, nat_eq, nat_lt, ◌&&◌, Option, Some, None}
 use Rattle.file_format.specs.declared.gate.TheConstants.{OPEN_GATE}
 use Rattle.file_format.specs.declared.slot.Slot.{Slot}
@@ -6,26 +6,26 @@ use Rattle.capture_core.specs.Content.{Content, all_touched, Marks}
 use Rattle.image_files.specs.Progress.{Progress, begun_keeper}
 use Rattle.image_files.specs.Images.{ImageFiles, with_round}
 
--- whether the start has a round: with no image, or where the newest one is of an earlier tick
+-- true if the start has a round: there is no image, or the newest one is of an earlier tick
 abbrev pub has_round : Option (Slot × ℕ) → (tick : ℕ) → Bool
 has_round None tick = true
 has_round (Some image) tick = nat_lt image.1 tick
 
--- a store just built from these words, and marked where the start has a round
+-- a store just built from these words, and marked if the start has a round
 abbrev pub IsBuilt : List ℕ → (round : Bool) → Content → Type 0
 IsBuilt words false content = content ≡ all_touched words []
 IsBuilt words true content = Marks (all_touched words []) content
 
--- the image keeper just made, with its round begun where the start has one
+-- the new image keeper, with its round begun if the start has one
 abbrev pub started_keeper : (round : Bool) → (tick : ℕ) → Progress → Progress
 started_keeper false tick keeper = keeper
 started_keeper true tick keeper = begun_keeper tick keeper
 
--- the images, with the start's round begun where it has one
+-- the images, with the start's round begun if it has one
 abbrev pub images_begun : (round : Bool) → (tick : ℕ) → ImageFiles → ImageFiles
 images_begun false tick images = images
 images_begun true tick images = with_round tick images
 
--- a file's gate is there and isn't open
+-- true if a file's gate is there and isn't open
 abbrev pub is_shut : List ℕ → Bool
 is_shut bytes = nat_lt 0 (length bytes) && not (nat_eq (get_or bytes 0 0) OPEN_GATE)

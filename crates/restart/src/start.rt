@@ -1,3 +1,4 @@
+//! The parts of a start: its store, the keepers of its files, and its round if it has one.
 ghost use Rattle.std.specs.Prelude.{◌≡◌, ◌≤◌, ℕ, List, All, replicate, IfOk, IfErr};
 ghost use Rattle.world_actions.specs.World.{IsWord};
 ghost use Rattle.world_actions.specs.declared.world.TheConstants.{CELLS};
@@ -15,10 +16,10 @@ use image_files::{ImageKeeper, Slot, images_stay, is_shut};
 use std::alloc::Global;
 use world_actions::Refusal;
 
-/// How many records may wait for the log of a world, in the queue of its keeper and on the way there.
+/// The number of records that may wait for the log of a world, in the queue of its keeper and on the way there.
 pub const QUEUE_RECORDS: usize = 64;
 
-/// Whether a start at this tick has a round, where the newest image is of that file and tick.
+/// True if a start at this tick has a round. `newest` is the file and the tick of the newest image.
 pub fn has_round(newest: Option<(Slot, u64)>, tick: u64) -> bool
     ensures { result ≡ has_round newest tick }
 {
@@ -28,7 +29,7 @@ pub fn has_round(newest: Option<(Slot, u64)>, tick: u64) -> bool
     }
 }
 
-/// The store of a start, marked where the start has a round.
+/// Builds the store of a start, and marks it if the start has a round.
 pub fn store_of<C: Capture>(alloc: Global, words: &[u64], round: bool) -> Result<C, Refusal>
     requires { All IsWord words.now }
     ensures built { IfOk result (λ store. IsBuilt words.now round (C.content store)) }
@@ -41,7 +42,7 @@ pub fn store_of<C: Capture>(alloc: Global, words: &[u64], round: bool) -> Result
     Ok(store)
 }
 
-/// The image keeper of a start on files with these bytes, with its round begun where the start has one.
+/// Makes the image keeper of a start on files with these bytes, and begins its round if the start has one.
 pub fn images_of(
     alloc: Global,
     cells: u32,
@@ -70,7 +71,7 @@ pub fn images_of(
     Ok(images)
 }
 
-/// The log keeper of a start at this tick, on files with these bytes.
+/// Makes the log keeper of a start at this tick, on files with these bytes.
 pub fn log_of(alloc: Global, tick: u64, log_a: &[u8], log_b: &[u8]) -> Result<LogKeeper, Refusal>
     requires { tick ≤ TICK_MAX }
     ensures made { IfOk result (λ keeper. keeper
@@ -83,7 +84,7 @@ pub fn log_of(alloc: Global, tick: u64, log_a: &[u8], log_b: &[u8]) -> Result<Lo
     LogKeeper::new(alloc, tick, [known_shut(log_a), known_shut(log_b)])
 }
 
-/// Law: whether a gate is shut is told rightly of any bytes.
+/// Law: the test if a gate is shut is right for any bytes.
 pub fn gates_are_told()
     ensures { (file : List ℕ) → TellsShut (is_shut_file file) file }
 {}
@@ -94,7 +95,7 @@ fn known_shut(file: &[u8]) -> bool
     is_shut(file)
 }
 
-/// The words of a fresh world.
+/// Returns the words of a fresh world.
 pub fn zeros(alloc: Global, cells: u32) -> Result<Vec<u64>, Refusal>
     ensures zeros { IfOk result (λ words. words.items ≡ replicate cells 0) }
     ensures memory { IfErr result (λ refusal. refusal ≡ Refusal.NoMemory) }

@@ -24,7 +24,7 @@ whole words items i cells all end front = (let long : length words ≤ i = omega
 
 -- ---- an engine with a store of the same content
 
--- is at rest
+-- the engine is at rest
 pub same_rests : {C D : Type 0} (content : C → Content) (file : D → List ℕ) (honest : Bool) (engine : Engine C) (store : C) (files : FourFiles D) → content store ≡ content engine.store
     → IsAtRest content file honest engine files → IsAtRest content file honest (record engine { store = store }) files
 same_rests content file honest engine store files same r =
@@ -37,7 +37,7 @@ same_rests content file honest engine store files same r =
       rests = r.rests;
     }
 
--- and follows its ticks
+-- the engine follows its ticks
 pub same_follows : {C D : Type 0} (content : C → Content) (file : D → List ℕ) (leaves : D → List ℕ → Type 0) (engine : Engine C) (store : C) (files : FourFiles D) (ticks : List (List Action)) (acknowledged : ℕ)
     → content store ≡ content engine.store → Follows content file leaves engine files ticks acknowledged → Follows content file leaves (record engine { store = store }) files ticks acknowledged
 same_follows content file leaves engine store files ticks acknowledged same f =

@@ -1,4 +1,4 @@
--- What is made and opened at once is a world of zeros.
+-- A world that is made and opened at once is one of zeros.
 use Rattle.std.proofs.Common.{◌≡◌, ℕ, zero, suc, Bool, List, [], take, replicate, Result, Ok, refl, sym, subst, ◌∙◌}
 use Rattle.world_actions.specs.declared.action.Action.{Action}
 use Rattle.world_actions.specs.declared.refusal.Refusal.{Refusal}

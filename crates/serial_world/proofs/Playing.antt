@@ -1,4 +1,4 @@
--- What batches and checkpoints do keeps the world in step with its ticks.
+-- Batches and checkpoints keep the world in step with its ticks.
 use Rattle.std.proofs.Common.{◌≡◌, ℕ, Bool, ◌+◌, ◌-◌, ◌<◌, ◌≤◌, List, [], ◌∷◌, ◌++◌, length, true, false, Option, Some, None, Ok, if◌then◌else◌, sym, ap, subst, ◌∙◌, arith}
 use Rattle.std.proofs.lemmas.List.{length-append}
 use Rattle.world_actions.specs.declared.action.Action.{Action}
@@ -46,7 +46,7 @@ begun_by : (shut : Bool) → (if shut then Header else Closing) ≡ Idle → ⊥
 begun_by true e = absurd (let h = e in cc)
 begun_by false e = absurd (let h = e in cc)
 
--- is in work
+-- the round is in work
 pub begun_works : (tick : ℕ) (keeper : ImageProgress) → (begun_keeper tick keeper).phase ≡ Idle → ⊥
 begun_works tick keeper e = begun_by keeper.target_shut e
 

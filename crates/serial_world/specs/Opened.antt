@@ -1,4 +1,4 @@
--- What opening a world gives, and making one.
+-- The results of opening a world, and of making one.
 use Rattle.std.specs.Prelude.{◌≡◌, ◌≢◌, ℕ, Bool, List, [], take, replicate}
 use Rattle.world_actions.specs.declared.action.Action.{Action}
 use Rattle.world_actions.specs.declared.refusal.Refusal.{Refusal}
@@ -11,8 +11,8 @@ use Rattle.world_start.specs.Opening.{AreSynced, AreSound, RecoversFiles}
 use Rattle.serial_world.specs.declared.state.SerialState.{SerialState}
 use Rattle.serial_world.specs.Runs.{words_of, Serves}
 
--- A world is served: what recovery answers, acknowledged again. Where the files were sound for some ticks, the recovered ones
--- among them are served, and no fewer than were acknowledged.
+-- The recovered world is served, and all its ticks are acknowledged again. If the files were synced and sound for some
+-- ticks, the recovered ones among them are served, and no fewer than were acknowledged.
 pub record IsOpened {C D : Type 0} (content : C → Content) (file : D → List ℕ) (leaves : D → List ℕ → Type 0) (honest : Bool) (files : FourFiles D) (s : SerialState C D) : Type 0 where
   pub recovery : Recovery
   pub recovers : RecoversFiles file files recovery
@@ -24,7 +24,7 @@ pub record IsOpened {C D : Type 0} (content : C → Content) (file : D → List 
       → (s.engine.images.cells ≡ cells) × Serves content file leaves honest s (take recovery.tick ticks)
 
 module _ {D : Type 0} (file : D → List ℕ) (leaves : D → List ℕ → Type 0) where
-  -- no world is opened: but for a device that failed the files were only read, and sound files stay sound
+  -- No world is opened. The files were only read, except if a device failed, and sound files stay sound.
   pub record IsNotOpened (files : FourFiles D) (refusal : Refusal) (left : FourFiles D) : Type 0 where
     pub kept : refusal ≢ Device → EachFile files left (KeepsFile file leaves)
     pub sound : (cells : ℕ) (ticks : List (List Action)) (acknowledged : ℕ) → AreSynced file leaves files → AreSound file leaves files cells ticks acknowledged

@@ -1,4 +1,4 @@
--- What a batch on a served world does and is answered.
+-- The effect and the answer of a batch on a served world.
 use Rattle.std.specs.Prelude.{◌≡◌, ◌≤◌, ◌⊎◌, ℕ, ◌+◌, Bool, true, false, IsTrue, List, [], ◌∷◌, ◌++◌, Some, None, Result, Ok, Err}
 use Rattle.world_actions.specs.declared.action.Action.{Action}
 use Rattle.world_actions.specs.declared.refusal.Refusal.{Refusal}
@@ -25,12 +25,12 @@ module _ {C D : Type 0} (content : C → Content) (file : D → List ℕ) (leave
   abbrev pub words_of : SerialState C D → List ℕ
   words_of s = (content s.engine.store).live
 
-  -- the start is over, these ticks have ended, as many as are told are acknowledged, and the world and its files follow them
+  -- The start is over, and these ticks have ended, of which `acked` are acknowledged. The world and its files follow them.
   pub record Serves (s : SerialState C D) (ticks : List (List Action)) : Type 0 where
     pub started : s.engine.log.starting ≡ false
     pub follows : Follows content file leaves s.engine s.files ticks s.acked
 
-  -- the tick of a batch ended: it is one tick, also where nothing was accepted
+  -- a batch ended as one tick, even if nothing of it was accepted
   pub record PlaysTick (old : SerialState C D) (requests : List Request) (new : SerialState C D) : Type 0 where
     pub allowed : tick_refusal old.engine.log.down old.engine.ended old.engine.since ≡ None
     pub ended : new.engine.ended ≡ old.engine.ended + 1
@@ -38,8 +38,8 @@ module _ {C D : Type 0} (content : C → Content) (file : D → List ℕ) (leave
     pub same : (new.every ≡ old.every) × (new.recovered ≡ old.recovered) × (new.engine.images.cells ≡ old.engine.images.cells)
     pub serves : IsTrue honest → (ticks : List (List Action)) → Serves old ticks → Serves new (ticks ++ accepted_of requests (words_of old) ∷ [])
 
-  -- A batch was answered with this text, and its tick is acknowledged. Where so many ticks ended since the last mark or start
-  -- there is an image of it, or the image keeper is down; no mark is made before.
+  -- A batch was answered with this text, and its tick is acknowledged. If `every` ticks ended since the last mark or start,
+  -- there is an image of this tick or the image keeper is down. No mark is made before.
   pub record Answered (old : SerialState C D) (requests : List Request) (text : List ℕ) (new : SerialState C D) : Type 0 where
     pub plays : PlaysTick old requests new
     pub text_is : text ≡ answer requests (words_of old) (old.engine.ended + 1)
@@ -56,7 +56,7 @@ module _ {C D : Type 0} (content : C → Content) (file : D → List ℕ) (leave
     pub acked : new.acked ≡ old.acked
     pub since : new.engine.since ≡ old.engine.since + 1
 
-  -- a batch was refused, and nothing changed: by the first refusal that holds, or for want of memory where none holds
+  -- the refusal of a batch that changed nothing: the first one that holds, or NoMemory if none holds
   abbrev pub IsRefusedWith : (old : SerialState C D) → Refusal → Type 0
   IsRefusedWith old refusal =
       (tick_refusal old.engine.log.down old.engine.ended old.engine.since ≡ Some refusal)

@@ -1,5 +1,5 @@
 -- Inside: for private functions alone.
--- What a batch and a mark do to an engine, and what an open leaves.
+-- The effects of a batch and of a mark on an engine, and the result of an open.
 use Rattle.std.specs.Prelude.{◌≡◌, ℕ, ◌+◌, List, ◌∷◌, [], ◌++◌, length, take}
 use Rattle.action_log.specs.declared.record.Record.TheVariants as records
 use Rattle.capture_core.specs.Content.{Content, Covers, Marks}

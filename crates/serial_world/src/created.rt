@@ -10,8 +10,8 @@ use std::alloc::Global;
 use world_actions::Refusal;
 use world_start::fresh_files;
 
-/// Makes the files of a world of zeros at tick 0, and opens it. No crash between the two is needed: of files of
-/// which nothing was unsynced that world is served. Refused, it gives the files back.
+/// Makes the files of a world of zeros at tick 0, and opens that world. No restart between the two is needed: if nothing of
+/// the files was unsynced, the new world is served. If it is refused, it gives the files back.
 pub fn create_and_open<C: Capture, D: Disk>(
     alloc: Global,
     cells: u32,

@@ -1,10 +1,10 @@
 //! A world on four files in one thread: each batch is a tick, which is durable before it is answered.
 //!
-//! `SerialWorld::open` recovers what stands in the files, runs the start to its end, and then `batch` plays a
-//! batch on the store, has the log write its tick, and answers once the log keeper acknowledged it. If `every` ticks have
-//! ended since the last mark or start, the store is marked and an image is written. `into_parts` takes a world apart
-//! between two batches. Whatever a crash leaves of the files, recovery gives the world after the first n ended ticks, for
-//! some n not below `acked` (`served_worlds_are_safe`).
+//! `SerialWorld::open` recovers the world of the files, and runs its start. `batch` plays a batch on the store, has the log
+//! write its tick, and answers once the log keeper has acknowledged it. If `every` ticks have ended since the last mark or
+//! start, it marks the store and writes an image. `into_parts` takes a world apart between two batches. Whatever a crash
+//! leaves of the files, recovery gives the world after the first n ended ticks, for some n not below `acked`
+//! (`served_worlds_are_safe`).
 #![tactic(auto)]
 
 mod created;

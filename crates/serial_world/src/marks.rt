@@ -14,7 +14,7 @@ use image_files::images_stay;
 use restart::worlds_go_on;
 use world_start::Engine;
 
-/// Marks the store, and writes the image of the ended ticks and its switch.
+/// Marks the store, writes the image of the ended ticks, and writes its switch to the log.
 pub fn checkpoint<C: Capture, D: Disk>(engine: &mut Engine<C>, files: &mut FourFiles<D>)
     requires rest { IsAtRest C.content D.content D.honest engine.old files.old }
     requires up { engine.old.log.down ≡ false }

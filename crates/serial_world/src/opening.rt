@@ -11,8 +11,8 @@ use std::alloc::Global;
 use world_actions::Refusal;
 use world_start::{Engine, followed_files_are_sound, recover_world};
 
-/// The engine of the world that stands in the files, once its start has ended, and the tick of the image
-/// that it was built from.
+/// Recovers the world in the files, and runs its start to the end. Returns its engine, and the tick of the image that it was
+/// built from.
 pub fn open_engine<C: Capture, D: Disk>(
     alloc: Global,
     files: &mut FourFiles<D>,

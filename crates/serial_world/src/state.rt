@@ -15,14 +15,14 @@ use restart::worlds_go_on;
 use world_actions::Refusal;
 use world_start::Engine;
 
-/// An engine with its files, and what is told of the world.
+/// An engine with its files, and the counts of the world.
 #[derive(Drop)]
 pub struct SerialState<C: Capture, D: Disk> {
     pub engine: Engine<C>,
     pub files: FourFiles<D>,
     /// After how many ticks a checkpoint is made.
     pub every: u32,
-    /// The number of the greatest receipt, before the first one the recovered tick.
+    /// The number of the greatest receipt, or the recovered tick before the first one.
     pub acked: u64,
     /// The recovered tick, and that of the image that it was built from.
     pub recovered: (u64, u64),
@@ -55,7 +55,7 @@ impl<C: Capture, D: Disk> SerialState<C, D> {
         Ok(())
     }
 
-    // A checkpoint, where so many ticks ended since the last mark or start, and images can be written.
+    // Makes a checkpoint, if `every` ticks ended since the last mark or start and images can be written.
     fn checkpoint_if_due(&mut self)
         requires rest { IsAtRest C.content D.content D.honest self.old.engine self.old.files }
         requires up { self.old.engine.log.down ≡ false }

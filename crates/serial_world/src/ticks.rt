@@ -12,7 +12,7 @@ use world_actions::Refusal;
 use world_start::Engine;
 use world_ticks::Tick;
 
-/// Why no batch can be played, if so.
+/// Returns the refusal of a batch, if one holds.
 pub fn batch_refusal<C: Capture>(engine: &Engine<C>) -> Option<Refusal>
     ensures refusal { result ≡ tick_refusal engine.now.log.down engine.now.ended engine.now.since }
     ensures room { IfNone result ((engine.now.log.down ≡ false)
@@ -21,7 +21,7 @@ pub fn batch_refusal<C: Capture>(engine: &Engine<C>) -> Option<Refusal>
     tick_refusal(engine.log.is_down(), engine.ended, engine.since)
 }
 
-/// Plays a batch on the store, queues its tick, and puts its answer into `text`. All growths are made first.
+/// Plays a batch on the store, queues its tick, and puts its answer into `text`. All memory is taken first.
 pub fn play<C: Capture>(
     engine: &mut Engine<C>,
     b: &Batch,

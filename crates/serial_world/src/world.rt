@@ -38,8 +38,8 @@ impl<C: Capture, D: Disk> Model for SerialWorld<C, D> {
 }
 
 impl<C: Capture, D: Disk> SerialWorld<C, D> {
-    /// Opens the world that stands in the files: recovers it, and runs the start to its end. A checkpoint
-    /// is made after every `every` ticks, 1 to 65,536. Refused, it gives the files back.
+    /// Opens the world in the files: recovers it, and runs its start to the end. A checkpoint is made after every `every`
+    /// ticks, 1 to 65,536. If it is refused, it gives the files back.
     pub fn open(
         alloc: Global,
         files: FourFiles<D>,
@@ -75,7 +75,7 @@ impl<C: Capture, D: Disk> SerialWorld<C, D> {
         }
     }
 
-    /// The number of the greatest receipt, before the first one the recovered tick.
+    /// The number of the greatest receipt, or the recovered tick before the first one.
     pub fn acked(&self) -> u64
         ensures { result ≡ self.now.acked }
     {
@@ -89,7 +89,7 @@ impl<C: Capture, D: Disk> SerialWorld<C, D> {
         self.state.recovered
     }
 
-    /// Takes the world apart. Refused with `NoMemory`, it gives the files back.
+    /// Takes the world apart. If memory runs out, it gives the files back with `NoMemory`.
     pub fn into_parts(self) -> Result<Parts<D>, (FourFiles<D>, Refusal)>
         ensures words { IfOk result (λ parts. parts.words.items ≡ (C.content self.engine.store).live) }
         ensures images { IfOk result (λ parts. parts.images ≡ self.engine.images) }

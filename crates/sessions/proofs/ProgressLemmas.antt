@@ -1,4 +1,4 @@
--- A session goes on by whole batches.
+-- A session advances by whole batches.
 use Rattle.std.proofs.Common.{arith, refl, sym, ap, subst, ◌∙◌, ◌≡◌, ℕ, ◌<◌, ◌≤◌, List, [], ◌∷◌, ◌++◌, append_assoc, append-nil, length, take, drop, true, false, Option, Result}
 use Rattle.std.proofs.lemmas.Bool.Decides.{nat_tests}
 use Rattle.std.proofs.lemmas.List.{length-append, take-append-drop}
@@ -102,7 +102,7 @@ module _ (some : (line : List ℕ) → (meaning : Option Command) × Means line 
   all_mean [] = ([], tt)
   all_mean (line ∷ lines) = (let first = some line in let rest = all_mean lines in (first.0 ∷ rest.0, (first.1, rest.1)))
 
--- the first batch behind these requests, and what is behind it
+-- too many requests end the session early, whatever is behind them
 late : (requests : List Request) (ended : List (List Request)) (rest : List Request) → 1024 < length requests
     → (answered_in (added [] requests ended rest).ended ≡ []) × (ends_early (added [] requests ended rest).ended (added [] requests ended rest).rest ≡ true)
 late requests [] rest many = (refl, long_test (requests ++ rest) (simp length-append (omega arith)))
@@ -110,7 +110,7 @@ late requests (batch ∷ batches) rest many =
     (let long : is_too_long (requests ++ batch) ≡ true = long_test (requests ++ batch) (simp length-append (omega arith)) in (rw long refl, rw long refl))
 
 module _ {S : Type 0} (runs : S → List Request → Result (List ℕ) Refusal → S → Type 0) (some : (line : List ℕ) → (meaning : Option Command) × Means line meaning) where
-  -- the lines of all that was read, some of it after what is begun
+  -- the lines of all bytes that were read, some of them after the batch that has begun
   all_read : (first now : S) (old : Reading) (read prior bytes left : List ℕ) (s : Stands runs first read old now prior) (meanings : List (Option Command)) → AreLines (s.begun ++ bytes) meanings
       → (later : List (Option Command)) × MeanAll (ended_lines (read ++ (bytes ++ left))) (s.meanings ++ (meanings ++ later))
   all_read first now old read prior bytes left s meanings lines =
@@ -140,7 +140,7 @@ module _ {S : Type 0} (runs : S → List Request → Result (List ℕ) Refusal �
         early = ap (λ (b : Batches). ends_early b.ended b.rest) whole ∙ (ends_fit s.batches (added [] t.requests more.ended more.rest).ended (added [] t.requests more.ended more.rest).rest s.fit ∙ late_ones.1);
       }
 
-  -- in a piece a batch is too long, and its line is written
+  -- within a piece a batch is too long, and its line is written
   pub too_long_ends : (now : S) (old : Reading) (n : ℕ) (piece : List ℕ) → ((before : List ℕ) → IsBegun before old → IsTooMuch (before ++ take n piece)) → EndsEarly runs now old piece now (fault_text BadLine)
   too_long_ends now old n piece long = subst (λ b. EndsEarly runs now old b now (fault_text BadLine)) (take-append-drop n piece) (record {
     on = λ first read prior s.
@@ -155,7 +155,7 @@ module _ {S : Type 0} (runs : S → List Request → Result (List ℕ) Refusal �
         };
   })
 
-  -- or the writing of it fails
+  -- or writing that line fails
   pub too_long_breaks : (now : S) (old : Reading) (n : ℕ) (piece front : List ℕ) → ((before : List ℕ) → IsBegun before old → IsTooMuch (before ++ take n piece)) → IsFront front (fault_text BadLine) → BreaksOff runs now old piece now front
   too_long_breaks now old n piece front long is = subst (λ b. BreaksOff runs now old b now front) (take-append-drop n piece) (record {
     on = λ first read prior s.
@@ -175,7 +175,7 @@ module _ {S : Type 0} (runs : S → List Request → Result (List ℕ) Refusal �
         };
   })
 
-  -- a batch has ended, and the writing of its answer fails
+  -- a batch has ended, and writing its answer fails
   pub whole_breaks : (now last : S) (old : Reading) (n : ℕ) (piece front : List ℕ) (requests : List Request) (given : Result (List ℕ) Refusal) → ((before : List ℕ) → IsBegun before old → IsWhole (before ++ take n piece) requests)
       → runs now requests given last → IsFront front (line_of given) → BreaksOff runs now old piece last front
   whole_breaks now last old n piece front requests given whole run is = subst (λ b. BreaksOff runs now old b last front) (take-append-drop n piece) (record {
@@ -217,7 +217,7 @@ module _ {S : Type 0} (runs : S → List Request → Result (List ℕ) Refusal �
         (subst (λ r. IsCutOff runs first r ((prior ++ written) ++ rest) last) (append_assoc read bytes more) (two.on first (read ++ bytes) (prior ++ written) (one.on first read prior s)));
   }
 
-  -- what was read so far, as a session
+  -- the bytes that were read so far, as a session
   record SoFar (first now : S) (reading : Reading) (read written : List ℕ) (s : Stands runs first read reading now written) : Type 0 where
     meanings : List (Option Command)
     mean : MeanAll (ended_lines read) meanings

@@ -1,4 +1,4 @@
--- How far a session has come, for the functions that run it piece by piece.
+-- The progress of a session, for the functions that run it piece by piece.
 use Rattle.std.specs.Prelude.{◌≡◌, ℕ, List, [], ◌∷◌, ◌++◌, true, false, Option, Result}
 use Rattle.line_grammar.specs.declared.command.Command.{Command}
 use Rattle.world_actions.specs.declared.refusal.Refusal.{Refusal}
@@ -13,7 +13,7 @@ NoneTooLong [] = Unit {0}
 NoneTooLong (batch ∷ batches) = (is_too_long batch ≡ false) × NoneTooLong batches
 
 module _ {S : Type 0} (runs : S → List Request → Result (List ℕ) Refusal → S → Type 0) where
-  -- of these bytes the whole batches are answered, and the rest is read
+  -- the whole batches of these bytes are answered, and the rest is read
   pub record Stands (first : S) (read : List ℕ) (reading : Reading) (now : S) (written : List ℕ) : Type 0 where
     pub before : List ℕ
     pub begun : List ℕ
@@ -30,10 +30,10 @@ module _ {S : Type 0} (runs : S → List Request → Result (List ℕ) Refusal �
   pub record Goes (now : S) (old : Reading) (bytes : List ℕ) (new : Reading) (next : S) (written : List ℕ) : Type 0 where
     pub on : (first : S) (read prior : List ℕ) → Stands first read old now prior → Stands first (read ++ bytes) new next (prior ++ written)
 
-  -- among the bytes a batch is too long
+  -- a batch among the bytes is too long
   pub record EndsEarly (now : S) (old : Reading) (bytes : List ℕ) (last : S) (written : List ℕ) : Type 0 where
     pub on : (first : S) (read prior : List ℕ) → Stands first read old now prior → IsSession runs first (read ++ bytes) (prior ++ written) last true
 
-  -- a fault came among the bytes, when this was written
+  -- a fault came among the bytes, after this was written
   pub record BreaksOff (now : S) (old : Reading) (bytes : List ℕ) (last : S) (written : List ℕ) : Type 0 where
     pub on : (first : S) (read prior : List ℕ) → Stands first read old now prior → IsCutOff runs first (read ++ bytes) (prior ++ written) last

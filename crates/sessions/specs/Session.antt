@@ -14,7 +14,7 @@ use Rattle.batches.specs.Answer.{fault_text}
 abbrev pub is_too_long : List Request → Bool
 is_too_long requests = nat_lt BATCH_LINES (length requests)
 
--- those before the first one that is too long
+-- the batches before the first one that is too long
 abbrev pub answered_in : List (List Request) → List (List Request)
 answered_in [] = []
 answered_in (batch ∷ batches) = if is_too_long batch then [] else batch ∷ answered_in batches
@@ -31,7 +31,7 @@ abbrev pub line_of : Result (List ℕ) Refusal → List ℕ
 line_of (Ok text) = text
 line_of (Err refusal) = fault_text refusal
 
--- the line that tells a batch which is too long
+-- the last line, if a batch is too long
 abbrev pub early_end : Bool → List ℕ
 early_end true = fault_text BadLine
 early_end false = []
@@ -44,8 +44,8 @@ module _ {S : Type 0} (runs : S → List Request → Result (List ℕ) Refusal �
       (given : Result (List ℕ) Refusal) × (next : S) × (more : List ℕ)
       × runs first batch given next × Answers next batches more last × (text ≡ line_of given ++ more)
 
-  -- The text of a session that was given this input: the answers to its batches in order, and a last line where one is too
-  -- long. What has no newline, and lines that have no `end`, are dropped.
+  -- The text of a session on this input: the answers to its batches in order, and a last line if one is too long. Bytes
+  -- without a newline and lines without an `end` are dropped.
   pub record IsSession (first : S) (input text : List ℕ) (last : S) (early : Bool) : Type 0 where
     pub meanings : List (Option Command)
     pub mean : MeanAll (ended_lines input) meanings
@@ -54,14 +54,15 @@ module _ {S : Type 0} (runs : S → List Request → Result (List ℕ) Refusal �
     pub early_is : early ≡ ends_early (batches_of meanings).ended (batches_of meanings).rest
     pub text_is : text ≡ answers ++ early_end early
 
-  -- what comes of a line whose writing failed: none was begun, or that of the next batch, or the one of a batch that is too long
+  -- The line whose writing failed. None was begun, or it was the answer to the next batch, or the one for a batch that is
+  -- too long.
   pub data BrokenOff (now : S) (later : List (List Request)) (too_long : Bool) (part : List ℕ) (last : S) : Type 0 where
     Between : part ≡ [] → last ≡ now → BrokenOff now later too_long part last
     InAnswer : (batch : List Request) (others : List (List Request)) (given : Result (List ℕ) Refusal) → later ≡ batch ∷ others → runs now batch given last
         → IsFront part (line_of given) → BrokenOff now later too_long part last
     InEnd : later ≡ [] → too_long ≡ true → last ≡ now → IsFront part (fault_text BadLine) → BrokenOff now later too_long part last
 
-  -- what stands after a fault: the answers to the first batches, and then at most a front of the next line
+  -- the output after a fault: the answers to the first batches, and then at most a front of the next line
   pub record IsCutOff (first : S) (input written : List ℕ) (last : S) : Type 0 where
     pub meanings : List (Option Command)
     pub mean : MeanAll (ended_lines input) meanings

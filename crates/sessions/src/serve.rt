@@ -22,9 +22,8 @@ const PIECE_BYTES: usize = 4_096;
 /// More bytes than the line of a refused batch has.
 const FAULT_BYTES: usize = 16;
 
-/// Answers the batches that the reader gives, one line each, and nothing else. It ends with `BadLine`
-/// where a batch is too long, with `Device` after a fault of reader or writer, and with `NoMemory` before
-/// anything is read.
+/// Answers the batches that the reader gives with one line each, and writes nothing else. It ends with `BadLine` if a batch
+/// is too long, with `Device` after a fault of reader or writer, and with `NoMemory` before anything is read.
 pub fn serve_lines<R: Read, W: Write, X: World>(
     alloc: Global,
     r: &mut R,

@@ -1,4 +1,4 @@
--- What the back keeps of its own stays what its seat knows.
+-- The fields of the back stay what its seat knows.
 use Rattle.std.proofs.Common.{◌≡◌, ◌≢◌, ℕ, suc, zero, ◌+◌, ◌-◌, ◌<◌, ◌≤◌, ◌/◌, ◌%◌, Bool, List, [], ◌∷◌, ◌++◌, length, replicate, get_or, Some, sym, refl, ap, ◌∙◌, subst, ⊎_elim, arith, true, false, length-append, append_assoc, append-nil}
 use Rattle.std.proofs.lemmas.List.{length-replicate}
 use Rattle.std.proofs.lemmas.Option.{slice_get-get_or}
@@ -55,7 +55,7 @@ pub padded_taken : (i : ℕ) (t : Taken) (b : BackView) → length b.now.taken �
 padded_taken i (Word v) b le = padded_past (padded i b.now.taken ++ Word v ∷ []) (i + 1) (omega (arith, length-append (padded i b.now.taken) (Word v ∷ []), length-padded b.now.taken i le))
 padded_taken i Same b le = padded_more b.now.taken i le
 
--- ## What the back keeps
+-- ## The fields of the back
 
 -- unchanged cells are known after the fetch
 pub known_fetched : (kind : Kind) (i m : ℕ) (b c : BackView) → IsSame kind i b → IsFetched i m b c → IsSame kind i c
@@ -173,7 +173,7 @@ back_opens kind t n seat cells sits has same = let is = back_view t (back_start 
   mark_is = λ p. absurd (omega arith);
 }
 
--- rounds that agree do so where unchanged cells are counted
+-- rounds that agree still agree if unchanged cells are counted
 agree_padded : (rounds : List Round) (at : ℕ) (b : BackView) (w : Bool) → b.working ≡ w → Agree rounds (snapshots_as w b.done b.now)
     → ((r : Round) → b.working ≡ true → slice_get rounds (length b.done) ≡ Some r → (j : ℕ) → length b.now.taken ≤ j → j < at → flag_at r.touched j ≡ false)
     → Agree rounds (snapshots_as w b.done (record { tick = b.now.tick; taken = padded at b.now.taken }))

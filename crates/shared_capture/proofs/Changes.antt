@@ -12,7 +12,7 @@ use mathlib.Core.Logic.{dite}
 use native.Mathlib.Decide.{ℕ_discrete, dec_lt}
 use Rattle.shared_capture.specs.Seats.{ListsChanges}
 
--- where nothing differs nothing is listed
+-- if nothing differs, nothing is listed
 pub lists_none : (marks away : List ℕ) → ((k : ℕ) → k < length marks → get_or marks k 0 ≡ get_or away k 0) → ListsChanges marks away []
 lists_none marks away same = record {
   differ = λ i l. absurd (omega (arith, l));
@@ -85,6 +85,6 @@ module _ (marks away places : List ℕ) (ok : ListsChanges marks away places) wh
             (at.0, omega (arith, at.1, long_new), early at.0 at.1 ∙ at.2));
       }
 
-      -- so there is room for one more
+      -- the list has room for one more place
       pub lists_room : length places < length marks
       lists_room = omega (arith, long_new, lists_few marks (set away k w) new lists_more)

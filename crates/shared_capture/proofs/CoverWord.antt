@@ -33,17 +33,17 @@ last_is_one [] = inl refl
 last_is_one (tick ∷ []) = inr (0, refl)
 last_is_one (tick ∷ next ∷ ticks) = ⊎_elim inl (λ t. inr (suc t.0, t.1)) (last_is_one (next ∷ ticks))
 
--- one more may be stored
+-- one more tick may be stored
 stored_more : (stored loaded : List ℕ) (tick : ℕ) → AreStored stored loaded → AreStored (stored ++ tick ∷ []) loaded
 stored_more stored loaded tick are i each e = ⊎_elim inl (λ t. inr (t.0, still_at stored (tick ∷ []) t.0 each t.1)) (are i each e)
 
--- and the last one loaded
+-- the last stored tick may be loaded
 loaded_more : (stored loaded : List ℕ) → AreStored stored loaded → AreStored stored (loaded ++ last_of stored ∷ [])
 loaded_more stored loaded are i tick e = ⊎_elim (are i tick)
     (λ same. subst (λ n. (n ≡ 0) ⊎ ((j : ℕ) × (slice_get stored j ≡ Some n))) (sym same) (last_is_one stored))
     (at_last loaded (last_of stored) i tick e)
 
--- ---- who sits where
+-- ---- the seats
 
 others_out : (a b : List ℕ) (p r : ℕ) (loaded : List ℕ) (q j : ℕ) (v : CoverView) → j ≢ p → Knows a p loaded q j v → Knows b r loaded q j v
 others_out a b p r loaded q j Spent ne k = tt
@@ -63,7 +63,7 @@ others_spent stored loaded p o q r j (Out ticks) np nq k = absurd (np k.0)
 others_spent stored loaded p o q r j (In ticks) np nq k = absurd (nq k.0)
 others_spent stored loaded p o q r j (Both first second) np nq k = absurd (np k.0)
 
--- what was stored and loaded stays, with these two seats
+-- the stored and the loaded ticks stay, with these two seats
 kept_at : {s t : State (Unit {0}) CoverView} (k : Kept s) (p q : ℕ) → t.words ≡ last_of k.stored ∷ [] → ((j : ℕ) (v : CoverView) → get_elem? t.views j ≡ maybe.some v → Knows k.stored p k.loaded q j v) → Kept t
 kept_at k p q word each = record { stored = k.stored; out_at = p; loaded = k.loaded; in_at = q; word = word; are_stored = k.are_stored; each_seat = each }
 

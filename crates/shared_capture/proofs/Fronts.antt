@@ -1,4 +1,4 @@
--- What the front keeps of its own stays what its seat knows.
+-- The fields of the front stay what its seat knows.
 use Rattle.std.proofs.Common.{◌≡◌, ◌≢◌, ℕ, ◌<◌, ◌/◌, ◌%◌, Bool, List, [], ◌∷◌, ◌++◌, length, replicate, get_or, set, sym, refl, ap, ◌∙◌, subst, arith, length-set, get_or-set_other, get_or-set_same, true, false, not, All}
 use Rattle.std.proofs.lemmas.List.{length-replicate, get_or-replicate}
 use Rattle.std.proofs.lemmas.List.Elements.{All-set}
@@ -53,7 +53,7 @@ module _ (kind : Kind) (t : TableId) (n : ℕ) (seat new : TableSeat) (live mark
   }
 
   module _ (i v w : ℕ) (inside : i < n) (word : IsWord v) where
-    -- a word was written, and the marks stand
+    -- a word was written, and the marks stay
     word_written : (s : Bool) (far : List ℕ) → IsFront t (after_write i s v f) new → (kind ≡ PingPong → IsReady kind n (front_of new.me.0)) → (kind ≡ Zigzag → IsPacked n far)
         → (kind ≡ Zigzag → (j : ℕ) → j < n → flag_at (front_of new.me.0).sides j ≡ not (marked far j)) → IsFrontOf kind t n new (set live i v) marks far current
     word_written s far k ready packed are = let is = sits_view t (after_write i s v f) new k in record {
@@ -103,7 +103,7 @@ module _ (kind : Kind) (t : TableId) (n : ℕ) (seat new : TableSeat) (live mark
           away_are = λ p. absurd (zigzag≢ping_pong kind p e);
         }
 
-    -- a cell whose mark stands is written
+    -- a cell is written again, and the marks stay
     pub ping_pong_rewritten : kind ≡ PingPong → IsFront t (after_write i current v f) new → IsFrontOf kind t n new (set live i v) marks away current
     ping_pong_rewritten e k =
         let g : FrontView = after_write i current v f in
@@ -130,7 +130,7 @@ module _ (kind : Kind) (t : TableId) (n : ℕ) (seat new : TableSeat) (live mark
       ∙ (ap (λ (z : ℕ). touched_of kind z (set f.marks (i / 64) w)) (length-set f.live i v)
       ∙ touched_set kind (length f.live) i f.marks (set f.marks (i / 64) w) (ap (is_word kind) becomes.0 ∙ ap (λ (z : Kind). is_word z true) e) (λ j ne. ap (is_word kind) (becomes.1 j ne)))
 
-  -- where its mark stands the cell is touched already
+  -- if its mark is set, the cell is touched already
   pub ping_pong_retouched : (u : TableId) (i v : ℕ) → kind ≡ PingPong → IsFront u (after_write i current v f) new → is_set (get_or marks (i / 64) 0) (i % 64) ≡ true
       → touched_of kind (length (front_of new.me.0).live) (front_of new.me.0).marks ≡ set (touched_of kind (length f.live) f.marks) i true
   ping_pong_retouched u i v e k here =
@@ -149,7 +149,7 @@ module _ (kind : Kind) (t : TableId) (n : ℕ) (seat new : TableSeat) (live mark
       ap (λ (z : FrontView). z.rounds) (sits_view u (after_open kind tick g) new k)
       ∙ ((λ i. rounds i ++ round tick (live_same i) (touched_of kind (length (live_same i)) g.marks) ∷ []) ∙ ap (λ (z : List Bool). f.rounds ++ round tick f.live z ∷ []) all)
 
-  -- where the marks are as the away ones, a mark may be made
+  -- if the marks are as the away ones, a mark may be made
   pub crossed_ready : (g : FrontView) → kind ≡ Zigzag → SameRest f g → ((k : ℕ) → k < chunks n → get_or g.marks k 0 ≡ get_or away k 0) → IsReady kind n g
   crossed_ready g e same crossed = subst (λ (z : Kind). IsReady z n g) (sym e)
       (λ i l m. ap (λ (z : List Bool). flag_at z i) same.2 ∙ (ok.away_are e i l ∙ ap (λ (z : ℕ). not (is_set z (i % 64))) (sym (crossed (i / 64) (omega arith)))))

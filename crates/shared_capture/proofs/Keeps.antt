@@ -53,7 +53,7 @@ module _ (kind : Kind) (n : ℕ) (ws : List ℕ) (f : FrontView) (b : BackView) 
   pub words_stay : (i : ℕ) (g : FrontView) (d : BackView) → Core kind n ws g d → Core kind n (set ws i (get_or ws i 0)) g d
   words_stay i g d k = subst (λ (z : List ℕ). Core kind n z g d) (sym (set-get_or ws i 0)) k
 
-  -- the round that is open stays so, where the phase stays and what is left of it is there
+  -- an open round stays open if the phase stays and the table has what is left of the round
   still_open : {zs : List ℕ} {g : FrontView} {d : BackView} (o : IsOpen kind n ws f b) → get_or zs 0 0 ≡ phase → g.rounds ≡ f.rounds → d.done ≡ b.done → Left kind n zs g d o.round → IsOpen kind n zs g d
   still_open o still rounds done left = record {
     round = o.round;
@@ -308,7 +308,7 @@ module _ (kind : Kind) (n : ℕ) (ws : List ℕ) (f : FrontView) (b : BackView) 
       longer : length (b.marks ++ found ∷ []) ≡ length b.marks + 1
       longer = length-append b.marks (found ∷ [])
 
-      -- the words but for the one mark word
+      -- the words, except the one mark word
       cells_kept : (e : Kind) (s : Bool) (i : ℕ) → i < n → get_or (fetched_words e) (cell_place n s i) 0 ≡ get_or ws (cell_place n s i) 0
       cells_kept e s i l = get_or-set_other ws next (cell_place n s i) (left_in e found) 0 (cell_not_mark n s (row kind b.current) i (length b.marks) l)
 
@@ -372,7 +372,7 @@ module _ (kind : Kind) (n : ℕ) (ws : List ℕ) (f : FrontView) (b : BackView) 
     same_right i most known j l m = ap (λ (z : List Bool). flag_at z j) opened_now.left.touched ∙ (touched_at kind n j f.last (omega arith)
         ∙ (ap (is_word kind) (sym (fetched_is j (omega (arith, known.fetched)))) ∙ known.same j l m))
 
-    -- what is taken up to cell i, where unchanged cells are counted
+    -- the cells that are taken up to cell i, with unchanged ones counted
     padded_right : (i : ℕ) → i ≤ n → IsSame kind i b → (r : Round) → slice_get f.rounds (length b.done) ≡ Some r
         → (j : ℕ) (t : Taken) → slice_get (padded i b.now.taken) j ≡ Some t → t ≡ shown r j
     padded_right i most known r e j t a = ⊎_elim (((c.looked working).taken r e).1 j t)
@@ -453,7 +453,7 @@ module _ (kind : Kind) (n : ℕ) (ws : List ℕ) (f : FrontView) (b : BackView) 
   pub touched_now : (r : Round) → b.working ≡ true → slice_get f.rounds (length b.done) ≡ Some r → r.touched ≡ touched_of kind b.cells f.last
   touched_now r e at = let o = c.opened (c.looked e).some in ap (λ (z : Round). z.touched) (same_Some r o.round (sym at ∙ o.at)) ∙ (o.left.touched ∙ ap (λ (z : ℕ). touched_of kind z f.last) (sym c.cells))
 
--- what both know where they meet at phase x
+-- the knowledge of both when they meet at phase x
 pub meets : (kind : Kind) (n : ℕ) (ws : List ℕ) (f : FrontView) (b : BackView) → Core kind n ws f b → (e : Bool) → eqb (get_or ws 0 0) 0 ≡ e → (w : Bool) → b.working ≡ w
     → Core kind n ws f (met_as w (get_or ws 0 0) b) × MetAs e (get_or ws 0 0) f (met_as w (get_or ws 0 0) b)
 meets kind n ws f b c true e true is = absurd (true≢false (sym is ∙ (c.ended (eqb-true (get_or ws 0 0) 0 e)).idle))

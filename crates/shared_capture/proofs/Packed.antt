@@ -1,4 +1,4 @@
--- Mark words: those of a new table, those that are 0, and what one of them may become.
+-- Mark words: those of a new table, those that are 0, and the change of one of them.
 use Rattle.std.proofs.Common.{◌≡◌, ℕ, ◌/◌, ◌%◌, List, length, replicate, sym, ap, ◌∙◌, subst, arith, false}
 use Rattle.std.proofs.lemmas.List.{length-replicate, get_or_past}
 use mathlib.Core.Logic.{dite}

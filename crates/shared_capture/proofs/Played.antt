@@ -1,4 +1,4 @@
--- What accesses of a front leave as it was.
+-- The parts of a front that accesses leave as they were.
 use Rattle.std.proofs.Common.{◌≡◌, ℕ, zero, suc, Bool, true, false, List, [], ◌∷◌, length, get_or, set, refl, sym, ap, ◌∙◌, arith, length-set}
 use Rattle.world_actions.specs.Effect.{Write}
 use Rattle.world_ticks.specs.Cells.{Access, Read, Wrote, Accesses, Performs}

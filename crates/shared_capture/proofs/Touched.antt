@@ -32,7 +32,7 @@ touched_more kind (suc n) i (suc at) xs ys here others = let e : suc i + at ≡ 
 pub touched_set : (kind : Kind) (n at : ℕ) (xs ys : List ℕ) → is_word kind (marked ys at) ≡ true → ((j : ℕ) → j ≢ at → is_word kind (marked ys j) ≡ is_word kind (marked xs j)) → touched_of kind n ys ≡ set (touched_of kind n xs) at true
 touched_set kind n at xs ys here others = let e : 0 + at ≡ at = omega arith in touched_more kind n 0 at xs ys (ap (λ (z : ℕ). is_word kind (marked ys z)) e ∙ here) (λ j ne. others j (λ h. ne (h ∙ sym e)))
 
--- where every cell counts as touched
+-- every cell counts as touched
 pub touched_full : (kind : Kind) (n i : ℕ) (xs : List ℕ) → ((j : ℕ) → j < i + n → is_word kind (marked xs j) ≡ true) → touched_from kind n i xs ≡ replicate n true
 touched_full kind zero i xs all = refl
 touched_full kind (suc n) i xs all = λ k. all i (omega arith) k ∷ touched_full kind n (suc i) xs (λ j l. all j (omega arith)) k

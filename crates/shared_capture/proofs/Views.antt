@@ -1,4 +1,4 @@
--- What each seat knows, once one view is set, cut in two, or joined with another.
+-- The knowledge of each seat after one view is set, cut in two, or joined with another.
 use Rattle.std.proofs.Common.{◌≡◌, ◌≢◌, ℕ, ◌⊎◌, zero, suc, List, [], ◌∷◌, ◌++◌, length, set, sym, refl, ap, subst, ⊎_elim, inl, inr}
 use mathlib.Core.Option.{some, some-injective, some-ne-none}
 use lib.ListN.{get_elem?}

@@ -1,4 +1,4 @@
--- Both seats in one store: what takes, marks and meetings do to its content.
+-- Both seats in one store: the effect of takes, marks and meetings on its content.
 use Rattle.std.proofs.Common.{rules, ◌≡◌, ◌≢◌, ◌↔◌, ◌⊎◌, ℕ, suc, zero, ◌+◌, ◌-◌, ◌<◌, ◌≤◌, Bool, List, [], ◌∷◌, ◌++◌, length, drop, get_or, Option, Some, None, option_map, sym, refl, ap, ◌∙◌, subst, inl, inr, arith, true, false, length-append}
 use Rattle.std.proofs.lemmas.List.{length-drop}
 use Rattle.std.proofs.lemmas.List.Elements.{All-append}
@@ -63,7 +63,7 @@ last_of [] r = refl
 last_of (x ∷ []) r = refl
 last_of (x ∷ y ∷ rs) r = last_of (y ∷ rs) r
 
--- ## What a meeting tells
+-- ## The facts after a meeting
 
 one_more : (x : Bool) (f : FrontState) (b : BackState) → KnowsOpen x f b → b.working ≡ true → length f.rounds ≡ length b.done + 1
 one_more true f b k w = absurd (true≢false (sym w ∙ k.1))

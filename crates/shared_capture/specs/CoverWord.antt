@@ -1,4 +1,4 @@
--- The word that tells the tick of the newest open image: its rule, and what its two seats know.
+-- The word with the tick of the newest open image: its rule, and what its two seats know.
 use Rattle.std.specs.Prelude.{Some, ◌≡◌, ◌⊎◌, ℕ, List, [], ◌∷◌, ◌++◌, slice_get}
 use mathlib.Core.Option as maybe
 use lib.ListN.{get_elem?}
@@ -8,7 +8,7 @@ use Rattle.atomic_table.specs.declared.shared.Seat.{Seat}
 use Rattle.shared_capture.specs.declared.cover.CoverView.{CoverView}
 use Rattle.shared_capture.specs.declared.cover.CoverView.TheVariants.{Spent, Out, In, Both}
 
--- what contracts see of a seat: its pair, and the ticks that it stored or loaded
+-- a seat as contracts see it: its pair, and the ticks that it stored or loaded
 pub record CoverState : Type 0 where
   pub pair : TableId
   pub ticks : List ℕ
@@ -23,14 +23,15 @@ last_of (tick ∷ next ∷ ticks) = last_of (next ∷ ticks)
 abbrev pub AreStored : (stored loaded : List ℕ) → Type 0
 AreStored stored loaded = (i tick : ℕ) → slice_get loaded i ≡ Some tick → (tick ≡ 0) ⊎ ((j : ℕ) × (slice_get stored j ≡ Some tick))
 
--- a seat with this view is the one that stores, the one that loads, both, or of no use
+-- a seat with this view is the one that stores, the one that loads, both, or has no use any more
 abbrev pub Knows : List ℕ → ℕ → List ℕ → ℕ → ℕ → CoverView → Type 0
 Knows stored p loaded q seat Spent = Unit {0}
 Knows stored p loaded q seat (Out ticks) = (seat ≡ p) × (ticks ≡ stored)
 Knows stored p loaded q seat (In ticks) = (seat ≡ q) × (ticks ≡ loaded)
 Knows stored p loaded q seat (Both first second) = (seat ≡ p) × (seat ≡ q) × (first ≡ stored) × (second ≡ loaded)
 
--- the rule: the word is the last tick that was stored, each that was loaded was stored, and no other seat knows anything
+-- The rule: the word is the last tick that was stored, or 0. Each loaded tick was stored, or is 0. No other seat knows
+-- anything.
 pub record Kept (s : State (Unit {0}) CoverView) : Type 0 where
   pub stored : List ℕ
   pub out_at : ℕ
@@ -40,7 +41,7 @@ pub record Kept (s : State (Unit {0}) CoverView) : Type 0 where
   pub are_stored : AreStored stored loaded
   pub each_seat : (j : ℕ) (v : CoverView) → get_elem? s.views j ≡ maybe.some v → Knows stored out_at loaded in_at j v
 
--- ---- what each step tells
+-- ---- the facts after each step
 
 abbrev pub Sitting : Type 0
 Sitting = Me (Unit {0}) CoverView
@@ -79,12 +80,12 @@ abbrev pub paired : CoverView → CoverView → CoverView
 paired (Out stored) (In loaded) = Both stored loaded
 paired first second = first
 
--- ---- who sits where
+-- ---- the seats
 
 abbrev pub CoverSeat : Type 0
 CoverSeat = Seat (Unit {0}) CoverView
 
--- the seat is at this word, and stored these ticks; or loaded them; or knows of both
+-- the seat is at this word and stored these ticks (`IsOut`), loaded them (`IsIn`), or knows of both (`IsBoth`)
 abbrev pub IsOut : TableId → List ℕ → CoverSeat → Type 0
 IsOut t stored seat = (seat.table_id ≡ t) × (seat.me ≡ (Out stored, [])) × (t.words ≡ 1)
 

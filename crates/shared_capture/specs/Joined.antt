@@ -1,4 +1,4 @@
--- What contracts see of both seats in one store.
+-- Both seats in one store, as contracts see them.
 use Rattle.std.specs.Prelude.{◌≡◌, ℕ, ◌≤◌, List, [], ◌∷◌, Option, length, drop, Bool, true, false, All}
 use Rattle.std.specs.Bool.{then_some}
 use Rattle.capture_core.specs.Content.{Content}
@@ -6,7 +6,7 @@ use Rattle.shared_capture.specs.declared.view.Round.{Round}
 use Rattle.shared_capture.specs.Rounds.{round, Agree}
 use Rattle.shared_capture.specs.States.{FrontState, BackState, snapshots, KnowsOpen}
 
--- for each cell of a round its word where it was touched, or else nothing
+-- for each cell of a round its word if it was touched, else nothing
 abbrev pub entries : List Bool → List ℕ → List (Option ℕ)
 entries [] words = []
 entries (t ∷ touched) [] = []
@@ -18,12 +18,12 @@ last_round [] = round 0 [] []
 last_round (r ∷ []) = r
 last_round (r ∷ s ∷ rs) = last_round (s ∷ rs)
 
--- what is left of a round after this many cells, where one is in work
+-- the cells that are left of a round after this many cells, if it is in work; else none
 abbrev pub left_as : Bool → ℕ → Round → List (Option ℕ)
 left_as true at r = drop at (entries r.touched r.words)
 left_as false at r = []
 
--- the live words, the touched cells, and what is left of the front's last round
+-- the live words, the touched cells, and the cells that are left of the front's last round
 abbrev pub content_of : FrontState → BackState → Content
 content_of f b = record {
   live = f.live;
@@ -31,7 +31,7 @@ content_of f b = record {
   left = left_as b.working (length b.now.taken) (last_round f.rounds);
 }
 
--- no round has a tick above 1, which is that of each round of a joined pair
+-- no round has a tick above 1; each round of a joined pair has the tick 1
 abbrev pub AreFirst : List Round → Type 0
 AreFirst rounds = All (λ (r : Round). r.tick ≤ 1) rounds
 

@@ -1,5 +1,5 @@
 -- Inside: for the proofs of this crate's private functions.
--- The two seats meet: they are joined to one, which loads the phase, and part again.
+-- The two seats meet: they are joined to one seat, which loads the phase, and then part again.
 use Rattle.std.specs.Prelude.{Some, ◌≡◌, ℕ, ◌+◌, ◌==◌, length, slice_index, slice_get, Bool, true, false}
 use Rattle.atomic_table.specs.Table.{Step}
 use Rattle.shared_capture.specs.declared.method.Kind.{Kind}
@@ -27,25 +27,25 @@ abbrev pub paired : View → View → View
 paired (Front f) (Back b) = Pair f b
 paired v w = v
 
--- the front after the meeting: where it met phase 0 it knows that no round is open
+-- the front after the meeting: if the phase is 0, it knows that no round is open
 abbrev pub front_met : ℕ → FrontView → FrontView
 front_met found f = record f { closed = found == 0 }
 
--- the back after the meeting, which had a round in work or not
+-- the back after the meeting; the flag says if it had a round in work
 abbrev pub met_as : Bool → ℕ → BackView → BackView
 met_as true found b = b
 met_as false found b = after_look found b
 
--- the back after the meeting: where it had no round in work, it has looked
+-- the back after the meeting: if it had no round in work, it has looked
 abbrev pub after_meet : ℕ → BackView → BackView
 after_meet found b = met_as b.working found b
 
--- phase 0 was met and no round is open, or else the front's last round is in work
+-- if the phase is 0, no round is open; otherwise the front's last round is in work
 abbrev pub MetAs : Bool → ℕ → FrontView → BackView → Type 0
 MetAs true found f b = (length f.rounds ≡ length b.done) × (b.working ≡ false)
 MetAs false found f b = (length f.rounds ≡ length b.done + 1) × (b.working ≡ true) × (b.now.tick ≡ found)
 
--- what a meeting tells: the rounds agree, whether one is open, and that the fetched marks are the round's
+-- the facts after a meeting: the rounds agree, one is open or none is, and the fetched marks are the round's
 pub record Met (kind : Kind) (found : ℕ) (f : FrontView) (b : BackView) : Type 0 where
   pub agrees : Agree f.rounds (snapshots_as b.working b.done b.now)
   pub level : MetAs (found == 0) found f b

@@ -1,5 +1,5 @@
 -- Inside: for the proofs of this crate's private functions.
--- The rule of the table: what is true of its words and of what the two seats know, between any two steps.
+-- The rule of the table: the facts on its words and on the knowledge of the two seats, between any two steps.
 use Rattle.std.specs.Prelude.{Some, ◌≡◌, ℕ, ◌+◌, ◌<◌, ◌≤◌, List, [], length, slice_index, slice_get, Bool, true, false, not}
 use mathlib.Core.Option as maybe
 use lib.ListN.{get_elem?}
@@ -18,7 +18,7 @@ use Rattle.shared_capture.specs.Rounds.{flag_at, IsTakenOf, Agree}
 use Rattle.shared_capture.specs.Table.{cell_place, mark_place, table_words}
 use Rattle.shared_capture.specs.Seats.{FitsCells}
 
--- what is left of the open round stands in the table, and no write goes where it stands
+-- the table holds what is left of the open round, and no write reaches those places
 pub record Left (kind : Kind) (n : ℕ) (words : List ℕ) (f : FrontView) (b : BackView) (r : Round) : Type 0 where
   pub touched : r.touched ≡ touched_of kind n f.last
   pub kept : (i : ℕ) → i < n → is_word kind (marked f.last i) ≡ true
@@ -31,7 +31,7 @@ pub record Left (kind : Kind) (n : ℕ) (words : List ℕ) (f : FrontView) (b : 
   pub swapped : kind ≡ PingPong → (k : ℕ) → k < chunks n → k < length b.marks
       → slice_index words (mark_place n b.current k) ≡ 0
 
--- a round is open: it is the front's last, which the back has not done, and the phase is its tick
+-- a round is open: it is the front's last round, the back has not done it, and the phase is its tick
 pub record IsOpen (kind : Kind) (n : ℕ) (words : List ℕ) (f : FrontView) (b : BackView) : Type 0 where
   pub round : Round
   pub at : slice_get f.rounds (length b.done) ≡ Some round
@@ -39,7 +39,7 @@ pub record IsOpen (kind : Kind) (n : ℕ) (words : List ℕ) (f : FrontView) (b 
   pub tick : round.tick ≡ slice_index words 0
   pub left : Left kind n words f b round
 
--- no round is open: the back has done all, and the row for the next marks is clear
+-- no round is open: the back has done all rounds, and the row for the next marks is clear
 pub record IsEnded (kind : Kind) (n : ℕ) (words : List ℕ) (f : FrontView) (b : BackView) : Type 0 where
   pub level : length f.rounds ≡ length b.done
   pub idle : b.working ≡ false
@@ -62,7 +62,7 @@ pub record HasFront (kind : Kind) (n : ℕ) (words : List ℕ) (f : FrontView) :
       → slice_index words (mark_place n (row kind f.current) k) ≡ slice_index f.marks k
   pub closed : f.closed ≡ true → slice_index words 0 ≡ 0
 
--- the words of the table of n cells, and what front and back know
+-- the words of the table of n cells agree with what front and back know
 pub record Core (kind : Kind) (n : ℕ) (words : List ℕ) (f : FrontView) (b : BackView) : Type 0 where
   pub table : HasFront kind n words f
   pub cells : b.cells ≡ n
@@ -73,7 +73,7 @@ pub record Core (kind : Kind) (n : ℕ) (words : List ℕ) (f : FrontView) (b : 
   pub fresh : b.working ≡ false → b.marks ≡ []
   pub fetched : (k m : ℕ) → slice_get b.marks k ≡ Some m → m ≡ slice_index f.last k
 
--- a seat with this view is the front's, the back's, that of both, or of no use
+-- a seat with this view is the front's, the back's, that of both, or has no use any more
 abbrev pub Knows : FrontView → ℕ → BackView → ℕ → ℕ → View → Type 0
 Knows f p b q seat Spent = Unit {0}
 Knows f p b q seat (Front g) = (seat ≡ p) × (g ≡ f)

@@ -1,4 +1,4 @@
--- What a seat asks for before a step, and what its owner keeps beside it.
+-- The premises of a seat's steps, and the data that its owner keeps beside it.
 use Rattle.std.specs.Prelude.{Some, ◌≡◌, ◌≢◌, ℕ, ◌+◌, ◌<◌, ◌≤◌, ◌%◌, ◌/◌, List, [], length, slice_get, slice_index, Bool, true, false, not, All}
 use Rattle.world_actions.specs.World.{IsWord}
 use Rattle.atomic_table.specs.Seated.{TableId}
@@ -21,15 +21,15 @@ use Rattle.shared_capture.specs.Steps.{front_of, back_of}
 abbrev pub TableSeat : Type 0
 TableSeat = Seat (Unit {0}) View
 
--- the seat is at this table and knows what this front knows
+-- the seat is at this table, and knows what this front knows
 abbrev pub IsFront : TableId → FrontView → TableSeat → Type 0
 IsFront t f seat = (seat.table_id ≡ t) × (seat.me ≡ (Front f, []))
 
--- the seat is at this table and knows what this back knows
+-- the seat is at this table, and knows what this back knows
 abbrev pub IsBack : TableId → BackView → TableSeat → Type 0
 IsBack t b seat = (seat.table_id ≡ t) × (seat.me ≡ (Back b, []))
 
--- the seat is at this table and knows what both know
+-- the seat is at this table, and knows what both know
 abbrev pub IsPair : TableId → FrontView → BackView → TableSeat → Type 0
 IsPair t f b seat = (seat.table_id ≡ t) × (seat.me ≡ (Pair f b, []))
 
@@ -42,14 +42,14 @@ abbrev pub SameRest : FrontView → FrontView → Type 0
 SameRest f g = (g.rounds ≡ f.rounds) × (g.live ≡ f.live) × (g.sides ≡ f.sides) × (g.last ≡ f.last)
     × (g.current ≡ f.current) × (g.closed ≡ f.closed) × (g.loads ≡ f.loads)
 
--- the two seats of a new table of n cells, as it was told k of them
+-- the two seats of a new table of n cells, which was made from k words
 pub record IsSeated (t : TableId) (k n : ℕ) (words marks : List ℕ) (front back : TableSeat) : Type 0 where
   pub cells : k ≡ n
   pub has : HasCells n t
   pub sits_front : IsFront t (front_start words marks) front
   pub sits_back : IsBack t (back_start n) back
 
--- a round may be marked: each cell that counts as touched has its live word where it will be taken
+-- a round may be marked: each cell that counts as touched has its live word in the array from which it will be taken
 abbrev pub IsReady : Kind → ℕ → FrontView → Type 0
 IsReady kind n f = (i : ℕ) → i < n → is_word kind (marked f.marks i) ≡ true
     → flag_at f.sides i ≡ take_side kind f.current (marked f.marks i)
@@ -70,7 +70,7 @@ pub record IsFetched (i mark : ℕ) (b c : BackView) : Type 0 where
   pub mark_is : slice_get c.marks (i / 64) ≡ Some mark
   pub others : (j : ℕ) → j < i → marked c.marks j ≡ marked b.marks j
 
--- the list has each place where the two lists differ, once
+-- the list has each place at which the two lists differ, once
 pub record ListsChanges (marks away places : List ℕ) : Type 0 where
   pub differ : (i : ℕ) → i < length places
       → let k = slice_index places i in (k < length marks) × (slice_index marks k ≢ slice_index away k)
@@ -78,7 +78,7 @@ pub record ListsChanges (marks away places : List ℕ) : Type 0 where
   pub all : (k : ℕ) → k < length marks → slice_index marks k ≢ slice_index away k
       → (i : ℕ) × (i < length places) × (slice_index places i ≡ k)
 
--- what the front keeps of its own is what its seat knows
+-- the fields of the front are what its seat knows
 pub record IsFrontOf (kind : Kind) (t : TableId) (n : ℕ) (seat : TableSeat)
     (live marks away : List ℕ) (current : Bool) : Type 0 where
   pub sits : IsFront t (front_of seat.me.0) seat
@@ -92,7 +92,7 @@ pub record IsFrontOf (kind : Kind) (t : TableId) (n : ℕ) (seat : TableSeat)
   pub away_packed : kind ≡ Zigzag → IsPacked n away
   pub away_are : kind ≡ Zigzag → (i : ℕ) → i < n → flag_at (front_of seat.me.0).sides i ≡ not (marked away i)
 
--- what the back keeps of its own is what its seat knows, and the mark word of the next cell where it was fetched
+-- the fields of the back are what its seat knows; the mark word of the next cell is one of them if it was fetched
 pub record IsBackOf (kind : Kind) (t : TableId) (n : ℕ) (seat : TableSeat)
     (cells tick at mark : ℕ) (current : Bool) : Type 0 where
   pub sits : IsBack t (back_of seat.me.0) seat

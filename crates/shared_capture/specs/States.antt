@@ -1,4 +1,4 @@
--- What contracts see of the two seats.
+-- The two seats as contracts see them.
 use Rattle.std.specs.Prelude.{◌≡◌, ◌≢◌, ℕ, ◌+◌, ◌<◌, ◌≤◌, List, [], ◌∷◌, ◌++◌, Option, length, replicate, slice_index, slice_set, Bool, true, false, MatchOption}
 use Rattle.world_actions.specs.Effect.{Write}
 use Rattle.world_actions.specs.declared.refusal.Refusal.{Refusal}
@@ -16,8 +16,8 @@ use Rattle.shared_capture.specs.Rounds.{flag_at, round, snapshots_as, padded}
 
 -- ## The front
 
--- the pair that the front is of, its live words, which cells are touched, the rounds that it marked, whether it knows
--- that none is open, the phase words that it loaded, and its word steps
+-- The pair of the front, its live words and touched cells, and the rounds that it marked. `closed` is true if it knows
+-- that no round is open. `loads` are the phase words that it loaded, and `steps` is the number of its word steps.
 pub record FrontState : Type 0 where
   pub pair : TableId
   pub live : List ℕ
@@ -27,7 +27,7 @@ pub record FrontState : Type 0 where
   pub loads : List ℕ
   pub steps : ℕ
 
--- what contracts see of a front that knows this
+-- a front with this knowledge, as contracts see it
 abbrev pub front_state : Kind → TableId → FrontView → FrontState
 front_state kind t f = record {
   pair = t;
@@ -39,7 +39,7 @@ front_state kind t f = record {
   steps = f.steps;
 }
 
--- the pair, the rounds and what is known of the phase stay
+-- the pair, the rounds and the knowledge of the phase stay
 abbrev pub SameRounds : FrontState → FrontState → Type 0
 SameRounds old new = (new.pair ≡ old.pair) × (new.rounds ≡ old.rounds) × (new.closed ≡ old.closed)
     × (new.loads ≡ old.loads)
@@ -48,7 +48,7 @@ SameRounds old new = (new.pair ≡ old.pair) × (new.rounds ≡ old.rounds) × (
 abbrev pub SameWords : FrontState → FrontState → Type 0
 SameWords old new = (new.pair ≡ old.pair) × (new.live ≡ old.live)
 
--- a word was put into a cell, which is touched then
+-- a word was put into a cell, which is touched afterwards
 pub record IsPut (old : FrontState) (write : Write) (new : FrontState) : Type 0 where
   pub live : new.live ≡ slice_set old.live write.cell write.word
   pub touched : new.touched ≡ slice_set old.touched write.cell true
@@ -60,16 +60,16 @@ abbrev pub accessed_front : FrontState → Access → FrontState → Type 0
 accessed_front old (Read cell) new = new ≡ old
 accessed_front old (Wrote write) new = IsPut old write new
 
--- each cell counts as touched or not
+-- there is a flag for each cell that says if it counts as touched
 abbrev pub HasFlags : FrontState → Type 0
 HasFlags front = length front.touched ≡ length front.live
 
--- a cell that isn't touched wasn't before, and has the word that it had
+-- a cell that isn't touched now wasn't touched before, and still has its word
 pub record KeepsUntouched (old new : FrontState) : Type 0 where
   pub flags : HasFlags new
   pub cells : (i : ℕ) → flag_at new.touched i ≡ false → (flag_at old.touched i ≡ false) × (slice_index new.live i ≡ slice_index old.live i)
 
--- the rounds of a front after one more, of the tick and of the words as they are
+-- the rounds of a front after one more round, of this tick and of the words as they are
 abbrev pub marked_rounds : FrontState → ℕ → List Round
 marked_rounds front tick = front.rounds ++ round tick front.live front.touched ∷ []
 
@@ -80,8 +80,8 @@ IsRefused old refusal new = (refusal ≡ Busy) × (new.rounds ≡ old.rounds) ×
 
 -- ## The back
 
--- the pair that the back is of, the number of cells, the rounds that it has done, the one in work, whether there is
--- one, the phase words that it loaded, and its word steps
+-- The pair of the back, the number of cells, the rounds that it has done, and the one in work. `working` is true if there
+-- is one in work. `loads` are the phase words that it loaded, and `steps` is the number of its word steps.
 pub record BackState : Type 0 where
   pub pair : TableId
   pub cells : ℕ
@@ -91,7 +91,7 @@ pub record BackState : Type 0 where
   pub loads : List ℕ
   pub steps : ℕ
 
--- what contracts see of a back that knows this and has taken this many cells of the round in work
+-- a back with this knowledge that has taken this many cells of the round in work, as contracts see it
 abbrev pub back_state : TableId → ℕ → BackView → BackState
 back_state t at b = record {
   pair = t;
@@ -103,7 +103,7 @@ back_state t at b = record {
   steps = b.steps;
 }
 
--- all that was taken, of the round in work too
+-- all snapshots, also that of the round in work
 abbrev pub snapshots : BackState → List Snapshot
 snapshots b = snapshots_as b.working b.done b.now
 
@@ -111,7 +111,7 @@ snapshots b = snapshots_as b.working b.done b.now
 abbrev pub SameDone : BackState → BackState → Type 0
 SameDone old new = (new.pair ≡ old.pair) × (new.cells ≡ old.cells) × (new.done ≡ old.done)
 
--- the rounds and what is known of the phase stay, but for the cells taken of the round in work
+-- the rounds and the knowledge of the phase stay, except the taken cells of the round in work
 abbrev pub SameRound : BackState → BackState → Type 0
 SameRound old new = (new.pair ≡ old.pair) × (new.cells ≡ old.cells) × (new.done ≡ old.done)
     × (new.working ≡ old.working) × (new.now.tick ≡ old.now.tick) × (new.loads ≡ old.loads)
@@ -125,7 +125,7 @@ abbrev pub IsTaken : BackState → Taken → BackState → Type 0
 IsTaken old taken new = (old.working ≡ true) × (length old.now.taken < old.cells)
     × (new.now.taken ≡ old.now.taken ++ taken ∷ [])
 
--- a take of the back gives the next cell, or nothing where none is left, and makes at most two steps
+-- a take of the back gives the next cell, or nothing if none is left, and makes at most two steps
 pub record TookBack (old : BackState) (answer : Option Taken) (new : BackState) : Type 0 where
   pub same : SameRound old new
   pub gives : MatchOption answer ((new ≡ old) × HasNoneLeft old) (λ taken. IsTaken old taken new)
@@ -135,7 +135,7 @@ pub record TookBack (old : BackState) (answer : Option Taken) (new : BackState) 
 abbrev pub FoundNone : BackState → BackState → Type 0
 FoundNone old new = (new.working ≡ false) × (new.loads ≡ old.loads ++ 0 ∷ [])
 
--- the back loaded the phase, and it was the tick of a round, of which no cell is taken yet
+-- the back loaded the phase, which was the tick of a round; no cell of that round is taken yet
 abbrev pub FoundRound : BackState → ℕ → BackState → Type 0
 FoundRound old tick new = (tick ≢ 0) × (new.working ≡ true) × (new.now.tick ≡ tick) × (new.now.taken ≡ [])
     × (new.loads ≡ old.loads ++ tick ∷ [])
@@ -152,13 +152,13 @@ pub record IsStart (words : List ℕ) (f : FrontState) (b : BackState) : Type 0 
   pub done : b.done ≡ []
   pub idle : b.working ≡ false
 
--- a meeting lets the back know a round that is open, and changes nothing else
+-- a meeting may make an open round known to the back, with no cell taken, and changes nothing else
 pub record MetBack (old new : BackState) : Type 0 where
   pub same : SameDone old new
   pub known : old.working ≡ true → (new.working ≡ true) × (new.now ≡ old.now)
   pub found : old.working ≡ false → new.working ≡ true → new.now.taken ≡ []
 
--- where the front knows that no round is open, none is in work, and else the front's last round is
+-- if the front knows that no round is open, none is in work; otherwise the front's last round is in work
 abbrev pub KnowsOpen : Bool → FrontState → BackState → Type 0
 KnowsOpen true f b = (length f.rounds ≡ length b.done) × (b.working ≡ false)
 KnowsOpen false f b = (length f.rounds ≡ length b.done + 1) × (b.working ≡ true)

@@ -1,4 +1,4 @@
--- What a seat knows after each step, and what each step tells.
+-- The knowledge of a seat after each step, and the facts that each step gives.
 use Rattle.std.specs.Prelude.{◌≡◌, ℕ, ◌+◌, ◌<◌, ◌==◌, [], ◌∷◌, ◌++◌, length, slice_set, Bool, true, false, not}
 use Rattle.world_actions.specs.World.{IsWord}
 use Rattle.capture_core.specs.declared.taker.Taken.{Taken}
@@ -46,7 +46,7 @@ after_open kind tick f = record f {
 
 -- ## The back
 
--- the back after it loaded the phase, which was 0 or not
+-- the back after it loaded the phase; the flag says if the phase was 0
 abbrev pub looked_as : Bool → ℕ → BackView → BackView
 looked_as true found b = record b { loads = b.loads ++ found ∷ []; steps = b.steps + 1 }
 looked_as false found b = record b {
@@ -65,7 +65,7 @@ after_look found b = looked_as (found == 0) found b
 abbrev pub after_fetch : ℕ → BackView → BackView
 after_fetch found b = record b { marks = b.marks ++ found ∷ []; steps = b.steps + 1 }
 
--- the back after it loaded the word of cell i, before which cells may be unchanged
+-- the back after it loaded the word of cell i; the cells since the last taken one are unchanged
 abbrev pub after_take : ℕ → ℕ → BackView → BackView
 after_take i word b = record b {
   now = record { tick = b.now.tick; taken = padded i b.now.taken ++ Word word ∷ [] };
@@ -88,9 +88,9 @@ after_finish b = record b {
   steps = b.steps + 1;
 }
 
--- ## What each step tells
+-- ## The facts that each step gives
 
--- what a seat has: its view, and the slots that it holds, which are none
+-- the parts of a seat: its view, and the slots that it holds, which are none
 abbrev pub Sitting : Type 0
 Sitting = Me (Unit {0}) View
 
@@ -106,7 +106,7 @@ back_of (Back b) = b
 back_of (Pair f b) = b
 back_of v = back_start 0
 
--- the front loads the phase: it is 0 where the front knew that no round is open
+-- the front loads the phase; it is 0 if the front knew that no round is open
 abbrev pub phase_loaded : Step (Unit {0}) → Sitting → ℕ → Sitting → Type 0
 phase_loaded st m found m' = (m' ≡ (Front (after_load found (front_of m.0)), m.1))
     × ((front_of m.0).closed ≡ true → found ≡ 0)

@@ -1,4 +1,4 @@
--- Where things stand in the table: the phase, two arrays of words, and two rows of mark words.
+-- The layout of the table: the phase, two arrays of words, and two rows of mark words.
 use Rattle.std.specs.Prelude.{◌≡◌, ℕ, ◌+◌, ◌<◌, ◌^◌, Bool, true, false}
 use Rattle.atomic_table.specs.Seated.{TableId}
 use Rattle.packed_marks.specs.Bits.{chunks}
@@ -13,7 +13,7 @@ abbrev pub mark_place : ℕ → Bool → ℕ → ℕ
 mark_place n false k = 1 + n + n + k
 mark_place n true k = 1 + n + n + chunks n + k
 
--- how many words the table of n cells has
+-- the number of words of the table of n cells
 abbrev pub table_words : ℕ → ℕ
 table_words n = 1 + n + n + chunks n + chunks n
 

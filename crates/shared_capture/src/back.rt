@@ -14,7 +14,7 @@ use std::alloc::Global;
 use std::marker::Model;
 use std::sync::Arc;
 
-/// Takes the open round. Contracts see which pair it is of, and what it knows.
+/// The seat that takes the open round. Contracts see its pair and its knowledge.
 #[derive(Drop)]
 pub struct Back<M: Method> {
     pub(crate) table: Arc<OwnedTable<M>, Global>,
@@ -22,9 +22,9 @@ pub struct Back<M: Method> {
     pub(crate) cells: usize,
     /// The tick of the round in work, or 0.
     pub(crate) tick: u64,
-    /// How many of its cells were taken.
+    /// The number of its cells that were taken.
     pub(crate) at: usize,
-    /// The mark word of the next cell, where it was fetched.
+    /// The mark word of the next cell, if it was fetched.
     pub(crate) mark: u64,
     /// The array of the round in work, or of the next one.
     pub(crate) current: bool,
@@ -76,7 +76,7 @@ impl<M: Method> Taker for Back<M> {
 }
 
 impl<M: Method> Back<M> {
-    /// The tick of the open round, where one is known or is found open by a load.
+    /// Returns the tick of the open round, if one is known, or if a load of the phase finds one.
     pub fn look(&mut self) -> Option<u64>
         ensures same { SameDone self.old self.new }
         ensures known { self.old.working ≡ true
@@ -112,14 +112,14 @@ impl<M: Method> Back<M> {
         self.current = !self.current;
     }
 
-    /// Whether a round is in work.
+    /// True if a round is in work.
     pub(crate) fn is_working(&self) -> bool
         ensures { result ≡ self.now.working }
     {
         self.tick != 0
     }
 
-    /// Whether a round is in work that has a cell left.
+    /// True if a round is in work and has a cell left.
     pub(crate) fn has_left(&self) -> bool
         ensures { IsTrue result
             ↔ ((self.now.working ≡ true) × (length self.now.now.taken < self.now.cells)) }

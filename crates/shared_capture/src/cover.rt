@@ -1,4 +1,4 @@
-//! The tick of the newest open image, from who writes images to who writes the log, in one word.
+//! The tick of the newest open image, in one word, from the writer of images to the writer of the log.
 ghost use Rattle.std.specs.Prelude.{◌≡◌, ◌<◌, ◌≤◌, ◌++◌, ◌∷◌, [], ℕ, Some, slice_get, IfOk, IfErr};
 ghost use Rattle.std.specs.Arc.{arc_value};
 ghost use Rattle.shared_capture.specs.declared.cover.CoverView.TheVariants.{Spent, Both};
@@ -10,8 +10,8 @@ use std::marker::Model;
 use std::sync::Arc;
 use world_actions::Refusal;
 
-/// What a seat at the word knows: the ticks that it stored, those that it loaded, or both. No value of it is made: a
-/// clause reads an array as a list of any length.
+/// The knowledge of a seat at the word: the ticks that it stored, those that it loaded, or both. No value of this type is
+/// made. Contracts read its arrays as lists of any length.
 pub enum CoverView {
     Spent,
     Out([u64; 0]),
@@ -19,7 +19,7 @@ pub enum CoverView {
     Both([u64; 0], [u64; 0]),
 }
 
-/// The rule of the word: it is the last tick that was stored, and each tick that was loaded was stored.
+/// The rule of the word: it is the last tick that was stored, or 0. Each loaded tick was stored, or is 0.
 pub struct CoverRule;
 
 impl TableRule<(), CoverView, ()> for CoverRule {
@@ -77,7 +77,7 @@ type CoverTable = Table<(), CoverView, (), CoverRule, Global>;
 
 type CoverSeat = Seat<(), CoverView>;
 
-/// Stores the ticks of images, each once its image is open. Contracts see which pair it is of, and the ticks.
+/// Stores the ticks of images, each once its image is open. Contracts see its pair, and the ticks.
 #[derive(Drop)]
 pub struct CoverOut {
     table: Arc<CoverTable, Global>,
@@ -92,7 +92,7 @@ impl Model for CoverOut {
     ghost invariant = { λ c. IsOut (arc_value c.table).shared.table_id (stored_of c.seat.me.0) c.seat };
 }
 
-/// Loads the newest of these ticks. Contracts see which pair it is of, and what it loaded.
+/// Loads the newest of these ticks. Contracts see its pair, and the ticks that it loaded.
 #[derive(Drop)]
 pub struct CoverIn {
     table: Arc<CoverTable, Global>,
@@ -107,7 +107,7 @@ impl Model for CoverIn {
     ghost invariant = { λ c. IsIn (arc_value c.table).shared.table_id (loaded_of c.seat.me.0) c.seat };
 }
 
-/// Two seats at a new word, of which nothing was stored or loaded.
+/// Makes two seats at a new word. Nothing was stored in it or loaded from it.
 pub fn cover_pair(alloc: Global) -> Result<(CoverOut, CoverIn), Refusal>
     ensures ok { IfOk result (λ pair. (pair.0.pair ≡ pair.1.pair) × (pair.0.ticks ≡ []) × (pair.1.ticks ≡ [])) }
     ensures err { IfErr result (λ refusal. refusal ≡ Refusal.NoMemory) }
@@ -134,7 +134,7 @@ fn seats(alloc: Global) -> Result<(CoverOut, CoverIn), AllocError>
 }
 
 impl CoverOut {
-    /// Stores the tick of an image, which is open, and newer than those before it.
+    /// Stores the tick of an image. The image is open, and newer than those before it.
     pub fn publish(&mut self, tick: u64)
         requires some { 1 ≤ tick }
         requires newer { (i earlier : ℕ) → slice_get self.old.ticks i ≡ Some earlier → earlier < tick }
@@ -145,7 +145,7 @@ impl CoverOut {
 }
 
 impl CoverIn {
-    /// The tick that was stored last, or 0 where none was.
+    /// Returns the tick that was stored last, or 0 if none was.
     pub fn latest(&mut self) -> u64
         ensures { self.new ≡ record self.old { ticks = self.old.ticks ++ result ∷ [] } }
     {
@@ -153,7 +153,7 @@ impl CoverIn {
     }
 }
 
-/// The seats of one pair meet: each tick that was loaded is then known to have been stored, but for 0.
+/// Lets the seats of one pair meet. Each loaded tick other than 0 is then known to have been stored.
 pub fn meet_cover(out: &mut CoverOut, from: &mut CoverIn)
     requires { out.old.pair ≡ from.old.pair }
     ensures same { (out.new ≡ out.old) × (from.new ≡ from.old) }
@@ -174,7 +174,7 @@ fn parted(word: &CoverWord, seat: &mut CoverSeat) -> CoverSeat
     word.split_seat::<Part>(seat)
 }
 
-// The two seats meet, and part again.
+// Lets the two seats meet, and parts them again.
 fn meet_seats(word: &CoverWord, out: &mut CoverSeat, from: &mut CoverSeat)
     requires out { IsOut word.now.table_id (stored_of out.old.me.0) out.old }
     requires from { IsIn word.now.table_id (loaded_of from.old.me.0) from.old }

@@ -25,7 +25,7 @@ use std::sync::Arc;
 use world_actions::Refusal;
 use world_ticks::Cells;
 
-/// Writes and marks. Contracts see which pair it is of, and what it knows.
+/// The seat that writes and marks. Contracts see its pair and its knowledge.
 #[derive(Drop)]
 pub struct Front<M: Method> {
     pub(crate) table: Arc<OwnedTable<M>, Global>,
@@ -33,11 +33,11 @@ pub struct Front<M: Method> {
     pub(crate) live: Vec<u64>,
     /// The mark words of the current row.
     pub(crate) marks: Vec<u64>,
-    /// Of Zigzag, for each cell the array that doesn't have its live word, 64 to a word.
+    /// For Zigzag: a bit for each cell, 64 to a word, which names the array that doesn't have the cell's live word.
     pub(crate) away: Vec<u64>,
-    /// Of Zigzag, the places of the mark words that the next mark changes.
+    /// For Zigzag: the places of the mark words that the next mark changes.
     pub(crate) changed: Vec<usize>,
-    /// Which array is current.
+    /// The array that is current.
     pub(crate) current: bool,
 }
 
@@ -87,7 +87,7 @@ impl<M: Method> Cells for Front<M> {
 }
 
 impl<M: Method> Front<M> {
-    /// Opens the round of the tick, of the words as they are now. It refuses where a round is open.
+    /// Opens a round of this tick and of the words as they are now. It refuses if a round is open.
     pub fn mark(&mut self, tick: u64) -> Result<(), Refusal>
         requires tick { (0 < tick) × (tick ≤ TICK_MAX) }
         requires rising { All (λ (r : Round). r.tick < tick) self.old.rounds }
@@ -101,7 +101,7 @@ impl<M: Method> Front<M> {
         self.mark_words(tick)
     }
 
-    /// The same, where the tick needn't be a new one.
+    /// The same as `mark`, except that the tick needn't be a new one.
     #[tactic(auto, using(crate::proofs::Touched::length_touched))]
     pub(crate) fn mark_words(&mut self, tick: u64) -> Result<(), Refusal>
         requires tick { 0 < tick }
@@ -123,7 +123,7 @@ impl<M: Method> Front<M> {
     }
 }
 
-// What a write and a mark do in each method.
+// A write and a mark in each method.
 impl<M: Method> Front<M> {
     fn write_zigzag(&mut self, i: usize, v: u64)
         requires kind { M.KIND ≡ Zigzag }
@@ -147,7 +147,8 @@ impl<M: Method> Front<M> {
         self.away[i / 64] = with_bit(self.away[i / 64], i % 64, !second);
     }
 
-    // The mark of a cell that was written since the last mark is not stored again.
+    // Stores the word, and the cell's mark. If the cell was written since the last round was marked, its mark isn't
+    // stored again.
     fn write_ping_pong(&mut self, i: usize, v: u64)
         requires kind { M.KIND ≡ PingPong }
         requires inside { i < length self.old.live }
@@ -218,7 +219,7 @@ impl<M: Method> Front<M> {
     }
 }
 
-// Lists a mark word that is to change from now on, unless it was before.
+// Lists a mark word that the next mark is to change, unless it is listed already.
 fn list_change(marks: &[u64], away: &[u64], changed: &mut Vec<usize>, k: usize)
     requires inside { (k < length marks.now) × (length away.now ≡ length marks.now) }
     requires listed { ListsChanges marks.now away.now changed.old.items }
@@ -232,7 +233,7 @@ fn list_change(marks: &[u64], away: &[u64], changed: &mut Vec<usize>, k: usize)
     }
 }
 
-// Lets the writes of each cell go where its live word isn't.
+// Sets the marks so that the writes of each cell go to the array without its live word.
 fn turn_marks<M: Method>(
     table: &SharedTable<M>,
     seat: &mut TableSeat,
@@ -262,8 +263,8 @@ fn turn_marks<M: Method>(
     }
 }
 
-/// Laws: whatever accesses do to a front, they leave its pair, its rounds and the phase words that
-/// it loaded as they were, and the words of the cells that aren't touched.
+/// Laws: accesses of a front leave its pair, its rounds and the phase words that it loaded as they were. They also leave
+/// the words of the cells that aren't touched.
 pub fn accesses_keep()
     ensures rounds { (old new : FrontState) (writes : List Write) → Performs accessed_front old writes new
         → SameRounds old new }

@@ -31,7 +31,7 @@ impl<M: Method> Model for Joined<M> {
 }
 
 impl<M: Method> Joined<M> {
-    /// The two seats, where no cell of a round is left. No round is open then.
+    /// Returns the two seats. No cell of a round may be left. Afterwards no round is open.
     pub fn split(self) -> (Front<M>, Back<M>)
         requires { self.left ≡ [] }
         ensures pair { result.0.pair ≡ result.1.pair }
@@ -115,7 +115,7 @@ fn end_round<M: Method>(front: &mut Front<M>, back: &mut Back<M>)
     }
 }
 
-// Opens a round where none is open.
+// Opens a round. None is open before.
 fn begin_round<M: Method>(front: &mut Front<M>, back: &mut Back<M>)
     requires joined { IsJoined front.old back.old }
     requires closed { front.old.closed ≡ true }

@@ -1,4 +1,4 @@
-//! The two seats of one table, and how they meet.
+//! The two seats of one table, and their meeting.
 ghost use Rattle.std.specs.Prelude.{◌≡◌, ◌<◌, [], false, length, vec_len, All, IfOk, IfErr};
 ghost use Rattle.std.specs.Arc.{arc_value};
 ghost use Rattle.world_actions.specs.World.{IsWord};
@@ -21,7 +21,7 @@ use std::alloc::{AllocError, Global};
 use std::sync::Arc;
 use world_actions::Refusal;
 
-/// Two seats of the method Zigzag at a new table, which has these words.
+/// Makes two seats of the method Zigzag at a new table with these words.
 pub fn zigzag_pair(alloc: Global, words: &[u64]) -> Result<(Front<Zig>, Back<Zig>), Refusal>
     requires { All IsWord words.now }
     ensures ok { IfOk result (λ pair. IsStart words.now pair.0 pair.1) }
@@ -30,7 +30,7 @@ pub fn zigzag_pair(alloc: Global, words: &[u64]) -> Result<(Front<Zig>, Back<Zig
     pair(alloc, words)
 }
 
-/// Two seats of the method Ping-Pong at a new table, which has these words.
+/// Makes two seats of the method Ping-Pong at a new table with these words.
 pub fn ping_pong_pair(alloc: Global, words: &[u64]) -> Result<(Front<Pong>, Back<Pong>), Refusal>
     requires { All IsWord words.now }
     ensures ok { IfOk result (λ pair. IsStart words.now pair.0 pair.1) }
@@ -39,7 +39,7 @@ pub fn ping_pong_pair(alloc: Global, words: &[u64]) -> Result<(Front<Pong>, Back
     pair(alloc, words)
 }
 
-/// Two seats of a method at a new table, which has these words.
+/// Makes two seats of a method at a new table with these words.
 pub(crate) fn pair<M: Method>(alloc: Global, words: &[u64]) -> Result<(Front<M>, Back<M>), Refusal>
     requires { All IsWord words.now }
     ensures ok { IfOk result (λ pair. IsStart words.now pair.0 pair.1) }
@@ -89,7 +89,7 @@ type Halves<M> = (
     TableSeat,
 );
 
-// A new table, twice, and its two seats.
+// Makes a new table, with two owners, and its two seats.
 fn shared_table<M: Method>(alloc: Global, key: &Opening) -> Result<Halves<M>, AllocError>
     requires { All IsWord key.now.live.items × IsFull (vec_len key.now.live) key.now.marks.items }
     ensures { IfOk result (λ halves. (arc_value halves.1 ≡ arc_value halves.0)
@@ -105,7 +105,7 @@ fn shared_table<M: Method>(alloc: Global, key: &Opening) -> Result<Halves<M>, Al
     Ok((table, shared, seat, other))
 }
 
-// A new table, and its one seat, which knows what front and back know.
+// Makes a new table, and its one seat, which knows what front and back know.
 fn new_table<M: Method>(
     alloc: Global,
     key: &Opening,
@@ -121,7 +121,7 @@ fn new_table<M: Method>(
     Ok((table, seat))
 }
 
-// For Zigzag the array of each cell that doesn't have its live word: so far the second.
+// For Zigzag: makes the bits that name the array of each cell without its live word. At first that is the second array.
 fn away_marks<M: Method>(alloc: Global, marks: &[u64]) -> Result<Vec<u64>, AllocError>
     ensures { IfOk result (λ away. M.KIND ≡ Zigzag → away.items ≡ marks.now) }
 {
@@ -131,7 +131,7 @@ fn away_marks<M: Method>(alloc: Global, marks: &[u64]) -> Result<Vec<u64>, Alloc
     }
 }
 
-// The phase, the two arrays, and the two rows of marks.
+// Makes the words of a table: the phase, the two arrays, and the two rows of marks.
 fn table_words(alloc: Global, words: &[u64], marks: &[u64]) -> Result<Vec<u64>, AllocError>
     requires { IsFull (length words.now) marks.now }
     ensures { IfOk result (λ all. all.items ≡ opening_words words.now marks.now) }
@@ -146,8 +146,8 @@ fn table_words(alloc: Global, words: &[u64], marks: &[u64]) -> Result<Vec<u64>, 
     Ok(all)
 }
 
-/// The seats of one pair meet: what was taken is then known to be what was marked, and each knows
-/// whether a round is open.
+/// Lets the seats of one pair meet. The taken cells are then known to be those that were marked, and each seat knows if a
+/// round is open.
 pub fn meet<M: Method>(front: &mut Front<M>, back: &mut Back<M>)
     requires { front.old.pair ≡ back.old.pair }
     ensures rounds { Agree front.new.rounds (snapshots back.new) }
@@ -159,7 +159,7 @@ pub fn meet<M: Method>(front: &mut Front<M>, back: &mut Back<M>)
     back.tick = known_tick(back.tick, found);
 }
 
-// The tick of the round in work, or else the one that was found.
+// Returns the tick of the round in work, or the one that was found if none is in work.
 fn known_tick(tick: u64, found: u64) -> u64
     ensures found { tick ≡ 0 → result ≡ found }
     ensures known { 0 < tick → result ≡ tick }

@@ -1,4 +1,4 @@
-//! The rule of the table, and what each step on it tells the seat that makes it.
+//! The rule of the table, and the facts that each step gives the seat that makes it.
 ghost use Rattle.std.specs.Prelude.{vec_len};
 ghost use Rattle.shared_capture.specs.Start.{opening_pair};
 ghost use Rattle.shared_capture.specs.Rule.{Kept};

@@ -87,7 +87,7 @@ pub(crate) fn look<M: Method>(table: &SharedTable<M>, seat: &mut TableSeat) -> u
     table.load::<Look>(seat, 0)
 }
 
-/// The next mark word of the round in work. Of Ping-Pong it leaves 0 in the table.
+/// Fetches the next mark word of the round in work. For Ping-Pong it leaves 0 in the table.
 pub(crate) fn fetch_mark<M: Method>(
     table: &SharedTable<M>,
     seat: &mut TableSeat,
@@ -130,8 +130,8 @@ pub(crate) fn load_value<M: Method>(
     table.load::<LoadValue>(seat, cell(cells, second, i))
 }
 
-/// The mark word of the next cell of the round in work, where `mark` is it unless the cell is the
-/// first of its word.
+/// Returns the mark word of the next cell of the round in work. `mark` is that word, unless the cell is the first of its
+/// word.
 pub(crate) fn mark_for<M: Method>(
     table: &SharedTable<M>,
     seat: &mut TableSeat,
@@ -156,7 +156,7 @@ pub(crate) fn mark_for<M: Method>(
     }
 }
 
-/// Takes the next cell of the round in work, whose mark word this is.
+/// Takes the next cell of the round in work. `mark` is its mark word.
 pub(crate) fn take_known<M: Method>(
     table: &SharedTable<M>,
     seat: &mut TableSeat,
@@ -206,7 +206,7 @@ pub(crate) fn part<M: Method>(table: &SharedTable<M>, seat: &mut TableSeat) -> T
     table.split_seat::<Part>(seat)
 }
 
-/// The two seats meet, and part again. Returns the phase word that they found.
+/// Lets the two seats meet, and parts them again. Returns the phase word that they found.
 pub(crate) fn meet<M: Method>(
     table: &SharedTable<M>,
     front: &mut TableSeat,

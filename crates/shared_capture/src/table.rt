@@ -1,4 +1,4 @@
-//! The table of a pair of seats, and where things stand in it.
+//! The table of a pair of seats, and its layout.
 ghost use Rattle.std.specs.Prelude.{◌≡◌, ◌<◌, ◌^◌};
 ghost use Rattle.packed_marks.specs.Bits.{chunks};
 ghost use Rattle.shared_capture.specs.Methods.{row};
@@ -11,7 +11,7 @@ use atomic_table::{Seat, Shared, Table};
 use packed_marks::chunks_of;
 use std::alloc::Global;
 
-/// What a table is told when it is made: its opening words and marks.
+/// The data from which a table is made: its opening words and marks.
 #[derive(Drop)]
 pub struct Opening {
     pub(crate) live: Vec<u64>,
@@ -24,7 +24,7 @@ pub(crate) type SharedTable<M> = Shared<(), View, Opening, Rule<M>>;
 
 pub(crate) type TableSeat = Seat<(), View>;
 
-/// The place of a cell's word in one of the two arrays.
+/// Returns the place of a cell's word in one of the two arrays.
 pub(crate) fn cell(cells: usize, second: bool, i: usize) -> usize
     requires { (cells < 2 ^ 60) × (i < cells) }
     ensures { result ≡ cell_place cells second i }
@@ -32,7 +32,7 @@ pub(crate) fn cell(cells: usize, second: bool, i: usize) -> usize
     if second { 1 + cells + i } else { 1 + i }
 }
 
-/// The place of a mark word in one of the two rows.
+/// Returns the place of a mark word in one of the two rows.
 pub(crate) fn mark_word(cells: usize, second: bool, k: usize) -> usize
     requires { (cells < 2 ^ 60) × (k < chunks cells) }
     ensures { result ≡ mark_place cells second k }
@@ -44,7 +44,7 @@ pub(crate) fn mark_word(cells: usize, second: bool, k: usize) -> usize
     }
 }
 
-/// The row in which the marks of an array stand.
+/// Returns the row with the marks of an array.
 pub(crate) fn row_of<M: Method>(second: bool) -> bool
     ensures { result ≡ row M.KIND second }
 {

@@ -1,4 +1,4 @@
--- What a line leads to, from what the calls of a core ensure.
+-- The effects of a line, from the promises of a core's calls.
 use Rattle.std.proofs.Common.{refl, sym, ap, subst, ◌≡◌, ◌≢◌, ◌∙◌, ℕ, List, codes, Option, Some, None, Result, Ok, Err, IfOk, OnOk}
 use Rattle.world_actions.specs.declared.refusal.Refusal.{Refusal}
 use Rattle.disk_model.specs.declared.leaving.Leaving.{Leaving}
@@ -75,7 +75,7 @@ starts_run (answer.Recovered tick start) from to accepted starts = starts
 starts_run answer.Blank from to accepted starts = starts
 starts_run (answer.Refused refusal) from to accepted starts = absurd (accepted refusal refl)
 
--- and none after a refusal
+-- and no start after a refusal
 pub starts_not : (given : Answer) (refusal : Refusal) (from to : Played) → given ≡ answer.Refused refusal → to ≡ from → Starts given from to
 starts_not given refusal from to is same = rw is same
 
@@ -91,7 +91,7 @@ crash_leads leaving old middle new left given are_left moves starts = record {
       (next.0, next.1, (given, record { left = left; are_left = are_left; middle = record { past = past_after past (move.Crash left) given; state = middle }; crash = made; start = next.2 }, refl));
 }
 
--- what follows of a call that went well
+-- a consequence of a call that succeeded
 pub on_ok : {A E : Type 0} (P Q : Type 0) (r : Result A E) → (P → Q) → OnOk r P → OnOk r Q
 on_ok P Q (Ok a) follows holds = follows holds
 on_ok P Q (Err e) follows holds = tt
@@ -141,7 +141,7 @@ on_open line old new said (Some from) leads method at =
 open_leads : (line : Line) (old new : OpenState) (said : List ℕ) → Leads line old.state said new.state → new.method ≡ method_after old.method line → LineLeads (Some line) (Some old) said (Some new)
 open_leads line old new said leads method = record { on = λ from at. on_open line old new said from leads method at }
 
--- the same, by what is known of the line and of the core
+-- the same, by the facts on the line and on the core
 pub opening_leads : (meaning : Option Line) (line : Line) (method : Method) (cells : ℕ) (core new : Option OpenState) (past : Past) (opened : OpenState) → meaning ≡ Some line → line ≡ Open method cells
     → new ≡ Some opened → opened.method ≡ method → IsCoreAt past opened.state → Opens cells (record { past = past; state = opened.state }) → LineLeads meaning core (codes "ready 0") new
 opening_leads meaning line method cells core new past opened means opening is same stands opens = rw (means, opening, is) (opens_leads method cells core past opened same stands opens)
@@ -150,7 +150,7 @@ pub spoken_leads : (meaning : Option Line) (line : Line) (core : Option OpenStat
     → Leads line old.state said new.state → new.method ≡ method_after old.method line → LineLeads meaning core said (Some new)
 spoken_leads meaning line core old new said means is leads method = rw (means, is) (open_leads line old new said leads method)
 
--- a line that opens no core leaves the method
+-- a line that opens no core leaves the method as it is
 pub method_stays : (line : Line) (method : Method) → ((other : Method) (cells : ℕ) → line ≢ Open other cells) → method ≡ method_after method line
 method_stays (Open method cells) kept other = absurd (other method cells refl)
 method_stays (Command command) kept other = refl

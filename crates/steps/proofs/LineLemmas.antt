@@ -1,4 +1,4 @@
--- What a line of a script means, once.
+-- Each line of a script has one meaning.
 use Rattle.std.proofs.Common.{arith, refl, sym, ◌∙◌, ◌≡◌, ◌≢◌, ℕ, ◌/◌, ◌%◌, ◌<◌, ◌≤◌, ◌^◌, ◌==◌, if◌then◌else◌, List, ◌∷◌, ◌++◌, decimal, Some, None, codes, Option, length, ap, lit<, lit≤, ◌⊎◌, slice_index}
 use Rattle.std.proofs.lemmas.Bool.{cases_lt}
 use Rattle.std.proofs.lemmas.Bool.Decides.{nat_tests}
@@ -24,7 +24,7 @@ use Rattle.steps.specs.declared.line.Line.{Line}
 use Rattle.steps.specs.declared.line.Line.TheVariants as line
 use Rattle.steps.specs.Line.{LineMeans, LineIsInBounds, line_spelling, method_word, hex_digit, hex_text}
 
--- Each kind of line has a number, which is that of its text: told by first bytes and lengths. A client's lines have 0.
+-- Each kind of line has a number, which is also that of its text, by first bytes and lengths. A client's lines have 0.
 kind_of : Line → ℕ
 kind_of (line.Command command) = 0
 kind_of (line.Open method cells) = 1
@@ -74,7 +74,7 @@ text_kind-line_spelling line.Cover = refl
 same_kind : (a b : Line) → line_spelling a ≡ line_spelling b → kind_of a ≡ kind_of b
 same_kind a b is = sym (text_kind-line_spelling a) ∙ (ap text_kind is ∙ text_kind-line_spelling b)
 
--- The method at the front of a text: told by its first two bytes, and by the one after the method's first word.
+-- The method at the front of a text, by its first two bytes and the byte after the method's first word.
 method_at : List ℕ → Method
 method_at text =
     if slice_index text 0 == 122 then (if slice_index text 6 == 32 then Zigzag else ZigzagShared) else
@@ -116,7 +116,7 @@ no_method text plain zigzag pingpong zigzag_shared pingpong_shared PingPong rest
 no_method text plain zigzag pingpong zigzag_shared pingpong_shared ZigzagShared rest = zigzag_shared rest
 no_method text plain zigzag pingpong zigzag_shared pingpong_shared PingPongShared rest = pingpong_shared rest
 
--- no two digits, and so no two bytes
+-- no two digits have the same text, and therefore no two bytes
 digit_injective : (a b : ℕ) → a < 16 → b < 16 → hex_digit a ≡ hex_digit b → a ≡ b
 digit_injective a b low other is = by_size (cases_lt 10 a) (cases_lt 10 b)
   where
@@ -131,7 +131,7 @@ byte_injective a b low other is =
     let low_same = digit_injective (a % 16) (b % 16) (omega arith) (omega arith) low_digit in
     omega (arith, high_same, low_same)
 
--- a line that starts with `open ` opens a world, or means nothing
+-- a line that starts with `open ` but opens no world means nothing
 none_open : (rest : List ℕ) → ((method : Method) (cells : ℕ) → (1 ≤ cells) × (cells ≤ CELLS) → rest ≢ method_word method ++ (32 ∷ decimal cells))
     → LineMeans (codes "open " ++ rest) None
 unfolding text_kind kind_of
@@ -171,7 +171,7 @@ logs_injective Failed Failed is = refl
 logs_injective Done Failed is = absurd (let first : 108 ≡ 102 = same_first is in omega (arith, first))
 logs_injective Failed Done is = absurd (let first : 102 ≡ 108 = same_first is in omega (arith, first))
 
--- the letter that tells how a crash leaves
+-- the letter that says what a crash leaves
 sixth : {xs ys : List ℕ} → xs ≡ ys → slice_index xs 6 ≡ slice_index ys 6
 sixth is = ap (λ (bytes : List ℕ). slice_index bytes 6) is
 
@@ -216,7 +216,7 @@ line_meaning_unique same = reading_unique line_spelling LineIsInBounds (line_spe
 abbrev pub CommandsAreShort : Type 0
 CommandsAreShort = (command : Command) → IsInBounds command → length (spelling command) ≤ LINE_BYTES
 
--- and so is every line that means something
+-- every line with a meaning is short too
 length-method_word : (method : Method) → length (method_word method) ≤ 15
 length-method_word Plain = lit≤ tt
 length-method_word Zigzag = lit≤ tt
@@ -244,6 +244,6 @@ line_length short (line.Crash Keep) bounds = lit≤ tt
 line_length short (line.Crash (Fill byte)) bounds = lit≤ tt
 line_length short line.World bounds = lit≤ tt
 
--- what is kept of a line means what the line means
+-- the kept bytes of a line mean what the line means
 pub kept_means : CommandsAreShort → (kept : List ℕ) (meaning : Option Line) → LineMeans kept meaning → KeptMeans LineMeans kept meaning
 kept_means short = kept_is_read line_spelling LineIsInBounds (line_length short)

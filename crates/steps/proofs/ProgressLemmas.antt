@@ -1,4 +1,4 @@
--- One byte of a script at a time: what stands after it.
+-- A script, one byte at a time: the state after each byte.
 use Rattle.std.proofs.Common.{append-nil, refl, ap, sym, subst, ◌∙◌, ◌≡◌, ◌≢◌, ℕ, List, [], ◌∷◌, ◌++◌, append_assoc, take, drop, Option, Some, None, IfSome, inl}
 use Rattle.std.proofs.lemmas.List.{take-append-drop}
 use Rattle.std.specs.Io.KnownBytes.{Appends}
@@ -70,7 +70,7 @@ leads_answered old new b meaning said newline means leads empty = record {
 front_behind : (prior front said : List ℕ) → IsFront front said → IsFront (prior ++ front) (prior ++ said)
 front_behind prior front said is = (is.0, ap (λ l. prior ++ l) is.1 ∙ sym (append_assoc prior front is.0))
 
--- a fault that has nothing to do with a line
+-- a fault between two lines
 cut_between : (input left written : List ℕ) (script : ScriptState) (refusal : Refusal) → Stands input script left written → IsCutOff input written refusal
 cut_between input left written script refusal stands = record {
   answered = stands.answered;
@@ -85,7 +85,7 @@ cut_between input left written script refusal stands = record {
   in_memory = λ _. refl;
 }
 
--- a fault after some bytes that went well
+-- a fault after some bytes that were taken without one
 pub breaks_after : {old middle : ScriptState} {bytes more written front : List ℕ} {refusal : Refusal} → LeadsOn old bytes middle written
     → BreaksOff middle more front refusal → BreaksOff old (bytes ++ more) (written ++ front) refusal
 breaks_after {old} {middle} {bytes} {more} {written} {front} one two = record {
@@ -130,7 +130,7 @@ cut_behind known left before middle after script front refusal stands appends br
     let fault = breaks so_far.0 so_far.1 in
     (run.0 ++ front, fault.2.on input run.0 (rw (fault.1) at run.2), Appends-both _ _ _ _ _ run.1 appends))
 
--- a front of what was said is written
+-- a front of the text is written
 pub breaks_front : {old new : ScriptState} {bytes said front : List ℕ} → LeadsOn old bytes new said → IsFront front said → (left : List ℕ) → BreaksOff old (bytes ++ left) front Device
 breaks_front {old} {new} {bytes} {said} {front} leads is left = record {
   on = λ input prior stands.
@@ -139,7 +139,7 @@ breaks_front {old} {new} {bytes} {said} {front} leads is left = record {
       (cut_text after.answered None after.opened (prior ++ said) (prior ++ front) after.replies (front_behind prior front said is)) (λ e. cc);
 }
 
--- and of what is said at the end
+-- a front of the text at the end is written
 pub breaks_end : {script : ScriptState} {said front : List ℕ} → Completes script said → IsFront front said → BreaksOff script [] front Device
 breaks_end {script} {said} {front} completes is = record {
   on = λ input prior stands.
@@ -148,23 +148,23 @@ breaks_end {script} {said} {front} completes is = record {
       (cut_text (lines_of input) None whole.last (prior ++ said) (prior ++ front) whole.replies (front_behind prior front said is)) (λ e. cc);
 }
 
--- what is left of a piece from a place on
+-- the bytes of a piece from a place on, and those left after it
 rest_of_piece : (piece left : List ℕ) (i : ℕ) → take i piece ++ (drop i piece ++ left) ≡ piece ++ left
 rest_of_piece piece left i = sym (append_assoc (take i piece) (drop i piece) left) ∙ ap (λ bytes. bytes ++ left) (take-append-drop i piece)
 
--- what waits behind what was written, and what is said next
+-- the answers that wait behind the written ones, and the next text
 pub leads_more : {old middle new : ScriptState} {bytes more : List ℕ} (written text said all : List ℕ) → LeadsOn old bytes middle (written ++ text) → LeadsOn middle more new said
     → all ≡ text ++ said → LeadsOn old (bytes ++ more) new (written ++ all)
 leads_more {old} {middle} {new} {bytes} {more} written text said all one two is =
     subst (λ (l : List ℕ). LeadsOn old (bytes ++ more) new l) (append_assoc written text said ∙ ap (λ l. written ++ l) (sym is)) (leads_then one two)
 
--- in a piece no part of the next answer is written
+-- within a piece no part of the next answer is written
 pub breaks_at : {old middle : ScriptState} (piece left : List ℕ) (i : ℕ) (written : List ℕ) (refusal : Refusal) → LeadsOn old (take i piece) middle written → BreaksOff old (piece ++ left) written refusal
 breaks_at {old} {middle} piece left i written refusal leads =
     subst (λ (l : List ℕ). BreaksOff old l written refusal) (rest_of_piece piece left i)
     (subst (λ (l : List ℕ). BreaksOff old (take i piece ++ (drop i piece ++ left)) l refusal) (append-nil written) (breaks_after leads (breaks_between middle (drop i piece ++ left) refusal)))
 
--- and a front of what waits
+-- a front of the waiting answers is written
 pub breaks_writing : {old middle : ScriptState} (piece left : List ℕ) (i : ℕ) (written text front : List ℕ) → LeadsOn old (take i piece) middle (written ++ text) → IsFront front text
     → BreaksOff old (piece ++ left) (written ++ front) Device
 breaks_writing {old} {middle} piece left i written text front leads is =

@@ -86,7 +86,7 @@ pub record IsCut (from : Option Opened) (lines : List (List ℕ)) (front : List 
   pub are : front ≡ whole ++ part
   pub next : (part ≡ []) ⊎ ((line : List ℕ) × (others : List (List ℕ)) × (later ≡ line ∷ others) × (text : List ℕ) × (last : Option Opened) × Replies core (line ∷ []) text last × IsFront part text)
 
--- each front of a text is cut so
+-- each front of a text is cut in this way
 pub cut_text : (lines : List (List ℕ)) (from last : Option Opened) (text front : List ℕ) → Replies from lines text last → IsFront front text → IsCut from lines front
 cut_text [] from last text front replies is =
     let none : front ++ is.0 ≡ [] = sym is.1 ∙ replies.0 in
@@ -125,7 +125,7 @@ cut_text (line ∷ lines) from last text front replies is =
           })
     ]
 
--- what is cut of the answers to some lines is so of those to more of them
+-- a cut of the answers to some lines is also a cut of the answers to more lines
 pub cut_off : (input : List ℕ) (lines more : List (List ℕ)) (front : List ℕ) (refusal : Refusal) → lines_of input ≡ lines ++ more → IsCut None lines front → (refusal ≡ NoMemory → ⊥) → IsCutOff input front refusal
 cut_off input lines more front refusal split cut device = record {
   answered = cut.answered;

@@ -1,4 +1,4 @@
--- The words of a core, said one after another.
+-- The words of a core, printed one after another.
 use Rattle.std.proofs.Common.{arith, sym, ap, subst, ◌∙◌, ◌≡◌, ℕ, ◌+◌, ◌<◌, ◌≤◌, Bool, false, not, nat_lt, if◌then◌else◌, List, [], ◌∷◌, ◌++◌, append_assoc, length, take, map, decimal, slice_index}
 use Rattle.std.proofs.lemmas.Bool.Decides.{nat_tests}
 use Rattle.std.proofs.lemmas.List.{take_all}
@@ -29,7 +29,7 @@ pub record AreSaid (state : State) (before : List ℕ) (count : ℕ) (core : Sta
   pub text : after ≡ before ++ said
   pub words : (past : Past) → IsCoreAt past state → said ≡ join_with_byte 32 (map decimal (take count state.content.live))
 
--- what is said of one cell
+-- the text of one cell
 abbrev pub IsWordOf : State → ℕ → List ℕ → Type 0
 IsWordOf state cell said = (past : Past) → IsCoreAt past state → cell < state.cells → said ≡ decimal (slice_index state.content.live cell)
 

@@ -50,11 +50,12 @@ LineIsInBounds (Command command) = IsInBounds command
 LineIsInBounds (Crash (Fill byte)) = byte < 256
 LineIsInBounds line = Unit {0}
 
--- what a line of a script means: what it spells, or nothing where it spells nothing
+-- the meaning of a line of a script: the one that it spells, or none if it spells nothing
 abbrev pub LineMeans : List ℕ → Option Line → Type 0
 LineMeans = IsReading line_spelling LineIsInBounds
 
--- a line with no number in it that isn't a client's: of many steps, or a crash; or any
+-- A line that has no number and isn't a client's. `IsLongWord` has those of many steps and the crashes, and `IsWord` has
+-- all.
 abbrev pub IsLongWord : Line → Type 0
 IsLongWord (Images fate) = Unit {0}
 IsLongWord (Logs fate) = Unit {0}

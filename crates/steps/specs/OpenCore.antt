@@ -1,5 +1,5 @@
 -- Inside: for the proofs of this crate's private functions.
--- What is seen of an open core: its state, and by which method its words are captured.
+-- An open core as proofs see it: its state, and the method that captures its words.
 use Rattle.std.specs.Prelude.{ℕ, List}
 use Rattle.world_core.specs.declared.moves.Move.{Move}
 use Rattle.world_core.specs.declared.moves.Answer.{Answer}
@@ -14,7 +14,7 @@ use Rattle.steps.specs.declared.open_core.OpenCore.{OpenCore}
 use Rattle.steps.specs.declared.open_core.OpenCore.TheVariants.{Plain, Zigzag, PingPong, ZigzagShared, PingPongShared}
 use Rattle.steps.specs.Played.{Moves, Runs}
 
--- the state of the core, over whichever store
+-- the state of the core, whatever its store is
 abbrev pub state_of : OpenCore → State
 state_of (Plain core) = core
 state_of (Zigzag core) = core
@@ -30,7 +30,7 @@ method_of (PingPong core) = method.PingPong
 method_of (ZigzagShared core) = method.ZigzagShared
 method_of (PingPongShared core) = method.PingPongShared
 
--- what is seen of an open core
+-- the method and the state of an open core
 pub record OpenState : Type 0 where
   pub method : Method
   pub state : State
@@ -38,12 +38,12 @@ pub record OpenState : Type 0 where
 abbrev pub open_state_of : OpenCore → OpenState
 open_state_of core = record { method = method_of core; state = state_of core }
 
--- of a core in the one state the line says this and leaves the other, whatever was told before
+-- the line leads a core from the one state to the other and prints this, whatever its past is
 pub record Leads (line : Line) (old : State) (said : List ℕ) (new : State) : Type 0 where
   pub on : (past : Past) → IsCoreAt past old
       → (next : Past) × IsCoreAt next new × Runs line (record { past = past; state = old }) said (record { past = next; state = new })
 
--- of a core in the one state the move is answered so, leaving the other, whatever was told before
+-- the move leads a core from the one state to the other with this answer, whatever its past is
 pub record MovesOn (old : State) (asked : Move) (given : Answer) (new : State) : Type 0 where
   pub on : (past : Past) → IsCoreAt past old
       → Moves (record { past = past; state = old }) asked given (record { past = past_after past asked given; state = new })

@@ -1,4 +1,4 @@
--- What a line of a script does to an open core, and what it says.
+-- The effect of a line of a script on an open core, and the text that it prints.
 use Rattle.std.specs.Prelude.{◌≡◌, ◌≢◌, ℕ, List, decimal, codes, map}
 use Rattle.std.specs.List.{join_with_byte}
 use Rattle.world_actions.specs.declared.refusal.Refusal.TheVariants.{NoMemory}
@@ -23,12 +23,12 @@ use Rattle.steps.specs.declared.line.Line.{Line}
 use Rattle.steps.specs.declared.line.Line.TheVariants.{Open, Command, Mark, Image, Log, Cover, Images, Logs, Crash, World}
 use Rattle.steps.specs.Text.{answer_text}
 
--- an open core, and what its moves and answers told
+-- an open core, and its past: what is known from its moves and answers
 pub record Played : Type 0 where
   pub past : Past
   pub state : State
 
--- one move is answered so, and not for want of memory
+-- one move has this answer, which isn't the refusal NoMemory
 pub record Moves (from : Played) (asked : Move) (given : Answer) (to : Played) : Type 0 where
   pub answers : Answers from.past from.state asked given to.state
   pub past : to.past ≡ past_after from.past asked given
@@ -42,7 +42,7 @@ pub record Opens (cells : ℕ) (to : Played) : Type 0 where
   pub stands : IsCoreAt fresh_past first
   pub start : RunsStart fresh_past first to.past to.state
 
--- the start is run, but after a refused crash
+-- the start is run, except after a refused crash
 abbrev pub Starts : Answer → Played → Played → Type 0
 Starts (answer.Refused refusal) from to = to ≡ from
 Starts given from to = RunsStart from.past from.state to.past to.state
@@ -65,7 +65,7 @@ move_of command.End = move.End
 abbrev pub Plays : Move → Played → List ℕ → Played → Type 0
 Plays asked from text to = (given : Answer) × Moves from asked given to × (text ≡ answer_text given)
 
--- what a line does and says, where a core is open
+-- the effect and the text of a line, if a core is open
 abbrev pub Runs : Line → Played → List ℕ → Played → Type 0
 Runs (Open method cells) from text to = Opens cells to × (text ≡ codes "ready 0")
 Runs (Command asked) from text to = Plays (move_of asked) from text to

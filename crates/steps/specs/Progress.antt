@@ -1,5 +1,5 @@
 -- Inside: for the proofs of this crate's private functions.
--- How far a script has come, for the functions that run it byte by byte.
+-- The progress of a script, for the functions that run it byte by byte.
 use Rattle.std.specs.Prelude.{◌≡◌, ℕ, List, [], ◌++◌, Option, Some, None, option_map}
 use Rattle.world_actions.specs.declared.refusal.Refusal.{Refusal}
 use Rattle.line_grammar.specs.Kept.{kept_of, HasNoNewline}
@@ -13,17 +13,17 @@ pub record ScriptState : Type 0 where
   pub core : Option OpenState
   pub kept : List ℕ
 
--- a core stands
+-- the open core, if there is one, agrees with its past
 abbrev pub Stand : Option Opened → Type 0
 Stand None = Unit {0}
 Stand (Some opened) = IsCoreAt opened.played.past opened.played.state
 
--- what is open was opened and played so
+-- the open core was opened and played so
 pub record IsAt (opened : Option Opened) (core : Option OpenState) : Type 0 where
   pub state : core ≡ option_map (λ (o : Opened). record { method = o.method; state = o.played.state }) opened
   pub stands : Stand opened
 
--- with the one core open, a line with this meaning says this and leaves the other, however it was played
+-- a line with this meaning leads from the one open core to the other and prints this, however the first was played
 pub record LineLeads (meaning : Option Line) (old : Option OpenState) (said : List ℕ) (new : Option OpenState) : Type 0 where
   pub on : (from : Option Opened) → IsAt from old → (to : Option Opened) × IsAt to new × LineRuns meaning from said to
 
@@ -38,7 +38,7 @@ pub record Stands (input : List ℕ) (script : ScriptState) (left written : List
   pub unbroken : HasNoNewline line
   pub kept_is : script.kept ≡ kept_of line
 
--- the bytes lead from one script to another and write this, whatever came before and is left after them
+-- the bytes lead from one script to another and write this, whatever came before them and is left after them
 pub record LeadsOn (old : ScriptState) (bytes : List ℕ) (new : ScriptState) (written : List ℕ) : Type 0 where
   pub on : (input left prior : List ℕ) → Stands input old (bytes ++ left) prior → Stands input new left (prior ++ written)
 
@@ -46,6 +46,6 @@ pub record LeadsOn (old : ScriptState) (bytes : List ℕ) (new : ScriptState) (w
 pub record Completes (script : ScriptState) (written : List ℕ) : Type 0 where
   pub on : (input prior : List ℕ) → Stands input script [] prior → IsScriptText input (prior ++ written)
 
--- with these bytes left, a fault came when this was written
+-- a fault came after this was written, with these bytes left
 pub record BreaksOff (script : ScriptState) (left written : List ℕ) (refusal : Refusal) : Type 0 where
   pub on : (input prior : List ℕ) → Stands input script left prior → IsCutOff input (prior ++ written) refusal

@@ -25,13 +25,13 @@ method_after method line = method
 abbrev pub IsBadLine : Option Opened → List ℕ → Option Opened → Type 0
 IsBadLine from text to = (to ≡ from) × (text ≡ answer_text (Refused BadLine))
 
--- what a line does and says, where no core is open
+-- the effect and the text of a line, if no core is open
 abbrev pub RunsFirst : Line → List ℕ → Option Opened → Type 0
 RunsFirst (Open method cells) text to =
     (next : Opened) × (to ≡ Some next) × (next.method ≡ method) × Opens cells next.played × (text ≡ codes "ready 0")
 RunsFirst line text to = IsBadLine None text to
 
--- what a line with this meaning does, and says without the newline; at first no core is open
+-- the effect of a line with this meaning, and its text without the newline; at first no core is open
 abbrev pub LineRuns : Option Line → Option Opened → List ℕ → Option Opened → Type 0
 LineRuns None from text to = IsBadLine from text to
 LineRuns (Some line) None text to = RunsFirst line text to
@@ -48,7 +48,7 @@ abbrev pub lines_of : List ℕ → List (List ℕ)
 lines_of [] = []
 lines_of (b ∷ bytes) = if b == 10 then [] ∷ lines_of bytes else onto_first b (lines_of bytes)
 
--- the text that answers these lines, from one core to another: for each line what is said to what it means, and a newline
+-- the text that answers these lines, from one core to another: for each line the text of its meaning, and a newline
 abbrev pub Replies : Option Opened → List (List ℕ) → List ℕ → Option Opened → Type 0
 Replies from [] text last = (text ≡ []) × (last ≡ from)
 Replies from (line ∷ lines) text last =
@@ -64,8 +64,8 @@ pub record IsScriptText (input text : List ℕ) : Type 0 where
 abbrev pub IsFault : Refusal → Type 0
 IsFault refusal = (refusal ≡ NoMemory) ⊎ (refusal ≡ Device)
 
--- what stands after a fault: whole answers to the lines before it, and then at most a front of the next answer;
--- no part of one where memory was wanting
+-- The output after a fault: whole answers to the lines before it, and then at most a front of the next answer. If memory ran
+-- out, no part of the next answer is written.
 pub record IsCutOff (input written : List ℕ) (refusal : Refusal) : Type 0 where
   pub answered : List (List ℕ)
   pub later : List (List ℕ)

@@ -16,7 +16,7 @@ use std::alloc::Global;
 use world_actions::Refusal;
 use world_core::{Answer, Core, Fate, Move};
 
-/// A fresh core, whose start has run.
+/// Makes a fresh core, and runs its start.
 pub fn open_core<C: Capture>(alloc: Global, cells: u32) -> Result<Core<C>, Refusal>
     requires { (1 ≤ cells) × (cells ≤ CELLS) }
     ensures opens { IfOk result (λ core. (past : Past) × IsCoreAt past core × Opens cells (record { past = past; state = core })) }
@@ -27,8 +27,7 @@ pub fn open_core<C: Capture>(alloc: Global, cells: u32) -> Result<Core<C>, Refus
     Ok(core)
 }
 
-/// Does what a line asks for that opens no core, and adds what is said to it. `NoMemory` is its only
-/// refusal.
+/// Runs a line that opens no core, and adds its text. Its only refusal is `NoMemory`.
 pub fn say_line<C: Capture>(
     core: &mut Core<C>,
     line: Line,
@@ -46,7 +45,7 @@ pub fn say_line<C: Capture>(
     push_answer(text, given)
 }
 
-// Does what a line asks for that has one answer.
+// Runs a line that has one answer.
 fn answer_line<C: Capture>(core: &mut Core<C>, line: Line) -> Result<Answer, Refusal>
     requires { IsAnswered line }
     ensures leads { IfOk result (λ given. Leads line core.old (answer_text given) core.new) }
@@ -88,7 +87,7 @@ fn push_words<C: Capture>(core: &mut Core<C>, text: &mut Vec<u8>) -> Result<(), 
     Ok(())
 }
 
-// Adds the word of a cell; a core has no other answer for one that it has.
+// Adds the word of a cell. A core has no other answer for a cell that it has.
 fn push_word<C: Capture>(core: &mut Core<C>, cell: u32, text: &mut Vec<u8>) -> Result<(), Refusal>
     ensures says { OnOk result ((said : List ℕ) × (text.new.items ≡ text.old.items ++ said)
         × ((past : Past) → IsCoreAt past core.old → cell < core.old.cells
@@ -102,7 +101,7 @@ fn push_word<C: Capture>(core: &mut Core<C>, cell: u32, text: &mut Vec<u8>) -> R
     }
 }
 
-// Makes one move; want of memory is told as a refusal of its own.
+// Makes one move. If memory runs out, the call itself is refused.
 fn make_move<C: Capture>(core: &mut Core<C>, asked: Move) -> Result<Answer, Refusal>
     ensures moves { IfOk result (λ given. MovesOn core.old asked given core.new) }
     ensures memory { IfErr result (λ refusal. refusal ≡ Refusal.NoMemory) }
@@ -124,7 +123,7 @@ fn move_for(command: Command) -> Move
     }
 }
 
-// A crash that leaves so of each file, and, unless it is refused, the start after it.
+// Makes a crash that leaves each file as `leaving` says. Unless the crash is refused, it runs the start after it.
 fn crash<C: Capture>(core: &mut Core<C>, leaving: Leaving) -> Result<Answer, Refusal>
     ensures leads { IfOk result (λ given. Leads (Line.Crash leaving) core.old (answer_text given) core.new) }
     ensures memory { IfErr result (λ refusal. refusal ≡ Refusal.NoMemory) }
@@ -138,5 +137,5 @@ fn crash<C: Capture>(core: &mut Core<C>, leaving: Leaving) -> Result<Answer, Ref
     Ok(given)
 }
 
-/// Lets a core go.
+/// Drops a core.
 pub fn let_go<C: Capture>(_core: Core<C>) {}

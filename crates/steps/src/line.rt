@@ -3,7 +3,7 @@ use line_grammar::{Command, after, one_reading, read_cell, read_command};
 use world_actions::CELLS;
 use world_core::Fate;
 
-/// How a world's words are captured at a mark.
+/// The method that captures a world's words at a mark.
 #[derive(Clone, Copy, Debug, PartialEq, Eq)]
 pub enum Method {
     /// A mark copies all words.
@@ -18,7 +18,7 @@ pub enum Method {
     PingPongShared,
 }
 
-/// What one line of a script asks for.
+/// The meaning of one line of a script.
 #[derive(Clone, Copy, Debug, PartialEq, Eq)]
 pub enum Line {
     /// `open METHOD N`: a fresh core of this many cells, 1 to `CELLS`, and its start.
@@ -31,7 +31,7 @@ pub enum Line {
     Image,
     /// `log`: one step of the log keeper.
     Log,
-    /// `cover`: what the newest image has leaves the queue.
+    /// `cover`: the records that the newest image has leave the queue.
     Cover,
     /// `image*`, or `fail image` whose calls fail: steps of the image keeper until it is idle or down.
     Images(Fate),
@@ -49,7 +49,7 @@ ghost use Rattle.steps.specs.declared.line.Method.{Method};
 ghost use Rattle.steps.specs.declared.line.Line.{Line};
 ghost use Rattle.steps.specs.Line.{LineMeans, IsWord, IsLongWord, line_spelling, method_word, hex_digit, hex_text};
 
-/// What a line asks for, unless it isn't of the grammar. Its newline is not part of it.
+/// Reads a line, without its newline. Returns `None` if it isn't of the grammar.
 pub fn read_line(line: &[u8]) -> Option<Line>
     ensures { LineMeans line.now result }
 {
@@ -84,7 +84,7 @@ fn read_open(words: &[u8]) -> Option<Line>
     }
 }
 
-// The method at the front, and what follows the space after it.
+// Reads the method at the front. Returns it with the bytes behind the space after it.
 fn read_method(words: &[u8]) -> Option<(Method, &[u8])>
     ensures found { IfSome result (λ found. words.now ≡ method_word found.0 ++ (32 ∷ found.1.now)) }
     ensures none { IfNone result ((method : Method) (rest : List ℕ) → words.now ≢ method_word method ++ (32 ∷ rest)) }
@@ -105,7 +105,7 @@ fn read_method(words: &[u8]) -> Option<(Method, &[u8])>
     Some((Method::PingPongShared, rest))
 }
 
-// A byte of two digits.
+// Reads a byte of two digits.
 fn read_byte(text: &[u8]) -> Option<u8>
     ensures { IsReading hex_text (λ byte. byte < 256) text.now result }
 {
@@ -128,7 +128,7 @@ fn read_digit(byte: u8) -> Option<u8>
     }
 }
 
-// A line that has no number in it, but for a client's.
+// Reads a line that has no number in it and isn't a client's.
 fn read_word(line: &[u8]) -> Option<Line>
     ensures found { IfSome result (λ word. IsWord word × (line.now ≡ line_spelling word)) }
     ensures none { IfNone result ((word : Line) → IsWord word → line.now ≢ line_spelling word) }
@@ -151,7 +151,7 @@ fn read_word(line: &[u8]) -> Option<Line>
     read_long_word(line)
 }
 
-// Those that ask for many steps, or a crash.
+// Reads such a line that asks for many steps or for a crash.
 fn read_long_word(line: &[u8]) -> Option<Line>
     ensures found { IfSome result (λ word. IsLongWord word × (line.now ≡ line_spelling word)) }
     ensures none { IfNone result ((word : Line) → IsLongWord word → line.now ≢ line_spelling word) }

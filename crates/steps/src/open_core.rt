@@ -22,7 +22,7 @@ pub enum OpenCore {
     PingPongShared(Core<Joined<Pong>>),
 }
 
-// One call lets a core go, wherever that is.
+// One call drops a core, whatever its store is.
 impl Drop for OpenCore {
     fn drop(self) {
         match self {
@@ -43,8 +43,7 @@ impl OpenCore {
     ghost use Rattle.steps.specs.Played.{Opens};
     ghost use Rattle.steps.specs.OpenCore.{state_of, method_of, Leads, IsNoOpening};
 
-    /// A fresh core that captures by this method, and whose start has run; `NoMemory` is its only
-    /// refusal.
+    /// Makes a fresh core that captures by this method, and runs its start. Its only refusal is `NoMemory`.
     pub fn fresh(alloc: Global, method: Method, cells: u32) -> Result<Self, Refusal>
         requires { (1 ≤ cells) × (cells ≤ CELLS) }
         ensures opens { IfOk result (λ core. (past : Past) × IsCoreAt past (state_of core)
@@ -65,8 +64,7 @@ impl OpenCore {
         }
     }
 
-    /// Does what a line asks for that opens no core, and adds what is said to it; `NoMemory` is its
-    /// only refusal.
+    /// Runs a line that opens no core, and adds its text. Its only refusal is `NoMemory`.
     pub fn say(&mut self, line: Line, text: &mut Vec<u8>) -> Result<(), Refusal>
         requires { IsNoOpening line }
         ensures says { OnOk result ((said : List ℕ) × (text.new.items ≡ text.old.items ++ said)

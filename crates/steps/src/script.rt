@@ -19,12 +19,12 @@ use std::marker::Model;
 use world_actions::Refusal;
 use world_core::Answer;
 
-/// How many bytes are read at once, and from how many bytes on answers are written before their piece is over.
+/// How many bytes are read at once. Answers of at least so many bytes are written before their piece is over.
 const PIECE_BYTES: usize = 4096;
 
-/// Runs the script that the reader gives and writes its text, and nothing else. `NoMemory` and
-/// `Device` end it: then whole answers stand, the last of them cut where the writer failed in it. The answers to what
-/// was read at once are written together.
+/// Runs the script that the reader gives, and writes its text and nothing else. `NoMemory` and `Device` end it. The written
+/// answers are then whole, except that the last one is cut if the writer failed in it. The answers to bytes that were read
+/// at once are written together.
 pub fn run_script<R: Read, W: Write>(alloc: Global, r: &mut R, w: &mut W) -> Result<(), Refusal>
     ensures whole { OnOk result (IfSome (R.remaining r.old) (λ input. (text : List ℕ)
         × IsScriptText input text × Appends (W.contents w.old) (W.contents w.new) text)) }
@@ -72,7 +72,7 @@ impl Model for Script {
 }
 
 impl Script {
-    // A script of which nothing was read.
+    // A script at its beginning: nothing was read.
     fn new(alloc: Global) -> Result<Self, Refusal>
         ensures fresh { IfOk result (λ script. script ≡ record { core = None; kept = [] }) }
         ensures memory { IfErr result (λ refusal. refusal ≡ Refusal.NoMemory) }
@@ -127,7 +127,7 @@ impl Script {
         Ok(())
     }
 
-    // Answers what is left at the end of the input, if anything is.
+    // Answers the line that is left at the end of the input, if there is one.
     fn finish<W: Write>(&mut self, text: &mut Vec<u8>, w: &mut W) -> Result<(), Refusal>
         requires { text.old.items ≡ [] }
         ensures done { OnOk result ((written : List ℕ) × Appends (W.contents w.old) (W.contents w.new) written
@@ -144,7 +144,7 @@ impl Script {
         Ok(())
     }
 
-    // Answers the kept line, and keeps nothing of it. Where there is no memory it adds no part of the answer.
+    // Answers the kept line, and keeps nothing of it. If memory runs out, it adds no part of the answer.
     fn answer_line(&mut self, text: &mut Vec<u8>) -> Result<(), Refusal>
         ensures done { OnOk result ((meaning : Option Line) × KeptMeans LineMeans self.old.kept meaning
             × (said : List ℕ) × LineLeads meaning self.old.core said self.new.core × (self.new.kept ≡ [])
@@ -173,7 +173,7 @@ fn write_out<W: Write>(text: &mut Vec<u8>, w: &mut W) -> Result<(), Refusal>
     Ok(())
 }
 
-// Writes answers that have come to a piece.
+// Writes the answers, if they are as long as a piece.
 fn write_long<W: Write>(text: &mut Vec<u8>, w: &mut W) -> Result<(), Refusal>
     ensures done { OnOk result ((written : List ℕ) × (text.old.items ≡ written ++ text.new.items)
         × Appends (W.contents w.old) (W.contents w.new) written) }
@@ -186,7 +186,7 @@ fn write_long<W: Write>(text: &mut Vec<u8>, w: &mut W) -> Result<(), Refusal>
     Ok(())
 }
 
-// What a line asks for of which these bytes are kept.
+// Reads a line of which these bytes are kept.
 fn read_kept(kept: &[u8]) -> Option<Line>
     ensures meaning { KeptMeans LineMeans kept.now result }
     ensures bounds { IfSome result LineIsInBounds }
@@ -220,7 +220,7 @@ fn push_reply(
     }
 }
 
-// The core takes the place of the one that was open.
+// Puts the core in the place of the one that was open.
 fn put(core: &mut Option<OpenCore>, opened: OpenCore)
     ensures { core.new ≡ Some opened }
 {

@@ -1,4 +1,4 @@
--- What answers the batches of a session.
+-- The answers to the batches of a session.
 use Rattle.std.specs.Prelude.{◌≡◌, ◌⊎◌, ◌+◌, ◌<◌, ℕ, List, Option, Some, None, IfSome, Result, Ok, Err, ⊤}
 use Rattle.world_actions.specs.declared.refusal.Refusal.{Refusal}
 use Rattle.batches.specs.declared.batch.Request.{Request}

@@ -1,4 +1,4 @@
--- What serving some files leaves in them.
+-- The files that a server leaves.
 use Rattle.std.specs.Prelude.{ℕ, List, take}
 use Rattle.world_actions.specs.declared.action.Action.{Action}
 use Rattle.disk_model.specs.declared.four_files.FourFiles.{FourFiles}
@@ -9,8 +9,8 @@ use Rattle.workers.specs.Logging.{Logging}
 use Rattle.worker_steps.specs.Ends.{LeaveSound}
 use Rattle.worker_threads.specs.Opening.{IsRecovered}
 
--- A server recovers what stands in these files at some tick. Where they were sound for some ticks, what it leaves is sound for
--- the recovered ones and all that were played.
+-- A server recovers the world of these files at some tick. If the files were sound for some ticks, it leaves them sound for
+-- the recovered ticks and all that were played.
 abbrev pub GoesOnFrom : {D : Type 0} → (file : D → List ℕ) → (leaves : D → List ℕ → Type 0) → FourFiles D → Playing → Imaging D → Logging D → Type 0
 GoesOnFrom file leaves files m c w =
     (ended from : ℕ) × IsRecovered file files m.opening ended from

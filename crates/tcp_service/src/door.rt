@@ -32,11 +32,11 @@ pub trait Door {
     /// No more connections are accepted, and the listener is closed.
     fn closed(&mut self);
 
-    /// Whether the server is to be left at once, with its workers and sessions as they are. It is asked after each
+    /// True if the server is to be left at once, with its workers and sessions as they are. It is asked after each
     /// connection, and ten times a second once no more are accepted.
     fn is_left(&self) -> bool;
 
-    /// Where a session counts, if anybody asks for counts.
+    /// The counts of the sessions, if anybody asks for them.
     fn pulse(&self) -> Option<Arc<Pulse, Global>> {
         None
     }

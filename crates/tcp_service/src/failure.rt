@@ -33,7 +33,7 @@ pub enum Failure {
     Listener,
 }
 
-/// What the error of an `accept` means.
+/// The failure behind an error of `accept`.
 pub fn failure_of(error: &io::Error) -> Failure
     ensures interrupted { raw_os_error error.now ≡ Some (pos 4) → result ≡ Failure.Interrupted }
     ensures no_memory { raw_os_error error.now ≡ Some (pos 12) → result ≡ Failure.Shortage }

@@ -1,8 +1,9 @@
 //! The clients of a world that workers run: a thread for each connection.
 //!
-//! `serve_tcp` starts the workers of an open world, serves so many connections, and stops them. A session reads batches, sends each to the mutator, and writes what the log writer posts for it,
-//! which is only after the batch's tick is durable. A client that fails or leaves ends its own session alone. A session
-//! that has ended is joined before the next connection is accepted.
+//! `serve_tcp` starts the workers of an open world, serves so many connections, and stops them. A session reads batches and
+//! sends each to the mutator. It writes the log writer's post of a batch, which comes only after the batch's tick is durable.
+//! A client that fails or leaves ends its own session alone. A session that has ended is joined before the next connection
+//! is accepted.
 #![tactic(auto)]
 
 mod accept;

@@ -1,4 +1,4 @@
-//! What a running server counts for its operator.
+//! The counts of a running server for its operator.
 
 use std::sync::atomic::{AtomicU64, Ordering};
 

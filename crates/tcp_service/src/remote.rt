@@ -21,7 +21,7 @@ pub struct Remote<R: Wait + Copy> {
     alloc: Global,
     requests: Sender<Ask>,
     asker: Asker,
-    /// Where its replies come, from its first ask on.
+    /// The place where its replies come, from its first ask on.
     slot: Option<ReplySlot>,
     /// How often it looks for a reply before it sleeps. Without this it sleeps at once.
     looks: Option<Looks>,
@@ -30,7 +30,7 @@ pub struct Remote<R: Wait + Copy> {
     last: Option<Snapshot<Post>>,
     /// The tick of the last post, or 0.
     tick: u64,
-    /// Where it counts, if anywhere.
+    /// The counts of the server, if it has any.
     pulse: Option<Arc<Pulse, Global>>,
 }
 
@@ -99,7 +99,7 @@ impl<R: Wait + Copy> Remote<R> {
         remote
     }
 
-    // What sends the reply to the next ask.
+    // The end that sends the reply to the next ask.
     fn sender(&mut self) -> Result<ReplySender, Refusal>
         ensures { self.new ≡ self.old }
     {
@@ -112,7 +112,7 @@ impl<R: Wait + Copy> Remote<R> {
         Ok(sender?)
     }
 
-    // What asks for a batch.
+    // The ask for a batch.
     fn asking(&mut self, b: &Batch, buffer: Vec<u8>) -> Result<Ask, Refusal>
         ensures asks { IfOk result (λ ask. ask
             ≡ record { session = self.old.session; ask = self.old.asked + 1; requests = b.now.list }) }
@@ -191,7 +191,7 @@ impl<R: Wait + Copy> World for Remote<R> {
     }
 }
 
-// What a reply gives.
+// The post or the refusal of a reply.
 fn given_by(reply: Reply) -> Result<Post, Refusal>
     ensures { result ≡ given_by reply }
 {

@@ -18,7 +18,7 @@ use worker_threads::{Ends, NotStarted, Seats, Watch, ends_meet, open_world, star
 use workers::{Gate, Looks};
 use world_actions::Refusal;
 
-/// What a server leaves once it has stopped.
+/// The workers and the listener of a server that has stopped.
 #[derive(Drop)]
 pub struct Stopped<M: Method, D: Disk + Drop, A: Gate + Drop, B: Gate + Drop, C: Gate + Drop> {
     pub ends: Ends<M, D, A, B, C>,
@@ -119,8 +119,8 @@ pub enum FilesNotServed<D: Disk + Drop> {
     NotServed(NotServed),
 }
 
-/// Opens the world that stands in the files, and serves it to the connections of a listener. On disks that keep to the
-/// disk model files that are sound are left sound, for the recovered ticks and all that were played.
+/// Opens the world of the files, and serves it to the connections of a listener. On disks that keep to the disk model,
+/// sound files are left sound, for the recovered ticks and all that were played.
 pub fn serve_files<
     R: Threads + Wait + Clock + Copy + Send + 'static,
     M: Seats + Send + 'static,

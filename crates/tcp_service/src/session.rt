@@ -19,7 +19,7 @@ use world_actions::Refusal;
 #[derive(Drop)]
 pub struct Over(());
 
-/// Answers the batches that the reader gives, one line each, as the session of this world: each line that isn't a fault
+/// Answers the batches that the reader gives, one line each, as the session of this world. Each line that isn't a fault
 /// is the text of a new post of that very batch. It ends as `serve_lines` does.
 pub fn serve_batches<R: Wait + Copy, B: Read, W: Write>(
     alloc: Global,
@@ -46,9 +46,9 @@ pub fn serve_batches<R: Wait + Copy, B: Read, W: Write>(
     serve_lines(alloc, r, w, world)
 }
 
-/// Serves a connection as the session of this number, until its client leaves, or neither sends nor takes a byte for so
-/// many seconds, or until a fault, which ends no other session. What follows a batch that is too long is read and
-/// forgotten, so that its answer arrives. The door hears of a session that has no memory.
+/// Serves a connection as the session of this number, until its client leaves. It also ends if the client neither sends
+/// nor takes a byte for so many seconds, or by a fault, which ends no other session. The bytes behind a batch that is too
+/// long are read and dropped, so that its answer arrives. The door hears of a session that has no memory.
 pub fn serve_session<R: Wait + Copy, W: Door + Drop>(
     rt: &R,
     alloc: Global,

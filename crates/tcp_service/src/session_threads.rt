@@ -20,7 +20,7 @@ const STACK_BYTES: usize = 256 * 1024;
 /// How long the wait for the last sessions goes without asking the door.
 const PATIENCE_MILLISECONDS: u64 = 100;
 
-/// What each session is given beside its connection.
+/// The parts that each session is given beside its connection.
 #[derive(Drop)]
 pub struct Shared<W: Door + Clone + Drop> {
     pub alloc: Global,

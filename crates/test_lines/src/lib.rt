@@ -1,5 +1,5 @@
-//! Tests of actions and of a client's lines: what an action does, how a line is read, which requests a batch has and how it is
-//! answered, and what a session writes.
+//! Tests of actions and of a client's lines. They cover actions, the reading of lines, the requests and answers of batches,
+//! and the output of sessions.
 #![tactic(auto)]
 
 #[cfg(test)]

@@ -59,7 +59,7 @@ fn on_new<'a>(
     }
 }
 
-// On a new world of two cells, in one piece and byte by byte.
+// Plays the session on a new world of two cells, in one piece and byte by byte.
 fn try_pieces<C: Capture>(rt: &impl Abort, alloc: Global, case: &Case<'_>) {
     for most in [usize::MAX, 1] {
         try_new::<C>(rt, alloc, 2, case, most);
@@ -103,7 +103,7 @@ fn answers_sessions(rt: HostRuntime) {
     try_sessions::<PingPong>(&rt, rt.alloc(), &cases);
 }
 
-// On new worlds of one cell.
+// Tries checkpoints on new worlds of one cell.
 fn try_checkpoints<C: Capture>(rt: &impl Abort, alloc: Global) {
     let text = b"tick 1: +\ntick 2: +\n";
     for (every, from) in [(1, 2), (2, 2), (3, 0), (64, 0)] {
@@ -152,14 +152,14 @@ const TICK_2: &[u8] = &[
     1, 1, 0, 0, 0, 0, 0, 0, 0, 1, 1, 0, 1, 0, 2, 0, 0, 0, 0, 2, 0, 0, 0, 0, 0, 0, 0, 0,
 ];
 
-// The image that the start makes of them.
+// The image that the start makes of these segments and of `IMAGE`.
 const NEW_IMAGE: &[u8] = &[
     1, 1, 0, 0, 0, 0, 0, 0, 0x20, 2, 0, 0, 0, 0, 0, 0, 0, 7, 0, 0, 0, 0, 0, 0, 0,
 ];
 
 const NEW_LOG: &[u8] = &[1, 2, 0, 0, 0, 0, 0, 0, 0x20, 0];
 
-// Files of format 1 are left behind by the start, but for an image, which stays as it is.
+// After the start no open file has format 1, except image.a, which stays as it is.
 fn are_upgraded(rt: &impl Abort, files: &FourFiles<ModelFile>) {
     same(rt, "image.a", files.image_a.durable(), IMAGE);
     same(rt, "image.b", files.image_b.durable(), NEW_IMAGE);
@@ -320,7 +320,7 @@ static MARKED: Session<'static> = Session {
     acked: 3,
 };
 
-// The parts of a world of two cells after its third tick, the second of which was marked.
+// The parts of a world of two cells after its third tick. Its store was marked after the second one.
 fn marked_parts<C: Capture>(rt: &impl Abort, alloc: Global) -> Parts<ModelFile> {
     let mut served = open::<C>(rt, alloc, fresh(rt, alloc, 2), 2);
     play(rt, alloc, &mut served, &MARKED, usize::MAX);

@@ -1,4 +1,4 @@
-//! Tests of what programs share: command lines that aren't run, measured times and their percentiles.
+//! Tests of the parts that programs share: command lines that start no work, measured times, and their percentiles.
 #![tactic(auto)]
 
 #[cfg(test)]

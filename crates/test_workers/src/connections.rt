@@ -1,4 +1,4 @@
-//! Connections by a port and by a socket: what one end writes the other reads, and silence ends a wait.
+//! Connections by a port and by a socket: each end reads the bytes that the other writes, and a time-out ends a wait.
 use crate::same::same;
 use std::fs::Files;
 use std::io::{self, ErrorKind, Read, Write};
@@ -22,7 +22,7 @@ fn passed(from: &Stream, to: &Stream) -> io::Result<[u8; 4]> {
     Ok(word)
 }
 
-// Whether a read that nothing comes for ends by the silence.
+// True if a read to which no byte comes ends by the time-out.
 fn ends_by_silence(stream: &Stream) -> bool {
     let mut reader = stream;
     match reader.read(&mut [0]) {
@@ -51,7 +51,7 @@ fn try_port<R: Net<Listener = TcpListener, Stream = TcpStream> + Abort>(rt: &R) 
     try_both_ways(rt, &Listener::Tcp(listener), &Stream::Tcp(client));
 }
 
-// The system gives a socket without a path a name of its own, and no file.
+// A socket without a path gets a name from the system, and no file.
 fn try_socket<R: Net + Files + Abort>(rt: &R) {
     let unnamed = SocketAddr::from_pathname("").expect(rt, "no path");
     let listener = UnixListener::bind_addr(rt, &unnamed).expect(rt, "a socket");

@@ -1,4 +1,4 @@
-//! A log that has fallen behind leaves out what an image has.
+//! A log that has fallen behind leaves out the ticks that an image has.
 ghost use Rattle.std.specs.Prelude.{◌≡◌, ◌≤◌, false};
 ghost use Rattle.workers.specs.Logging.{IsAtRest};
 ghost use Rattle.worker_threads.specs.Kept.{MayTake};
@@ -19,10 +19,10 @@ use world_actions::Refusal;
 
 type File = Fused<ModelFile>;
 
-/// How many calls of the second segment's file are made: four for the switch, and four for the tick behind it.
+/// How many calls are made on the second segment's file: four for the switch, and four for the tick behind it.
 const CALLS: u64 = 8;
 
-// The open round is of this tick, and its image is opened.
+// Writes the image of the open round, which is of this tick, and opens it.
 fn write_image<M: Method>(
     rt: &(impl Wait + Abort),
     checkpointer: &mut Checkpointer<M, File, Held>,
@@ -41,7 +41,7 @@ fn write_image<M: Method>(
     assert!(rt; !checkpointer.is_over());
 }
 
-// Three ticks are played, and images opened of the first two, while nothing is logged.
+// Plays three ticks, and writes images of the first two. The log writer makes no step meanwhile.
 fn fall_behind<M: Method>(
     rt: &(impl Wait + Abort),
     alloc: Global,
@@ -65,7 +65,7 @@ fn is_refused(rt: &(impl Wait + Abort), answer: &ReplySlot) {
     }
 }
 
-// The first two ticks are answered, and the third one where the log has it.
+// The first two ticks are answered, and the third one if the log has it.
 fn check_answers(rt: &(impl Wait + Abort), answers: &[ReplySlot; 3], whole: bool) {
     let [first, second, third] = answers;
     is_posted(rt, first, b"tick 1: + =1\n");
@@ -77,7 +77,7 @@ fn check_answers(rt: &(impl Wait + Abort), answers: &[ReplySlot; 3], whole: bool
     }
 }
 
-// The base of an open segment with these bytes, and how many ticks are in it.
+// Returns the base of the open segment in these bytes, and how many ticks are in it.
 fn segment_of(rt: &impl Abort, alloc: Global, bytes: &[u8]) -> Option<(u64, usize)> {
     match read_log(alloc, bytes).expect(rt, "a segment") {
         LogState::Open { base, ticks } => Some((base, ticks.len())),
@@ -85,7 +85,7 @@ fn segment_of(rt: &impl Abort, alloc: Global, bytes: &[u8]) -> Option<(u64, usiz
     }
 }
 
-// The first segment has no tick, and the second one goes on at the second image, whose ticks it doesn't have.
+// The first segment has no tick. The second one begins after the tick of the second image, and has the ticks after it.
 fn check_log(rt: &impl Abort, alloc: Global, log: &Log<File>, whole: bool) {
     let first = segment_of(rt, alloc, log.a.inner().durable());
     same(rt, "the first segment", first, Some((0, 0)));
@@ -105,7 +105,7 @@ fn check_files<M: Method>(rt: &impl Abort, alloc: Global, world: &Serial<M, File
     check_log(rt, alloc, log_writer.log(), whole);
 }
 
-// Workers in a new world, of which the second segment's file fails at this call.
+// Begins workers of a new world whose second segment's file fails at this call.
 fn begin_broken<M: Seats>(rt: &(impl Wait + Abort), alloc: Global, call: u64) -> Serial<M, File>
     requires { 1 ≤ call }
     ensures rest { IsAtRest result.log_writer }
@@ -131,7 +131,7 @@ fn play_behind<M: Method>(
     check_files(rt, alloc, world, whole);
 }
 
-// With this call of the second segment's file failing, if it is made.
+// Plays while this call of the second segment's file fails, if it is made.
 fn try_call<M: Seats>(rt: &(impl Wait + Abort), alloc: Global, call: u64)
     requires { 1 ≤ call }
 {

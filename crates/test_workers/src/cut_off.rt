@@ -1,4 +1,4 @@
-//! A session whose client takes no more bytes, at each byte of its answers: each tick that was answered stands.
+//! Sessions whose clients stop taking bytes, at each byte of the answers. Each answered tick is in the files.
 use crate::running::{begin, end};
 use crate::same::same;
 use crate::worlds::{new_files, stands_in};
@@ -16,12 +16,12 @@ use worker_threads::{Ends, Seats};
 use workers::{Ask, Open};
 use world_actions::Refusal;
 
-/// Batches that come in one piece.
+/// Three batches that come in one piece.
 const BATCHES: &[u8] = b"add 0 1\nget 0\nend\nadd 0 1\nget 0\nend\nadd 0 1\nget 0\nend\n";
 
 const ANSWERS: &[u8] = b"tick 1: + =1\ntick 2: + =2\ntick 3: + =3\n";
 
-// A client that takes so many bytes more, and fails then.
+// A client that takes `room` more bytes, and then fails.
 #[derive(Drop)]
 struct Client {
     taken: Vec<u8>,
@@ -43,7 +43,7 @@ impl Write for Client {
     }
 }
 
-// Serves a session on the batches whose client takes so many bytes. It gives how the session ends, and what was taken.
+// Serves a session on the batches, whose client takes so many bytes. Returns how the session ended, and the taken bytes.
 fn play<R: Wait + Copy>(
     rt: &R,
     alloc: Global,
@@ -60,12 +60,12 @@ fn play<R: Wait + Copy>(
     (ends, client.taken)
 }
 
-// How many ticks were answered as a whole.
+// Counts the ticks whose whole answer was taken.
 fn answered(taken: &[u8]) -> u64 {
     taken.iter().filter(|byte| **byte == b'\n').count() as u64
 }
 
-// What was taken is a front of the answers, and what was answered stands in the files.
+// The taken bytes are a prefix of the answers, and the files have each answered tick.
 fn check<M: Seats>(
     rt: &impl Abort,
     alloc: Global,

@@ -1,4 +1,4 @@
-//! Workers that have ended and met: whatever a crash leaves of their files, what was answered is there.
+//! Workers that have ended and met: whatever a crash leaves of their files, it has each answered tick.
 use crate::running::{begin, end};
 use crate::same::same;
 use crate::worlds::{found_in, new_files};
@@ -47,7 +47,7 @@ enum Stopped {
     All,
 }
 
-// These workers make so many steps.
+// Limits that let these workers make so many steps.
 fn limits_of(stopped: Stopped, steps: u64) -> Limits {
     let steps = Some(steps);
     match stopped {
@@ -92,7 +92,7 @@ fn one_more(alloc: Global) -> Result<Batch, Refusal> {
     Ok(batch)
 }
 
-// How many batches are answered by a tick where one is sent: it, or none.
+// Sends a batch. Returns 1 if it is answered by a tick, else 0.
 fn play_one<R: Wait + Copy>(alloc: Global, world: &mut Remote<R>) -> u64 {
     match one_more(alloc) {
         Ok(batch) => u64::from(world.batch(&batch, &mut Vec::new(alloc)).is_ok()),
@@ -100,7 +100,7 @@ fn play_one<R: Wait + Copy>(alloc: Global, world: &mut Remote<R>) -> u64 {
     }
 }
 
-// How many batches of a session are answered by a tick.
+// Plays a session, and counts its batches that are answered by a tick.
 fn play<R: Wait + Copy>(rt: &R, alloc: Global, session: u64, requests: Sender<Ask>) -> u64 {
     let mut world = Remote::new(*rt, alloc, session, requests);
     let mut answered = 0u64;
@@ -124,7 +124,7 @@ fn start_session<R: Threads + Wait + Abort + Copy + Send + 'static>(
     }
 }
 
-// All sessions, which send their batches on this channel.
+// Starts all sessions, which send their batches on this channel.
 fn start_sessions<R: Threads + Wait + Abort + Copy + Send + 'static>(
     rt: &R,
     alloc: Global,
@@ -147,7 +147,7 @@ fn join_sessions(rt: &impl Threads, sessions: Vec<JoinHandle<u64>>) -> u64 {
     answered
 }
 
-// How many batches of all sessions are answered by a tick, at once.
+// Plays all sessions at once, and counts the batches that are answered by a tick.
 fn play_sessions<R: Threads + Wait + Abort + Copy + Send + 'static>(
     rt: &R,
     alloc: Global,
@@ -158,8 +158,8 @@ fn play_sessions<R: Threads + Wait + Abort + Copy + Send + 'static>(
     join_sessions(rt, sessions)
 }
 
-// Runs workers in a new world of two cells, which make so many steps, and brings their ends together. It tells how many
-// batches were answered by a tick, too.
+// Runs workers, which make so many steps, in a new world of two cells, and brings their ends together. Also returns how many
+// batches were answered by a tick.
 fn run<M: Seats + Send + 'static, R: Threads + Wait + Abort + Copy + Send + 'static>(
     rt: &R,
     alloc: Global,
@@ -172,7 +172,7 @@ fn run<M: Seats + Send + 'static, R: Threads + Wait + Abort + Copy + Send + 'sta
     (end(rt, workers), answered)
 }
 
-// Each tick was answered, and whatever a crash leaves, the last one is there.
+// Each tick was answered. Whatever a crash leaves, recovery finds the last tick.
 fn check_ends<M: Method>(
     rt: &impl Abort,
     alloc: Global,
@@ -188,7 +188,7 @@ fn check_ends<M: Method>(
     }
 }
 
-// What recovery finds after a crash that leaves so: the tick, and the word of the first cell.
+// Recovers from what a crash of this kind leaves. Returns the tick, and the word of the first cell.
 fn found_after<M: Method>(
     rt: &impl Abort,
     alloc: Global,
@@ -204,12 +204,12 @@ fn found_after<M: Method>(
     (tick, word)
 }
 
-// What such a crash leaves of a file.
+// The bytes that a crash of this kind leaves of a file.
 fn left_of(rt: &impl Abort, alloc: Global, file: &ModelFile, leaving: Leaving) -> Vec<u8> {
     file.left_by(alloc, leaving).expect(rt, "memory")
 }
 
-// Whether the newest image is that of the new world.
+// True if the newest image is that of the new world.
 fn has_first_image<M: Method>(ends: &Ends<M, ModelFile, Cut, Cut, Cut>) -> bool {
     match ends.checkpointer.images().keeper.newest() {
         Some((_, tick)) => tick == 0,
@@ -217,8 +217,7 @@ fn has_first_image<M: Method>(ends: &Ends<M, ModelFile, Cut, Cut, Cut>) -> bool 
     }
 }
 
-// Runs workers of which the checkpointer makes so many steps, and looks at what they leave. It tells whether no image was
-// opened.
+// Runs workers whose checkpointer makes so many steps, and checks what they leave. Returns true if no image was opened.
 fn try_steps<M: Seats + Send + 'static, R: Threads + Wait + Abort + Copy + Send + 'static>(
     rt: &R,
     alloc: Global,
@@ -236,7 +235,7 @@ fn try_steps<M: Seats + Send + 'static, R: Threads + Wait + Abort + Copy + Send 
     has_first_image
 }
 
-// How many rounds are left open where one is after each of its steps.
+// Leaves a round open after each number of its steps, and counts the runs in which no image was opened.
 fn count_open<M: Seats + Send + 'static, R: Threads + Wait + Abort + Copy + Send + 'static>(
     rt: &R,
     alloc: Global,
@@ -249,7 +248,7 @@ fn count_open<M: Seats + Send + 'static, R: Threads + Wait + Abort + Copy + Send
     left_open
 }
 
-// With every round to its end, and with one left open after each of its steps.
+// Tries rounds that are run to their end, and rounds that are left open after each number of their steps.
 fn try_ends<M: Seats + Send + 'static, R: Threads + Wait + Abort + Copy + Send + 'static>(
     rt: &R,
     alloc: Global,
@@ -269,8 +268,7 @@ fn what_was_answered_is_there_once_the_ends_have_met(rt: HostRuntime) {
     try_ends::<Pong, HostRuntime>(&rt, rt.alloc());
 }
 
-// The ticks that stand are among those that ended, and no fewer than were acknowledged, among which all are that were
-// answered.
+// Each answered tick is acknowledged. Each acknowledged tick is recovered, and each recovered tick has ended.
 fn are_between(rt: &impl Abort, answered: u64, acked: u64, stands: u64, ended: u64) {
     assert!(rt;
         answered <= acked && acked <= stands && stands <= ended,
@@ -278,7 +276,7 @@ fn are_between(rt: &impl Abort, answered: u64, acked: u64, stands: u64, ended: u
     );
 }
 
-// Whatever a crash leaves, what was answered is there, and nothing that wasn't played.
+// Whatever a crash leaves, recovery finds each answered tick, and none that wasn't played.
 fn check_held<M: Method>(
     rt: &impl Abort,
     alloc: Global,
@@ -292,7 +290,7 @@ fn check_held<M: Method>(
     }
 }
 
-// Runs workers that make so many steps, and tells how many batches were answered by a tick.
+// Runs workers that make so many steps, and returns how many batches were answered by a tick.
 fn try_limits<M: Seats + Send + 'static, R: Threads + Wait + Abort + Copy + Send + 'static>(
     rt: &R,
     alloc: Global,
@@ -304,7 +302,7 @@ fn try_limits<M: Seats + Send + 'static, R: Threads + Wait + Abort + Copy + Send
     answered
 }
 
-// With these workers held after each of their steps. Before the first one no batch is answered.
+// Holds these workers after each number of steps. Before the first step no batch is answered.
 fn try_held<M: Seats + Send + 'static, R: Threads + Wait + Abort + Copy + Send + 'static>(
     rt: &R,
     alloc: Global,

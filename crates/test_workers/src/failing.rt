@@ -1,4 +1,4 @@
-//! Workers in threads, of which a file fails at one of its calls.
+//! Workers in threads over files, one of which fails at one of its calls.
 ghost use Rattle.std.specs.Prelude.{◌≤◌};
 
 use crate::running::{Page, begin, end, is_page, play};
@@ -21,7 +21,7 @@ const BATCHES: &[u8] =
 /// How many calls of the log a tick takes: two writes, each with its sync.
 const TICK_CALLS: u64 = 4;
 
-// What four batches are answered where so many ticks are acknowledged.
+// The answers to four batches, by how many ticks are acknowledged.
 const ANSWERED: [&[u8]; 5] = [
     b"fault 12\nfault 12\nfault 12\nfault 12\n",
     b"tick 1: + =1\nfault 12\nfault 12\nfault 12\n",
@@ -30,7 +30,7 @@ const ANSWERED: [&[u8]; 5] = [
     b"tick 1: + =1\ntick 2: + =2\ntick 3: + =3\ntick 4: + =4\n",
 ];
 
-// Which file fails.
+// The file that fails.
 #[derive(Clone, Copy, Debug, PartialEq, Eq)]
 enum Broken {
     ImageB,
@@ -39,7 +39,7 @@ enum Broken {
 
 type BrokenFile = Fused<ModelFile>;
 
-// The files of a new world of two cells, of which one fails at its call of this number.
+// The files of a new world of two cells. One of them fails at its call of this number.
 fn broken_files(rt: &impl Abort, alloc: Global, broken: Broken, call: u64) -> FourFiles<BrokenFile>
     requires { 1 ≤ call }
 {
@@ -58,7 +58,7 @@ fn is_opened<M: Seats>(alloc: Global, files: FourFiles<BrokenFile>) -> bool {
     is_opened
 }
 
-// The number of the first call of a file that is made by the workers, and not where the world is opened.
+// Returns the number of the first call on a file that the workers make. The calls before it open the world.
 fn first_call<M: Seats>(rt: &impl Abort, alloc: Global, broken: Broken) -> u64 {
     for call in 1..100 {
         if is_opened::<M>(alloc, broken_files(rt, alloc, broken, call)) {
@@ -68,7 +68,7 @@ fn first_call<M: Seats>(rt: &impl Abort, alloc: Global, broken: Broken) -> u64 {
     panic!(rt; "no world was opened")
 }
 
-// What workers leave who play in files of which one fails.
+// The results of a run over files one of which fails.
 #[derive(Drop)]
 struct Left<M: Method> {
     ends: Ends<M, BrokenFile, Open, Open, Open>,
@@ -76,7 +76,7 @@ struct Left<M: Method> {
     heard: Receiver<Told>,
 }
 
-// Runs a session of four batches in files of which one fails at its call of this number.
+// Runs a session of four batches over files one of which fails at its call of this number.
 fn play_broken<M: Seats + Send + 'static, R: Threads + Wait + Abort + Copy + Send + 'static>(
     rt: &R,
     alloc: Global,
@@ -110,8 +110,8 @@ fn answered(acked: u64) -> &'static [u8] {
     }
 }
 
-// What is to come of four batches: how many ticks end and are acknowledged, whether the log goes down or the images
-// do, and what is told, and nothing else.
+// The expected results of four batches: how many ticks end and are acknowledged, and if the log goes down or else the images
+// do. Exactly one report comes, which is `told`.
 #[derive(Clone, Copy)]
 struct Outcome {
     ended: u64,
@@ -138,7 +138,7 @@ fn are_ends<M: Method>(
     same(rt, "log and images down", are_down, (is_down, !is_down));
 }
 
-// No image is written, and what is acknowledged stands.
+// No image is written, and the files have the acknowledged ticks.
 fn is_left<M: Method>(rt: &(impl Wait + Abort), alloc: Global, left: &Left<M>, outcome: Outcome) {
     let acked = outcome.acked;
     is_page(rt, &left.page, answered(acked));
@@ -149,7 +149,7 @@ fn is_left<M: Method>(rt: &(impl Wait + Abort), alloc: Global, left: &Left<M>, o
     same(rt, "what stands", found, (acked, 0, acked));
 }
 
-// Runs workers in files of which one fails at its call of this number.
+// Runs workers over files one of which fails at its call of this number, and checks the results.
 fn try_broken<M: Seats + Send + 'static, R: Threads + Wait + Abort + Copy + Send + 'static>(
     rt: &R,
     alloc: Global,
@@ -165,14 +165,14 @@ fn try_broken<M: Seats + Send + 'static, R: Threads + Wait + Abort + Copy + Send
     drop(left);
 }
 
-// So many calls after the first one of the workers.
+// The number of the call that comes so many calls after the workers' first one.
 fn later_call(first: u64, after: u64) -> u64
     ensures { 1 ≤ result }
 {
     first.saturating_add(after).max(1)
 }
 
-// The log goes down behind so many ticks, which stay acknowledged.
+// The results if the log goes down after so many ticks, which stay acknowledged.
 fn log_down(acked: u64) -> Outcome {
     Outcome {
         ended: acked.saturating_add(1),
@@ -182,7 +182,7 @@ fn log_down(acked: u64) -> Outcome {
     }
 }
 
-// With each of the calls of a tick.
+// Lets each of the calls of each tick fail in turn.
 fn try_log<M: Seats + Send + 'static, R: Threads + Wait + Abort + Copy + Send + 'static>(
     rt: &R,
     alloc: Global,
@@ -201,7 +201,7 @@ fn sessions_are_refused_once_the_log_is_down(rt: HostRuntime) {
     try_log::<Pong, HostRuntime>(&rt, rt.alloc());
 }
 
-// The first round, whose image goes to image.b, isn't written, and play goes on.
+// The results if the image of the first round, in image.b, isn't written. Play continues.
 const IMAGES_DOWN: Outcome = Outcome {
     ended: 4,
     acked: 4,
@@ -209,7 +209,7 @@ const IMAGES_DOWN: Outcome = Outcome {
     told: Told::ImagesDown,
 };
 
-// With the first calls of an image.
+// Lets each of the first four calls of an image fail in turn.
 fn try_images<M: Seats + Send + 'static, R: Threads + Wait + Abort + Copy + Send + 'static>(
     rt: &R,
     alloc: Global,

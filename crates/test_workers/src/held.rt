@@ -4,13 +4,13 @@ use std::sync::Arc;
 use std::sync::atomic::{AtomicU64, Ordering};
 use workers::{Gate, Pass, Place};
 
-/// How many batches are answered before a held worker goes on.
+/// How many batches are answered before a held worker continues.
 pub const HELD: u64 = 4;
 
 /// How often a held worker asks, at most.
 const TURNS: u64 = 1_000_000;
 
-/// Holds a worker until enough batches are answered, or for good where that takes too many turns.
+/// Holds a worker until enough batches are answered, or for good if that takes too many turns.
 #[derive(Drop)]
 pub struct Held {
     answered: Option<Arc<AtomicU64, Global>>,

@@ -1,7 +1,6 @@
-//! Tests of sessions over a port, of connections by a port and by a socket, and of workers that run in threads, in files
-//! of a model. Workers have a round that is open while ticks are answered, and ticks that an image has before the log.
-//! Each call of a file fails in turn, and crashes leave something once the workers' ends have met. And tests of the steps of
-//! workers in one thread.
+//! Tests of sessions over a port, of connections by a port and by a socket, and of workers in threads over files in memory.
+//! A round stays open while ticks are answered, and an image gets ticks before the log does. Each call of a file fails in
+//! turn, and crashes are tried once the workers' ends have met. Other tests make the steps of workers in one thread.
 //!
 //! A large value is dropped by a call of `drop`, which is proved much faster than its drop at the end of a scope.
 #![tactic(auto)]

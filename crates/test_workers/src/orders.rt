@@ -1,4 +1,4 @@
-//! The steps of the workers in one thread, and what stands in the files after each.
+//! The steps of the workers in one thread, and the world that recovery finds after each.
 ghost use Rattle.std.specs.Prelude.{◌≤◌};
 
 use crate::same::same;
@@ -15,7 +15,8 @@ use workers::{Open, ReplySlot};
 
 type World<M> = Together<M, ModelFile, Open, Open, Open>;
 
-// The files have the world after as many ticks as its first cell tells. No tick that is acknowledged is lost.
+// Recovers from the durable bytes. The first cell has the number of the recovered tick, and no acknowledged tick is lost.
+// Returns the tick and that of the image.
 fn found<M: Method>(rt: &impl Abort, alloc: Global, world: &World<M>) -> (u64, u64) {
     let (images, log) = (world.checkpointer.images(), world.log_writer.log());
     let (tick, from, word) = stands_in(rt, alloc, images, log);
@@ -34,13 +35,13 @@ fn begin_steps<M: Seats>(rt: &(impl Wait + Abort), alloc: Global) -> World<M> {
     Together::begin(rt, alloc, gates, opened, 1).expect(rt, "memory for workers")
 }
 
-// Makes the step, and looks at the files after it.
+// Makes the step, and checks the files after it.
 fn step<M: Method>(rt: &(impl Wait + Abort), alloc: Global, world: &mut World<M>, next: Next) {
     world.step(rt, next);
     let _ = found(rt, alloc, world);
 }
 
-// Pushes what is owed, without which no batch is run, and runs a batch.
+// Pushes the owed item, because no batch is run before that, and runs a batch.
 fn play_step<M: Method>(rt: &(impl Wait + Abort), alloc: Global, world: &mut World<M>) {
     let slot = ReplySlot::new(alloc).expect(rt, "a slot");
     let ask = ask_for(rt, alloc, slot.sender().expect(rt, "a sender"));
@@ -48,7 +49,7 @@ fn play_step<M: Method>(rt: &(impl Wait + Abort), alloc: Global, world: &mut Wor
     step(rt, alloc, world, Next::Play(ask));
 }
 
-// What is owed is pushed some steps later.
+// The step at this place. An owed item is pushed some steps later.
 fn next_step(at: u64) -> Next {
     match at % 7 {
         1 => Next::Mark,
@@ -59,7 +60,8 @@ fn next_step(at: u64) -> Next {
     }
 }
 
-// A batch is played at every so many of the first 200 steps. It gives the tick and the image's tick that stand at the end.
+// Plays a batch at each `every`th of the first 200 steps. Returns the tick and the image's tick that recovery finds at the
+// end.
 fn try_order<M: Seats>(rt: &(impl Wait + Abort), alloc: Global, every: u64) -> (u64, u64)
     requires { 1 ≤ every }
 {

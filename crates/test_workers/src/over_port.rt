@@ -1,4 +1,4 @@
-//! A world in files of a model, served over a port from its opening to its end.
+//! A world on files in memory, served over a port from its opening to its end.
 use crate::same::same;
 use crate::tcp::try_client;
 use crate::worlds::{Teller, new_files};
@@ -26,7 +26,7 @@ const ONE: Admission = Admission {
     idle: None,
 };
 
-// Serves a new world of two cells to one client, and tells how many ticks ended and are acknowledged.
+// Serves a new world of two cells to one client. Returns how many ticks ended, and how many are acknowledged.
 fn serve_one<M: Seats + Send + 'static, R: Threads + Wait + Clock + Abort + Copy + Send + 'static>(
     rt: &R,
     alloc: Global,

@@ -1,4 +1,4 @@
-//! A mutator that may run no batch: all ticks have ended, the segment of the log is full, or a push was refused.
+//! A mutator that may run no batch, because all ticks have ended, the segment of the log is full, or a push was refused.
 ghost use Rattle.std.specs.Prelude.{◌≤◌};
 ghost use Rattle.world_ticks.specs.declared.tick.TheConstants.{TICK_MAX};
 
@@ -33,7 +33,7 @@ fn mutator_at<M: Seats>(
     (mutator, from)
 }
 
-// A batch isn't run for this reason, and its session is told so.
+// Sends a batch, which isn't run for this reason. Its session is answered with the reason.
 fn is_refused<M: Method>(
     rt: &(impl Wait + Abort),
     alloc: Global,
@@ -50,7 +50,7 @@ fn is_refused<M: Method>(
     }
 }
 
-// As many ticks end as a segment takes.
+// Plays as many ticks as a segment takes.
 fn fill_segment<M: Method>(
     rt: &(impl Wait + Abort),
     alloc: Global,

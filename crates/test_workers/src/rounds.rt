@@ -1,4 +1,4 @@
-//! Workers in threads, of which the checkpointer is held while ticks are answered.
+//! Workers in threads, whose checkpointer is held while ticks are answered.
 use crate::held::{HELD, Held};
 use crate::running::{Page, begin, is_page};
 use crate::same::same;
@@ -30,7 +30,7 @@ fn play_batch<R: Wait + Copy>(
     serve_batches(alloc, &mut input, text, world)
 }
 
-// As many batches as hold the round of the first one open.
+// Plays the batches during which the round of the first one stays open.
 fn play_batches<R: Wait + Abort + Copy>(
     rt: &R,
     alloc: Global,
@@ -47,7 +47,7 @@ fn play_batches<R: Wait + Abort + Copy>(
     Ok(())
 }
 
-// The answers to them.
+// Plays them in a session, and returns its end and its text.
 fn play_held(
     rt: &(impl Wait + Abort + Copy),
     alloc: Global,
@@ -61,7 +61,7 @@ fn play_held(
     Page { ends, text }
 }
 
-// What is left, told and answered once the rounds are over.
+// The workers, the reports and the answers once the rounds are over.
 #[derive(Drop)]
 struct Left<M: Method> {
     ends: Ends<M, ModelFile, Held, Held, Held>,
@@ -78,7 +78,7 @@ fn held_until(rt: &impl Abort, answered: &Arc<AtomicU64, Global>) -> Gates<Held,
     }
 }
 
-// Plays on a new world of two cells, an image of which is due after each tick.
+// Plays on a new world of two cells. An image of it is due after each tick.
 fn play_round<M: Seats + Send + 'static, R: Threads + Wait + Abort + Copy + Send + 'static>(
     rt: &R,
     alloc: Global,
@@ -96,7 +96,7 @@ fn play_round<M: Seats + Send + 'static, R: Threads + Wait + Abort + Copy + Send
     }
 }
 
-// No worker is down, and all four ticks are acknowledged and stand in the files.
+// No worker is down. All four ticks are acknowledged, and recovery finds them.
 fn check_ends<M: Method>(
     rt: &impl Abort,
     alloc: Global,

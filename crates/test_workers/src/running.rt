@@ -14,7 +14,7 @@ use worker_threads::{Ends, Seats, Workers, ends_meet, start, stop};
 use workers::{Ask, Gate, Looks};
 use world_actions::Refusal;
 
-/// Starts workers on the world in these files, where a round is due after so many ticks.
+/// Starts workers on the world in these files. A round is due after each `every` ticks.
 pub fn begin<
     R: Threads + Wait + Abort + Copy + Send + 'static,
     M: Seats + Send + 'static,
@@ -46,14 +46,14 @@ pub fn end<R: Threads, M: Method, D: Disk + Drop, A: Gate + Drop, B: Gate + Drop
     ends
 }
 
-/// What a session ended with, and its text.
+/// The end of a session, and its text.
 #[derive(Drop)]
 pub struct Page {
     pub ends: Result<(), Refusal>,
     pub text: Vec<u8>,
 }
 
-/// Serves a session on this input, behind which no other begins.
+/// Serves a session on this input. No other session begins after it.
 pub fn play(rt: &(impl Wait + Copy), alloc: Global, requests: Sender<Ask>, input: &[u8]) -> Page {
     let mut world = Remote::new(*rt, alloc, 0, requests);
     let mut text = Vec::new(alloc);

@@ -2,7 +2,7 @@
 use std::fmt::Debug;
 use std::process::Abort;
 
-/// What is given is what was expected.
+/// Asserts that the given value is the expected one.
 pub fn same<T: PartialEq + Debug + Copy>(rt: &impl Abort, what: &str, given: T, expected: T) {
     assert_eq!(rt; given, expected, "{what}");
 }

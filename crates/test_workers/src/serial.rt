@@ -33,7 +33,7 @@ pub struct Serial<M: Method, D: Disk + Drop> {
     pub checkpointer: Checkpointer<M, D, Held>,
 }
 
-// What the workers tell one another beside the items: the bell, and that the log is down.
+// The signals between the workers beside the items: the bell, and the word that says that the log is down.
 #[derive(Drop)]
 struct Signals {
     bell: Sender<()>,
@@ -81,7 +81,7 @@ fn new_channel(rt: &(impl Wait + Abort), alloc: Global, ended: u64) -> Channel
     }
 }
 
-/// The workers of this world, an image of which is due after each tick.
+/// The workers of this world. An image of it is due after each tick.
 pub fn begin<M: Method, D: Disk + Drop>(
     rt: &(impl Wait + Abort),
     alloc: Global,
@@ -157,7 +157,7 @@ pub fn send<M: Method>(
     slot
 }
 
-/// A batch that adds 1 to the first cell and reads it, and where its answer goes.
+/// An ask for a batch that adds 1 to the first cell and reads it. The answer goes to this sender.
 pub fn ask_for(rt: &impl Abort, alloc: Global, to: ReplySender) -> Ask {
     let mut batch = Batch::new(alloc).expect(rt, "a batch");
     batch.push_reserved(Request::Act(Action::Add { cell: 0, by: 1 }));
@@ -166,7 +166,7 @@ pub fn ask_for(rt: &impl Abort, alloc: Global, to: ReplySender) -> Ask {
     asker.ask(batch, Vec::new(alloc), to).expect(rt, "an ask")
 }
 
-/// Logs what was played.
+/// Lets the log writer take a turn, which logs the played ticks.
 pub fn log_on<D: Disk + Drop>(rt: &(impl Wait + Abort), log_writer: &mut LogWriter<D, Open>)
     requires { IsAtRest log_writer.old }
     ensures { IsAtRest log_writer.new }
@@ -199,7 +199,7 @@ pub fn is_posted(rt: &(impl Wait + Abort), slot: &ReplySlot, text: &[u8]) {
     }
 }
 
-// The round stays open, and play goes on.
+// The checkpointer is held for good, so its round stays open.
 fn is_stuck<M: Method>(
     rt: &(impl Wait + Abort),
     checkpointer: &mut Checkpointer<M, ModelFile, Held>,
@@ -212,7 +212,7 @@ fn is_stuck<M: Method>(
     same(rt, "it is over, and down", stops, (true, false));
 }
 
-// Whose checkpointer is held.
+// Begins the workers of a new world, whose checkpointer is held.
 fn begin_held<M: Seats>(
     rt: &(impl Wait + Abort),
     alloc: Global,

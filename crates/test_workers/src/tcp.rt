@@ -20,7 +20,7 @@ const BATCHES: &[u8] = b"set 0 5\nend\nget 0\nend\nend\nset 0 1\n";
 
 const FAULTS: &[u8] = b"fault 6\nfault 12\nfault 21\n";
 
-// Hears nothing.
+// Ignores each report.
 #[derive(Clone, Copy)]
 struct Nobody;
 
@@ -42,7 +42,7 @@ impl Door for Nobody {
     }
 }
 
-// In the place of the workers: it refuses batches, and drops those that begin with a read.
+// Takes the place of the workers. It refuses batches, and drops those that begin with a read.
 fn refuse<R: Wait>(rt: &R, asks: Receiver<Ask>) -> u64 {
     let mut count = 0u64;
     for ask in asks.iter(rt) {
@@ -98,7 +98,7 @@ fn talk(stream: &mut TcpStream, input: &[u8], page: &mut Vec<u8>) -> io::Result<
     Ok(())
 }
 
-/// A client that writes this is answered so.
+/// Asserts that a client that writes this input gets this text.
 pub fn try_client<R: Net<Stream = TcpStream> + Abort>(
     rt: &R,
     alloc: Global,
@@ -132,7 +132,7 @@ const THREE: Admission = Admission {
     idle: None,
 };
 
-// All came, and each had a session, which was joined.
+// All clients came, and each had a session, which was joined.
 fn all_were_served(rt: &impl Abort, accepted: &Accepted) {
     same(rt, "connections", accepted.connections, 3);
     same(rt, "sessions", accepted.sessions.count(), 3);

@@ -15,7 +15,7 @@ use worker_threads::{Seats, TickWatch, Watch, open_world};
 use workers::{ImageWriter, Log};
 use world_start::fresh_files;
 
-/// What a running world tells.
+/// The reports of a running world.
 #[derive(Clone, Copy, Debug, PartialEq, Eq)]
 pub enum Told {
     ImageOpened(u64),
@@ -28,7 +28,7 @@ pub enum Told {
     Closed,
 }
 
-/// Passes on what it is told.
+/// Passes each report on.
 #[derive(Drop)]
 pub struct Teller<R: Wait + Copy> {
     pub rt: R,
@@ -101,7 +101,7 @@ fn file_of(rt: &impl Abort, alloc: Global, bytes: &[u8]) -> ModelFile {
     ModelFile::new(alloc, bytes).expect(rt, "memory for a file")
 }
 
-/// Four files of which image.a has these bytes, and the others none.
+/// Four files. image.a has these bytes, and the others have none.
 pub fn files_of(rt: &impl Abort, alloc: Global, image: &[u8]) -> FourFiles<ModelFile> {
     FourFiles {
         image_a: file_of(rt, alloc, image),
@@ -121,7 +121,7 @@ pub fn new_files(rt: &impl Abort, alloc: Global, cells: u32) -> FourFiles<ModelF
     }
 }
 
-/// The files of a new world of two cells, each of which may be let fail.
+/// The files of a new world of two cells. Each of them can be made to fail.
 pub fn fused_files(rt: &impl Abort, alloc: Global) -> FourFiles<Fused<ModelFile>> {
     let FourFiles {
         image_a,
@@ -151,8 +151,8 @@ pub fn open_files<M: Seats, D: Disk + Drop>(
     }
 }
 
-/// What recovery finds in these bytes of a world of two cells, of which the second is 0: the tick, that of the image,
-/// and the word of the first cell.
+/// Recovers a world of two cells from these bytes. Its second cell has to be 0. Returns the tick, that of the image, and the
+/// word of the first cell.
 pub fn found_in(
     rt: &impl Abort,
     alloc: Global,
@@ -168,7 +168,7 @@ pub fn found_in(
     }
 }
 
-/// What recovery finds in the durable bytes of the files of workers.
+/// Does the same on the durable bytes of the files of workers.
 pub fn stands_in(
     rt: &impl Abort,
     alloc: Global,
@@ -185,7 +185,7 @@ pub fn stands_in(
     )
 }
 
-/// The same where each file may be let fail.
+/// Does the same on files that can be made to fail.
 pub fn stands_in_fused(
     rt: &impl Abort,
     alloc: Global,

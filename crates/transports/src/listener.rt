@@ -3,7 +3,7 @@ use std::io;
 use std::net::TcpListener;
 use std::os::unix::net::UnixListener;
 
-/// Accepts connections. It is closed where it is dropped; the file of a socket stays.
+/// Accepts connections. Dropping it closes it; the file of a socket stays.
 #[derive(Drop)]
 pub enum Listener {
     Tcp(TcpListener),

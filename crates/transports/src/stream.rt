@@ -13,7 +13,7 @@ const DRAINED_PIECES: usize = 4_096;
 /// For how many seconds each of these reads waits.
 const DRAIN_PATIENCE_SECONDS: u64 = 1;
 
-/// A connection. It is closed where it is dropped.
+/// A connection. Dropping it closes it.
 #[derive(Drop)]
 pub enum Stream {
     Tcp(TcpStream),

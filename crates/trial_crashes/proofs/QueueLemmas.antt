@@ -6,11 +6,11 @@ use Rattle.action_log.specs.declared.record.Record.{Record}
 use Rattle.action_log.specs.declared.record.Record.TheVariants as records
 use Rattle.action_log.specs.Queue.{QueueFits}
 
--- all of a list that fits is kept
+-- a list that fits is kept whole
 pub keep_all : (n : ℕ) (queue : List Record) → length queue ≤ n → keep_last n queue ≡ queue
 keep_all n queue fits = (let none : length queue - n ≡ 0 = omega arith in ap (λ k. drop k queue) none)
 
--- ticks alone
+-- the queue has ticks and no switch
 abbrev pub AreTicks : List Record → Type 0
 AreTicks [] = Unit {0}
 AreTicks (records.Tick tick ∷ queue) = AreTicks queue
@@ -21,7 +21,7 @@ one_more [] tick h = tt
 one_more (records.Tick first ∷ queue) tick h = one_more queue tick h
 one_more (records.Switch tick ∷ queue) actions h = absurd h
 
--- what fits behind some ticks fits with them
+-- records that fit behind some ticks fit with them in front
 pub fits_behind : (queue rest : List Record) (count : ℕ) → AreTicks queue → count + length queue ≤ 1000 → QueueFits 0 (count + length queue) rest → QueueFits 0 count (queue ++ rest)
 fits_behind [] rest count h few fits = subst (λ n. QueueFits 0 n rest) (let e : count + 0 ≡ count = omega arith in e) fits
 fits_behind (records.Tick tick ∷ queue) rest count h few fits =

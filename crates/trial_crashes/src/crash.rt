@@ -18,7 +18,7 @@ pub const CRASHES: [Leaving; KINDS] = [
     Leaving::Fill(0xff),
 ];
 
-/// An empty file, whose calls can be let fail.
+/// An empty file, whose calls can be made to fail.
 pub fn empty_file(alloc: Global) -> Result<Fused<ModelFile>, Refusal>
     ensures content { IfOk result (λ file. file.inner.content ≡ []) }
     ensures leaves { IfOk result (λ file. Only [] (IsCrashOutcome file.inner)) }

@@ -21,8 +21,8 @@ const ROUNDS: u64 = 3;
 /// More steps than a round of any trial has.
 const STEPS: u32 = 1000;
 
-/// Runs the rounds over a store of so many cells, and reads after each step what crashes may leave; and
-/// then lets the call of each step fail in turn, and does the same there.
+/// Runs the rounds over a store of so many cells. After each step it reads what crashes may leave. Then it lets the call of
+/// each step fail in turn, and reads again.
 pub fn try_images<C: Capture>(alloc: Global, cells: u32) -> Result<Tally, Refusal>
     requires { (1 ≤ cells) × (cells ≤ CELLS) }
 {
@@ -34,7 +34,7 @@ pub fn try_images<C: Capture>(alloc: Global, cells: u32) -> Result<Tally, Refusa
     Ok(tally)
 }
 
-// Runs the rounds, to the end or up to the step whose call fails, and counts the steps.
+// Runs the rounds to the end, or up to the step whose call fails, and counts the steps.
 fn run<C: Capture>(
     alloc: Global,
     cells: u32,
@@ -75,7 +75,7 @@ fn run_rounds<C: Capture>(
     Ok(steps)
 }
 
-/// A keeper with its store and its two files, and what these have to hold.
+/// A keeper with its store and its two files, and the images that these must have.
 #[derive(Drop)]
 struct ImageTrial<C: Capture> {
     alloc: Global,
@@ -89,7 +89,7 @@ struct ImageTrial<C: Capture> {
     round: Option<Known>,
 }
 
-// Contracts see whether a round is in work.
+// Contracts see if a round is in work.
 impl<C: Capture> Model for ImageTrial<C> {
     ghost use Rattle.std.specs.Prelude.{◌≡◌, Bool, false};
     ghost use Rattle.disk_model.specs.CrashOutcome.{IsCrashOutcome};
@@ -142,7 +142,7 @@ impl<C: Capture> ImageTrial<C> {
         Ok(())
     }
 
-    // One step; an image that it opens is the newest one then.
+    // Makes one step. An image that it opens becomes the newest one.
     fn step(&mut self) -> ImageAnswer {
         let answer = self
             .keeper
@@ -155,7 +155,7 @@ impl<C: Capture> ImageTrial<C> {
         answer
     }
 
-    // Lets the call of the next step fail, if it makes one: then it and the next one answer Down.
+    // Lets the call of the next step fail, if it makes one. Then this step and the next one must answer Down.
     fn fail(&mut self, tally: &mut Tally) -> Result<(), Refusal> {
         self.image_a.arm(1);
         self.image_b.arm(1);

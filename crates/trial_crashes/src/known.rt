@@ -1,7 +1,7 @@
 use crate::outcome::Outcome;
 use image_files::ImageState;
 
-/// An image as it has to read.
+/// The tick and the words that an image must have.
 #[derive(Drop)]
 pub struct Known {
     pub tick: u64,
@@ -13,7 +13,7 @@ ghost use Rattle.image_files.specs.Image.{Closed};
 ghost use Rattle.recovery.specs.Recovered.{image_in};
 ghost use Rattle.trial_crashes.specs.Known.{image_known};
 
-/// How the file reads that no call goes to: as the newest image, or as none where there is none.
+/// The outcome of the file that isn't written. It must read as the newest image, or as closed if there is none.
 pub fn kept_outcome(state: &ImageState, newest: &Option<Known>) -> Outcome
     ensures known { (result ≡ Outcome.Before) ⊎ (result ≡ Outcome.Wrong) }
     ensures before { result ≡ Outcome.Before → image_in state.now ≡ image_known newest.now }
@@ -25,7 +25,8 @@ pub fn kept_outcome(state: &ImageState, newest: &Option<Known>) -> Outcome
     }
 }
 
-/// How the file reads that an image is written to: as none, as the image before, or as the written one.
+/// The outcome of the file that is written. It may read as closed, as the image that it had before, or as the one that is
+/// written.
 pub fn written_outcome(state: &ImageState, before: &Option<Known>, round: &Option<Known>) -> Outcome
     ensures closed { result ≡ Outcome.Closed → image_in state.now ≡ Closed }
     ensures before { result ≡ Outcome.Before → image_in state.now ≡ image_known before.now }
@@ -42,7 +43,7 @@ pub fn written_outcome(state: &ImageState, before: &Option<Known>, round: &Optio
     }
 }
 
-// Whether a file reads as this image, or is closed where there is none.
+// True if a file reads as this image, or is closed if there is none.
 fn reads_as(state: &ImageState, known: &Option<Known>) -> bool
     ensures { IsTrue result ↔ (image_in state.now ≡ image_known known.now) }
 {

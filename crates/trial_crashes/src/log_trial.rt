@@ -29,8 +29,8 @@ const IMAGE: [u8; 25] = [
     1, 1, 0, 0, 0, 0, 0, 0, 0, 0, 0, 0, 0, 0, 0, 0, 0, 0, 0, 0, 0, 0, 0, 0, 0,
 ];
 
-/// Runs a start, two groups, a switch and a group, and recovers from all that crashes may leave after
-/// each step; and then lets the call of each step fail in turn, and does the same there.
+/// Runs a start, two groups, a switch and a group. After each step it recovers from what crashes of each kind leave. Then it
+/// lets the call of each step fail in turn, and recovers again.
 pub fn try_log(alloc: Global) -> Result<Tally, Refusal> {
     let mut tally = Tally::new();
     let steps = run(alloc, None, &mut tally)?;
@@ -40,7 +40,7 @@ pub fn try_log(alloc: Global) -> Result<Tally, Refusal> {
     Ok(tally)
 }
 
-// Runs to the end or up to the step whose call fails, and counts the steps that made a call.
+// Runs to the end, or up to the step whose call fails, and counts the steps that made a call.
 fn run(alloc: Global, failing: Option<u32>, tally: &mut Tally) -> Result<u32, Refusal> {
     let mut trial = LogTrial::new(alloc, records(alloc)?)?;
     run_steps(&mut trial, failing, tally)
@@ -121,7 +121,7 @@ impl LogTrial {
         answer
     }
 
-    // Lets the call of the next step fail: then it and the next one answer Down.
+    // Lets the call of the next step fail. Then this step and the next one must answer Down.
     fn fail(&mut self, tally: &mut Tally) -> Result<(), Refusal> {
         self.log_a.arm(1);
         self.log_b.arm(1);
@@ -132,7 +132,7 @@ impl LogTrial {
         self.check(tally)
     }
 
-    // Recovers from what crashes may leave of both files.
+    // Recovers from what crashes of each kind leave of both files.
     fn check(&self, tally: &mut Tally) -> Result<(), Refusal>
         ensures { OnOk result (outcomes tally.old + KINDS * KINDS < 2 ^ 32
             → outcomes tally.new ≡ outcomes tally.old + KINDS * KINDS) }
@@ -144,7 +144,7 @@ impl LogTrial {
         Ok(())
     }
 
-    // Recovers from what crashes may leave of the second file beside bytes of the first one.
+    // Recovers from what crashes of each kind leave of the second file, beside these bytes of the first one.
     fn check_beside(&self, log_a: &[u8], tally: &mut Tally) -> Result<(), Refusal>
         ensures { OnOk result (outcomes tally.old + KINDS < 2 ^ 32
             → outcomes tally.new ≡ outcomes tally.old + KINDS) }
@@ -158,8 +158,8 @@ impl LogTrial {
     }
 }
 
-// What recovery finds where ticks up to this one are acknowledged: no tick, those, or more; tick k added
-// k to the only cell.
+// The outcome of a recovery, if the ticks up to `acked` are acknowledged: no tick, those ticks, or more. Tick k added k to
+// the only cell.
 fn outcome_of(found: &Recovered, acked: u64) -> Outcome
     ensures acknowledged { result ≢ Outcome.Wrong → acked ≤ found.now.tick }
     ensures words { result ≢ Outcome.Wrong

@@ -1,7 +1,8 @@
-//! The program `trial_crashes`: runs rounds of both capture methods and jobs of the log over files in memory,
-//! lets the call of each step fail in turn, and reads what crashes of several kinds may leave after each
-//! step. It tells how many calls failed, how many outcomes hold nothing, what stood before, or what is being
-//! written, and how many outcomes and answers are wrong. It fails where one is wrong.
+//! The program `trial_crashes`: tries crashes after each step of both keepers. It runs rounds of both capture methods and
+//! jobs of the log over files in memory. After each step it reads what crashes of several kinds may leave. Then it lets the
+//! call of each step fail in turn, and reads again. It prints how many calls failed, and how many outcomes have nothing, the
+//! state before, or the state that is being written. It also prints how many outcomes and answers are wrong, and fails if
+//! there is one.
 #![tactic(auto)]
 
 mod crash;
@@ -28,7 +29,7 @@ fn main(rt: HostRuntime) -> ExitCode {
     ended(&rt, run(&rt))
 }
 
-// Whether nothing was wrong.
+// Tries all, and returns true if nothing was wrong.
 fn run<R: Print + AllocGlobal>(rt: &R) -> io::Result<bool> {
     let mut passes = true;
     for cells in SIZES {
@@ -40,7 +41,7 @@ fn run<R: Print + AllocGlobal>(rt: &R) -> io::Result<bool> {
     Ok(passes)
 }
 
-// Tells what was seen of a method or of the log, and whether that passes.
+// Prints the counts of a method or of the log, and returns true if they pass.
 fn tell<R: Print>(
     rt: &R,
     method: &str,

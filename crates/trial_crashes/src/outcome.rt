@@ -1,12 +1,12 @@
 /// How a file reads, or what recovery finds, after a crash.
 #[derive(Clone, Copy, Debug, PartialEq, Eq)]
 pub enum Outcome {
-    /// It holds nothing.
+    /// It has nothing.
     Closed,
-    /// It holds what stood before.
+    /// It has the state before.
     Before,
-    /// It holds what is being written.
+    /// It has the state that is being written.
     Whole,
-    /// It holds nothing that it may.
+    /// It has none of these.
     Wrong,
 }

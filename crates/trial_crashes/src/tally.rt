@@ -1,20 +1,20 @@
 use crate::outcome::Outcome;
 use std::fmt;
 
-/// What was seen of outcomes, of the keepers' answers and of failed calls.
+/// Counts of outcomes, of wrong answers of the keepers, and of failed calls.
 #[derive(Clone, Copy, Debug, PartialEq, Eq)]
 pub struct Tally {
-    /// How many outcomes hold nothing.
+    /// How many outcomes have nothing.
     pub closed: u32,
-    /// How many outcomes hold what stood before.
+    /// How many outcomes have the state before.
     pub before: u32,
-    /// How many outcomes hold what is being written.
+    /// How many outcomes have the state that is being written.
     pub whole: u32,
-    /// How many outcomes hold nothing that they may.
+    /// How many outcomes have none of these.
     pub wrong: u32,
-    /// How many answers of keepers aren't those that have to come.
+    /// How many answers of keepers are wrong.
     pub wrong_answers: u32,
-    /// How many calls were let fail.
+    /// How many calls were made to fail.
     pub failed: u32,
 }
 
@@ -22,7 +22,7 @@ impl Tally {
     ghost use Rattle.std.specs.Prelude.{◌≡◌, ◌+◌, ◌^◌, ◌<◌, ◌↔◌, true, false, IsTrue};
     ghost use Rattle.trial_crashes.specs.Tally.{one_more, counted, outcomes};
 
-    /// Nothing was seen yet.
+    /// Counts that are all 0.
     pub fn new() -> Self
         ensures { outcomes result ≡ 0 }
     {
@@ -49,7 +49,7 @@ impl Tally {
         }
     }
 
-    /// Counts a keeper's answer, where it is wrong.
+    /// Counts a keeper's answer if it is wrong.
     pub fn answer(&mut self, is_right: bool)
         ensures right { is_right ≡ true → self.new ≡ self.old }
         ensures wrong { is_right ≡ false → self.new.wrong_answers ≡ one_more self.old.wrong_answers }
@@ -60,14 +60,14 @@ impl Tally {
         }
     }
 
-    /// Counts a call that was let fail.
+    /// Counts a call that was made to fail.
     pub fn failure(&mut self)
         ensures failed { self.new.failed ≡ one_more self.old.failed }
         ensures outcomes { outcomes self.new ≡ outcomes self.old }
     {
         self.failed = self.failed.saturating_add(1);
     }
-    /// Whether nothing was wrong.
+    /// True if nothing was wrong.
     pub fn passes(&self) -> bool
         ensures { IsTrue result ↔ ((self.now.wrong ≡ 0) × (self.now.wrong_answers ≡ 0)) }
     {

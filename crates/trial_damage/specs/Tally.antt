@@ -1,4 +1,4 @@
--- What was seen of answers.
+-- Counts of answers.
 use Rattle.std.specs.Prelude.{ℕ, ◌+◌}
 use Rattle.trial_damage.specs.declared.tally.Tally.{Tally}
 

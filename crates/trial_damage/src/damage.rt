@@ -2,24 +2,24 @@ use crate::files::Files;
 use std::alloc::AllocError;
 use trial_kit::Random;
 
-/// Where the mark of a file's format stands.
+/// The place of the format mark in a file.
 const MARK_PLACE: usize = 8;
 
-/// Changes of files that look random, and are the same in each run.
+/// A generator of random changes of files, which are the same in each run.
 #[derive(Drop)]
 pub struct Damage {
     random: Random,
 }
 
 impl Damage {
-    /// The first change.
+    /// A generator before its first change.
     pub fn new() -> Self {
         Damage {
             random: Random::new(0x9e37_79b9_7f4a_7c15),
         }
     }
 
-    /// Four files with one change to four.
+    /// Makes one to four changes in the four files.
     pub fn damage(&mut self, files: &mut Files) -> Result<(), AllocError> {
         for _ in 0..=self.random.below(4) {
             let file = match self.random.below(4) {
@@ -33,7 +33,7 @@ impl Damage {
         Ok(())
     }
 
-    // Changes a byte of a file or the mark of its format, takes some off its end, or puts a byte there.
+    // Changes a byte of a file or its format mark, takes bytes off its end, or adds a byte there.
     fn change(&mut self, file: &mut Vec<u8>) -> Result<(), AllocError> {
         let len = file.len() as u64;
         match self.random.below(9) {
@@ -54,7 +54,7 @@ impl Damage {
         Ok(())
     }
 
-    // A byte, often a small one.
+    // Returns a byte, often a small one.
     fn byte(&mut self) -> u8 {
         if self.random.below(2) == 0 {
             self.random.below(4) as u8
@@ -64,7 +64,7 @@ impl Damage {
     }
 }
 
-// Puts a byte in the place of another one, if there is one.
+// Replaces the byte at a place, if there is one.
 fn put(file: &mut [u8], place: usize, byte: u8) {
     if let Some(old) = file.get_mut(place) {
         *old = byte;

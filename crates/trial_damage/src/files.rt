@@ -24,7 +24,7 @@ pub struct Formats {
 pub const MIXES: u32 = 16;
 
 impl Formats {
-    /// A mix by its number below `MIXES`, a bit for each file.
+    /// The mix of this number, which is below `MIXES` and has a bit for each file.
     pub fn mix(number: u32) -> Self {
         let of_bit = |bit: u32| {
             if (number >> bit) & 1 == 0 {
@@ -48,7 +48,7 @@ const TICK_2: [Action; 2] = [
     Action::Add { cell: 1, by: -2 },
 ];
 
-/// The same tick by a cap, in the second format.
+/// The same tick with a cap, for the second format.
 const TICK_2_WITH_CAP: [Action; 2] = [
     Action::Set { cell: 0, value: 7 },
     Action::Cap { cell: 1, value: 7 },
@@ -77,7 +77,7 @@ const TICK_6: [Action; 2] = [
     Action::Add { cell: 0, by: -5 },
 ];
 
-/// Tick 6 with a swap, in the second format.
+/// Tick 6 with a swap, for the second format.
 const TICK_6_WITH_SWAP: [Action; 2] = [
     Action::Swap { a: 1, b: 2 },
     Action::Add { cell: 0, by: -5 },
@@ -92,9 +92,8 @@ const CLOSED: u8 = 0;
 /// The mark of the second format, in the highest byte of the number behind a gate.
 const SECOND_MARK: u64 = 0x20 << 56;
 
-/// Good files in these formats: images of ticks 3 and 1, ticks 2 and 3 in one segment, a group of two, and
-/// ticks 4 to 6 in the other one, each a group of its own. Their numbers are small, so that damage often
-/// makes two alike.
+/// Good files in these formats, with images of ticks 3 and 1. One segment has ticks 2 and 3 in one group. The other one has
+/// ticks 4 to 6, each in a group of its own. The numbers in the files are small, so that damage often makes two alike.
 pub fn good_files(alloc: Global, formats: Formats) -> Result<Files, AllocError> {
     let tick_2 = of_format(formats.log_a, &TICK_2, &TICK_2_WITH_CAP);
     let tick_6 = of_format(formats.log_b, &TICK_6, &TICK_6_WITH_SWAP);
@@ -106,7 +105,7 @@ pub fn good_files(alloc: Global, formats: Formats) -> Result<Files, AllocError> 
     })
 }
 
-// One of two ticks by the format.
+// Chooses one of two ticks by the format.
 fn of_format<'a>(format: Format, first: &'a [Action], second: &'a [Action]) -> &'a [Action] {
     match format {
         Format::First => first,
@@ -157,7 +156,7 @@ fn segment(
     Ok(bytes)
 }
 
-// Two bytes for a count.
+// Adds the two bytes of a count.
 fn put_count(bytes: &mut Vec<u8>, count: usize) -> Result<(), AllocError> {
     bytes.extend_from_slice(&(count.min(1000) as u16).to_le_bytes())
 }

@@ -1,7 +1,7 @@
-//! The program `trial_damage`: has recovery judge 20,000 damaged copies of four good files, each begun
-//! anew, in each mix of the two formats in turn, and with one change to four, and judges each answer by what
-//! the definition of recovery says of how the four byte lists read. It tells how many answers were right and
-//! how often each kind came, and fails where one was wrong, or where a kind never came.
+//! The program `trial_damage`: recovers 20,000 damaged copies of four good files. Each copy begins anew from good files,
+//! which have each mix of the two formats in turn, and gets one to four changes. The trial reads each file of a copy by
+//! itself, and finds the answer that the definition of recovery requires. It prints how many answers were right, and how
+//! often each kind came. It fails if one was wrong, or if a kind never came.
 #![tactic(auto)]
 
 ghost use Rattle.std.specs.Prelude.{◌≡◌, ◌+◌, ◌^◌, ◌<◌, OnOk, IfOk};
@@ -31,7 +31,7 @@ fn main(rt: HostRuntime) -> ExitCode {
     ended(&rt, run(&rt))
 }
 
-// Whether all answers were right, and each kind came.
+// Tries all copies. Returns true if all answers were right, and each kind came.
 fn run<R: Print + AllocGlobal>(rt: &R) -> io::Result<bool> {
     match try_copies(rt.alloc()) {
         Ok(tally) => tell(rt, &tally),
@@ -72,7 +72,7 @@ fn try_copy(alloc: Global, copy: &Files, tally: &mut Tally) -> Result<(), Refusa
     Ok(())
 }
 
-// Tells what was seen, and whether that passes.
+// Prints the counts, and returns true if they pass.
 fn tell<R: Print>(rt: &R, tally: &Tally) -> io::Result<bool> {
     println!(rt;
         "{COPIES} damaged copies, {MIXES} mixes of formats: {} answered right, {} wrong",

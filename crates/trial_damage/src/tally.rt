@@ -4,10 +4,10 @@ use trial_kit::Counts;
 /// How many kinds of answers there are.
 pub const KINDS: usize = 10;
 
-/// The most ticks that are counted by themselves.
+/// The most replayed ticks that have a kind of their own.
 const MOST_TICKS: u64 = 5;
 
-/// The kinds of answers, the recovered ones by the number of replayed ticks.
+/// The kinds of answers. Worlds have one for each number of replayed ticks.
 pub const NAMES: [&str; KINDS] = [
     "recovered, 0 ticks",
     "recovered, 1 tick",
@@ -21,14 +21,14 @@ pub const NAMES: [&str; KINDS] = [
     "BadLog, by the replay",
 ];
 
-/// What was seen of answers.
+/// Counts of answers.
 #[derive(Drop)]
 pub struct Tally {
     /// How many answers were right.
     pub right: u32,
     /// How many answers were wrong.
     pub wrong: u32,
-    /// How many answers of each kind were wanted.
+    /// How many answers of each kind were required.
     pub wanted: Counts<KINDS>,
 }
 
@@ -36,7 +36,7 @@ impl Tally {
     ghost use Rattle.std.specs.Prelude.{◌≡◌, ◌+◌, ◌-◌, ◌^◌, ◌<◌, ◌↔◌, true, false, IsTrue, All, min};
     ghost use Rattle.trial_damage.specs.Tally.{judged};
 
-    /// Nothing was seen yet.
+    /// Counts that are all 0.
     pub fn new() -> Self
         ensures { judged result ≡ 0 }
     {
@@ -61,7 +61,7 @@ impl Tally {
         self.wanted.count(kind_of(wanted));
     }
 
-    /// Whether no answer was wrong, and each kind came.
+    /// True if no answer was wrong, and each kind came.
     pub fn passes(&self) -> bool
         ensures { IsTrue result ↔ ((self.now.wrong ≡ 0) × All (λ count. 0 < count) self.now.wanted) }
     {

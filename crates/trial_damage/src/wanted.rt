@@ -10,23 +10,23 @@ use recovery::Recovered;
 use std::alloc::Global;
 use world_actions::Refusal;
 
-/// What recovery has to answer.
+/// The answer that recovery has to give.
 #[derive(Debug, Drop)]
 pub enum Wanted {
     /// This world.
     World(Recovered),
-    /// That no image is open.
+    /// No image is open.
     NoImage,
-    /// That an image is bad.
+    /// An image is bad.
     BadImage,
-    /// That a segment is bad.
+    /// A segment is bad.
     BadSegment,
-    /// That an action of the log is refused.
+    /// An action of the log is refused.
     BadReplay,
 }
 
 impl Wanted {
-    /// What the definition of recovery says of four files, by how each of them reads by itself. The error
+    /// Finds the answer that the definition of recovery requires for four files, from what each of them reads as. The error
     /// is `NoMemory`.
     pub fn of(alloc: Global, files: &Files) -> Result<Wanted, Refusal> {
         let (image_a, image_b) = (
@@ -55,7 +55,7 @@ impl Wanted {
         }
     }
 
-    /// Whether this was answered.
+    /// True if this was answered.
     pub fn is(&self, answer: &Result<Recovered, Refusal>) -> bool
         ensures { IsTrue result ↔ (recovery_answered answer.now ≡ answer_of self.now) }
     {
@@ -69,7 +69,7 @@ impl Wanted {
     }
 }
 
-// Whether two worlds are the same one, from the same image.
+// True if two worlds are the same, and are recovered from the same image.
 fn are_same(one: &Recovered, other: &Recovered) -> bool
     ensures { IsTrue result ↔ (recovery_of_answer one.now ≡ recovery_of_answer other.now) }
 {
@@ -79,7 +79,7 @@ fn are_same(one: &Recovered, other: &Recovered) -> bool
         && one.words.as_slice() == other.words.as_slice()
 }
 
-// How an image reads, or None where it is bad.
+// Reads an image. Returns None if it is bad.
 fn image_in(alloc: Global, bytes: &[u8]) -> Result<Option<ImageState>, Refusal> {
     match read_image(alloc, bytes) {
         Ok(state) => Ok(Some(state)),
@@ -88,7 +88,7 @@ fn image_in(alloc: Global, bytes: &[u8]) -> Result<Option<ImageState>, Refusal> 
     }
 }
 
-// How a segment reads, or None where it is bad.
+// Reads a segment. Returns None if it is bad.
 fn log_in(alloc: Global, bytes: &[u8]) -> Result<Option<LogState>, Refusal> {
     match read_log(alloc, bytes) {
         Ok(state) => Ok(Some(state)),
@@ -97,7 +97,7 @@ fn log_in(alloc: Global, bytes: &[u8]) -> Result<Option<LogState>, Refusal> {
     }
 }
 
-// The world of the open image with the greatest tick, image.a where both have it.
+// The world of the open image with the greatest tick, which is image.a if both have it.
 fn newest(image_a: ImageState, image_b: ImageState) -> Option<Recovered> {
     match (open_in(Slot::A, image_a), open_in(Slot::B, image_b)) {
         (Some(a), Some(b)) if a.tick < b.tick => Some(b),

@@ -22,7 +22,7 @@ impl<const N: usize> Counts<N> {
     ghost use Rattle.std.specs.Prelude.{◌≡◌, ℕ, ◌<◌, ◌≤◌, ◌↔◌, IsTrue, IfOk, All, replicate, set, slice_index};
     ghost use Rattle.trial_kit.specs.Counts.{sum_of};
 
-    /// Nothing came yet.
+    /// Counts that are all 0.
     pub fn new() -> Self
         ensures { result ≡ replicate N 0 }
     {
@@ -39,7 +39,7 @@ impl<const N: usize> Counts<N> {
         }
     }
 
-    /// Adds what was counted elsewhere.
+    /// Adds the counts of another object.
     pub fn add(&mut self, other: &Self)
         ensures { (thing : ℕ) → thing < N
             → slice_index self.new thing ≡ sum_of (slice_index self.old thing) (slice_index other.now thing) }
@@ -49,7 +49,7 @@ impl<const N: usize> Counts<N> {
         }
     }
 
-    /// How often a thing came.
+    /// Returns how often a thing came, and 0 if it isn't one of them.
     pub fn of(&self, thing: usize) -> u64
         ensures counted { thing < N → result ≡ slice_index self.now thing }
         ensures other { N ≤ thing → result ≡ 0 }
@@ -57,14 +57,14 @@ impl<const N: usize> Counts<N> {
         self.counts.get(thing).copied().unwrap_or(0)
     }
 
-    /// Whether each thing came.
+    /// True if each thing came.
     pub fn each_came(&self) -> bool
         ensures { IsTrue result ↔ All (λ count. 0 < count) self.now }
     {
         self.counts.iter().all(|&count| count > 0)
     }
 
-    /// Prints a line for each thing, its name first, and tells whether each came.
+    /// Prints a line for each thing, its name first. Returns true if each came.
     pub fn tell<R: Print>(&self, rt: &R, names: &[&str]) -> io::Result<bool>
         ensures { IfOk result (λ each. IsTrue each ↔ All (λ count. 0 < count) self.now) }
     {

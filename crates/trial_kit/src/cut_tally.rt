@@ -1,25 +1,25 @@
 use std::fmt;
 
-/// What was seen of power cuts.
+/// Counts of power cuts and of the worlds that recovery found after them.
 #[derive(Clone, Copy, Debug, PartialEq, Eq)]
 pub struct CutTally {
-    /// How many there were.
+    /// How many power cuts there were.
     pub cuts: u64,
-    /// After how many more than one thing might have been left.
+    /// How many power cuts came while a file had bytes that weren't durable.
     pub uncertain: u64,
-    /// How many kept a tick that wasn't answered yet.
+    /// After how many power cuts recovery found a tick that wasn't answered yet.
     pub kept_more: u64,
-    /// How many worlds were built from either image.
+    /// How many worlds were built from image.a, and from image.b.
     pub from_a: u64,
     pub from_b: u64,
-    /// How many lost an answered tick, or left no world or another one.
+    /// After how many power cuts an answered tick was lost, or recovery found no world or a wrong one.
     pub wrong: u64,
 }
 
 impl CutTally {
     ghost use Rattle.std.specs.Prelude.{◌≡◌, ◌<◌, ◌≤◌, IsTrue};
 
-    /// Nothing was seen yet.
+    /// Counts that are all 0.
     pub fn new() -> Self {
         CutTally {
             cuts: 0,
@@ -31,7 +31,7 @@ impl CutTally {
         }
     }
 
-    /// Whether nothing was wrong, there were so many, and some of each kind.
+    /// True if nothing was wrong, there were at least `cuts` power cuts, and each kind came.
     pub fn passes(&self, cuts: u64) -> bool
         ensures { IsTrue result → (self.now.wrong ≡ 0) × (cuts ≤ self.now.cuts) × (0 < self.now.uncertain)
             × (0 < self.now.kept_more) × (0 < self.now.from_a) × (0 < self.now.from_b) }

@@ -4,7 +4,7 @@ ghost use Rattle.std.specs.Process.{exit_status};
 use std::fmt::Display;
 use std::process::ExitCode;
 
-/// The exit status of a trial that tells whether all was right. An error is printed.
+/// Returns the exit status of a trial: 0 if all was right, else 1. Prints an error.
 pub fn ended<R: Eprint, E: Display + Drop>(rt: &R, run: Result<bool, E>) -> ExitCode
     ensures right { run ≡ Ok true → exit_status result ≡ 0 }
     ensures wrong { run ≢ Ok true → exit_status result ≡ 1 }

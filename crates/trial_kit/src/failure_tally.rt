@@ -1,10 +1,10 @@
 use std::fmt;
 
-/// The files of a world, each of which fails.
+/// How many files a world has. Each of them is made to fail.
 pub const FAILING_FILES: u32 = 4;
 
-/// How often a call failed where the world was opened, of an image and of the log, in how many runs none did, and
-/// after how many an answered tick was lost or another world stood.
+/// Counts of runs in which a call was to fail. A call failed while the world was opened, or later one of an image or of the
+/// log, or none did. A run is wrong if an answered tick was lost or recovery found another world.
 #[derive(Clone, Copy, Debug, PartialEq, Eq)]
 pub struct FailureTally {
     pub opening: u32,
@@ -17,7 +17,7 @@ pub struct FailureTally {
 impl FailureTally {
     ghost use Rattle.std.specs.Prelude.{◌≡◌, ◌<◌, IsTrue};
 
-    /// Nothing was tried yet.
+    /// Counts that are all 0.
     pub fn new() -> Self {
         FailureTally {
             opening: 0,
@@ -28,7 +28,7 @@ impl FailureTally {
         }
     }
 
-    /// Whether nothing was wrong, each file was tried to its end, and each kind came.
+    /// True if nothing was wrong, each file was tried until no call failed, and each kind came.
     pub fn passes(&self) -> bool
         ensures { IsTrue result → (self.now.wrong ≡ 0) × (self.now.none ≡ 4) × (0 < self.now.opening)
             × (0 < self.now.images) × (0 < self.now.log) }

@@ -1,7 +1,7 @@
 use crate::percentile::of_thousandths;
 use std::marker::Model;
 
-/// How long batches waited for their answers, in nanoseconds, the shortest first.
+/// The times that batches waited for their answers, in nanoseconds, the shortest first.
 #[derive(Drop)]
 pub struct Latencies {
     sorted: Vec<u64>,
@@ -22,7 +22,7 @@ impl Latencies {
     ghost use Rattle.std.specs.Prelude.{◌≡◌, ◌≤◌, ◌<◌, ◌+◌, ◌-◌, ◌*◌, ◌/◌, length, slice_index, take, drop, All, Contains};
     ghost use Rattle.std.specs.List.Sorted.{IsPermutation};
 
-    /// Those of a list.
+    /// Sorts the latencies of a list.
     pub fn new(list: Vec<u64>) -> Self
         ensures { IsPermutation list.items result }
     {
@@ -31,7 +31,7 @@ impl Latencies {
         Latencies { sorted }
     }
 
-    /// The latency that so many thousandths of all don't exceed, and 0 where there is none.
+    /// The latency that so many thousandths of all don't exceed, and 0 if there is none.
     pub fn of_thousandths(&self, thousandths: u32) -> u64
         requires { (1 ≤ thousandths) × (thousandths ≤ 1000) }
         ensures { result ≡ slice_index self.now ((length self.now * thousandths + 999) / 1000 - 1) }
@@ -39,7 +39,7 @@ impl Latencies {
         of_thousandths(&self.sorted, thousandths)
     }
 
-    /// How many don't exceed this one.
+    /// Returns how many latencies don't exceed the bound.
     pub fn up_to(&self, bound: u64) -> usize
         ensures count { result ≤ length self.now }
         ensures below { All (λ latency. latency ≤ bound) (take result self.now) }
@@ -48,14 +48,14 @@ impl Latencies {
         self.sorted.partition_point(|latency| *latency <= bound)
     }
 
-    /// How many there are.
+    /// Returns the number of latencies.
     pub fn len(&self) -> usize
         ensures { result ≡ length self.now }
     {
         self.sorted.len()
     }
 
-    /// The greatest one, and 0 where there is none.
+    /// The greatest latency, and 0 if there is none.
     pub fn greatest(&self) -> u64
         ensures greatest { All (λ latency. latency ≤ result) self.now }
         ensures one_of_them { 0 < length self.now → Contains self.now result }

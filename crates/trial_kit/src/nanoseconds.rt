@@ -3,7 +3,7 @@ ghost use Rattle.std.specs.Duration.{as_nanos};
 
 use std::time::Duration;
 
-/// The nanoseconds of a time. One of more than 584 years counts as those.
+/// The nanoseconds of a time. A time of more than 584 years gives the greatest number.
 pub fn nanoseconds_of(time: Duration) -> u64
     ensures { result ≡ min (as_nanos time) (2 ^ 64 - 1) }
 {

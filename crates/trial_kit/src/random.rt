@@ -1,6 +1,6 @@
 use std::marker::Model;
 
-/// Numbers that look random, and are the same in each run.
+/// A generator of pseudorandom numbers, which are the same in each run.
 #[derive(Drop)]
 pub struct Random {
     state: u64,
@@ -19,14 +19,14 @@ impl Random {
     ghost use Rattle.std.specs.Prelude.{◌≡◌, ◌≢◌, ◌/◌, ◌%◌, ◌^◌, ◌<◌, ◌≤◌, ◌↔◌, IsTrue};
     ghost use Rattle.trial_kit.specs.Random.{next_state};
 
-    /// The numbers that begin from this seed.
+    /// A generator with this seed as its state.
     pub fn new(seed: u64) -> Self
         ensures { result ≡ seed }
     {
         Random { state: seed }
     }
 
-    /// A number below another one, or 0: the upper bits of the next state.
+    /// Returns a number below the bound, or 0 if the bound is 0. It comes from the upper bits of the next state.
     pub fn below(&mut self, bound: u64) -> u64
         ensures state { self.new ≡ next_state self.old }
         ensures number { 0 < bound → result ≡ self.new / 2 ^ 33 % bound }
@@ -41,7 +41,7 @@ impl Random {
         (self.state >> 33).checked_rem(bound).unwrap_or(0)
     }
 
-    /// Whether something happens that happens so many times in a hundred.
+    /// Returns true in `chance` of 100 cases.
     pub fn percent(&mut self, chance: u64) -> bool
         ensures state { self.new ≡ next_state self.old }
         ensures happens { IsTrue result ↔ self.new / 2 ^ 33 % 100 < chance }
@@ -49,7 +49,7 @@ impl Random {
         self.below(100) < chance
     }
 
-    /// A byte, often one of 0 and 1.
+    /// Returns a byte, often 0 or 1.
     pub fn byte(&mut self) -> u8
         ensures state { self.new ≡ next_state (next_state self.old) }
         ensures often { next_state self.old / 2 ^ 33 % 2 ≡ 0 → result ≡ self.new / 2 ^ 33 % 2 }

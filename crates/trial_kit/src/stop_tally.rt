@@ -1,20 +1,20 @@
 use crate::counts::Counts;
 use std::fmt;
 
-/// The ticks that may stand.
+/// How many ticks recovery may find: 0 to 3.
 const TICKS: usize = 4;
 
-/// What was tried and seen of a run that is stopped.
+/// Counts of the stops, crashes and failures of a run, and of the answers that were judged.
 #[derive(Drop)]
 pub struct StopTally {
-    /// After how many numbers of moves the run was stopped.
+    /// How many prefixes of a run were stopped by crashes.
     pub stops: u64,
-    /// How many crashes came, but for those in starts.
+    /// How many crashes came, except those in starts.
     pub crashes: u64,
     pub crashes_in_starts: u64,
     pub images_failed: u64,
     pub log_failed: u64,
-    /// How often each tick stood.
+    /// How often recovery found each tick.
     pub stood: Counts<TICKS>,
     /// How many answers were judged, and how many of them were wrong.
     pub judged: u64,
@@ -24,7 +24,7 @@ pub struct StopTally {
 impl StopTally {
     ghost use Rattle.std.specs.Prelude.{◌≡◌, ◌<◌, IsTrue};
 
-    /// Nothing was tried yet.
+    /// Counts that are all 0.
     pub fn new() -> Self {
         StopTally {
             stops: 0,
@@ -38,18 +38,19 @@ impl StopTally {
         }
     }
 
-    /// The run was stopped after one more number of moves.
+    /// Counts one more stopped prefix.
     pub fn stop(&mut self) {
         self.stops = self.stops.saturating_add(1);
     }
 
-    /// A crash after which this tick stood, or none that may.
+    /// Counts a crash. `stands` is the tick that recovery found, or `None` if it found none that it may find, which is
+    /// wrong.
     pub fn crash(&mut self, stands: Option<u64>) {
         self.crashes = self.crashes.saturating_add(1);
         self.stand(stands);
     }
 
-    /// The same, in a start.
+    /// Does the same for a crash in a start.
     pub fn crash_in_start(&mut self, stands: Option<u64>) {
         self.crashes_in_starts = self.crashes_in_starts.saturating_add(1);
         self.stand(stands);
@@ -62,17 +63,17 @@ impl StopTally {
         }
     }
 
-    /// A call of the images failed.
+    /// Counts a run in which a call of the images failed.
     pub fn images_failed(&mut self) {
         self.images_failed = self.images_failed.saturating_add(1);
     }
 
-    /// A call of the log failed.
+    /// Counts a run in which a call of the log failed.
     pub fn log_failed(&mut self) {
         self.log_failed = self.log_failed.saturating_add(1);
     }
 
-    /// One more thing was judged.
+    /// Counts one more judged answer, and a wrong one as wrong.
     pub fn judge(&mut self, is_right: bool) {
         self.judged = self.judged.saturating_add(1);
         if !is_right {
@@ -80,7 +81,7 @@ impl StopTally {
         }
     }
 
-    /// Whether nothing was wrong, all was tried, and each tick stood.
+    /// True if nothing was wrong, all was tried, and recovery found each tick.
     pub fn passes(&self) -> bool
         ensures { IsTrue result → (self.now.wrong ≡ 0) × (0 < self.now.stops) × (0 < self.now.crashes_in_starts)
             × (0 < self.now.images_failed) × (0 < self.now.log_failed) × (0 < self.now.judged) }

@@ -1,7 +1,8 @@
 use std::alloc::{AllocError, Global};
 
-/// A block of this size begins a stretch in which one allocation may be refused, or each one, or in which all are counted,
-/// for who watches them (`scripts/watched_allocations.c`). Where nobody does none is.
+/// Allocating a block of one of these sizes is a signal to the library `scripts/watched_allocations.c`. A stretch begins, in
+/// which the library may refuse one allocation, refuses each one, or counts them all. The last size ends it. Without the
+/// library the signal does nothing.
 const ONE_REFUSED: usize = 777_001;
 
 const EACH_REFUSED: usize = 777_002;
@@ -10,22 +11,22 @@ const EACH_COUNTED: usize = 777_003;
 
 const ENDED: usize = 777_004;
 
-/// From here on an allocation is refused.
+/// Begins a stretch in which one allocation may be refused.
 pub fn refuse_one(alloc: Global) {
     let _ = block(alloc, ONE_REFUSED);
 }
 
-/// From here on each allocation is refused.
+/// Begins a stretch in which each allocation is refused.
 pub fn refuse_each(alloc: Global) {
     let _ = block(alloc, EACH_REFUSED);
 }
 
-/// From here on each allocation is counted.
+/// Begins a stretch in which each allocation is counted.
 pub fn count_each(alloc: Global) {
     let _ = block(alloc, EACH_COUNTED);
 }
 
-/// From here on none is refused or counted.
+/// Ends the stretch.
 pub fn end_stretch(alloc: Global) {
     let _ = block(alloc, ENDED);
 }

@@ -5,33 +5,33 @@ use world_actions::Refusal;
 
 /// A call that takes memory, with the values that it is made on.
 pub trait Case: Sized + Drop {
-    /// What is printed of it.
+    /// The name that is printed.
     fn name() -> &'static str;
 
-    /// What it answers where an allocation is refused.
+    /// The refusal that it answers if an allocation is refused.
     fn refusal() -> Refusal;
 
-    /// Whether this refusal, with the values as before or not, may come of a refused allocation.
+    /// True if a refused allocation may lead to this refusal. `is_same` says if the values are as before.
     fn is_refused(refusal: Refusal, is_same: bool) -> bool {
         is_same && refusal == Self::refusal()
     }
 
-    /// The values, as they are before.
+    /// Makes the values for the call.
     fn set_up(alloc: Global) -> Result<Self, Refusal>;
 
-    /// Makes the call, and gives a number for its answer.
+    /// Makes the call, and returns a number for its answer.
     fn call(&mut self) -> Result<u64, Refusal>;
 
     /// A number for the values.
     fn seen(&mut self) -> u64;
 }
 
-/// How a call went one of whose allocations may have been refused.
+/// How a call went, if one of its allocations may have been refused.
 #[derive(Clone, Copy, Debug, PartialEq, Eq)]
 pub enum Outcome {
-    /// None was refused.
+    /// No allocation was refused.
     Answered,
-    /// It was refused so, its values were as they may be then, and once more made it answered as if nothing had been.
+    /// The call was refused with this, and its values were as they may be then. Made once more, it gave the right answer.
     Refused(Refusal),
     /// Something else.
     Wrong,
@@ -49,7 +49,7 @@ impl fmt::Display for Outcome {
     }
 }
 
-/// Makes a call while one of its allocations may be refused, and once more where it was.
+/// Makes a call while one of its allocations may be refused, and once more if it was.
 pub fn try_case<X: Case>(alloc: Global) -> Result<Outcome, Refusal> {
     let mut ample = X::set_up(alloc)?;
     let wanted = ample.call()?;
@@ -90,7 +90,7 @@ pub fn digest_of_bytes(bytes: &[u8]) -> u64 {
     sum
 }
 
-/// A number for one and one more.
+/// Combines a number with one more.
 pub fn folded(sum: u64, more: u64) -> u64 {
     sum.wrapping_mul(6_364_136_223_846_793_005)
         .wrapping_add(more)

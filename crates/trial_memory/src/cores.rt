@@ -13,7 +13,7 @@ const SET: Action = Action::Set { cell: 0, value: 5 };
 /// More moves than a start, a round or a log of one group needs.
 const MOVES: u32 = 100;
 
-/// A core made.
+/// A case that makes a core.
 #[derive(Drop)]
 pub struct Fresh {
     alloc: Global,
@@ -42,7 +42,7 @@ impl Case for Fresh {
     }
 }
 
-/// A core crashed, with a tick that the log has.
+/// A case that crashes a core whose log has a tick.
 #[derive(Drop)]
 pub struct Crash {
     core: Core<Zigzag>,
@@ -81,7 +81,7 @@ impl Case for Crash {
     }
 }
 
-/// Moves run over a fresh core.
+/// A case that runs moves over a fresh core.
 #[derive(Drop)]
 pub struct Run {
     alloc: Global,

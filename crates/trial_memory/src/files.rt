@@ -16,7 +16,7 @@ pub const LOG: [u8; 28] = [
     1, 0, 0, 0, 0, 0, 0, 0, 0, 1, 1, 0, 1, 0, 1, 0, 0, 0, 0, 5, 0, 0, 0, 0, 0, 0, 0, 0,
 ];
 
-/// A file in memory.
+/// A case that makes a file in memory.
 #[derive(Drop)]
 pub struct NewFile {
     alloc: Global,
@@ -50,12 +50,12 @@ pub fn file_of(alloc: Global, bytes: &[u8]) -> Result<ModelFile, Refusal> {
     ModelFile::new(alloc, Vec::from_slice(alloc, bytes)?)
 }
 
-// What of a file reads and crashes tell.
+// A number for the durable and the present bytes of a file.
 fn seen_of(file: &ModelFile) -> u64 {
     folded(digest_of_bytes(file.durable()), digest_of_bytes(file.now()))
 }
 
-/// Memory for a longer file.
+/// A case that reserves memory for a longer file.
 #[derive(Drop)]
 pub struct ReserveFile {
     file: ModelFile,
@@ -86,7 +86,7 @@ impl Case for ReserveFile {
     }
 }
 
-/// A write past the end of a file.
+/// A case that writes past the end of a file.
 #[derive(Drop)]
 pub struct GrowFile {
     file: ModelFile,
@@ -120,7 +120,7 @@ impl Case for GrowFile {
     }
 }
 
-/// An image read.
+/// A case that reads an image.
 #[derive(Drop)]
 pub struct ReadImage {
     alloc: Global,
@@ -151,7 +151,7 @@ impl Case for ReadImage {
     }
 }
 
-/// A segment read.
+/// A case that reads a segment.
 #[derive(Drop)]
 pub struct ReadLog {
     alloc: Global,
@@ -182,7 +182,7 @@ impl Case for ReadLog {
     }
 }
 
-/// A world recovered.
+/// A case that recovers a world.
 #[derive(Drop)]
 pub struct Recover {
     alloc: Global,

@@ -15,34 +15,34 @@ use world_core::{Core, Move};
 use world_ticks::{Tick, Words, act, replay};
 use zigzag::Zigzag;
 
-/// Two cells.
+/// The words of two cells.
 const WORDS: [u64; 2] = [3, 4];
 
-/// The bytes that the file is written to.
+/// How many bytes are reserved for the file.
 const FILE_BYTES: u64 = 100;
 
 /// More takes than a round of these stores has.
 const TAKES: u32 = 10;
 
-/// The pieces of a line.
+/// How many pieces a line has.
 const PIECES: u32 = 1_000;
 
-/// After so many rounds each file of a core has the length that it keeps.
+/// After so many rounds no file of a core grows any more.
 const ROUNDS: u32 = 4;
 
-/// The tick that is covered: it follows those of these rounds, and a logged one.
+/// The covered tick. It follows the ticks of these rounds and one logged tick.
 const COVERED: u64 = 6;
 
-/// Calls that take no memory, with what they are made on.
+/// Calls that take no memory, with the values that they are made on.
 trait Free: Sized + Drop {
     fn set_up(alloc: Global) -> Result<Self, Refusal>;
 
-    /// Makes the calls: a number for what they give, where none is refused that shouldn't be.
+    /// Makes the calls, and returns a number for their answers, or None if one is wrong.
     fn call(self, alloc: Global) -> Option<u64>;
 }
 
-/// Makes the calls that take no memory with memory, and then while each allocation is refused. It tells whether they
-/// gave the same.
+/// Makes the calls that take no memory, first as usual, and then while each allocation is refused. Returns true if they gave
+/// the same answers.
 pub fn try_free_calls(alloc: Global) -> Result<bool, Refusal> {
     let are_stores_free = try_free::<PlainCopy>(alloc)?
         & try_free::<Zigzag>(alloc)?
@@ -97,7 +97,7 @@ fn put<C: Capture>(store: &mut C, word: u8) {
     }
 }
 
-// An action checked, made and replayed.
+// A check of an action, the action, and its replay.
 #[derive(Drop)]
 struct RoomyTick {
     words: Words,
@@ -127,7 +127,7 @@ impl Free for RoomyTick {
     }
 }
 
-// Writes within what is reserved, a sync, and a crash.
+// A write within the reserved bytes, a sync, and a crash.
 #[derive(Drop)]
 struct RoomyFile {
     file: ModelFile,
@@ -157,8 +157,8 @@ impl Free for RoomyFile {
     }
 }
 
-// Files that are judged before memory is asked for: headers of images of 2^30 cells, which are 8 GB, and of the most that
-// there may be, with no word behind; and a segment whose group is cut off.
+// Files that are refused before memory is asked for. Two are headers of images with no word behind: one of 2^30 cells, which
+// are 8 GB, and one of the most cells. The third is a segment whose group is cut off.
 #[derive(Drop)]
 struct BadFiles;
 
@@ -178,7 +178,7 @@ impl Free for BadFiles {
     }
 }
 
-// A line of a client that doesn't end.
+// A client's line that doesn't end.
 #[derive(Drop)]
 struct EndlessLine {
     reader: BatchReader,
@@ -203,8 +203,8 @@ impl Free for EndlessLine {
     }
 }
 
-// A tick without an action, a mark, and the moves of both keepers; and the same with a cover of the tick, once its image is
-// open.
+// A tick without an action, a mark, and the moves of both keepers. Then the same again, with a cover of the tick once its
+// image is open.
 #[derive(Drop)]
 struct SettledCore {
     core: Core<Zigzag>,

@@ -6,7 +6,7 @@ use std::alloc::Global;
 use world_actions::Refusal;
 use world_ticks::Cells;
 
-/// An image keeper made.
+/// A case that makes an image keeper.
 #[derive(Drop)]
 pub struct Images {
     alloc: Global,
@@ -35,7 +35,7 @@ impl Case for Images {
     }
 }
 
-/// A log keeper made.
+/// A case that makes a log keeper.
 #[derive(Drop)]
 pub struct Log {
     alloc: Global,
@@ -64,7 +64,7 @@ impl Case for Log {
     }
 }
 
-/// Two seats of the method Zigzag.
+/// A case that makes two seats of the method Zigzag.
 #[derive(Drop)]
 pub struct ZigzagPair {
     alloc: Global,
@@ -96,7 +96,7 @@ impl Case for ZigzagPair {
     }
 }
 
-/// Two seats of the method Ping-Pong.
+/// A case that makes two seats of the method Ping-Pong.
 #[derive(Drop)]
 pub struct PingPongPair {
     alloc: Global,
@@ -128,7 +128,7 @@ impl Case for PingPongPair {
     }
 }
 
-/// The two ends of a cover.
+/// A case that makes the two ends of a cover.
 #[derive(Drop)]
 pub struct CoverPair {
     alloc: Global,

@@ -1,7 +1,8 @@
-//! The program `trial_memory`: makes each call that takes memory while one of its allocations may be refused, and once
-//! more where it was; and those that take none while each would be. It tells how each went, and fails where a refused call
-//! left its values otherwise, or answered otherwise then. Nothing is refused where nobody watches its allocations:
-//! `scripts/memory_trial.py` does, and refuses each.
+//! The program `trial_memory`: makes calls whose allocations are refused. Each call that takes memory is made while one of
+//! its allocations may be refused, and once more if it was. The calls that take none are made while each allocation would be
+//! refused. It prints how each call went. It fails if a refused call left other values than it may, or gave another answer
+//! the second time. It refuses nothing by itself: `scripts/memory_trial.py` runs it with a library that refuses each
+//! allocation in turn.
 #![tactic(auto)]
 
 mod case;
@@ -33,7 +34,7 @@ fn main(rt: HostRuntime) -> ExitCode {
     ended(&rt, try_all(&rt))
 }
 
-// Whether all went right.
+// Makes all calls, and returns true if all went right.
 fn try_all<R: Print + AllocGlobal>(rt: &R) -> io::Result<bool> {
     let are_right = try_values(rt)?
         & try_stores(rt)?
@@ -111,7 +112,7 @@ fn try_growth<R: Print + AllocGlobal>(rt: &R) -> io::Result<bool> {
     )
 }
 
-// Tells how a call went, and whether that is right.
+// Prints how a call went, and returns true if that is right.
 fn tell<R: Print + AllocGlobal, X: Case>(rt: &R) -> io::Result<bool> {
     match try_case::<X>(rt.alloc()) {
         Ok(outcome) => {

@@ -8,7 +8,7 @@ use world_ticks::{Cells, Tick, Words, act};
 
 const SET: Action = Action::Set { cell: 0, value: 5 };
 
-/// An action on a tick that has no room.
+/// A case that plays an action on a tick without room.
 #[derive(Drop)]
 pub struct Act {
     words: Words,
@@ -44,7 +44,7 @@ impl Case for Act {
     }
 }
 
-/// Room for more actions.
+/// A case that reserves room for more actions.
 #[derive(Drop)]
 pub struct ReserveTick {
     tick: Tick,
@@ -76,7 +76,7 @@ impl Case for ReserveTick {
     }
 }
 
-// A batch of an action and a look at its cell.
+// A batch of an action and a read of its cell.
 fn batch(alloc: Global) -> Result<Batch, Refusal> {
     let mut batch = Batch::new(alloc)?;
     batch.push_reserved(Request::Act(SET));
@@ -84,7 +84,7 @@ fn batch(alloc: Global) -> Result<Batch, Refusal> {
     Ok(batch)
 }
 
-/// A copy of a batch.
+/// A case that copies a batch.
 #[derive(Drop)]
 pub struct CopyBatch {
     alloc: Global,
@@ -117,7 +117,7 @@ impl Case for CopyBatch {
     }
 }
 
-/// A reader of batches.
+/// A case that makes a reader of batches.
 #[derive(Drop)]
 pub struct NewReader {
     alloc: Global,
@@ -147,7 +147,7 @@ impl Case for NewReader {
     }
 }
 
-/// A batch run on a front.
+/// A case that runs a batch on a front.
 #[derive(Drop)]
 pub struct Play {
     alloc: Global,

@@ -42,7 +42,7 @@ impl Named for Joined<Pong> {
     }
 }
 
-/// A store built.
+/// A case that builds a store.
 #[derive(Drop)]
 pub struct Build<C: Named> {
     alloc: Global,

@@ -1,4 +1,5 @@
-//! Worlds on files in memory that have room for all that they get, or that grow while an allocation may be refused.
+//! Worlds on files in memory. The files have memory for all that is written, or they grow while an allocation may be
+//! refused.
 use crate::case::{Case, digest_of_bytes, folded};
 use crate::files::{IMAGE, LOG, file_of};
 use batches::{Batch, BatchReader, Fed};
@@ -12,13 +13,13 @@ use world_actions::Refusal;
 use world_start::fresh_files;
 use zigzag::Zigzag;
 
-/// The room that files have at first.
+/// How much memory files have at first.
 pub trait Room {
-    /// Whether they grow. A growth that is refused is a device that failed, and files may have changed before it.
+    /// True if files grow. A refused growth is a failed call of the device, and files may have changed before it.
     fn grows() -> bool;
 }
 
-/// Room for all that they get.
+/// Files have memory for all that is written.
 pub struct Ample;
 
 impl Room for Ample {
@@ -27,7 +28,7 @@ impl Room for Ample {
     }
 }
 
-/// Room for what they have.
+/// Files have memory for their first bytes only.
 pub struct Scarce;
 
 impl Room for Scarce {
@@ -39,7 +40,7 @@ impl Room for Scarce {
 /// More bytes than a file has here.
 const FILE_BYTES: u64 = 2_000;
 
-/// More actions than a log file has room for once a start has written it.
+/// More actions than a log file has memory for once a start has written it.
 const ACTIONS: u32 = 40;
 
 /// Files, or the refusal with which they are given back.
@@ -66,7 +67,7 @@ fn file_with<R: Room>(alloc: Global, bytes: &[u8]) -> Result<ModelFile, Refusal>
     Ok(file)
 }
 
-// A number for what is durable in files that are there.
+// A number for the durable bytes of the files, or 0 if there are no files.
 fn number_of(files: &Option<FourFiles<ModelFile>>) -> u64 {
     match files {
         Some(files) => folded(
@@ -83,12 +84,12 @@ fn number_of(files: &Option<FourFiles<ModelFile>>) -> u64 {
     }
 }
 
-// Whether the making or the opening of a world may be refused so.
+// True if making or opening a world may be refused so.
 fn is_refused<R: Room>(refusal: Refusal, is_same: bool) -> bool {
     (is_same && refusal == Refusal::NoMemory) || (R::grows() && refusal == Refusal::Device)
 }
 
-/// The files of a new world. Where a start that failed left its image, the world is opened.
+/// A case that makes the files of a new world. If a failed start left its image, the world is opened instead.
 #[derive(Drop)]
 pub struct NewWorld<R: Room> {
     alloc: Global,
@@ -154,7 +155,7 @@ impl<R: Room> Case for NewWorld<R> {
     }
 }
 
-/// A world opened.
+/// A case that opens a world.
 #[derive(Drop)]
 pub struct Open<R: Room> {
     alloc: Global,
@@ -187,7 +188,8 @@ impl<R: Room> Case for Open<R> {
         })
     }
 
-    /// Where a start may have failed before, its image may be another one.
+    /// If files grow, a start may have failed before, and recovery may find another image. So the number leaves out its tick
+    /// then.
     fn call(&mut self) -> Result<u64, Refusal> {
         let files = self.files.take().ok_or(Refusal::Device)?;
         match SerialWorld::<Zigzag, ModelFile>::open(self.alloc, files, 1) {
@@ -208,7 +210,7 @@ impl<R: Room> Case for Open<R> {
     }
 }
 
-// A batch of many actions and a look at their cell.
+// A batch of many actions and a read of their cell.
 fn batch_of(alloc: Global) -> Result<Batch, Refusal> {
     let mut reader = BatchReader::new(alloc)?;
     for _ in 0..ACTIONS {
@@ -220,7 +222,7 @@ fn batch_of(alloc: Global) -> Result<Batch, Refusal> {
     }
 }
 
-/// A batch of a served world. Where the log went down, the world is opened again.
+/// A case that plays a batch on a served world. If the log went down, the world is opened again.
 #[derive(Drop)]
 pub struct Serve<R: Room> {
     alloc: Global,

@@ -9,7 +9,7 @@ struct Round {
     steps: u64,
 }
 
-/// What moves and answers tell of the images.
+/// The state of the images, by moves and answers alone.
 #[derive(Clone, Copy)]
 pub struct ImageModel {
     cells: u64,
@@ -19,8 +19,8 @@ pub struct ImageModel {
 }
 
 impl ImageModel {
-    /// At the beginning of a start at this tick, from the image of that one: with none, or with one of
-    /// an earlier tick, the start has a round.
+    /// The images at the beginning of a start at `tick`. If the newest image is of that tick the start has no round, else it
+    /// has one.
     pub fn new(cells: u32, newest: Option<u64>, tick: u64) -> Self {
         let mut images = ImageModel {
             cells: u64::from(cells),
@@ -44,7 +44,7 @@ impl ImageModel {
         self.round.map(|round| round.tick)
     }
 
-    /// Whether a call failed.
+    /// True if a call failed.
     pub fn is_down(&self) -> bool {
         self.down
     }
@@ -91,14 +91,14 @@ impl ImageModel {
         hold(is_within, Rule::RoundSteps)
     }
 
-    // A take for each cell, a write for each chunk, the header, the sync, the gate and its sync.
+    // A take for each cell, a write for each chunk, the header, the sync of the body, the gate and its sync.
     fn least_steps(&self) -> u64 {
         self.cells
             .saturating_add(self.cells.div_ceil(64))
             .saturating_add(4)
     }
 
-    // And the closing and its sync, and a read for each chunk.
+    // In addition, the closed gate and its sync, and a read for each chunk.
     fn most_steps(&self) -> u64 {
         self.least_steps()
             .saturating_add(self.cells.div_ceil(64))

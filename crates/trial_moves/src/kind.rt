@@ -1,9 +1,9 @@
 use core_rows::{Asked, Told};
 use world_actions::Refusal;
 
-/// The kinds of answers that can come. NoMemory would need a growth that is refused, and TicksEnded as
-/// many ticks as nobody can end; the other refusals are not the core's. A cover isn't answered Working, since
-/// between two switches a tick has ended.
+/// The kinds of answers that can come. NoMemory would need a refused allocation, and TicksEnded more ticks than can be
+/// played. The core gives none of the other refusals that aren't here. A cover isn't answered Working, because between two
+/// switches a tick has ended.
 #[derive(Clone, Copy)]
 pub enum Kind {
     Did,

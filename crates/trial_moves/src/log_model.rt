@@ -10,20 +10,20 @@ const RECORDS: usize = 64;
 /// The most ticks that one group takes.
 const GROUP: u32 = 32;
 
-/// The steps of a group, and those of a start or a switch where nothing has to be closed.
+/// The steps of a group, and those of a start or a switch if nothing has to be closed.
 const STEPS: u32 = 4;
 
 /// The steps that close a segment.
 const CLOSING: u32 = 2;
 
-/// What waits for the log.
+/// A record that waits for the log.
 #[derive(Clone, Copy, PartialEq, Eq)]
 enum Queued {
     Tick,
     Switch(u64),
 }
 
-/// What the log does.
+/// The job of the log.
 #[derive(Clone, Copy, PartialEq, Eq)]
 enum Job {
     // The start, of which so many steps are done.
@@ -36,7 +36,7 @@ enum Job {
     Switch { left: u32 },
 }
 
-/// What moves and answers tell of the log.
+/// The state of the log, by moves and answers alone.
 #[derive(Drop)]
 pub struct LogModel {
     queue: VecDeque<Queued>,
@@ -49,7 +49,7 @@ pub struct LogModel {
 }
 
 impl LogModel {
-    /// At the beginning of a start at this tick.
+    /// The log at the beginning of a start at this tick.
     pub fn new(alloc: Global, tick: u64) -> Self {
         LogModel {
             queue: VecDeque::new(alloc),
@@ -61,17 +61,17 @@ impl LogModel {
         }
     }
 
-    /// Whether the start has not ended.
+    /// True if the start has not ended.
     pub fn is_starting(&self) -> bool {
         matches!(self.job, Job::Start { .. })
     }
 
-    /// Whether a call failed.
+    /// True if a call failed.
     pub fn is_down(&self) -> bool {
         self.down
     }
 
-    /// Whether no more records may wait.
+    /// True if no more records may wait.
     pub fn is_full(&self) -> bool {
         self.queue.len() >= RECORDS
     }
@@ -91,12 +91,12 @@ impl LogModel {
         self.acknowledged
     }
 
-    /// Lets an ended tick wait.
+    /// Queues an ended tick.
     pub fn queue_tick(&mut self) -> Result<(), Wrong> {
         Ok(self.queue.push_back(Queued::Tick)?)
     }
 
-    /// Lets the switch of a mark wait.
+    /// Queues the switch of a mark.
     pub fn queue_switch(&mut self, tick: u64) -> Result<(), Wrong> {
         Ok(self.queue.push_back(Queued::Switch(tick))?)
     }
@@ -106,8 +106,8 @@ impl LogModel {
         self.acknowledged = self.acknowledged.max(tick);
     }
 
-    /// Judges the answer to a cover of an open image's tick, and follows it: while no job is in work, what
-    /// waits before the switch at that tick is dropped.
+    /// Judges the answer to a cover of an open image's tick, and follows it. While no job is in work, the records before the
+    /// switch at that tick are dropped.
     pub fn cover(&mut self, tick: u64, given: Told) -> Result<(), Wrong> {
         let before = self.taken;
         let count = self.before_switch(tick);
@@ -124,7 +124,7 @@ impl LogModel {
         expect(Told::LogAcked(tick), given)
     }
 
-    // How many records wait before the switch at this tick, where no job is in work.
+    // How many records wait before the switch at this tick. The number is 0 if a job is in work or no such switch waits.
     fn before_switch(&self, tick: u64) -> usize {
         if self.job != Job::Rest {
             return 0;
@@ -139,8 +139,8 @@ impl LogModel {
         0
     }
 
-    /// Judges the answer to a step, and follows it. `waits` says that the start's image is not open yet,
-    /// `starting` whether the start goes on after the step.
+    /// Judges the answer to a step, and follows it. `waits` is true while the start's image is not open yet. `starting` is
+    /// true if the start isn't over after the step.
     pub fn step(
         &mut self,
         fate: Fate,
@@ -159,7 +159,7 @@ impl LogModel {
         }
     }
 
-    // What is to be answered to a step: each one that has work makes a call.
+    // The right answer to a step. Each step that has work makes a call.
     fn answer(&self, fate: Fate, waits: bool) -> Told {
         let rests = self.job == Job::Rest && self.queue.is_empty();
         if waits || (rests && !self.down) {
@@ -173,7 +173,7 @@ impl LogModel {
         }
     }
 
-    // A step that did its work.
+    // Follows a step that did its work.
     fn advance(&mut self, starting: bool) -> Result<(), Wrong> {
         match self.job {
             Job::Start { done } => return self.advance_start(done.saturating_add(1), starting),
@@ -196,7 +196,7 @@ impl LogModel {
         Ok(())
     }
 
-    // A start closes no segment, one or both.
+    // Follows a step of a start. A start closes no segment, one or both.
     fn advance_start(&mut self, done: u32, starting: bool) -> Result<(), Wrong> {
         if starting {
             self.job = Job::Start { done };
@@ -207,8 +207,8 @@ impl LogModel {
         hold(whole, Rule::StartSteps)
     }
 
-    // The first step of a group or of a switch. The first switch after a start finds the other segment
-    // shut, each later one has to close it.
+    // Makes the first step of a group or of a switch. The first switch after a start finds the other segment shut. Each
+    // later one has to close it.
     fn take(&mut self) {
         if let Some(Queued::Switch(_)) = self.queue.front() {
             self.queue.pop_front();

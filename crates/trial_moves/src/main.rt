@@ -1,6 +1,6 @@
-//! The program `trial_moves`: makes moves that look random, with failing calls and crashes among them, over
-//! all stores and over worlds of several sizes, and judges each answer by a plain model. It tells how often
-//! each answer came, and fails where one was wrong, or where one that can come did not.
+//! The program `trial_moves`: makes random moves of the core, with failing calls and crashes among them. It does so over all
+//! stores and over worlds of several sizes, and judges each answer by a plain model. It prints how often each answer came.
+//! It fails if one was wrong, or if one that can come did not.
 #![tactic(auto)]
 
 mod image_model;
@@ -39,14 +39,14 @@ const SIZES: [u32; 5] = [1, 2, 64, 65, 130];
 /// How many moves are chosen for each store and size.
 const MOVES: u32 = 6700;
 
-/// Where the moves begin.
+/// The seed of the moves.
 const SEED: u64 = 0x9e37_79b9_7f4a_7c15;
 
 fn main(rt: HostRuntime) -> ExitCode {
     ended(&rt, run(&rt))
 }
 
-// Whether all answers were right, and each came.
+// Tries all. Returns true if all answers were right, and each came.
 fn run<R: Print + AllocGlobal>(rt: &R) -> io::Result<bool> {
     let mut all = Tally::new();
     let are_right = try_store::<R, PlainCopy>(rt, "plain", &mut all)?
@@ -58,7 +58,7 @@ fn run<R: Print + AllocGlobal>(rt: &R) -> io::Result<bool> {
     Ok(are_right && all.counts().tell(rt, &NAMES)?)
 }
 
-// Chosen moves over worlds of all sizes, and those that meet each limit.
+// Tries random moves over worlds of all sizes, and the moves that meet each limit.
 fn try_store<R: Print + AllocGlobal, C: Capture>(
     rt: &R,
     store: &str,
@@ -69,7 +69,7 @@ fn try_store<R: Print + AllocGlobal, C: Capture>(
     tell(rt, store, seen, all.moves().saturating_sub(before))
 }
 
-// A full segment, which is long.
+// Fills a segment, which takes many moves.
 fn try_long<R: Print + AllocGlobal>(rt: &R, all: &mut Tally) -> io::Result<bool> {
     let before = all.moves();
     let seen = try_segment::<PlainCopy>(rt.alloc(), all);
@@ -89,7 +89,7 @@ fn try_sizes<C: Capture>(alloc: Global, all: &mut Tally) -> Result<(), Stop> {
     Ok(())
 }
 
-// Chosen moves over a world of so many cells.
+// Tries random moves over a world of so many cells.
 fn try_moves<C: Capture>(alloc: Global, cells: u32, all: &mut Tally) -> Result<(), Stop>
     requires { (1 ≤ cells) × (cells ≤ CELLS) }
 {
@@ -109,7 +109,7 @@ fn play<C: Capture>(trial: &mut Trial<C>) -> Result<(), Stop> {
     Ok(())
 }
 
-// Tells how many moves a trial had or what was wrong, and whether all was right.
+// Prints how many moves a trial had, or what was wrong. Returns true if all was right.
 fn tell<R: Print>(rt: &R, name: &str, seen: Result<(), Stop>, moves: u32) -> io::Result<bool> {
     match seen {
         Ok(()) => println!(rt; "{name}: {moves} moves")?,

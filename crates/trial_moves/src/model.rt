@@ -10,25 +10,25 @@ use world_core::Fate;
 mod crashes;
 mod plays;
 
-/// A world as it has to be, by moves and answers alone. It knows the words after each ended tick, and
-/// nothing of files, gates, segments or of how a store holds its words.
+/// A model of a world, by moves and answers alone. It has the words after each ended tick. It knows nothing of files, gates,
+/// segments, or how a store keeps its words.
 #[derive(Drop)]
 pub struct PlainModel {
     alloc: Global,
     cells: u32,
-    // After each ended tick, that of tick 0 first.
+    // The words after each ended tick, those of tick 0 first.
     worlds: Vec<Words>,
     live: Words,
-    // The actions of the running tick.
+    // How many actions the running tick has.
     running: u32,
-    // The ticks that ended since the last mark or start.
+    // How many ticks ended since the last mark or start.
     since: u32,
     images: ImageModel,
     log: LogModel,
 }
 
 impl PlainModel {
-    /// Zeros at tick 0, with the start ahead.
+    /// A world of zeros at tick 0, before its start.
     pub fn new(alloc: Global, cells: u32) -> Result<Self, Refusal> {
         let mut worlds = Vec::new(alloc);
         worlds.push(Words::zeros(alloc, cells)?)?;
@@ -44,7 +44,7 @@ impl PlainModel {
         })
     }
 
-    /// Judges the answer to a move, and follows it. `starting` is what the core says of its start then.
+    /// Judges the answer to a move, and follows it. `starting` is true if the core says that its start isn't over then.
     pub fn follow(&mut self, asked: Asked, given: Told, starting: bool) -> Result<(), Wrong> {
         match asked {
             Asked::Act(action) => self.follow_act(action, given)?,
@@ -63,7 +63,7 @@ impl PlainModel {
         hold(starting == self.is_starting(), Rule::StartsAlike)
     }
 
-    // An open image acknowledges its tick.
+    // Follows a step of the images. An open image acknowledges its tick.
     fn follow_image(&mut self, fate: Fate, given: Told) -> Result<(), Wrong> {
         self.images.step(fate, given)?;
         if let Told::ImageOpened(tick) = given {
@@ -82,17 +82,17 @@ impl PlainModel {
         self.log.next_switch()
     }
 
-    /// Whether the start has not ended.
+    /// True if the start has not ended.
     pub fn is_starting(&self) -> bool {
         self.log.is_starting()
     }
 
-    /// Whether the start's image is not open yet.
+    /// True if the start's image is not open yet.
     pub fn is_image_ahead(&self) -> bool {
         self.is_starting() && self.images.round().is_some()
     }
 
-    /// Whether a keeper is down.
+    /// True if a keeper is down.
     pub fn is_down(&self) -> bool {
         self.images.is_down() || self.log.is_down()
     }

@@ -8,11 +8,11 @@ use world_core::Fate;
 /// The longest stretch of moves that are chosen by one set of weights.
 const LONGEST: u64 = 400;
 
-/// Chooses moves by the numbers of a generator: for a while by one set of weights, and then by another.
+/// Chooses random moves, for a while by one set of weights, and then by another.
 #[derive(Drop)]
 pub struct Player {
     weights: Weights,
-    // So many more moves are chosen by these weights.
+    // How many more moves are chosen by these weights.
     left: u64,
     cells: u32,
 }
@@ -86,7 +86,7 @@ impl Player {
         }
     }
 
-    // Mostly one that the world has.
+    // Chooses a cell, mostly one that the world has.
     fn cell(&self, random: &mut Random) -> u32 {
         match random.below(40) {
             0 => self.cells,
@@ -96,7 +96,7 @@ impl Player {
     }
 }
 
-// Mostly the newest image's tick, else that of a switch that waits, or one that no image has.
+// Chooses the tick of a cover: mostly the newest image's, else that of a waiting switch, or one that no image has.
 fn covered(model: &PlainModel, random: &mut Random) -> u64 {
     let newest = model.newest();
     match random.below(10) {
@@ -107,7 +107,7 @@ fn covered(model: &PlainModel, random: &mut Random) -> u64 {
     }
 }
 
-// A call fails now and then.
+// Chooses the fate of a call, which fails now and then.
 fn fate(random: &mut Random) -> Fate {
     if random.percent(2) {
         Fate::Failed
@@ -116,7 +116,7 @@ fn fate(random: &mut Random) -> Fate {
     }
 }
 
-// Mostly a small one, else one near the limit.
+// Chooses an amount, mostly a small one, else one near the limit.
 fn amount(random: &mut Random) -> u64 {
     match random.below(20) {
         0 => u64::MAX,
@@ -126,7 +126,7 @@ fn amount(random: &mut Random) -> u64 {
     }
 }
 
-// Mostly a small one, of either sign, else one near a bound.
+// Chooses a difference of either sign, mostly a small one, else one near a bound.
 fn difference(random: &mut Random) -> i64 {
     let size = match random.below(20) {
         0 => return i64::MIN,

@@ -13,10 +13,10 @@ use world_core::Fate;
 /// More moves than a start, a round or a full queue needs.
 const MOVES: u32 = 1000;
 
-/// The actions that fill a tick.
+/// How many actions fill a tick.
 const ACTIONS: u32 = 256;
 
-/// The ticks that fill the queue.
+/// How many ticks fill the queue.
 const RECORDS: u32 = 64;
 
 /// How often the queue is filled until a segment is full.
@@ -25,7 +25,7 @@ const QUEUES: u32 = 1024;
 /// An action on the first cell.
 const ADD: Asked = Asked::Act(Action::Add { cell: 0, by: 1 });
 
-/// Either keeper fails, and then a crash comes.
+/// Moves in which each keeper fails, and then a crash comes.
 const FAILURES: [Asked; 10] = [
     Asked::Mark,
     Asked::Mark,
@@ -39,10 +39,10 @@ const FAILURES: [Asked; 10] = [
     Asked::Crash,
 ];
 
-/// What a full segment refuses, and what goes on after a mark.
+/// Moves that a full segment refuses, a mark, and moves that succeed after it.
 const NEXT_SEGMENT: [Asked; 5] = [Asked::End, ADD, Asked::Mark, ADD, Asked::End];
 
-/// Fills a tick and the queue, lets either keeper fail, and crashes.
+/// Fills a tick and the queue, lets each keeper fail, and crashes.
 pub fn try_limits<C: Capture>(alloc: Global, cells: u32, all: &mut Tally) -> Result<(), Stop>
     requires { (1 ≤ cells) × (cells ≤ CELLS) }
 {
@@ -52,7 +52,7 @@ pub fn try_limits<C: Capture>(alloc: Global, cells: u32, all: &mut Tally) -> Res
     seen
 }
 
-/// Ends as many ticks as may end between two marks, tries one more, and goes on after a mark.
+/// Ends as many ticks as may end between two marks, tries one more, and continues after a mark.
 pub fn try_segment<C: Capture>(alloc: Global, all: &mut Tally) -> Result<(), Stop> {
     let mut stretch = Stretch::<C>::new(alloc, 1)?;
     let seen = stretch.fill_segment();
@@ -88,7 +88,7 @@ impl<C: Capture> Stretch<C> {
         Ok(())
     }
 
-    // A crash comes first; a tick and then the queue are filled, each with one more asked and a mark.
+    // Crashes first. Then it fills a tick and the queue, asks for one more of each, and asks for a mark.
     fn meet_limits(&mut self) -> Result<(), Stop> {
         self.ask(Asked::Crash)?;
         self.start()?;
@@ -143,7 +143,7 @@ impl<C: Capture> Stretch<C> {
         Ok(())
     }
 
-    // Lets the log do all that waits for it.
+    // Lets the log write all that waits for it.
     fn log(&mut self) -> Result<(), Stop> {
         for _ in 0..MOVES {
             let given = self.ask(Asked::Log(Fate::Done))?;

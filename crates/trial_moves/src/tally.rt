@@ -10,7 +10,7 @@ pub struct Tally {
 }
 
 impl Tally {
-    /// Nothing was counted yet.
+    /// Counts that are all 0.
     pub fn new() -> Self {
         Tally {
             moves: 0,
@@ -26,7 +26,7 @@ impl Tally {
         }
     }
 
-    /// Adds what was counted elsewhere.
+    /// Adds the counts of another tally.
     pub fn add(&mut self, other: &Tally) {
         self.moves = self.moves.saturating_add(other.moves);
         self.counts.add(&other.counts);

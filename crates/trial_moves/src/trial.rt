@@ -12,23 +12,23 @@ use trial_kit::{Random, left_by};
 use world_actions::Refusal;
 use world_core::{Core, FileName, Move, Remains};
 
-/// Where and why a trial ended.
+/// The wrong answer that ended a trial.
 #[derive(Clone, Copy, Debug)]
 pub struct Difference {
-    /// The number of the move, the first one's 1.
+    /// The number of the move. The first one has 1.
     pub number: u32,
     /// The move.
     pub asked: Asked,
     /// Its answer.
     pub given: Told,
-    /// What is wrong with that.
+    /// The reason why the answer is wrong.
     pub wrong: Wrong,
 }
 
-/// Why a trial ended before its end.
+/// The reason why a trial ended early.
 #[derive(Clone, Copy)]
 pub enum Stop {
-    /// The core was refused when it was made, or bytes for it.
+    /// Making the core or bytes for it was refused.
     Refused(Refusal),
     /// An answer was wrong.
     Differs(Difference),
@@ -40,7 +40,7 @@ impl From<Refusal> for Stop {
     }
 }
 
-/// A core, the model of it, and what was answered.
+/// A core, its model, and the counts of answers.
 #[derive(Drop)]
 pub struct Trial<C: Capture> {
     alloc: Global,
@@ -64,7 +64,7 @@ impl<C: Capture> Trial<C> {
         })
     }
 
-    /// What was answered.
+    /// The counts of answers.
     pub fn tally(&self) -> &Tally {
         &self.tally
     }
@@ -79,8 +79,8 @@ impl<C: Capture> Trial<C> {
         self.cells
     }
 
-    /// Makes a move, and judges its answer. A crash leaves what `random` chooses; where bytes are left
-    /// that may be, each cell is read then.
+    /// Makes a move, and judges its answer. `random` chooses the bytes that a crash leaves. If a crash may leave them, each
+    /// cell is read then.
     pub fn ask(&mut self, asked: Asked, random: &mut Random) -> Result<Told, Stop> {
         if let Some(plain) = asked.as_move() {
             return self.step(asked, plain);
@@ -110,7 +110,7 @@ impl<C: Capture> Trial<C> {
         }
     }
 
-    // What the crash leaves of the four files.
+    // The bytes that the crash leaves of the four files.
     fn remains(&self, asked: Asked, random: &mut Random) -> Result<Remains, Refusal> {
         let spoiled = match random.below(4) {
             _ if asked == Asked::Crash => None,
@@ -131,7 +131,7 @@ impl<C: Capture> Trial<C> {
         })
     }
 
-    // What it leaves of one, which is spoiled where it is that one.
+    // The bytes that the crash leaves of a file. They are spoiled if this is the file to spoil.
     fn left_of(
         &self,
         name: FileName,

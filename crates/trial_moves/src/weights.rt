@@ -1,42 +1,42 @@
 use trial_kit::Random;
 
-/// How often each kind of move is chosen: actions, reads, ends, marks, steps of the images, steps of the
-/// log, covers, and crashes.
+/// How often each kind of move is chosen, of a thousand: actions, reads, ends, marks, steps of the images, steps of the log,
+/// covers, and crashes. The rest of the thousand are crashes too.
 #[derive(Clone, Copy)]
 pub struct Weights {
     of: [u64; 8],
 }
 
 impl Weights {
-    /// Some of all.
+    /// Weights for moves of all kinds.
     pub fn of_play() -> Self {
         Weights {
             of: [380, 60, 140, 40, 200, 130, 20, 30],
         }
     }
 
-    /// The image of a start is ahead.
+    /// Weights while the image of a start is ahead.
     pub fn of_start_image() -> Self {
         Weights {
             of: [20, 20, 20, 20, 860, 40, 10, 10],
         }
     }
 
-    /// The log's part of a start is ahead.
+    /// Weights while the log's part of a start is ahead.
     pub fn of_start_log() -> Self {
         Weights {
             of: [30, 20, 30, 30, 60, 780, 20, 30],
         }
     }
 
-    /// A keeper is down, which only a crash ends.
+    /// Weights while a keeper is down, which only a crash ends.
     pub fn of_failure() -> Self {
         Weights {
             of: [150, 50, 120, 120, 140, 140, 20, 120],
         }
     }
 
-    /// One of the sets for a world that has started.
+    /// Draws one of the sets for a world that has started.
     pub fn any(random: &mut Random) -> Self {
         let of = match random.below(6) {
             // Long ticks.
@@ -54,7 +54,7 @@ impl Weights {
         Weights { of }
     }
 
-    /// One of the kinds, by its place: those past the last one are crashes.
+    /// Draws a kind of move, and returns its place in the list. A place past the last one is a crash.
     pub fn draw(&self, random: &mut Random) -> u32 {
         let mut rest = random.below(1000);
         let mut kind = 0u32;

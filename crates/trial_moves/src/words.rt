@@ -1,4 +1,4 @@
-//! The model that judges worlds: it does actions again, on purpose, by code of its own.
+//! The model that judges worlds. It does actions by code of its own, on purpose.
 use std::alloc::Global;
 use world_actions::{Action, LIMIT, Refusal};
 
@@ -9,14 +9,14 @@ pub struct Words {
 }
 
 impl Words {
-    /// So many zeros.
+    /// A world of so many zeros.
     pub fn zeros(alloc: Global, cells: u32) -> Result<Self, Refusal> {
         Ok(Words {
             words: vec![in alloc; 0; cells as usize]?,
         })
     }
 
-    /// The same words once more.
+    /// A copy of the words.
     pub fn copy(&self, alloc: Global) -> Result<Self, Refusal> {
         Ok(Words {
             words: Vec::from_slice(alloc, &self.words)?,
@@ -112,12 +112,12 @@ impl Words {
     }
 }
 
-// Less by so much.
+// Subtracts from a word.
 fn lowered(word: u64, by: u64) -> Result<u64, Refusal> {
     word.checked_sub(by).ok_or(Refusal::OutOfRange)
 }
 
-// More by so much, if that is no more than a word may be.
+// Adds to a word, if the sum is no more than a word may be.
 fn raised(word: u64, by: u64) -> Result<u64, Refusal> {
     match word.checked_add(by) {
         Some(sum) if sum <= LIMIT => Ok(sum),

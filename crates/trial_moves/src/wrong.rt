@@ -2,10 +2,10 @@ use core_rows::Told;
 use std::alloc::{AllocError, AllocFailed};
 use world_actions::Refusal;
 
-/// What holds of answers.
+/// A rule that answers have to keep.
 #[derive(Clone, Copy, Debug, PartialEq, Eq)]
 pub enum Rule {
-    /// The core starts where the model does.
+    /// The core says that its start isn't over exactly while the model does.
     StartsAlike,
     /// A step of an open round does its work, opens the image, or fails.
     OpenRoundGoesOn,
@@ -17,24 +17,24 @@ pub enum Rule {
     OpensItsRound,
     /// The start's log takes 4, 6 or 8 steps.
     StartSteps,
-    /// What a crash may leave is recovered, or is Blank where there was no image.
+    /// Bytes that a crash may leave are recovered, or are Blank if there was no image.
     Recovers,
     /// A cover's receipt is of the covered tick.
     CoversItsTick,
-    /// Acknowledged ticks stand after a crash.
+    /// A crash loses no acknowledged tick.
     KeepsAcknowledged,
-    /// Only ended ticks stand after a crash.
+    /// After a crash only ended ticks are recovered.
     KeepsEnded,
     /// The world is built from the newest image or from that of the open round.
     FromKnownImage,
 }
 
-/// Why an answer isn't right, or can't be judged.
+/// The reason why an answer isn't right, or can't be judged.
 #[derive(Clone, Copy, Debug, PartialEq, Eq)]
 pub enum Wrong {
-    /// This is the right one.
+    /// This is the right answer.
     Wanted(Told),
-    /// This rule doesn't hold of it.
+    /// The answer breaks this rule.
     Breaks(Rule),
     /// There is no memory left.
     NoMemory,
@@ -58,7 +58,7 @@ impl<T: Drop> From<AllocFailed<T>> for Wrong {
     }
 }
 
-/// Whether the only right answer was given.
+/// Passes if the only right answer was given.
 pub fn expect(wanted: Told, given: Told) -> Result<(), Wrong> {
     if given == wanted {
         Ok(())
@@ -67,7 +67,7 @@ pub fn expect(wanted: Told, given: Told) -> Result<(), Wrong> {
     }
 }
 
-/// Whether a rule holds.
+/// Passes if a rule holds.
 pub fn hold(holds: bool, rule: Rule) -> Result<(), Wrong> {
     if holds {
         Ok(())

@@ -7,7 +7,7 @@ use std::alloc::Global;
 use trial_kit::{CutTally, Random};
 use world_actions::Refusal;
 
-/// Cuts the power at so many random moments up to the last one, in order, and looks at what stands then.
+/// Cuts the power at so many random moments up to the last one, in order, and judges the world that is recovered after each.
 pub fn try_cuts(
     alloc: Global,
     mut files: FourFiles<Replay>,
@@ -35,7 +35,7 @@ pub fn try_cuts(
     Ok(tally)
 }
 
-// Counts what stands after a power cut at this moment.
+// Counts the world that recovery found after a power cut at this moment.
 fn judge(found: &Recovered, ticks: &Ticks, moment: u64, tally: &mut CutTally) {
     let answered = ticks.answered_before(moment);
     if found.tick < answered || !ticks.leads_to(found) {

@@ -16,7 +16,7 @@ use workers::{Ask, Open};
 use world_actions::Refusal;
 use world_start::fresh_files;
 
-/// How many batches are played, each of which adds one to the only cell.
+/// How many batches are played. Each adds one to the only cell.
 const BATCHES: u32 = 6;
 
 /// After how many ticks an image is due.
@@ -44,7 +44,7 @@ pub fn fail_calls<R: Threads + Wait + Copy + Send + 'static, M: Seats + Send + '
     Ok(failures)
 }
 
-// Plays while the call of this number of a file fails, and tells whether there was one.
+// Plays while the call of this number of a file fails. Returns true if there was such a call.
 fn fail_call<R: Threads + Wait + Copy + Send + 'static, M: Seats + Send + 'static>(
     rt: &R,
     alloc: Global,
@@ -67,7 +67,7 @@ fn fail_call<R: Threads + Wait + Copy + Send + 'static, M: Seats + Send + 'stati
     }
 }
 
-// Plays, and tells whether a call had failed.
+// Plays, and returns true if a call had failed.
 fn play<R: Threads + Wait + Copy, M: Seats>(
     rt: &R,
     alloc: Global,
@@ -81,7 +81,7 @@ fn play<R: Threads + Wait + Copy, M: Seats>(
     judge_end(alloc, &ends, answered, failures)
 }
 
-// Judges what stands where a call of the start failed.
+// Judges the files after a call of the start failed.
 fn judge_opening(alloc: Global, files: FourFiles<File>, failures: &mut FailureTally) {
     let stands = stands_in(
         alloc,
@@ -91,7 +91,7 @@ fn judge_opening(alloc: Global, files: FourFiles<File>, failures: &mut FailureTa
     judge(stands, 0, 0, failures);
 }
 
-// Judges what stands in what the workers left, and tells whether a call had failed.
+// Judges the files that the workers left. Returns true if a call had failed.
 fn judge_end<M: Seats>(
     alloc: Global,
     ends: &Ends<M, File, Open, Open, Open>,
@@ -108,7 +108,7 @@ fn judge_end<M: Seats>(
     Ok(images_down || log_down)
 }
 
-// The files of a new world of one cell, of which one fails at its call of this number.
+// The files of a new world of one cell. One of them fails at its call of this number.
 fn failing_files(alloc: Global, file: u32, call: u64) -> Result<FourFiles<File>, Refusal>
     requires { 1 ≤ call }
 {
@@ -141,7 +141,7 @@ fn empty_file(alloc: Global) -> Result<ModelFile, Refusal> {
     ModelFile::new(alloc, Vec::new(alloc))
 }
 
-// The last tick that a session was answered.
+// Plays the batches in a session, and returns the last answered tick.
 fn run_batches<R: Wait + Copy>(
     rt: &R,
     alloc: Global,
@@ -159,7 +159,7 @@ fn run_batches<R: Wait + Copy>(
     Ok(answered)
 }
 
-// The tick that stands in the durable bytes, and the word of the cell.
+// Recovers from the durable bytes, and returns the tick and the word of the cell.
 fn stands_in(alloc: Global, files: [&File; 4]) -> Option<(u64, u64)> {
     let [image_a, image_b, log_a, log_b] = files;
     let found = recover(
@@ -173,7 +173,7 @@ fn stands_in(alloc: Global, files: [&File; 4]) -> Option<(u64, u64)> {
     Some((found.tick, found.words.first().copied()?))
 }
 
-// What stands has each answered tick, and none that didn't end; each added one.
+// Counts a recovery as wrong unless it found each answered tick and none that didn't end. Each tick added one to the word.
 fn judge(stands: Option<(u64, u64)>, answered: u64, ended: u64, failures: &mut FailureTally) {
     let is_right = match stands {
         Some((tick, word)) => answered <= tick && tick <= ended && word == tick,

@@ -1,9 +1,9 @@
 //! The program `trial_power`: lets workers in threads play worlds whose files fail, or whose power is cut.
 //!
-//! It makes a world in the files of the folder that it stands in, and lets workers play it while each call of a file is
-//! kept. Then it cuts the power at random moments: it makes the files again as the disk model lets a power cut leave them,
-//! and recovers. And over files in memory it lets each call of each file fail in turn. It tells on standard error what it
-//! saw, and fails where an answered tick is lost, where another world stands, or where something that can come never did.
+//! It makes a world in the files of the current folder, and lets workers play it while each call of a file is recorded. Then
+//! it cuts the power at random moments: it makes the files again as the disk model lets a power cut leave them, and
+//! recovers. It also lets each call of each file fail in turn, over files in memory. It prints its counts to standard error.
+//! It fails if an answered tick is lost, if recovery finds a wrong world, or if something that can come never did.
 #![tactic(auto)]
 
 mod cuts;
@@ -28,17 +28,17 @@ use worker_threads::Seats;
 use world_actions::Refusal;
 use world_folder::create;
 
-/// The folder that the program stands in.
+/// The current folder of the program.
 const FOLDER: &str = ".";
 
-/// More cells than there are players: an image has two chunks.
+/// More cells than there are players, so that an image has two chunks.
 const CELLS: u32 = 70;
 
 fn main(rt: HostRuntime) -> ExitCode {
     ended(&rt, try_all(&rt))
 }
 
-// Whether nothing was lost: by one method, and then by the other one in the same files.
+// Tries one method, and then the other one in the same files. Returns true if nothing was lost.
 fn try_all<
     R: Threads + Wait + Files<File = File> + Print + Eprint + AllocGlobal + Copy + Send + 'static,
 >(rt: &R) -> Result<bool, Refusal> {

@@ -9,7 +9,7 @@ use tcp_service::Remote;
 use workers::Ask;
 use world_actions::{Action, Refusal};
 
-/// A tick that a player was answered, whose cell grew by one, and when.
+/// A tick that was answered to a player, the cell to which it added one, and the moment of the answer.
 #[derive(Clone, Copy, Debug, PartialEq, Eq)]
 pub struct Answered {
     pub moment: u64,
@@ -17,7 +17,7 @@ pub struct Answered {
     pub cell: u32,
 }
 
-/// Plays so many batches, each of which adds one to the player's cell, and tells the answers.
+/// Plays so many batches, each of which adds one to the player's cell. Returns the answers.
 pub fn play<R: Wait + Copy>(
     rt: &R,
     alloc: Global,

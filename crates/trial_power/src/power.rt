@@ -19,7 +19,7 @@ use world_folder::open_existing;
 /// How often the power is cut for each method.
 pub const CUTS: u64 = 500;
 
-/// Plays the world that stands in the files of a folder, and cuts the power at random moments of that.
+/// Plays the world in the files of a folder, and cuts the power at random moments of the run.
 pub fn cut_power<
     R: Threads + Wait + Files<File = File> + AllocGlobal + Copy + Send + 'static,
     M: Seats + Send + 'static,
@@ -33,7 +33,7 @@ pub fn cut_power<
     cut_all(alloc, &served, left, last, seed)
 }
 
-/// What the files held before, and the world that stood in them.
+/// The world before the run, and copies in memory of the files as they were then.
 #[derive(Drop)]
 struct Left {
     begun: Recovered,
@@ -49,7 +49,7 @@ fn read_left(alloc: Global, files: &mut FourFiles<FileDisk>) -> Result<Left, Ref
     })
 }
 
-// Plays over these files, whose calls are kept.
+// Plays over these files, whose calls are recorded.
 fn play<R: Threads + Wait + Copy + Send + 'static, M: Seats + Send + 'static>(
     rt: &R,
     alloc: Global,
@@ -60,7 +60,7 @@ fn play<R: Threads + Wait + Copy + Send + 'static, M: Seats + Send + 'static>(
     serve::<R, M>(rt, alloc, files, clock)
 }
 
-// What stands in these files.
+// Recovers the world of these files.
 fn stands_in(alloc: Global, bytes: &FourFiles<Vec<u8>>) -> Result<Recovered, Refusal> {
     recover(
         alloc,
@@ -71,7 +71,7 @@ fn stands_in(alloc: Global, bytes: &FourFiles<Vec<u8>>) -> Result<Recovered, Ref
     )
 }
 
-// Cuts the power of a run in which no file failed and each batch was answered.
+// Cuts the power of a run. It is an error if a file failed, or if a batch wasn't answered.
 fn cut_all<M: Seats>(
     alloc: Global,
     served: &Served<M>,
@@ -102,7 +102,7 @@ fn replays(alloc: Global, bytes: FourFiles<Vec<u8>>) -> Result<FourFiles<Replay>
     })
 }
 
-// What power cuts leave of a run that was played to its end.
+// Tries power cuts at moments of a run that was played to its end.
 fn look_at<M: Seats>(
     alloc: Global,
     served: &Served<M>,
@@ -128,12 +128,12 @@ fn calls_of<M: Seats>(served: &Served<M>) -> Option<Calls<'_>> {
     })
 }
 
-// Whether no file failed.
+// True if no file failed.
 fn is_up<M: Seats>(served: &Served<M>) -> bool {
     !served.ends.checkpointer.is_down() && !served.ends.log_writer.is_down()
 }
 
-// The ticks of all players, each of whose batches was answered, by a tick of its own.
+// Collects the ticks of all players. Each of their batches was answered by a tick of its own, else it is an error.
 fn ticks_of(alloc: Global, begun: Recovered, answers: &[Vec<Answered>]) -> Result<Ticks, Refusal> {
     let count = (PLAYERS as usize).saturating_mul(BATCHES as usize);
     let mut ticks = Ticks::new(alloc, begun, count)?;

@@ -11,7 +11,7 @@ use worker_threads::{TickWatch, Watch, Workers, start};
 use workers::{Ask, ImageWriter, Log, Looks, Open};
 use world_actions::Refusal;
 
-/// Tells nothing: what went wrong is seen at the end.
+/// Reports nothing. Failures are seen at the end of a run.
 #[derive(Clone, Copy)]
 struct Quiet;
 
@@ -27,7 +27,7 @@ impl<D: Disk + Drop> Watch<D> for Quiet {
     fn log_down(&mut self, _acked: u64, _log: &Log<D>) {}
 }
 
-/// Starts workers that nothing holds and that tell nothing.
+/// Starts workers that nothing holds and that report nothing.
 pub fn start_quiet<
     R: Threads + Wait + Copy + Send + 'static,
     M: Method + Send + 'static,

@@ -8,26 +8,26 @@ use std::sync::Arc;
 use std::sync::atomic::{AtomicU64, Ordering};
 use world_actions::Refusal;
 
-/// What the calls of all files and the answers of all sessions are told by.
+/// A counter that gives each call of a file and each answer of a session its moment.
 pub type Clock = Arc<AtomicU64, Global>;
 
-/// What a call did that changes what a crash leaves.
+/// A change by a call that matters for what a crash leaves.
 #[derive(Drop)]
 pub enum Change {
     /// It wrote these bytes from this place on.
     Write { at: u64, bytes: Vec<u8> },
-    /// It made durable what was written.
+    /// It made all written bytes durable.
     Sync,
 }
 
-/// A call, and when it was made: a write as it begins, a sync once it has ended.
+/// A call, and its moment: the beginning of a write, or the end of a sync.
 #[derive(Drop)]
 pub struct Call {
     pub moment: u64,
     pub change: Change,
 }
 
-/// A file of the system whose calls are kept in order.
+/// A file of the system, and its calls in order.
 #[derive(Drop)]
 pub struct Recorded {
     alloc: Global,
@@ -62,7 +62,7 @@ impl Recorded {
     }
 }
 
-/// Four files whose calls are kept by one clock.
+/// Four files whose calls are recorded with the moments of one clock.
 pub fn keep_calls(
     alloc: Global,
     files: FourFiles<FileDisk>,
@@ -82,7 +82,7 @@ pub fn keep_calls(
     })
 }
 
-// As of the file below, nothing is said of what it holds.
+// Nothing is stated of the bytes of the file, as for the file of the system below.
 impl Disk for Recorded {
     ghost content = { λ disk. [] };
 

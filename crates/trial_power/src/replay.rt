@@ -5,7 +5,7 @@ use std::alloc::Global;
 use trial_kit::{Random, left_by};
 use world_actions::Refusal;
 
-/// A file of the disk model on which kept calls are made again, and how many of them.
+/// A file of the disk model on which recorded calls are made again, and how many of them were made.
 #[derive(Drop)]
 pub struct Replay {
     file: ModelFile,
@@ -21,7 +21,7 @@ impl Replay {
         })
     }
 
-    /// Makes the calls that were made before this moment.
+    /// Makes the recorded calls before this moment.
     fn go_on(&mut self, calls: &[Call], moment: u64) -> Result<(), Refusal> {
         for call in calls.iter().skip(self.made) {
             if call.moment >= moment {
@@ -33,7 +33,7 @@ impl Replay {
         Ok(())
     }
 
-    /// Whether a crash may leave more than one thing.
+    /// True if the present bytes aren't the durable ones, so that a crash may leave more than one thing.
     fn is_uncertain(&self) -> bool {
         self.file.durable() != self.file.now()
     }
@@ -54,7 +54,8 @@ fn make(file: &mut ModelFile, change: &Change) -> Result<(), Refusal> {
 /// The calls of four files.
 pub type Calls<'a> = FourFiles<&'a [Call]>;
 
-/// Makes the calls of all files up to a moment. It tells whether a crash may leave more than one thing then.
+/// Makes the recorded calls of all files before a moment. Returns true if a file then has bytes that aren't durable, so that
+/// a crash may leave more than one thing.
 pub fn go_on(
     files: &mut FourFiles<Replay>,
     calls: &Calls<'_>,
@@ -68,7 +69,7 @@ pub fn go_on(
     Ok(images || files.log_a.is_uncertain() || files.log_b.is_uncertain())
 }
 
-/// What stands after a power cut that leaves what it may.
+/// Cuts the power, chooses bytes that it may leave of each file, and recovers from them.
 pub fn cut(
     alloc: Global,
     files: &FourFiles<Replay>,

@@ -13,7 +13,7 @@ use world_actions::Refusal;
 /// How many players there are, each with a cell of its own.
 pub const PLAYERS: u32 = 4;
 
-/// How many batches each plays.
+/// How many batches each player plays.
 pub const BATCHES: u32 = 200;
 
 /// After how many ticks an image is due.
@@ -21,7 +21,7 @@ const EVERY: u32 = 8;
 
 type Answers = Result<Vec<Answered>, Refusal>;
 
-/// What a run leaves: the workers, and the answers of each player.
+/// The results of a run: the workers, and the answers of each player.
 #[derive(Drop)]
 pub struct Served<M: Seats> {
     pub ends: Ends<M, Recorded, Open, Open, Open>,
@@ -62,7 +62,7 @@ fn let_play<R: Threads + Wait + Copy + Send + 'static, M: Seats>(
     })
 }
 
-// A thread for each player. They have the channel of requests alone.
+// Starts a thread for each player. Only these threads have the channel of requests.
 fn start_players<R: Threads + Wait + Copy + Send + 'static>(
     rt: &R,
     alloc: Global,

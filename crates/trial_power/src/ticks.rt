@@ -2,19 +2,19 @@ use crate::player::Answered;
 use recovery::Recovered;
 use std::alloc::{AllocError, Global};
 
-/// The ticks of a run, each of which was answered to a player.
+/// The ticks of a run, and the answers to the players.
 #[derive(Drop)]
 pub struct Ticks {
-    // The tick and the words at the begin of the run.
+    // The tick and the words at the beginning of the run.
     base: u64,
     words: Vec<u64>,
-    // When each tick after it was answered, 0 for one that wasn't, and the cell that it changed.
+    // The moment at which each tick after it was answered, or 0 if it wasn't, and the cell that it changed.
     moments: Vec<u64>,
     cells: Vec<u32>,
 }
 
 impl Ticks {
-    /// So many ticks after what stood, of which none was answered.
+    /// So many ticks after the world `begun`, none of them answered yet.
     pub fn new(alloc: Global, begun: Recovered, count: usize) -> Result<Self, AllocError> {
         Ok(Ticks {
             base: begun.tick,
@@ -24,7 +24,7 @@ impl Ticks {
         })
     }
 
-    /// Keeps an answer. It tells whether it was of one of the ticks, and the first one for that.
+    /// Keeps an answer. Returns true if it is of one of the ticks, and the first answer of that tick.
     pub fn keep(&mut self, answered: Answered) -> bool {
         let at = answered.tick.wrapping_sub(self.base).wrapping_sub(1) as usize;
         let (Some(moment), Some(cell)) = (self.moments.get_mut(at), self.cells.get_mut(at)) else {
@@ -51,7 +51,7 @@ impl Ticks {
         greatest
     }
 
-    /// Whether these are the words after their tick.
+    /// True if these are the words after their tick.
     pub fn leads_to(&self, found: &Recovered) -> bool {
         let ticks = found.tick.wrapping_sub(self.base) as usize;
         if found.words.len() != self.words.len() || ticks > self.cells.len() {
@@ -66,7 +66,7 @@ impl Ticks {
         true
     }
 
-    // By how much a cell grew in so many ticks.
+    // How much a cell grew in so many ticks.
     fn grown(&self, cell: usize, ticks: usize) -> u64 {
         let mut grown = 0_u64;
         for changed in self.cells.iter().take(ticks) {

@@ -1,4 +1,4 @@
-/// What a trial counts.
+/// The things that a trial counts.
 #[derive(Clone, Copy)]
 pub enum Kind {
     WriteBetween,

@@ -1,7 +1,7 @@
-//! The program `trial_seats`: tries that each store hands out the words of its marks. In one thread each
-//! store does one list of moves beside the plain copy. Then one thread writes and marks while another takes,
-//! by both methods that go without a lock, and the words at each mark are compared with those that were
-//! taken. It fails where words differ, or where something that can come did not.
+//! The program `trial_seats`: tries that each store hands out the words of its marks. In one thread each store does one list
+//! of moves beside the plain copy. Then one thread writes and marks while another takes, by both methods and without a lock.
+//! The words at each mark are compared with those that were taken. It fails if words differ, or if something that can come
+//! did not.
 #![tactic(auto)]
 
 mod fingerprint;
@@ -30,7 +30,7 @@ use zigzag::Zigzag;
 /// The sizes of the stores that are tried in one thread.
 const SIZES: [usize; 6] = [1, 63, 64, 65, 130, 65_536];
 
-/// The sizes of those that are tried in two threads.
+/// The sizes of the stores that are tried in two threads.
 const THREAD_SIZES: [usize; 2] = [65, 65_536];
 
 /// How many rounds two threads have.
@@ -40,7 +40,7 @@ fn main(rt: HostRuntime) -> ExitCode {
     ended(&rt, run(&rt))
 }
 
-// Whether all words are the same, and each thing came.
+// Tries all stores. Returns true if all words are the same, and each thing came.
 fn run<R: Print + AllocGlobal + Threads + Sync>(rt: &R) -> io::Result<bool> {
     let mut all = Counts::new();
     let are_same = try_sizes::<R, Zigzag>(rt, "zigzag", false, &mut all)?
@@ -50,7 +50,7 @@ fn run<R: Print + AllocGlobal + Threads + Sync>(rt: &R) -> io::Result<bool> {
     Ok(are_same && all.tell(rt, &NAMES)? && try_threads(rt)?)
 }
 
-// A store of each size beside the plain copy.
+// Tries a store of each size beside the plain copy.
 fn try_sizes<R: Print + AllocGlobal, C: Capture>(
     rt: &R,
     store: &str,
@@ -69,8 +69,8 @@ fn try_sizes<R: Print + AllocGlobal, C: Capture>(
     Ok(true)
 }
 
-// Tells how many takes were the same or what was wrong, and whether all was right. Some stores hand out
-// unchanged cells as such.
+// Prints how many takes were the same, or what was wrong. Returns true if all was right. `has_same` says if the store
+// answers Same for unchanged cells.
 fn tell_takes<R: Print>(
     rt: &R,
     store: &str,
@@ -96,7 +96,7 @@ fn tell_takes<R: Print>(
     Ok(words > 0 && (same > 0) == has_same)
 }
 
-// Two threads at stores of both methods.
+// Tries two threads at stores of both methods.
 fn try_threads<R: Print + AllocGlobal + Threads + Sync>(rt: &R) -> io::Result<bool> {
     for cells in THREAD_SIZES {
         let are_same = tell_rounds(
@@ -117,7 +117,7 @@ fn try_threads<R: Print + AllocGlobal + Threads + Sync>(rt: &R) -> io::Result<bo
     Ok(true)
 }
 
-// Tells how many rounds were the same or what was wrong, and whether all was right.
+// Prints how many rounds were the same, or what was wrong. Returns true if all was right.
 fn tell_rounds<R: Print>(
     rt: &R,
     method: &str,

@@ -21,7 +21,7 @@ pub struct Player {
 }
 
 impl Player {
-    /// For a store of so many cells.
+    /// A player for a store of so many cells.
     pub fn new(seed: u64, cells: usize) -> Self {
         Player {
             random: Random::new(seed),
@@ -35,7 +35,7 @@ impl Player {
         self.last
     }
 
-    /// The next move, where a round is open or none is. No mark is chosen in a round.
+    /// The next move. `is_open` is true if a round is open. No mark is chosen in a round.
     pub fn choose(&mut self, is_open: bool) -> Move {
         match self.random.below(8) {
             0 | 1 => self.write_any(),

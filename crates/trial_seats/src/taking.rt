@@ -7,10 +7,10 @@ use shared_capture::{Back, Method};
 use std::alloc::Global;
 use std::thread::yield_now;
 
-/// How often a round is looked for.
+/// How often a round is looked for, at most.
 const LOOKS: u64 = 1 << 26;
 
-/// Takes so many rounds into the image. It gives the fingerprint of each.
+/// Takes so many rounds into the image. Returns the fingerprint of each.
 pub fn take_rounds<M: Method>(
     alloc: Global,
     mut back: Back<M>,

@@ -8,8 +8,7 @@ use shared_capture::{Back, Front, Method, meet, ping_pong_pair, zigzag_pair};
 use std::alloc::Global;
 use std::thread::{Threads, join};
 
-/// Two threads at a pair of seats of the method Zigzag, for so many rounds. It tells how many were
-/// the same.
+/// Tries two threads at a pair of seats of the method Zigzag, for so many rounds. Returns how many were the same.
 pub fn try_zigzag<R: Threads + Sync>(
     rt: &R,
     alloc: Global,
@@ -21,7 +20,7 @@ pub fn try_zigzag<R: Threads + Sync>(
     try_pair(rt, alloc, front, back, &zeros, rounds)
 }
 
-/// The same for the method Ping-Pong.
+/// Does the same for the method Ping-Pong.
 pub fn try_ping_pong<R: Threads + Sync>(
     rt: &R,
     alloc: Global,
@@ -33,7 +32,7 @@ pub fn try_ping_pong<R: Threads + Sync>(
     try_pair(rt, alloc, front, back, &zeros, rounds)
 }
 
-// One thread writes and marks, and another takes. Then the seats meet, and no round is open.
+// Lets one thread write and mark while another takes. Then the seats meet, and no round may be open.
 fn try_pair<M: Method + Send + 'static, R: Threads + Sync>(
     rt: &R,
     alloc: Global,
@@ -65,7 +64,7 @@ fn try_pair<M: Method + Send + 'static, R: Threads + Sync>(
     same_rounds(&marked, &taken)
 }
 
-// How many rounds there are, where all are the same.
+// Returns how many rounds there are, if all are the same.
 fn same_rounds(marked: &[u64], taken: &[u64]) -> Result<usize, Wrong> {
     let mut same = 0usize;
     for (at_mark, at_takes) in marked.iter().zip(taken) {

@@ -13,10 +13,10 @@ const MOVES: usize = 20_000;
 /// How many more are made for each cell.
 const CELL_MOVES: usize = 8;
 
-/// Where the moves begin.
+/// The seed of the moves.
 const SEED: u64 = 0x9e37_79b9_7f4a_7c15;
 
-/// No word of a cell: what an image has before its first round.
+/// A number that is no word. An image has it before its first round.
 pub const NO_WORD: u64 = u64::MAX;
 
 /// A store beside the plain copy, and the newest image of the store.
@@ -30,8 +30,8 @@ struct Trial<C: Capture> {
     counts: Counts<KINDS>,
 }
 
-/// Makes one list of moves over a store and over the plain copy. What each take hands out of the store
-/// has to stand for the word that the plain copy hands out.
+/// Makes one list of moves over a store and over the plain copy. Each take of the store has to represent the word that the
+/// plain copy hands out.
 pub fn try_store<C: Capture>(alloc: Global, cells: usize) -> Result<Counts<KINDS>, Wrong> {
     let mut trial = Trial::<C>::new(alloc, cells)?;
     let mut player = Player::new(SEED, cells);
@@ -115,7 +115,7 @@ impl<C: Capture> Trial<C> {
         Ok(())
     }
 
-    // The word that a take stands for, which goes into the image.
+    // Puts the word of a take into the image, and returns the word that the take represents.
     fn stands_for(&mut self, taken: Option<Taken>) -> Option<Taken> {
         match taken {
             Some(Taken::Word(word)) => {

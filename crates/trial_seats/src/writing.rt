@@ -13,21 +13,21 @@ use world_ticks::Cells;
 /// How many cells are written before a mark is tried.
 const WRITES: u32 = 16;
 
-/// How often a mark is tried.
+/// How often a mark is tried, at most.
 const TRIES: u64 = 1 << 28;
 
-/// Where the cells and words begin.
+/// The seed of the cells and words.
 const SEED: u64 = 0xd1b5_4a32_d192_ed03;
 
-/// What writes a front, and knows the fingerprint of its words.
+/// Writes cells of a front, and knows the fingerprint of its words.
 #[derive(Drop)]
 struct Writer {
     random: Random,
     fingerprint: Fingerprint,
 }
 
-/// Writes cells that are all 0, and opens so many rounds, each as soon as it can. It gives the
-/// fingerprint of the words at each mark.
+/// Writes cells that are all 0 at first, and opens so many rounds, each as soon as it can. Returns the fingerprint of the
+/// words at each mark.
 pub fn write_rounds<M: Method>(
     alloc: Global,
     mut front: Front<M>,

@@ -3,7 +3,7 @@ use std::alloc::{AllocError, AllocFailed};
 use thiserror::Error;
 use world_actions::Refusal;
 
-/// Why a trial ended before its end.
+/// The reason why a trial ended early.
 #[derive(Clone, Copy, Debug, Error)]
 pub enum Wrong {
     /// There is no memory left.

@@ -24,7 +24,8 @@ const SESSIONS: u64 = 4;
 
 const BATCHES: u64 = 40;
 
-/// More steps than the batches have, than some rounds, and than the log of the batches.
+/// Bounds of the random numbers of steps after which the workers are held. The mutator makes fewer steps for the batches,
+/// the checkpointer for some rounds, and the log writer for the log of the batches.
 const PLAYS: u64 = 60;
 
 const TAKES: u64 = 400;
@@ -39,7 +40,7 @@ struct Played {
     sessions: Vec<Session>,
     // The greatest tick of a post, or 0.
     posted: u64,
-    // Why no more was sent.
+    // The reason why no more batches were sent, if there was one.
     stopped: Result<(), Refusal>,
 }
 
@@ -84,7 +85,7 @@ fn judge<R: Wait, M: Method>(
     played.judge(rt, trial, &ends)
 }
 
-// After how many steps each worker is held.
+// Gates that hold each worker after a random number of steps.
 fn cuts(trial: &mut Trial) -> Gates<Cut, Cut, Cut> {
     Gates {
         mutator: Cut {
@@ -100,7 +101,7 @@ fn cuts(trial: &mut Trial) -> Gates<Cut, Cut, Cut> {
 }
 
 impl Played {
-    // Nothing was sent yet.
+    // The sessions before their first batch.
     fn new(sessions: Vec<Session>) -> Self {
         Played {
             sessions,
@@ -119,7 +120,8 @@ impl Played {
         }
     }
 
-    // The model runs the batches in this order, those too that the mutator won't run: they are the last ones.
+    // Sends a batch. The model runs the batches in this order, and also those that the mutator won't run, which are the last
+    // ones.
     fn send<R: Wait>(
         &mut self,
         rt: &R,
@@ -139,7 +141,7 @@ impl Played {
         asks.send(rt, ask).map_err(|_: _| Refusal::LogDown)
     }
 
-    // Judges what the workers left, and crashes.
+    // Judges the answers and the files that the workers left, and crashes.
     fn judge<R: Wait, M: Method>(
         &mut self,
         rt: &R,
@@ -163,7 +165,7 @@ impl Played {
         stand.crash(trial)
     }
 
-    // Which workers were held before their end.
+    // Counts the workers that were held before their end.
     fn count_held<M: Method>(&self, trial: &mut Trial, ends: &Workers<M>) {
         let (checkpointer, log_writer) = (&ends.checkpointer, &ends.log_writer);
         let (ended, sent) = (ends.mutator.ended(), trial.model.last());
@@ -178,7 +180,7 @@ impl Played {
     }
 }
 
-// The tick of a post, or 0. A refusal is that of a log that is down, or of a mutator that is held.
+// Returns the tick of a post, else 0. A refusal comes only if the log is down or the mutator is held.
 fn heed(answer: Answer, trial: &mut Trial) -> u64 {
     match answer {
         Answer::Post(tick) => {

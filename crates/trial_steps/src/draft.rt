@@ -6,7 +6,7 @@ use std::alloc::Global;
 use trial_kit::Random;
 use world_actions::{Action, LIMIT, Refusal};
 
-/// A batch that is filled again and again, by random numbers.
+/// A batch that is filled again and again with random requests.
 #[derive(Drop)]
 pub struct Draft {
     batch: Batch,
@@ -26,8 +26,8 @@ impl Draft {
         &self.batch
     }
 
-    /// Fills it for a world of so many cells: mostly with few requests, now and then with none or with more actions than
-    /// a tick may have.
+    /// Fills it for a world of so many cells, mostly with few requests. Now and then it has none, or more requests than a
+    /// tick may have actions.
     pub fn fill(&mut self, cells: u32, random: &mut Random) {
         self.batch.clear();
         let count = match random.below(200) {
@@ -81,7 +81,7 @@ fn request(cells: u32, random: &mut Random) -> Request {
     }
 }
 
-// Mostly one that the world has.
+// Chooses a cell, mostly one that the world has.
 fn cell(cells: u32, random: &mut Random) -> u32 {
     if random.percent(2) {
         return cells.saturating_add(random.below(2) as u32);
@@ -89,7 +89,7 @@ fn cell(cells: u32, random: &mut Random) -> u32 {
     random.below(u64::from(cells)) as u32
 }
 
-// Mostly a small one, else one near the limit.
+// Chooses an amount, mostly a small one, else one near the limit.
 fn amount(random: &mut Random) -> u64 {
     if random.percent(10) {
         LIMIT.saturating_sub(1).saturating_add(random.below(3))
@@ -98,7 +98,7 @@ fn amount(random: &mut Random) -> u64 {
     }
 }
 
-// Such an amount more, or less.
+// Chooses a difference of such a size and either sign.
 fn difference(random: &mut Random) -> i64 {
     let size = i64::try_from(amount(random)).unwrap_or(i64::MAX);
     if random.below(2) == 0 {

@@ -8,7 +8,7 @@ use std::alloc::Global;
 use trial_kit::Random;
 use world_actions::Refusal;
 
-/// A file in memory that keeps to the disk model, of whose calls some fail, as random numbers say.
+/// A file in memory that keeps to the disk model. Random calls of it fail.
 #[derive(Drop)]
 pub struct Flaky {
     file: Fused<ModelFile>,
@@ -46,12 +46,12 @@ impl Flaky {
         self.calls
     }
 
-    /// Whether a call failed.
+    /// True if a call failed.
     pub fn has_failed(&self) -> bool {
         self.failures > 0
     }
 
-    // Before each call.
+    // Counts a call before it is made, and chooses if it fails.
     fn arm(&mut self)
         ensures { self.new.file ≡ record self.old.file { left = self.new.file.left } }
     {

@@ -5,13 +5,13 @@ use workers::{Gate, Pass, Place};
 #[derive(Drop)]
 pub struct Hold {
     random: Random,
-    // After how many steps it sticks, about, or 0 where it never does.
+    // Each time it is asked it sticks with a chance of one in so many. If this is 0 it never sticks.
     sticks: u64,
     is_stuck: bool,
 }
 
 impl Hold {
-    /// A gate whose answers begin from a random number.
+    /// A gate whose answers have a random seed.
     pub fn new(sticks: u64, random: &mut Random) -> Self {
         Hold {
             random: Random::new(random.below(u64::MAX)),

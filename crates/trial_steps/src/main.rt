@@ -3,8 +3,8 @@
 //! The three workers of a world make random steps in one thread, over files in memory whose calls fail. Gates hold the
 //! workers for a while, or for good. After each step the trial tries five crashes. From what each leaves, recovery has to
 //! give the world after a pushed tick, with all acknowledged ones. The next run begins from what a crash left. Then the
-//! workers run in threads. Each is held at a random place, and their files are judged in the same way. Standard error gets
-//! how often each thing came. The trial fails if something was wrong, or if something never came.
+//! workers run in threads. Each is held at a random place, and their files are judged in the same way. The trial prints to
+//! standard error how often each thing came. It fails if something was wrong, or if something never came.
 #![tactic(auto)]
 
 mod cuts;
@@ -65,7 +65,7 @@ fn try_with<
     Ok(trial.tally.tell(rt, method) && were_right && are_right)
 }
 
-// Prints that all was right so far, or what was wrong first.
+// Prints that all was right so far, or the first thing that was wrong.
 fn tell<R: Print>(
     rt: &R,
     method: &str,

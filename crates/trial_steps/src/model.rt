@@ -7,15 +7,15 @@ use world_actions::Refusal;
 /// The most actions that a tick accepts.
 const ACTIONS: u32 = 256;
 
-/// A world as it has to be: the words after each tick, and the answer of each. It knows nothing of files or workers.
+/// A model of a world: the words after each tick, and the answer of each. It knows nothing of files or workers.
 #[derive(Drop)]
 pub struct PlainModel {
     alloc: Global,
-    // The tick with which it begins.
+    // The tick with which the model begins.
     base: u64,
-    // After that tick, and after each later one.
+    // The words after that tick, and after each later one.
     worlds: Vec<Words>,
-    // Of each tick after the first one.
+    // The answer of each tick after that one.
     texts: Vec<Vec<u8>>,
 }
 
@@ -37,7 +37,7 @@ impl PlainModel {
         self.base.saturating_add(self.texts.len() as u64)
     }
 
-    /// Runs a batch as the next tick, and counts what its answer refuses.
+    /// Runs a batch as the next tick, and counts the refusals in its answer.
     pub fn play(&mut self, batch: &Batch, tally: &mut Tally) -> Result<u64, Refusal> {
         let tick = self.last().saturating_add(1);
         self.copy_last()?;
@@ -49,7 +49,7 @@ impl PlainModel {
         Ok(tick)
     }
 
-    // The last world once more, and no answer yet.
+    // Adds a copy of the last world, and an empty answer.
     fn copy_last(&mut self) -> Result<(), Refusal> {
         let last = self.worlds.last().ok_or(Refusal::Impossible)?;
         let words = last.try_copy(self.alloc)?;
@@ -58,7 +58,7 @@ impl PlainModel {
         Ok(())
     }
 
-    /// Whether this is the answer of a tick.
+    /// True if this is the answer of a tick.
     pub fn is_answer(&self, tick: u64, text: &[u8]) -> bool {
         let at = tick.wrapping_sub(self.base).wrapping_sub(1) as usize;
         match self.texts.get(at) {
@@ -67,7 +67,7 @@ impl PlainModel {
         }
     }
 
-    /// Whether these are the words after a tick.
+    /// True if these are the words after a tick.
     pub fn is_world(&self, tick: u64, words: &[u64]) -> bool {
         match self.worlds.get(tick.wrapping_sub(self.base) as usize) {
             Some(wanted) => wanted.are(words),
@@ -76,7 +76,7 @@ impl PlainModel {
     }
 }
 
-// Does what the requests ask for, and writes their replies and the end of the line.
+// Runs the requests, and writes their replies and the end of the line.
 fn answer(
     alloc: Global,
     words: &mut Words,
@@ -98,7 +98,7 @@ fn answer(
     put(text, "\n")
 }
 
-// Does what a request asks for. A read gives a word.
+// Runs a request. A read returns a word.
 fn reply(words: &mut Words, accepted: &mut u32, request: Request) -> Result<Option<u64>, Refusal> {
     match request {
         Request::Act(_) if *accepted >= ACTIONS => Err(Refusal::TickFull),

@@ -2,21 +2,21 @@ use crate::tally::{Kind, Tally};
 use crate::world::World;
 use shared_capture::Method;
 
-/// What is seen of the workers between two steps.
+/// The state of the workers between two steps.
 #[derive(Clone, Copy)]
 pub struct Moment {
     // The tick of the newest image.
     image: Option<u64>,
     log_calls: u64,
     has_work: bool,
-    // Whether the checkpointer does no more, but by no failure; and so of the log writer.
+    // True if the checkpointer or the log writer makes no more steps, though no call of its files failed.
     images_stuck: bool,
     log_stuck: bool,
     log_down: bool,
 }
 
 impl Moment {
-    /// How the workers are seen now.
+    /// The state of the workers now.
     pub fn of<M: Method>(world: &World<M>) -> Self {
         Moment {
             image: world.newest(),
@@ -28,7 +28,7 @@ impl Moment {
         }
     }
 
-    /// Counts what a step led to.
+    /// Counts the things that a step led to. `self` is the state before it.
     pub fn tell(&self, step: Kind, after: &Moment, tally: &mut Tally) {
         tally.count_if(self.image != after.image, Kind::ImageOpened);
         tally.count_if(
@@ -36,7 +36,7 @@ impl Moment {
             Kind::CheckpointerStuck,
         );
         tally.count_if(!self.log_stuck && after.log_stuck, Kind::LogWriterStuck);
-        // With work to do and its file not called, it left something out.
+        // A step that has work and makes no call on the log's files leaves out records that an image has.
         let covers = self.has_work && self.log_calls == after.log_calls && !after.log_down;
         tally.count_if(step == Kind::Log && covers, Kind::Covered);
     }

@@ -2,7 +2,7 @@ use disk_model::Disk;
 use worker_threads::{TickWatch, Watch};
 use workers::{ImageWriter, Log};
 
-/// Reports nothing. The workers are looked at once they have ended.
+/// Reports nothing. The workers are judged once they have ended.
 #[derive(Clone, Copy)]
 pub struct Quiet;
 

@@ -34,25 +34,25 @@ pub struct Run<M: Method> {
     world: World<M>,
     sessions: Vec<Session>,
     every: u64,
-    // Which weights choose.
+    // The index of the weights in use.
     weights: u64,
-    // Which session asks next.
+    // The number of the session that asks next.
     next: u64,
-    // The tick of the last round, or of the start, and whether its image is still to be opened.
+    // The tick of the last round, or of the start. `is_open` is true if the image of that round is still to be opened.
     marked: u64,
     is_open: bool,
-    // How many items were pushed at most, and how many of them were popped at least.
+    // The most items that may have been pushed, and the least of them that were popped.
     pushed: u64,
     popped: u64,
-    // Whether the mutator may owe an item, and the session whose tick it owes.
+    // True if the mutator may owe an item, and the session whose tick it owes.
     owes: bool,
     owed: Option<u64>,
-    // Whether the mutator's gate is stuck.
+    // True if the mutator's gate is stuck.
     is_held: bool,
 }
 
 impl<M: Method> Run<M> {
-    /// A world that has begun, and the sessions that play it. A round is due after so many ticks.
+    /// A world that has begun, and the sessions that play it. A round is due after each `every` ticks.
     pub fn new(world: World<M>, sessions: Vec<Session>, every: u32) -> Self {
         let ended = world.ended();
         Run {
@@ -71,18 +71,18 @@ impl<M: Method> Run<M> {
         }
     }
 
-    /// Where the workers stand.
+    /// The files and the counts of the workers.
     pub fn stand(&self) -> Stand<'_> {
         self.world.stand()
     }
 
-    /// Judges whether the world was opened at the model's tick.
+    /// Judges if the world was opened at the model's tick.
     pub fn opens_there(&self, trial: &mut Trial) {
         let is_right = self.world.ended() == trial.model.last();
         trial.tally.hold(is_right, Rule::OpensThere);
     }
 
-    /// Whether a worker does no more.
+    /// True if a worker makes no more steps.
     pub fn is_stopped(&self) -> bool {
         let log_writer = self.world.log_writer();
         self.is_held
@@ -91,7 +91,7 @@ impl<M: Method> Run<M> {
             || log_writer.is_down()
     }
 
-    /// Makes a random step, and asks what holds after it.
+    /// Makes a random step, and judges the files after it.
     pub fn step<R: Wait>(&mut self, rt: &R, trial: &mut Trial) -> Result<(), Refusal> {
         let step = self.choose(&mut trial.random);
         if step == Kind::Play {
@@ -101,7 +101,7 @@ impl<M: Method> Run<M> {
         self.stand().judge(trial)
     }
 
-    /// Makes a step, and looks at the answers.
+    /// Makes a step, and judges the answers.
     pub fn make<R: Wait>(&mut self, rt: &R, trial: &mut Trial, step: Kind) -> Result<(), Refusal> {
         let before = Moment::of(&self.world);
         trial.tally.count(step);
@@ -161,7 +161,7 @@ impl<M: Method> Run<M> {
         }
     }
 
-    // The next session asks for the drafted batch. It is run, and its tick owed, or it is refused at once.
+    // Lets the next session ask for the drafted batch. The batch is run, and its tick owed, or it is refused at once.
     fn play<R: Wait>(&mut self, rt: &R, trial: &mut Trial) -> Result<(), Refusal> {
         let Some(session) = self.sessions.get_mut(self.next as usize) else {
             return Ok(());
@@ -180,7 +180,7 @@ impl<M: Method> Run<M> {
         Ok(())
     }
 
-    // What is owed is pushed: the tick of a session's batch, or a switch.
+    // Pushes the owed item: the tick of a session's batch, or a switch.
     fn push<R: Wait>(&mut self, rt: &R, trial: &mut Trial) -> Result<(), Refusal> {
         let ended = self.world.ended();
         self.world.step(rt, Next::Push);
@@ -200,7 +200,7 @@ impl<M: Method> Run<M> {
         Ok(())
     }
 
-    // Marks: a round is opened if one is due and the image of the last one is open.
+    // Makes a mark step. It opens a round if one is due and the image of the last one is open.
     fn mark<R: Wait>(&mut self, rt: &R) {
         let ended = self.world.ended();
         self.world.step(rt, Next::Mark);
@@ -220,7 +220,7 @@ impl<M: Method> Run<M> {
         self.pushed = self.pushed.saturating_add(1);
     }
 
-    // Looks whether sessions were answered.
+    // Judges the answers that have come to sessions.
     fn look<R: Wait>(&mut self, rt: &R, trial: &mut Trial) {
         let acked = self.stand().acked;
         let log_down = self.world.log_writer().is_down();
@@ -233,7 +233,7 @@ impl<M: Method> Run<M> {
         }
     }
 
-    // Why a batch isn't run.
+    // Counts the reason why a batch isn't run, and judges it.
     fn heed_fault(&mut self, answer: Answer, trial: &mut Trial) {
         let log_down = self.world.log_writer().is_down();
         match answer {
@@ -254,7 +254,8 @@ impl<M: Method> Run<M> {
     }
 }
 
-// A post is of an acknowledged tick. The answer of a tick is refused only where the log is down.
+// Counts an answer, and judges it. A post is of an acknowledged tick. A batch that was run is refused only if the log is
+// down.
 fn heed(answer: Answer, acked: u64, log_down: bool, trial: &mut Trial) {
     match answer {
         Answer::Post(tick) => {
@@ -269,7 +270,7 @@ fn heed(answer: Answer, acked: u64, log_down: bool, trial: &mut Trial) {
     }
 }
 
-// One of the steps.
+// Draws a step by these weights.
 fn drawn(weights: u64, random: &mut Random) -> Kind {
     let mut rest = random.below(1000);
     let Some(weights) = WEIGHTS.get(weights as usize) else {

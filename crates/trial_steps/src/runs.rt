@@ -16,7 +16,8 @@ use world_ticks::TICK_MAX;
 /// The sizes of the worlds.
 const SIZES: [u32; 3] = [1, 65, 130];
 
-/// How many worlds there are of each size, and how many steps are made in each. Files never get shorter.
+/// How many worlds there are of each size, and how many steps are made in each. Files never get shorter, so there are many
+/// worlds.
 const WORLDS: u32 = 11;
 
 const STEPS: u64 = 1_500;
@@ -29,18 +30,18 @@ const LAST_TICKS: u64 = 8;
 /// How many steps are made for each method.
 pub const ALL_STEPS: u64 = 50_000;
 
-/// The most steps of a run, and of what is left of one in which a worker does no more.
+/// The most steps of a run, and the most after a worker has stopped.
 const LONGEST: u64 = 600;
 
 const REST: u64 = 40;
 
-/// What fails and sticks in random runs.
+/// How often calls fail and gates stick in random runs.
 const ODDS: Odds = Odds {
     fails: 2,
     sticks: 400,
 };
 
-/// Random steps in worlds of all sizes, and near the last tick; then a full segment.
+/// Makes random steps in worlds of all sizes, and near the last tick. Then it fills a segment.
 pub fn try_steps<R: Wait, M: Seats>(rt: &R, trial: &mut Trial) -> Result<(), Refusal> {
     for _ in 0..WORLDS {
         for cells in SIZES {
@@ -52,7 +53,7 @@ pub fn try_steps<R: Wait, M: Seats>(rt: &R, trial: &mut Trial) -> Result<(), Ref
     try_segment::<R, M>(rt, trial)
 }
 
-// So many random steps in a new world. A run begins from what the crash of the last one left.
+// Makes so many random steps in a new world. Each run begins from what the crash of the last one left.
 fn try_world<R: Wait, M: Seats>(
     rt: &R,
     trial: &mut Trial,
@@ -104,7 +105,7 @@ fn run_steps<R: Wait, M: Method>(
     run.stand().crash(trial)
 }
 
-// Judges files of which a call failed before their world was opened.
+// Judges files one of whose calls failed before their world was opened.
 fn judge_opening(trial: &mut Trial, files: &FourFiles<Flaky>) -> Result<(), Refusal> {
     trial.tally.count(Kind::OpeningFailed);
     let stand = Stand::in_opening(files, trial.model.last());
@@ -133,7 +134,7 @@ fn make_steps<R: Wait, M: Method>(
     Ok(())
 }
 
-// A segment's worth of ticks with no round. The next batch is refused.
+// Plays as many ticks as a segment takes, without a round. The next batch is refused.
 fn try_segment<R: Wait, M: Seats>(rt: &R, trial: &mut Trial) -> Result<(), Refusal> {
     trial.begin_world(1, 0, Odds::NONE)?;
     trial.draft.fill_small();

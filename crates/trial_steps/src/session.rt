@@ -10,7 +10,7 @@ use world_actions::Refusal;
 struct Pending {
     slot: ReplySlot,
     batch: Batch,
-    // Its tick, and how many items were pushed with it, if it was run.
+    // If it was run, its tick, and how many items were pushed up to that tick's.
     run: Option<(u64, u64)>,
 }
 
@@ -23,7 +23,7 @@ pub enum Answer {
     Lost(Refusal),
     /// A refusal of a batch that was not run.
     Fault(Refusal),
-    /// Something else, or nothing, and nothing can come.
+    /// Another answer, or none, and none can come any more.
     Wrong,
 }
 
@@ -52,7 +52,7 @@ impl Session {
         }
     }
 
-    /// Whether it waits for no answer.
+    /// True if it waits for no answer.
     pub fn is_idle(&self) -> bool {
         self.pending.is_none()
     }
@@ -76,14 +76,14 @@ impl Session {
         Ok(to)
     }
 
-    /// Its batch was run as this tick, with which so many items were pushed.
+    /// Notes that its batch was run as this tick, and that so many items were pushed up to the tick's.
     pub fn runs(&mut self, tick: u64, pushed: u64) {
         if let Some(pending) = &mut self.pending {
             pending.run = Some((tick, pushed));
         }
     }
 
-    /// How many items were pushed with its tick, 0 where it waits for none.
+    /// How many items were pushed up to its tick's, or 0 if it waits for no tick.
     pub fn pushed(&self) -> u64 {
         match &self.pending {
             Some(
@@ -96,7 +96,7 @@ impl Session {
         }
     }
 
-    /// The answer that came for it, if one did.
+    /// Returns the answer that came for it, if one did.
     pub fn look<R: Wait>(&mut self, rt: &R, model: &PlainModel) -> Option<Answer> {
         let pending = self.pending.as_ref()?;
         if !pending.slot.is_sent() {
@@ -106,14 +106,14 @@ impl Session {
         Some(self.judge(reply, model))
     }
 
-    /// Waits for its answer, if one is due.
+    /// Waits for its answer if one is due, and returns it.
     pub fn wait<R: Wait>(&mut self, rt: &R, model: &PlainModel) -> Option<Answer> {
         let pending = self.pending.as_ref()?;
         let reply = pending.slot.wait(rt, 0);
         Some(self.judge(reply, model))
     }
 
-    // It waits no more.
+    // Judges a reply. The session waits for no answer then.
     fn judge(&mut self, reply: Option<Reply>, model: &PlainModel) -> Answer {
         let Some(pending) = self.pending.take() else {
             return Answer::Wrong;

@@ -22,7 +22,7 @@ pub struct Stand<'a> {
 }
 
 impl<'a> Stand<'a> {
-    /// Where these workers stand.
+    /// The files and the counts of these workers.
     pub fn of<M: Method, B: Gate + Drop, C: Gate + Drop>(
         checkpointer: &'a Checkpointer<M, Flaky, B>,
         log_writer: &'a LogWriter<Flaky, C>,
@@ -60,7 +60,8 @@ impl<'a> Stand<'a> {
         }
     }
 
-    /// Tries five crashes, each of which has to leave the world after a tick that was pushed, and all acknowledged ones.
+    /// Tries five crashes. From what each leaves, recovery has to find the world after a pushed tick, with all acknowledged
+    /// ones.
     pub fn judge(&self, trial: &mut Trial) -> Result<(), Refusal> {
         let byte = trial.random.byte();
         self.try_crash(Some(Leaving::Lose), trial)?;
@@ -98,7 +99,7 @@ impl<'a> Stand<'a> {
         tally.count_if(self.files.log_b.has_failed(), Kind::LogBFailed);
     }
 
-    // Crashes in this way, or at random, and recovers what is left.
+    // Crashes in the way of `leaving`, or at random if it is None. Recovers from the bytes that are left.
     fn try_crash(
         &self,
         leaving: Option<Leaving>,
@@ -117,7 +118,7 @@ impl<'a> Stand<'a> {
         Ok(())
     }
 
-    // Recovers what was left, and judges the result.
+    // Recovers from the bytes that were left, and judges the result.
     fn recover(&self, trial: &mut Trial) -> Result<Option<Recovered>, Refusal> {
         let left = &trial.left;
         let found = recover(
@@ -153,7 +154,8 @@ impl<'a> Stand<'a> {
     }
 }
 
-// The bytes that a crash leaves of a file: in this way, or any that it may leave.
+// The bytes that a crash in the way of `leaving` leaves of a file. If it is None, they are random ones that a crash may
+// leave.
 fn left_of(
     alloc: Global,
     file: &Flaky,

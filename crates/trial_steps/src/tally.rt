@@ -1,7 +1,8 @@
 use trial_kit::Counts;
 use world_actions::Refusal;
 
-/// What can come. A push is refused only where no end is left that pops, and memory only where nobody gives any.
+/// The things that can come. A refused push is none of them, because the end that pops is never dropped here. Neither is a
+/// lack of memory, which ends the trial.
 #[derive(Clone, Copy, PartialEq, Eq)]
 pub enum Kind {
     Play,
@@ -82,7 +83,7 @@ const NAMES: [&str; KINDS] = [
     "cut: the log writer",
 ];
 
-/// What has to hold.
+/// A rule that has to hold.
 #[derive(Clone, Copy)]
 pub enum Rule {
     /// Whatever a crash leaves is recovered.
@@ -124,7 +125,7 @@ pub struct Tally {
 }
 
 impl Tally {
-    /// Nothing came yet.
+    /// Counts that are all 0.
     pub fn new() -> Self {
         Tally {
             came: Counts::new(),
@@ -132,19 +133,19 @@ impl Tally {
         }
     }
 
-    /// A kind came.
+    /// Counts a kind.
     pub fn count(&mut self, kind: Kind) {
         self.came.count(kind as usize);
     }
 
-    /// A kind came, if it did.
+    /// Counts a kind if it came.
     pub fn count_if(&mut self, came: bool, kind: Kind) {
         if came {
             self.count(kind);
         }
     }
 
-    /// An action, a read or a line was refused in an answer.
+    /// Counts the refusal of an action, a read or a line in an answer.
     pub fn count_refusal(&mut self, refusal: Refusal) {
         match refusal {
             Refusal::BadCell => self.count(Kind::BadCell),
@@ -157,14 +158,14 @@ impl Tally {
         }
     }
 
-    /// Counts a rule as broken where it doesn't hold.
+    /// Counts a rule as broken if it doesn't hold.
     pub fn hold(&mut self, holds: bool, rule: Rule) {
         if !holds {
             self.broken.count(rule as usize);
         }
     }
 
-    /// What was wrong, if a rule was broken.
+    /// The name of a broken rule, if there is one.
     pub fn broken(&self) -> Option<&'static str> {
         for (rule, name) in RULE_NAMES.iter().enumerate() {
             if self.broken.of(rule) > 0 {
@@ -174,7 +175,7 @@ impl Tally {
         None
     }
 
-    /// Prints to standard error how often each kind came and each rule was broken. Returns whether each kind came.
+    /// Prints to standard error how often each kind came and each rule was broken. Returns true if each kind came.
     pub fn tell<R: Eprint>(&self, rt: &R, method: &str) -> bool {
         tell_counts(rt, method, &NAMES, &self.came);
         tell_counts(rt, method, &RULE_NAMES, &self.broken);
@@ -182,7 +183,7 @@ impl Tally {
     }
 }
 
-// A line for each name.
+// Prints a line for each name.
 fn tell_counts<R: Eprint, const N: usize>(
     rt: &R,
     method: &str,

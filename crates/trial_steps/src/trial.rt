@@ -16,7 +16,7 @@ use world_actions::Refusal;
 pub struct Odds {
     /// How many of a hundred calls of a file fail.
     pub fails: u64,
-    /// After how many steps a gate sticks, about, or 0 where none does.
+    /// Each time a gate is asked it sticks with a chance of one in so many. If this is 0 none sticks.
     pub sticks: u64,
 }
 
@@ -28,7 +28,8 @@ impl Odds {
     };
 }
 
-/// What is kept from run to run: the random numbers, the model, what the last crash left, and what came.
+/// The state that is kept from run to run: the random numbers, the model, the bytes that the last crash left, and the
+/// counts.
 #[derive(Drop)]
 pub struct Trial {
     pub alloc: Global,
@@ -42,7 +43,7 @@ pub struct Trial {
 }
 
 impl Trial {
-    /// No world yet.
+    /// A trial that has no world yet.
     pub fn new(alloc: Global, seed: u64) -> Result<Self, Refusal> {
         Ok(Trial {
             alloc,
@@ -56,7 +57,7 @@ impl Trial {
         })
     }
 
-    /// A world of zeros after this tick.
+    /// Begins a world of zeros after this tick.
     pub fn begin_world(&mut self, cells: u32, tick: u64, odds: Odds) -> Result<(), Refusal> {
         self.cells = cells;
         self.odds = odds;
@@ -65,13 +66,13 @@ impl Trial {
         self.begin_model(tick, vec![in self.alloc; 0; cells as usize]?)
     }
 
-    /// The model begins again, from these words after this tick.
+    /// Begins the model again, from these words after this tick.
     pub fn begin_model(&mut self, tick: u64, words: Vec<u64>) -> Result<(), Refusal> {
         self.model = PlainModel::new(self.alloc, tick, words)?;
         Ok(())
     }
 
-    /// Files with the bytes that the last crash left.
+    /// Makes files of the bytes that the last crash left.
     pub fn files(&mut self) -> Result<FourFiles<Flaky>, Refusal> {
         let (alloc, fails) = (self.alloc, self.odds.fails);
         let (left, random) = (&mut self.left, &mut self.random);
@@ -96,17 +97,17 @@ impl Trial {
         Hold::new(self.odds.sticks, &mut self.random)
     }
 
-    /// After how many ticks a round is due.
+    /// Draws the number of ticks after which a round is due.
     pub fn every(&mut self) -> u32 {
         1u32.saturating_add(self.random.below(5) as u32)
     }
 
-    /// Fills the draft.
+    /// Fills the draft with random requests.
     pub fn draw_batch(&mut self) {
         self.draft.fill(self.cells, &mut self.random);
     }
 
-    /// Runs the drafted batch in the model, and gives its tick.
+    /// Runs the drafted batch in the model, and returns its tick.
     pub fn play(&mut self) -> Result<u64, Refusal> {
         self.model.play(self.draft.batch(), &mut self.tally)
     }

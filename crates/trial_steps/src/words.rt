@@ -1,4 +1,4 @@
-//! The model that judges worlds: it does actions again, on purpose, by code of its own.
+//! The model that judges worlds. It does actions by code of its own, on purpose.
 use std::alloc::Global;
 use world_actions::{Action, LIMIT, Refusal};
 
@@ -14,14 +14,14 @@ impl Words {
         Words { words }
     }
 
-    /// The same words once more.
+    /// A copy of the words.
     pub fn try_copy(&self, alloc: Global) -> Result<Self, Refusal> {
         Ok(Words {
             words: Vec::from_slice(alloc, &self.words)?,
         })
     }
 
-    /// Whether these are the words.
+    /// True if these are the words.
     pub fn are(&self, words: &[u64]) -> bool {
         self.words.as_slice() == words
     }
@@ -34,7 +34,7 @@ impl Words {
             .ok_or(Refusal::BadCell)
     }
 
-    /// Does an action, or answers why not.
+    /// Does an action, or returns the reason why not.
     pub fn act(&mut self, action: Action) -> Result<(), Refusal> {
         match action {
             Action::Set { cell, value } => {
@@ -79,7 +79,7 @@ impl Words {
     }
 }
 
-// A number that an action may have.
+// Returns the number if an action may have it.
 fn small(number: u64) -> Result<u64, Refusal> {
     if number > LIMIT {
         return Err(Refusal::BadValue);
@@ -103,7 +103,7 @@ fn sum(word: u64, by: i64) -> Result<u64, Refusal> {
     }
 }
 
-// A word, if it may be one.
+// Returns the word if a cell may have it.
 fn fitting(word: Option<u64>) -> Result<u64, Refusal> {
     match word {
         Some(word) if word <= LIMIT => Ok(word),

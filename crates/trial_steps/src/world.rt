@@ -10,7 +10,7 @@ use worker_threads::{Seats, open_world};
 use workers::{Checkpointer, LogWriter};
 use world_actions::Refusal;
 
-/// Why a world isn't opened.
+/// The reason why a world isn't opened.
 #[derive(Drop)]
 pub enum NotOpened {
     NoMemory,
@@ -71,7 +71,7 @@ impl<M: Method> World<M> {
         }
     }
 
-    /// Where the workers stand.
+    /// The files and the counts of the workers.
     pub fn stand(&self) -> Stand<'_> {
         Stand::of(self.checkpointer(), self.log_writer(), self.ended())
     }

@@ -16,7 +16,7 @@ const MOVES: u32 = 100;
 /// The last tick of the run.
 const LAST: u64 = 3;
 
-/// Lets the call of each keeper's move fail in turn, judges what is answered then, and crashes by each kind.
+/// Lets the call of each keeper's move fail in turn, judges the answers after it, and crashes in each way.
 pub fn try_failures<C: Capture>(
     alloc: Global,
     steps: &[Step],
@@ -30,7 +30,7 @@ pub fn try_failures<C: Capture>(
     Ok(())
 }
 
-// The move at this place fails, if it makes a call.
+// Lets the call of the move at this place fail, if it makes one.
 fn try_failure<C: Capture>(
     alloc: Global,
     steps: &[Step],
@@ -71,7 +71,7 @@ fn judge_failure<C: Capture>(
     Ok(())
 }
 
-// The images are down: play goes on, no round is opened, and the log writes all.
+// The images are down: play continues, no round is opened, and the log writes all ticks.
 fn fail_images<C: Capture>(run: &mut Run<C>, after: &[Step], tally: &mut StopTally) {
     tally.images_failed();
     for step in after {

@@ -18,7 +18,7 @@ pub enum Step {
 }
 
 impl Step {
-    /// As the core takes it. The fate is that of its call, if it makes one.
+    /// The core's form of the move. The fate is that of its call, if it makes one.
     pub fn as_move(self, fate: Fate) -> Move {
         match self {
             Step::Set { cell, value } => Move::Act(Action::Set { cell, value }),
@@ -30,14 +30,14 @@ impl Step {
     }
 }
 
-/// How many moves of the image keeper and of the log keeper either part has.
+/// How many moves each part of the run has of the image keeper and of the log keeper.
 #[derive(Clone, Copy, Debug, PartialEq, Eq)]
 pub struct Shape {
     pub first: (u32, u32),
     pub second: (u32, u32),
 }
 
-/// The words of both cells after each of the three ticks, and before them.
+/// The words of both cells before the ticks, and after each of the three.
 pub const WORDS: [[u64; 2]; 4] = [[0, 0], [5, 7], [6, 7], [6, 7]];
 
 /// Two ticks, and a round between them.
@@ -56,7 +56,7 @@ const SECOND: [Step; 2] = [Step::End, Step::Mark];
 /// More moves than a round and a log have here.
 const MOVES: u32 = 100;
 
-/// The moves of the run, and how many of the keepers' either part has.
+/// The moves of the run, and how many each part has of each keeper.
 pub fn fixed_run<C: Capture>(alloc: Global) -> Result<(Vec<Step>, Shape), Refusal> {
     let mut steps = Vec::new(alloc);
     let mut run = Run::<C>::started(alloc)?;
@@ -94,7 +94,8 @@ fn add_parts<C: Capture>(run: &mut Run<C>, steps: &mut Vec<Step>) -> Result<Shap
     Ok(Shape { first, second })
 }
 
-// Moves, and then those of images and log in turn, each keeper's left out once it has nothing to do.
+// Adds these moves, and then moves of the images and of the log in turn. Those of a keeper are left out once it has nothing
+// to do.
 fn add_part<C: Capture>(
     run: &mut Run<C>,
     moves: &[Step],
@@ -117,7 +118,7 @@ fn add_part<C: Capture>(
     Ok(made)
 }
 
-// One more move of a keeper that has made so many, unless it has nothing to do.
+// Adds one more move of a keeper that has made so many. Returns None once the keeper has nothing to do.
 fn added<C: Capture>(
     run: &mut Run<C>,
     step: Step,

@@ -1,7 +1,8 @@
-//! The program `trial_stops`: one run of two ticks, a round, a third tick and another round is stopped after each of
-//! its moves, by crashes of five kinds, and stopped again after each move of the restart. Each call of a device that it
-//! makes fails in turn. A second run, whose log is left behind, is stopped so too. It prints how often each tick stood
-//! after a crash. It fails if another one did, if a tick never did, or if the run has other moves than it is to have.
+//! The program `trial_stops`: stops one run after each of its moves, by crashes of five kinds. The run has two ticks, a
+//! round, a third tick and another round. It is stopped again after each move of the restart. Each call of a device in the
+//! run fails in turn. A second run, whose log is left behind, is stopped in the same way. The trial prints how often each
+//! tick was recovered after a crash. It fails if another one was, if a tick never was, or if a run has other moves than
+//! expected.
 #![tactic(auto)]
 
 mod failures;
@@ -22,23 +23,23 @@ use trial_kit::{StopTally, ended};
 use world_actions::Refusal;
 use zigzag::Zigzag;
 
-/// The calls of devices and the takes of the first part of the run, those of the images and those of the log.
+/// How many moves the images and the log have in the first part of the run. Each is a call of a device or a take.
 const FIRST: (u32, u32) = (9, 12);
 
-/// Those of its second part by Zigzag.
+/// How many they have in its second part, by Zigzag.
 const SECOND: (u32, u32) = (9, 10);
 
-/// Those of its second part by Ping-Pong, which reads the cell that was never written since from the other image.
+/// How many they have in its second part, by Ping-Pong. It reads the cell that wasn't written since from the other image.
 const SECOND_BY_PING_PONG: (u32, u32) = (10, 10);
 
-/// The moves of the run whose log is left behind: six, and those of an image.
+/// How many moves the run has whose log is left behind: six, and those of an image.
 const BEFORE_THE_LOG: usize = 15;
 
 fn main(rt: HostRuntime) -> ExitCode {
     ended(&rt, try_all(&rt))
 }
 
-// Whether all was right, and each tick stood once.
+// Tries all stores. Returns true if all was right, and each tick was recovered.
 fn try_all<R: Print + AllocGlobal>(rt: &R) -> io::Result<bool> {
     let zigzag = Shape {
         first: FIRST,
@@ -56,7 +57,7 @@ fn try_all<R: Print + AllocGlobal>(rt: &R) -> io::Result<bool> {
     )
 }
 
-// Tries a store, and tells what was seen.
+// Tries a store, and prints the counts. Returns true if they pass.
 fn try_store<R: Print + AllocGlobal, C: Capture>(
     rt: &R,
     store: &str,

@@ -10,7 +10,7 @@ use world_core::{Answer, Core, Fate, Move};
 /// More moves than a start has.
 const MOVES: u32 = 100;
 
-/// A core of two cells, how many ticks ended, and up to which one they were acknowledged.
+/// A core of two cells, the number of ended ticks, and the last acknowledged tick.
 #[derive(Drop)]
 pub struct Run<C: Capture> {
     core: Core<C>,
@@ -48,7 +48,7 @@ impl<C: Capture> Run<C> {
         }
     }
 
-    // An image that is open has its ticks, whether the log has them or not.
+    // Follows an answer of the images. An open image has all ticks up to its own, even if the log doesn't have them.
     fn follow_images(&mut self, given: ImageAnswer) -> ImageAnswer {
         match given {
             ImageAnswer::Opened(tick) => {
@@ -76,7 +76,7 @@ impl<C: Capture> Run<C> {
         }
     }
 
-    /// Makes so many moves of a start, those of the images first, and tells how many it has.
+    /// Makes at most so many moves of a start, those of the images first. Returns how many it made.
     pub fn start(&mut self, most: u32) -> u32 {
         let mut images_wait = true;
         for made in 0..most {
@@ -96,7 +96,7 @@ impl<C: Capture> Run<C> {
         most
     }
 
-    /// A crash of this kind. It tells the tick that stands, where that is one that may.
+    /// Crashes in this way, and recovers. Returns the recovered tick if it may be recovered, and its words are right.
     pub fn crash(&mut self, leaving: Leaving) -> Result<Option<u64>, Refusal> {
         let left = self.core.remains(leaving)?;
         let Answer::Recovered { tick, .. } = self.core.step(Move::Crash(left)) else {
@@ -108,7 +108,7 @@ impl<C: Capture> Run<C> {
         Ok(may_stand.then_some(tick))
     }
 
-    // Whether the words are those after this tick.
+    // True if the words are those after this tick.
     fn shows(&mut self, tick: u64) -> bool {
         let Some([first, second]) = WORDS.get(tick as usize) else {
             return false;

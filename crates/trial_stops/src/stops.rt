@@ -6,7 +6,7 @@ use std::alloc::Global;
 use trial_kit::StopTally;
 use world_actions::Refusal;
 
-/// What a crash leaves of each file.
+/// The kinds of crashes that are tried.
 pub const KINDS: [Leaving; 5] = [
     Leaving::Lose,
     Leaving::Keep,
@@ -15,13 +15,13 @@ pub const KINDS: [Leaving; 5] = [
     Leaving::Fill(255),
 ];
 
-/// A gate that a crash may leave open it leaves open.
+/// A crash that leaves a gate open if it may.
 const OPENING: Leaving = Leaving::Fill(1);
 
 /// More moves than a start has.
 const MOVES: u32 = 100;
 
-/// Stops the run after each number of moves.
+/// Stops the run after each number of moves, by each kind of crash.
 pub fn try_stops<C: Capture>(
     alloc: Global,
     steps: &[Step],
@@ -37,8 +37,8 @@ pub fn try_stops<C: Capture>(
     Ok(())
 }
 
-// Stops the run after these moves, by a crash of this kind, and again after each number of moves of the start, by the same
-// one and by one that may open a gate.
+// Stops the run after these moves, by a crash of this kind. It stops it again after each number of moves of the start, by
+// the same kind and by one that may open a gate.
 fn try_stop<C: Capture>(
     alloc: Global,
     made: &[Step],
@@ -53,7 +53,7 @@ fn try_stop<C: Capture>(
     Ok(())
 }
 
-// How many moves the start has after a crash behind these moves.
+// Crashes after these moves, and returns how many moves the start has.
 fn stopped_once<C: Capture>(
     alloc: Global,
     made: &[Step],
@@ -66,7 +66,7 @@ fn stopped_once<C: Capture>(
     Ok(run.start(MOVES))
 }
 
-// The tick that stands after two crashes, the second one after so many moves of the start.
+// Crashes twice, the second time after so many moves of the start. Returns the recovered tick.
 fn stopped_again<C: Capture>(
     alloc: Global,
     made: &[Step],

@@ -1,4 +1,4 @@
--- The laws of the crates below that the law of the ends rests on.
+-- The laws of the crates below on which the law of the ends rests.
 use Rattle.std.specs.Prelude.{◌≡◌, ℕ, List, ◌++◌, length, Ok}
 use Rattle.world_actions.specs.declared.action.Action.{Action}
 use Rattle.world_ticks.specs.After.{and_then, after_actions, after_ticks}
@@ -7,7 +7,7 @@ use Rattle.batches.specs.Answer.{accepted_of, words_after}
 use Rattle.capture_core.specs.Content.{Takes}
 use Rattle.recovery.specs.Events.{EventsKeep, WholeEventsKeep}
 
--- what each event keeps, and what a batch's tick leads to
+-- the facts that each event keeps, and the world after the tick of a batch
 pub record Laws : Type 0 where
   pub events : EventsKeep Takes
   pub whole : WholeEventsKeep

@@ -20,7 +20,7 @@ use Rattle.worker_steps.proofs.Below.{Laws}
 use Rattle.worker_steps.proofs.Meeting.{sound}
 use Rattle.worker_steps.proofs.Joined.{now_in, all_counted, was_played, was_taken, images_end, covered_at_most, was_logged, was_acknowledged, popped_first}
 
--- what the keepers' files are, of what they stand for
+-- the files of the keepers agree with the images and the log that they represent
 pub record FilesAre {D : Type 0} (file : D → List ℕ) (leaves : D → List ℕ → Type 0) : Type 0 where
   pub left : (writer : ImageWriter D) (images : ImageFiles) → ImagesStand file leaves writer images → ImageFilesAre writer.keeper.cells images (leaves writer.image_a) (leaves writer.image_b)
   pub newest : (writer : ImageWriter D) (images : ImageFiles) → ImagesStand file leaves writer images → writer.keeper.newest ≡ newest_in images

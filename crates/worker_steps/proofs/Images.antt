@@ -1,4 +1,4 @@
--- What was taken of a round are its words.
+-- The words that were taken of a round are its words.
 use Rattle.std.proofs.Common.{arith, ◌≡◌, ℕ, suc, ◌+◌, Bool, true, false, List, [], ◌∷◌, length, drop, get_or, Some, refl, sym, ap, ◌∙◌}
 use Rattle.std.specs.Prelude.{slice_get, slice_index}
 use Rattle.std.proofs.lemmas.List.{drop-drop, drop_all, drop_more, get_or-drop}
@@ -9,9 +9,9 @@ use Rattle.shared_capture.specs.declared.view.Snapshot.{Snapshot}
 use Rattle.shared_capture.specs.Rounds.{flag_at, shown_as, shown, IsTakenOf}
 use Rattle.workers.specs.Worlds.{IsUnchanged}
 
--- ---- what was taken of a round, each cell of it, are its words, where those before it are the newest image's
+-- ---- the cells taken of a round are its words, if those before it are the newest image's
 
--- a cell as it was shown has the round's word, also where it is the one before
+-- a cell as it was shown has the round's word, even if that is the word before
 shown_word : (flag : Bool) (word before : ℕ) → (flag ≡ false → word ≡ before) → word_of (shown_as flag word) before ≡ word
 shown_word true word before same = refl
 shown_word false word before same = sym (same refl)

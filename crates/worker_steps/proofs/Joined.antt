@@ -1,4 +1,4 @@
--- What each worker knows at its end, and what their meetings tell, as plain data.
+-- The knowledge of each worker at its end, and the facts from their meetings, as plain data.
 use Rattle.std.proofs.Common.{arith, ◌≡◌, ◌⊎◌, inl, inr, ℕ, ◌+◌, ◌≤◌, max, Bool, true, false, All, List, [], ◌∷◌, ◌++◌, length, Option, Some, None, refl, sym, ap, ◌∙◌, subst, append-nil}
 use Rattle.std.specs.Prelude.{Contains}
 use Rattle.std.proofs.lemmas.Option.{slice_get_read, slice_get_within, get_or_from_slice_get}
@@ -110,7 +110,7 @@ was_taken cells f b closed is whole agree level = record {
 
 -- ---- the images
 
--- once there is an image there is one behind any rounds
+-- once there is an image, there is one after any rounds
 newest_after_rounds : (images : Images) (done : List Snapshot) → (after : Images) × (images_after (Newest images) done ≡ Newest after)
 newest_after_rounds images [] = (images, refl)
 newest_after_rounds images (s ∷ done) = newest_after_rounds (opened_by s images) done
@@ -128,7 +128,7 @@ is_idle phases.Opening = inr (λ e. cc e)
 is_idle phases.OpeningSync = inr (λ e. cc e)
 is_idle phases.Down = inr (λ e. cc e)
 
--- the target of a round that the keeper hasn't begun is as it was before it
+-- the target of a round that the keeper hasn't begun is as it was before the round
 found_are : (cells : ℕ) (now : Snapshot) (images : Images) (image_a image_b : List ℕ → Type 0) → images.round ≡ None → ImagesAre cells images image_a image_b → ImagesAre cells (begun_by now images) image_a image_b
 found_are cells now images image_a image_b none are = record {
   newest = are.newest;
@@ -160,7 +160,7 @@ module _ {D : Type 0} (file : D → List ℕ) (leaves : D → List ℕ → Type 
         tick = ap newest_tick (newest (Newest (begun_by back.now after)) now);
       }
 
-  -- it has none, while the back has none or has just found one
+  -- the keeper has no round, and the back has none or has just found one
   ends_idle : (after : Images) → images_after (Newest first) back.done ≡ Newest after → (working : Bool) → back.working ≡ working → writer.keeper.phase ≡ phases.Idle
       → ImagesStand file leaves writer (images_after (Newest first) back.done) → Ends
   ends_idle after is false working rest stands =
@@ -213,7 +213,7 @@ module _ {D : Type 0} (file : D → List ℕ) (leaves : D → List ℕ → Type 
     one_job = w.one_job;
   }
 
-  -- what is acknowledged is in the segment or in the newest image
+  -- the acknowledged ticks are in the segment or in the newest image
   pub was_acknowledged : (newest : ℕ) → ((tick : ℕ) → Contains covers tick → tick ≤ newest) → Reached (max acked newest) (w.logs.base + length w.logs.kept) newest
   was_acknowledged newest few = reached_max acked newest (w.logs.base + length w.logs.kept) newest by_log (inr (omega arith))
     where

@@ -1,4 +1,4 @@
--- A step of a worker keeps what it keeps.
+-- Each step of the mutator satisfies `KeepsFront`.
 use Rattle.std.proofs.Common.{◌≡◌, ap, ◌∙◌, sym, ◌⊎◌, inl, inr, Ok, Err, Result, Bool, true, false, List, [], ◌∷◌, ◌++◌, append_assoc, Option, Some, None, MatchOption, refl, subst}
 use Rattle.std.proofs.lemmas.List.{append-nil}
 use Rattle.world_actions.specs.declared.refusal.Refusal.{Refusal}
@@ -10,11 +10,11 @@ use Rattle.workers.specs.Mutating.{Playing, MarksIfDue, OpensNone, OwesSwitch, A
 use Rattle.worker_steps.specs.Kept.{KeepsFront}
 use Rattle.worker_steps.specs.Running.{MayOpen}
 
--- it became mid, whose front is of the same pair, and pushed these items
+-- the mutator became `mid`, whose front is of the same pair, and pushed these items
 keeps_as : (old : Playing) {mid : Playing} (new : Playing) (more : List Item) → new ≡ mid → mid.front.pair ≡ old.front.pair → mid.heard.pair ≡ old.heard.pair → mid.opening ≡ old.opening → mid.every ≡ old.every → mid.to.end ≡ old.to.end → mid.to.items ≡ old.to.items ++ more → KeepsFront old new
 keeps_as old new more is pair heard opening every end items = subst (KeepsFront old) (sym is) (record { pair = pair; end = end; flag = heard; items = (more, items); opening = opening; every = every })
 
--- it pushed none
+-- the mutator pushed no item
 keeps_all : (old : Playing) {mid : Playing} (new : Playing) → new ≡ mid → mid.front.pair ≡ old.front.pair → mid.heard.pair ≡ old.heard.pair → mid.opening ≡ old.opening → mid.every ≡ old.every → mid.to.end ≡ old.to.end → mid.to.items ≡ old.to.items → KeepsFront old new
 keeps_all old new is pair heard opening every end items = keeps_as old new [] is pair heard opening every end (items ∙ sym (append-nil old.to.items))
 
@@ -53,7 +53,7 @@ pub batch_keeps : (go stuck : Type 0) (old : Playing) (asked : AskedBatch) (give
 batch_keeps go stuck old asked (Ok _) new ran = tick_keeps old asked new ran.2
 batch_keeps go stuck old asked (Err reason) new refused = refused_keeps stuck old reason new refused
 
--- ---- what is owed
+-- ---- the owed item
 
 owes_tick_keeps : (old : Playing) (asked : AskedBatch) (new : Playing) → OwesTick old asked new → KeepsFront old new
 owes_tick_keeps old asked new (nothing, (ended, runs, is)) = keeps_all old new is runs.pair refl refl refl refl refl
@@ -62,7 +62,7 @@ pub run_keeps : (go stuck : Type 0) (old : Playing) (asked : AskedBatch) (given 
 run_keeps go stuck old asked (Ok _) new ran = owes_tick_keeps old asked new ran.2
 run_keeps go stuck old asked (Err reason) new refused = refused_keeps stuck old reason new refused
 
--- the answer tells which of the two it is
+-- the answer says which of the two it is
 pub may_open : (old new : Playing) (given : Bool) → (given ≡ true → OwesSwitch old new) → (given ≡ false → OpensNone old new) → MayOpen old new
 may_open old new true opened none = inr (opened refl)
 may_open old new false opened none = inl (none refl)

@@ -56,7 +56,7 @@ module _ (laws : Laws) (cells : ℕ) (ticks : List (List Action)) (words : List 
       → TakenUp laws cells all images covers opened start l.given logs.switch
   taken_logs all popped rest covers acknowledged k opened none idle l = taken_up laws cells all images covers opened l.given popped l.more rest start logs.switch (acknowledged, k) (none, idle) l.order
 
-  -- the segments are those that were told, with or without the group in work
+  -- the segments have the same content, with or without the group in work
   same_told : (given : List Record) (a : Logs) → told_kept a ≡ after_records (told_kept start) given → start.pending ≡ [] → a.pending ≡ [] → a.switch ≡ logs.switch
       → told_in logs ≡ after_records (told_in start) given → IfSome logs.switch (λ _. logs.pending ≡ []) → SameTold a logs
   same_told given a told none none_of_a switch is one_job =

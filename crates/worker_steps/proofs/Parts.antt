@@ -15,7 +15,7 @@ use Rattle.workers.specs.Logging.{Told, told_in, after_records, HasOneJob}
 use Rattle.workers.specs.Imaging as imaging
 use Rattle.workers.specs.Imaging.{images_after}
 
--- a snapshot, where there is one
+-- a snapshot, if there is one
 abbrev pub one_or_none : Option Snapshot → List Snapshot
 one_or_none None = []
 one_or_none (Some now) = now ∷ []
@@ -25,8 +25,8 @@ abbrev pub images_with : ImageFiles → List Snapshot → Option Snapshot → Im
 images_with images done None = images_after images done
 images_with images done (Some now) = imaging.with_work now (images_after images done)
 
--- after so many ticks the mutator pushed these items, which tell what it played from these words on, and its front has these
--- rounds
+-- After so many ticks the mutator pushed these items, which state what it played from these words on. Its front has these
+-- rounds.
 pub record IsPlayed (words : List ℕ) (ended : ℕ) (items : List Item) (opened : List Round) : Type 0 where
   pub late : List Item
   pub no_ticks : ticks_in (records_of late) ≡ []
@@ -36,14 +36,14 @@ pub record IsPlayed (words : List ℕ) (ended : ℕ) (items : List Item) (opened
   pub rounds : opened ≡ told.rounds
   pub unchanged : AreUnchanged words opened
 
--- of these rounds the back has done all, each cell of them, or all but the last, which it is at
+-- The back has done all of these rounds, with each of their cells, or all except the last one, which is in work.
 pub record IsTaken (cells : ℕ) (rounds : List Round) (done : List Snapshot) (now : Option Snapshot) : Type 0 where
   pub agree : Agree rounds (done ++ one_or_none now)
   pub all : length rounds ≡ length (done ++ one_or_none now)
   pub whole : All (λ (s : Snapshot). length s.taken ≡ cells) done
 
--- the segments tell what was told at first and behind it the first of the records that were popped, but for those left out for
--- a switch at one of these ticks; the switch in work is the next of them
+-- The segments hold what they held at first, followed by the first of the popped records, except those left out for a switch
+-- at one of these ticks. The switch in work is the next of the records.
 pub record IsLogged (first : Told) (popped : List Record) (covers : List ℕ) (logs : Logs) : Type 0 where
   pub given : List Record
   pub more : List Record

@@ -1,4 +1,4 @@
--- What the mutator pushed, played on the keepers' data: each tick ends, and each round is marked, and opened where the back
+-- The mutator's pushed items, played on the keepers' data: each tick ends, and each round is marked, and opened if the back
 -- has done it.
 use Rattle.std.proofs.Common.{arith, ◌≡◌, ℕ, suc, ◌+◌, ◌≤◌, All, List, [], ◌∷◌, ◌++◌, length, drop, Option, Some, None, Ok, refl, sym, ap, ◌∙◌, subst}
 use Rattle.std.specs.Prelude.{replicate, max}
@@ -104,7 +104,7 @@ module _ (laws : Laws) (cells : ℕ) (logs : Logs) where
         world_more ticks ended.tick.list w.words v.words k.2 done,
       )
 
-  -- one more tick and the others are all
+  -- one more tick and the others are all ticks
   tick_moved : (ticks more : List (List Action)) (tick : List Action) (queue rest : List Record) (first : Record) (words : List ℕ) (images : Images)
       → Keeps ((ticks ++ tick ∷ []) ++ more) words images ((queue ++ first ∷ []) ++ rest) → Keeps (ticks ++ tick ∷ more) words images (queue ++ first ∷ rest)
   tick_moved ticks more tick queue rest first words images k =
@@ -147,7 +147,7 @@ module _ (laws : Laws) (cells : ℕ) (logs : Logs) where
     words_are = ap (after_ticks cells) (take_all number ticks (omega (arith, all))) ∙ world;
   }
 
-  -- the round of these words is marked, and this was taken of it
+  -- the round of these words is marked, and these of its cells were taken
   begins : (end : QueueEnd) (ticks : List (List Action)) (before : List ℕ) (queue : List Record) (images : Images) (w : World) (number : ℕ) (s : Snapshot)
       → Keeps ticks w.words images queue → AtRest end ticks before images → number ≡ end.base + end.count → 1 ≤ end.count → s.tick ≡ number
       → (length s.taken ≡ cells → filled_words s.taken images.words ≡ w.words)
@@ -166,14 +166,14 @@ module _ (laws : Laws) (cells : ℕ) (logs : Logs) where
       laws.whole.taken cells ticks k.0 (record images { round = Some empty }) logs (queue ++ records.Switch s.tick ∷ []) empty filled begun refl whole in
       (k.0, subst (λ n. IsKept cells ticks k.0 (begun_by s images) logs (queue ++ records.Switch n ∷ [])) tick taken, k.2)
 
-  -- and its image is opened
+  -- the image of the round is opened
   opens : (ticks : List (List Action)) (words : List ℕ) (queue : List Record) (images : Images) (s : Snapshot)
       → Keeps ticks words (begun_by s images) queue → length s.taken ≡ cells → Keeps ticks words (opened_by s images) queue
   opens ticks words queue images s k whole =
       let taken : ImageRound = record { tick = s.tick; taken = filled_words s.taken images.words } in
       (max k.0 s.tick, laws.whole.opened cells ticks k.0 (begun_by s images) (opened_by s images) logs queue taken k.1 refl (length_filled s.taken images.words ∙ whole) refl, k.2)
 
-  -- what is taken of a round, all of it, is its words
+  -- if all cells of a round are taken, they give the words of the round
   taken_words : (ticks : List (List Action)) (queue : List Record) (before : List ℕ) (images : Images) (w : World) (r : Round) (s : Snapshot)
       → Keeps ticks w.words images queue → images.words ≡ before → r.words ≡ w.words → IsTakenOf r s → IsUnchanged before r
       → length s.taken ≡ cells → filled_words s.taken images.words ≡ w.words
@@ -184,7 +184,7 @@ module _ (laws : Laws) (cells : ℕ) (logs : Logs) where
   abbrev pub Played : List (List Action) → List ℕ → List Record → Images → List Snapshot → Option Snapshot → Type 0
   Played ticks words queue images done now = (after : Images) × (images_with (Newest images) done now ≡ Newest after) × Keeps ticks words after queue
 
-  -- the rounds that the back has done are opened, and the one that it is at is in work
+  -- the rounds that the back has done are opened, and the one at which it is stays in work
   pub plays : (items : List Item) (end : QueueEnd) (ticks : List (List Action)) (before : List ℕ) (queue : List Record) (images : Images) (done : List Snapshot) (now : Option Snapshot) (w v : World)
       → Keeps ticks w.words images queue → AtRest end ticks before images → GoAll end items → (leads : Leads w items v)
       → AreUnchanged before (marked w items v leads) → Agree (marked w items v leads) (done ++ one_or_none now) → length (marked w items v leads) ≡ length (done ++ one_or_none now)

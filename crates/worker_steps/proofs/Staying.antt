@@ -1,4 +1,4 @@
--- What workers leave sound is sound for what they began with.
+-- Files that the workers leave sound are sound for the world with which they began.
 use Rattle.std.proofs.Common.{◌≡◌, ℕ, List, ◌∷◌, length, sym, ap, ◌∙◌, subst}
 use Rattle.workers.specs.declared.item.Item.{Item}
 use Rattle.workers.specs.declared.item.Item.TheVariants.{Start}

@@ -1,5 +1,5 @@
--- What the log writer wrote of the records, played on the keepers' data: what stood before a switch at the tick of an open
--- image may be left out.
+-- The records that the log writer wrote, played on the keepers' data. Records before a switch at the tick of an open image
+-- may be left out.
 use Rattle.std.proofs.Common.{arith, ◌≡◌, ◌⊎◌, inl, inr, ℕ, ◌+◌, ◌<◌, ◌≤◌, Bool, true, false, List, [], ◌∷◌, ◌++◌, length, Option, Some, None, refl, ap, ◌∙◌, subst, append-nil}
 use Rattle.std.specs.Prelude.{Contains, IfSome, max}
 use Rattle.std.proofs.lemmas.List.{append_assoc, length-append}
@@ -36,7 +36,7 @@ next_of covers (x ∷ all) first logged (inr out) =
     let more = next_of covers all first logged out.1 in
     record { run = x ∷ more.run; behind = more.behind; split = ap (λ l. x ∷ l) more.split; left = more.left; why = inr out.0 }
 
--- what the segments tell with no group in work
+-- the content of the segments with no group in work
 abbrev pub told_kept : Logs → Told
 told_kept logs = record { before = logs.before; base = logs.base; ticks = logs.kept }
 
@@ -69,7 +69,7 @@ module _ (laws : Laws) (cells : ℕ) (ticks : List (List Action)) (images : Imag
       covered logs n.run first logged (n.behind ++ rest) idle n.why
       (subst (KeepsLog logs) (append_assoc n.run (first ∷ n.behind) rest) (subst (λ l. KeepsLog logs (l ++ rest)) n.split k))
 
-  -- so far as it is written, with no job in work
+  -- the log as far as it is written, with no job in work
   pub record WrittenOn (logs : Logs) (given more rest : List Record) : Type 0 where
     pub next : Logs
     pub left : List Record

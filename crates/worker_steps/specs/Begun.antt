@@ -12,8 +12,8 @@ use Rattle.workers.specs.declared.item.Item.TheVariants.{Start}
 use Rattle.workers.specs.declared.checkpointer.round.ImageWriter.{ImageWriter}
 use Rattle.workers.specs.declared.log_writer.Log.{Log}
 
--- The two seats are of one pair and no round was opened. The start of both keepers has ended at this tick, they are of
--- these cells, and on an honest disk they take the files for what they hold.
+-- The two seats are of one pair, and no round was opened. The start of both keepers has ended at this tick, and the image
+-- keeper has the cells of the seats. On an honest disk both keepers fit their files.
 pub record IsWhole {D : Type 0} (honest : Bool) (file : D → List ℕ) (front : FrontState) (back : BackState) (writer : ImageWriter D) (log : Log D) (ended : ℕ) : Type 0 where
   pub pair : front.pair ≡ back.pair
   pub rounds : front.rounds ≡ []
@@ -33,15 +33,15 @@ pub record Started (D : Type 0) : Type 0 where
   pub checkpointer : Imaging D
   pub log_writer : Logging D
 
--- two of them are at one pair of seats, two at one channel, two at the word of open images, and two at the word of a log
--- that is down
+-- The mutator and the checkpointer share a pair of seats, and the log writer and the mutator share a channel. The log writer
+-- and the checkpointer share the word of open images. The mutator and the log writer share the word of a log that is down.
 pub record AreTogether {D : Type 0} (workers : Started D) : Type 0 where
   pub pair : workers.mutator.front.pair ≡ workers.checkpointer.back.pair
   pub channel : AreOneChannel workers.log_writer.from.end workers.mutator.to.end
   pub word : workers.log_writer.covers.pair ≡ workers.checkpointer.covers.pair
   pub flag : workers.mutator.heard.pair ≡ workers.log_writer.told_down.pair
 
--- They began with this world: these seats, keepers and files, after so many ticks, and a round is due after every so many.
+-- They began with this world: these seats, keepers and files, after `ended` ticks. A round is due after every `every` ticks.
 pub record IsBegun {D : Type 0} (front : FrontState) (back : BackState) (writer : ImageWriter D) (log : Log D) (ended every : ℕ) (workers : Started D) : Type 0 where
   pub seat : workers.mutator.front ≡ front
   pub words : workers.mutator.opening ≡ front.live

@@ -1,11 +1,11 @@
--- What a worker keeps over its steps. (The checkpointer's is `KeepsBack` of workers.)
+-- The parts that a worker keeps over its steps. (The checkpointer's are in `KeepsBack` of workers.)
 use Rattle.std.specs.Prelude.{◌≡◌, ◌++◌, List}
 use Rattle.workers.specs.declared.item.Item.{Item}
 use Rattle.workers.specs.Mutating.{Playing}
 use Rattle.workers.specs.Logging.{Logging}
 
--- the mutator stays at its front, its end of the channel and its word, pushes behind what it had pushed, knows the words that it
--- began with, and after how many ticks a round is due
+-- The mutator stays at its front, its end of the channel and its word. It keeps the items that it pushed, and pushes behind
+-- them. It keeps the words that it began with, and the number of ticks after which a round is due.
 pub record KeepsFront (old new : Playing) : Type 0 where
   pub pair : new.front.pair ≡ old.front.pair
   pub end : new.to.end ≡ old.to.end
@@ -14,7 +14,8 @@ pub record KeepsFront (old new : Playing) : Type 0 where
   pub opening : new.opening ≡ old.opening
   pub every : new.every ≡ old.every
 
--- the log writer stays at its end of the channel and at its two words, and knows the keeper and the files that it began with
+-- The log writer stays at its end of the channel and at its two words. It still knows the keeper and the files that it began
+-- with.
 pub record KeepsLog {D : Type 0} (old new : Logging D) : Type 0 where
   pub end : new.from.end ≡ old.from.end
   pub word : new.covers.pair ≡ old.covers.pair

@@ -1,4 +1,4 @@
--- What a step of one of the three workers does.
+-- The effect of a step of one of the three workers.
 use Rattle.std.specs.Prelude.{◌≡◌, ◌≢◌, ◌⊎◌, ℕ, ◌<◌, ◌≤◌, Bool, true, false, [], Result}
 use Rattle.world_actions.specs.declared.refusal.Refusal.{Refusal}
 use Rattle.disk_model.specs.Disk.{Call, OneCalledAtMostOnce}
@@ -24,7 +24,7 @@ use Rattle.worker_steps.specs.declared.next.Next.TheVariants.{Play, Mark, Push, 
 
 -- ---- the mutator
 
--- a round was opened, whose switch is owed, or none
+-- no round was opened, or one whose switch is owed
 abbrev pub MayOpen : (old new : Playing) → Type 0
 MayOpen old new = OpensNone old new ⊎ OwesSwitch old new
 
@@ -34,8 +34,8 @@ MayOpen old new = OpensNone old new ⊎ OwesSwitch old new
 abbrev pub MayPop : {D : Type 0} → (old new : Logging D) → Type 0
 MayPop old new = (new ≡ old) ⊎ ((item : Item) × Pops old item new)
 
--- A step of the log. It makes one call of a device at most, where the gate lets it, or takes what the newest open image has;
--- and it posts what that made durable. It falls only by a failed call, or by its gate.
+-- A step of the log. It makes at most one call of a device, if the gate lets it, or takes the records that the newest open
+-- image has. It posts the ticks that became durable. The log goes down only by a failed call, or by its gate.
 pub record LogSteps {D : Type 0} (go stuck : Type 0) (called : D → Call → Bool → D → Type 0) (faults : D → ℕ) (old new : Logging D) : Type 0 where
   pub same : new ≡ record old { covers = new.covers; told_down = new.told_down; log = new.log; ring = new.ring; answers = new.answers; acked = new.acked; down = new.down }
   pub loads : LoadsOn old.covers new.covers
@@ -51,7 +51,7 @@ pub record LogSteps {D : Type 0} (go stuck : Type 0) (called : D → Call → Bo
   pub cause : new.down ≡ true → (new.log.keeper.down ≡ true) ⊎ ((new.log ≡ old.log) × stuck)
   pub refused : new.down ≡ true → new.answers.waiting ≡ []
 
--- it stays down; or a step is made, where one is left; or nothing is left, and no answer waits any more
+-- The log stays down. Or a step is made, if work is left. Or no work is left, and no answer waits any more.
 abbrev pub LogGoes : {D G : Type 0} → (gate : G → Place → Pass → G → Type 0) → (called : D → Call → Bool → D → Type 0) → (faults : D → ℕ) → (old new : Logging D) → Type 0
 LogGoes gate called faults old new =
     ((old.down ≡ true) × (new ≡ old))
@@ -60,14 +60,15 @@ LogGoes gate called faults old new =
 
 -- ---- the checkpointer
 
--- a step of the round in work is a take, or makes one call of a device at most, where the gate lets it
+-- a step of the round in work is a take, or makes at most one call of a device, if the gate lets it
 pub record ImageSteps {D : Type 0} (go stuck : Type 0) (called : D → Call → Bool → D → Type 0) (faults : D → ℕ) (old new : Imaging D) : Type 0 where
   pub goes : GoesOn go stuck faults old new
   pub calls : OneCalledAtMostOnce called old.images.image_a new.images.image_a old.images.image_b new.images.image_b
   pub takes : old.images.keeper.phase ≡ Taking → (new.images.image_a ≡ old.images.image_a) × (new.images.image_b ≡ old.images.image_b)
   pub less : new.over ≡ false → left_of new.images.keeper < left_of old.images.keeper
 
--- it does nothing once it is over or its round can't go on; else it looks for a round, or makes a step of the one in work
+-- The checkpointer does nothing once it is over or its round can't continue. Otherwise it looks for a round, or makes a step
+-- of the one in work.
 abbrev pub ImageGoes : {D G : Type 0} → (gate : G → Place → Pass → G → Type 0) → (called : D → Call → Bool → D → Type 0) → (faults : D → ℕ) → (old new : Imaging D) → Type 0
 ImageGoes gate called faults old new =
     ((new ≡ old) × ((old.over ≡ true) ⊎ (HasRound old.images.keeper × (left_of old.images.keeper ≡ 0))))
@@ -91,7 +92,7 @@ Makes of_play of_images of_log called faults Write old new =
 Makes of_play of_images of_log called faults Image old new =
     (new ≡ record old { checkpointer = new.checkpointer }) × ImageGoes of_images called faults old.checkpointer new.checkpointer
 
--- a meeting changes nothing but what the two seats know of the phase
+-- a meeting changes only what the two seats know of the phase
 pub record Meets {D : Type 0} (old new : Started D) : Type 0 where
   pub mutator : new.mutator ≡ record old.mutator { front = record old.mutator.front { closed = new.mutator.front.closed } }
   pub checkpointer : new.checkpointer ≡ record old.checkpointer { back = new.checkpointer.back }

@@ -8,7 +8,7 @@ use image_files::images_stay;
 use recovery::{events_keep, law_of_recovery, whole_events_keep};
 use world_ticks::actions_go_on;
 
-/// Law: the three workers of a world, their ends met, make its four files sound.
+/// Law: once the ends of a world's three workers have met, its four files are sound.
 pub fn stops_are_sound<D: Disk>()
     ensures { StopsAreSound D.content D.may_leave D.honest }
 {

@@ -7,13 +7,13 @@ pub enum Next {
     Play(Ask),
     /// The mutator opens a round, if one is due, and owes its switch.
     Mark,
-    /// The mutator pushes what it owes. A server's does so before it does anything else.
+    /// The mutator pushes the item that it owes. A server's mutator does this before it does anything else.
     Push,
-    /// The mutator tells that no more comes.
+    /// The mutator reports that no more comes.
     End,
     /// The log writer pops an item, if there is one and room for it.
     Pop,
-    /// The log writer makes a step of the log. If none is left to make, it refuses what can't be posted.
+    /// The log writer makes a step of the log. If none is left to make, it refuses the answers that can't be posted.
     Log,
     /// The checkpointer looks for a round and begins its image, or makes a step of the round in work.
     Image,

@@ -13,7 +13,7 @@ pub struct Opened<M: Method, D: Disk + Drop> {
     pub ended: u64,
 }
 
-/// What may hold each worker.
+/// The gates of the workers, which may hold them.
 #[derive(Drop)]
 pub struct Gates<A: Gate + Drop, B: Gate + Drop, C: Gate + Drop> {
     pub mutator: A,

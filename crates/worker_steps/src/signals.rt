@@ -1,12 +1,12 @@
-//! What the workers tell one another beside the items.
+//! The signals between the workers, besides the items.
 ghost use Rattle.std.specs.Prelude.{◌≡◌, [], IfOk};
 
 use crossbeam_channel::{Receiver, Sender, bounded};
 use shared_capture::{CoverIn, CoverOut, cover_pair};
 use std::alloc::{AllocError, Global};
 
-/// The two ends of the bell that wakes the checkpointer, of the word that tells the newest open image, and of the word that
-/// tells that the log is down.
+/// The two ends of each signal: the bell that wakes the checkpointer, the word of the newest open image, and the word that
+/// says if the log is down.
 #[derive(Drop)]
 pub struct Signals {
     pub bell: (Sender<()>, Receiver<()>),

@@ -30,7 +30,7 @@ pub fn mark<M: Method, G: Gate + Drop>(mutator: &mut Mutator<M, G>)
     mutator.open_if_due();
 }
 
-/// Pushes what is owed.
+/// Pushes the owed item.
 pub fn push<R: Wait, M: Method, G: Gate + Drop>(rt: &R, mutator: &mut Mutator<M, G>)
     ensures keeps { KeepsFront mutator.old mutator.new }
     ensures made { Pays mutator.old mutator.new }
@@ -38,7 +38,7 @@ pub fn push<R: Wait, M: Method, G: Gate + Drop>(rt: &R, mutator: &mut Mutator<M,
     mutator.pay(rt);
 }
 
-/// Tells that no more comes.
+/// Reports that no more comes.
 pub fn end<R: Wait, M: Method, G: Gate + Drop>(rt: &R, mutator: &mut Mutator<M, G>)
     ensures keeps { KeepsFront mutator.old mutator.new }
     ensures made { EndsPlay mutator.old mutator.new }
@@ -56,7 +56,7 @@ pub fn pop<R: Wait, D: Disk + Drop, G: Gate + Drop>(rt: &R, log_writer: &mut Log
     }
 }
 
-/// Makes a step of the log, or refuses what can't be posted.
+/// Makes a step of the log, or refuses the answers that can't be posted.
 pub fn write_log<R: Wait, D: Disk + Drop, G: Gate + Drop>(rt: &R, log_writer: &mut LogWriter<D, G>)
     ensures keeps { KeepsLog log_writer.old log_writer.new }
     ensures made { LogGoes G.told D.called D.faults log_writer.old log_writer.new }

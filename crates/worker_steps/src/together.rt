@@ -19,7 +19,7 @@ use std::alloc::{AllocError, Global};
 use std::sync::Wait;
 use workers::{Checkpointer, Gate, LogWriter, Mutator, meet_workers, open};
 
-/// The workers of a world. A server gives each a thread; here they make their steps in one.
+/// The workers of a world. A server gives each a thread. Here they make their steps in one thread.
 #[derive(Drop)]
 pub struct Together<M: Method, D: Disk + Drop, A: Gate + Drop, B: Gate + Drop, C: Gate + Drop> {
     pub mutator: Mutator<M, A>,
@@ -81,8 +81,8 @@ impl<M: Method, D: Disk + Drop, A: Gate + Drop, B: Gate + Drop, C: Gate + Drop> 
         })
     }
 
-    /// Makes the step. Whatever the steps before it were, the four files are sound after it, on disks that keep to the
-    /// disk model. For that the workers meet behind it, which a server's don't do before they stop.
+    /// Makes the step. Whatever the steps before it were, the four files are sound after it, on disks that keep to the disk
+    /// model. For this the workers meet after the step. A server's workers meet only once they have stopped.
     pub fn step<R: Wait>(&mut self, rt: &R, next: Next)
         ensures made { (mid : Started D) × Makes A.told B.told C.told D.called D.faults next
             (record { mutator = self.old.mutator; checkpointer = self.old.checkpointer; log_writer = self.old.log_writer }) mid
@@ -97,7 +97,7 @@ impl<M: Method, D: Disk + Drop, A: Gate + Drop, B: Gate + Drop, C: Gate + Drop> 
         self.meet();
     }
 
-    /// Makes these steps, one after the other. The files are sound after them, and so after each beginning of them.
+    /// Makes these steps, one after the other. The files are sound after them, and after each beginning of the list.
     pub fn run<R: Wait>(&mut self, rt: &R, steps: Vec<Next>)
         ensures sound { IsTrue D.honest → AreSound D.content D.may_leave self.new.mutator self.new.checkpointer self.new.log_writer }
         ensures posted { self.new.log_writer.answers.posted ≤ acknowledged_by self.new.checkpointer self.new.log_writer }
@@ -131,7 +131,7 @@ impl<M: Method, D: Disk + Drop, A: Gate + Drop, B: Gate + Drop, C: Gate + Drop> 
         }
     }
 
-    // Each worker learns what the others did. Nothing else of them changes, and nothing of the files.
+    // Each worker learns what the others did. Nothing else of the workers changes, and nothing of the files.
     fn meet(&mut self)
         ensures sound { IsTrue D.honest → AreSound D.content D.may_leave self.new.mutator self.new.checkpointer self.new.log_writer }
         ensures posted { self.new.log_writer.answers.posted ≤ acknowledged_by self.new.checkpointer self.new.log_writer }
@@ -150,8 +150,8 @@ impl<M: Method, D: Disk + Drop, A: Gate + Drop, B: Gate + Drop, C: Gate + Drop> 
     }
 }
 
-/// Runs a world by these steps of its workers, whatever they are. After them a crash of the four files leaves a world after
-/// the ticks with which they began and the first of those that were played, and no tick that is acknowledged is lost.
+/// Runs a world by these steps of its workers, whatever the steps are. Recovery after a crash then gives the world after the
+/// ticks with which the workers began and the first of those that were played. No acknowledged tick is lost.
 pub fn run_world<
     R: Wait,
     M: Method,

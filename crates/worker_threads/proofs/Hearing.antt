@@ -1,4 +1,4 @@
--- What the mutator heard of the log is true.
+-- The reports of the log that the mutator heard are true.
 use Rattle.std.proofs.Common.{arith, ◌≡◌, inl, inr, ℕ, Bool, true, false, List, Some, None, slice_get, refl, sym, ap, ◌∙◌}
 use Rattle.shared_capture.specs.CoverWord.{AreStored}
 use Rattle.workers.specs.Logging.{TellsDown}

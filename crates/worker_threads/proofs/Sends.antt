@@ -1,4 +1,4 @@
--- Which workers may cross threads: those whose parts may.
+-- The workers that may cross threads: those whose parts may.
 use denote.RattleType.{RattleType}
 use denote.Struct.Struct.{Struct}
 use denote.Struct.Declared.{shape}

@@ -1,4 +1,4 @@
--- When a worker may start, and how it ends.
+-- The conditions for a worker's start, and the facts at its end.
 use Rattle.std.specs.Prelude.{◌≡◌, ◌⊎◌, true, false, [], ◌∷◌, ◌++◌, List}
 use Rattle.workers.specs.declared.item.Item.{Item}
 use Rattle.workers.specs.declared.item.Item.TheVariants.{End}
@@ -18,7 +18,7 @@ MayWrite w = IsAtRest w × (w.over ≡ false)
 
 -- ---- at the end
 
--- the last thing that the mutator pushed is the end, unless a push was refused
+-- the last item that the mutator pushed is the end, unless a push was refused
 pub record EndsFront (old new : Playing) : Type 0 where
   pub keeps : KeepsFront old new
   pub ends : (new.to.refused ≡ true) ⊎ ((before : List Item) × (new.to.items ≡ before ++ End ∷ []))
@@ -28,7 +28,7 @@ pub record EndsBack {D : Type 0} (old new : Imaging D) : Type 0 where
   pub keeps : KeepsBack old new
   pub over : new.over ≡ true
 
--- nothing is left to write and to answer; where the log is up, all ticks that were popped are posted
+-- nothing is left to write or to answer; if the log is up, all popped ticks are posted
 pub record EndsLog {D : Type 0} (old new : Logging D) : Type 0 where
   pub keeps : KeepsLog old new
   pub over : new.over ≡ true

@@ -1,4 +1,4 @@
--- What opening a world for its workers gives.
+-- The result of opening a world for its workers.
 use Rattle.std.specs.Prelude.{◌≡◌, ℕ, List, length, take}
 use Rattle.world_actions.specs.declared.action.Action.{Action}
 use Rattle.disk_model.specs.declared.four_files.FourFiles.{FourFiles}
@@ -8,7 +8,7 @@ use Rattle.workers.specs.declared.checkpointer.round.ImageWriter.{ImageWriter}
 use Rattle.workers.specs.declared.log_writer.Log.{Log}
 use Rattle.worker_steps.specs.Ends.{WorldStands}
 
--- these words, this tick and the tick of this image are what recovery answers on what the files hold
+-- recovery of the files gives these words, the tick `ended`, and an image of the tick `from`
 pub record IsRecovered {D : Type 0} (file : D → List ℕ) (files : FourFiles D) (live : List ℕ) (ended from : ℕ) : Type 0 where
   pub recovery : Recovery
   pub recovers : RecoversFiles file files recovery
@@ -16,8 +16,8 @@ pub record IsRecovered {D : Type 0} (file : D → List ℕ) (files : FourFiles D
   pub tick : ended ≡ recovery.tick
   pub image : from ≡ recovery.from
 
--- Where the files were sound for some ticks, a world at rest after the recovered ones stands in these words, both keepers and
--- their files.
+-- If the files were synced and sound for some ticks, these words, both keepers and their files hold a world at rest after
+-- the recovered ones.
 abbrev pub StandsOpened : {D : Type 0} → (file : D → List ℕ) → (leaves : D → List ℕ → Type 0) → FourFiles D → (words : List ℕ) → ImageWriter D → Log D → (ended : ℕ) → Type 0
 StandsOpened file leaves files words writer log ended =
     (cells : ℕ) (ticks : List (List Action)) (acknowledged : ℕ) → AreSynced file leaves files → AreSound file leaves files cells ticks acknowledged

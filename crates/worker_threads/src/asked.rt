@@ -3,16 +3,16 @@ use std::sync::Wait;
 use std::thread;
 use workers::{Ask, Looks};
 
-/// What the sessions ask, as it comes to the mutator.
+/// The asks of the sessions, as they come to the mutator.
 #[derive(Drop)]
 pub struct Asked {
     pub asks: Receiver<Ask>,
-    /// How often it is looked for an ask before the mutator sleeps.
+    /// How often the mutator looks for an ask before it sleeps.
     pub looks: Looks,
 }
 
 impl Asked {
-    /// Waits for the next ask. Nothing: no session is left that could ask.
+    /// Waits for the next ask. Returns `None` if no session is left that could ask.
     pub fn next<R: Wait>(&self, rt: &R) -> Option<Ask> {
         for _ in 0..self.looks.of_worker() {
             match self.asks.try_recv(rt) {

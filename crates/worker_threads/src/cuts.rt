@@ -15,10 +15,10 @@ use std::thread::Threads;
 use worker_steps::{Gates, Opened};
 use workers::{Ask, Cut, Looks};
 
-/// Starts the workers of a world, gives `play` the channel of their batches, and waits until they have ended, which they
-/// do once no sender of it is left. Each worker makes as many steps as its cut says, and none after them. Wherever that
-/// holds the three of them, on disks that keep to the disk model the files are sound for the ticks that were there and
-/// those that were pushed.
+/// Starts the workers of a world, gives `play` the channel of their batches, and waits until the workers have ended. They
+/// end once no sender of the channel is left. Each worker makes as many steps as its cut says, and none after them. Wherever
+/// the three workers are held, the files are sound for the ticks that were there and those that were pushed, on disks that
+/// keep to the disk model.
 pub fn stop_after<
     R: Threads + Wait + Copy + Send + 'static,
     M: Method + Send + 'static,

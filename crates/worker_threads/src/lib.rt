@@ -1,5 +1,5 @@
-//! The workers of a world, each in a thread of its own: how they start, what each does until it ends, and what
-//! they leave. `open_world` opens a world of four files for them. `start_world` does so once the world was recovered.
+//! The workers of a world, each in a thread of its own: their start, the work of each until it ends, and their ends.
+//! `open_world` opens a world of four files for them. `start_world` opens a world that was already recovered.
 #![tactic(auto)]
 
 mod asked;

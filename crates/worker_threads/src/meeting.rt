@@ -10,7 +10,7 @@ use worker_steps::stops_are_sound;
 use workers::{Gate, meet_workers};
 
 /// Brings the ends of a world's workers together. Then, on disks that keep to the disk model, the four files are sound for
-/// the ticks with which the workers began and those that they played, and no tick that is acknowledged can be lost.
+/// the ticks with which the workers began and those that they played. No acknowledged tick can be lost.
 pub fn ends_meet<M: Method, D: Disk + Drop, A: Gate + Drop, B: Gate + Drop, C: Gate + Drop>(
     ends: &mut Ends<M, D, A, B, C>,
 )

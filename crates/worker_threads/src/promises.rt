@@ -1,4 +1,4 @@
-//! The join of each thread promises what became of the worker that it brings back.
+//! The promises of the joins: each join states facts about the worker that it brings back.
 use disk_model::Disk;
 use shared_capture::Method;
 use std::snapshot::Snapshot;

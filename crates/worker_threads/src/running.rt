@@ -1,4 +1,4 @@
-//! What each worker does in its thread until it ends.
+//! The work of each worker in its thread until it ends.
 ghost use Rattle.std.specs.Prelude.{◌≡◌, false};
 ghost use Rattle.worker_threads.specs.Kept.{EndsFront, MayTake, EndsBack, MayWrite, EndsLog};
 

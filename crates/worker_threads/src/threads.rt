@@ -1,4 +1,4 @@
-//! The workers of a world started and stopped, and what they leave.
+//! The start and the stop of a world's workers, and their ends.
 ghost use Rattle.std.specs.Prelude.{◌≡◌, true, IfOk};
 ghost use Rattle.std.specs.Thread.{IsSend};
 ghost use Rattle.workers.specs.Channel.{AreOneChannel};
@@ -26,7 +26,7 @@ use workers::{
 };
 use world_ticks::Tick;
 
-/// Why workers can't be started.
+/// The reasons why workers can't be started.
 #[derive(Clone, Copy, Debug, PartialEq, Eq)]
 pub enum NotStarted {
     NoMemory,
@@ -45,11 +45,11 @@ impl From<AllocError> for NotStarted {
     }
 }
 
-/// How many batches may wait for the mutator. A session has one at a time. If there is no room it sleeps, and the mutator has
-/// to wake it, which takes longer than a batch.
+/// How many batches may wait for the mutator. A session has one at a time. If there is no room, the session sleeps and the
+/// mutator has to wake it, which takes longer than a batch.
 pub const ASKS: usize = 1_024;
 
-/// The workers of a world, each in its thread. Contracts see them as they began. Dropped, they run on.
+/// The workers of a world, each in its thread. Contracts see them as they began. If this is dropped, they run on.
 #[derive(Drop)]
 pub struct Workers<M: Method, D: Disk + Drop, A: Gate + Drop, B: Gate + Drop, C: Gate + Drop> {
     mutator: PromisedHandle<Mutator<M, A>, SameMutator<M, A>>,
@@ -68,7 +68,7 @@ impl<M: Method, D: Disk + Drop, A: Gate + Drop, B: Gate + Drop, C: Gate + Drop> 
     ghost invariant = { λ w. AreTogether (record { mutator = w.mutator.promise.0.value; checkpointer = w.checkpointer.promise.0.value; log_writer = w.log_writer.promise.0.value }) };
 }
 
-/// What the workers of a world leave.
+/// The workers of a world once they have ended.
 #[derive(Drop)]
 pub struct Ends<M: Method, D: Disk + Drop, A: Gate + Drop, B: Gate + Drop, C: Gate + Drop> {
     pub mutator: Mutator<M, A>,
@@ -105,8 +105,8 @@ type Players<M, D, A, B> = (
     PromisedHandle<Checkpointer<M, D, B>, SameCheckpointer<M, D, B>>,
 );
 
-/// Starts the workers of a world, where a round is due after every `every` ticks. What is sent on the channel
-/// that is given back is run as batches. The workers look for work by these looks. Refused, no thread is left running.
+/// Starts the workers of a world. A round is due after every `every` ticks. The asks that are sent on the returned channel
+/// are run as batches. The workers look for work by these looks. If the start is refused, no thread is left running.
 pub fn start<
     R: Threads + Wait + Copy + Send + 'static,
     M: Method + Send + 'static,
@@ -140,7 +140,7 @@ pub fn start<
     Ok((workers, to))
 }
 
-// Starts the threads. Where one can't be made the others end, since the channels between them close.
+// Starts the threads. If one can't be made, the others end, since the channels between them close.
 fn start_threads<
     R: Threads + Wait + Copy + Send + 'static,
     M: Method + Send + 'static,
@@ -180,7 +180,7 @@ fn start_threads<
     }
 }
 
-// Starts the two that hold a seat.
+// Starts the two workers that hold a seat.
 fn start_players<
     R: Threads + Wait + Copy + Send + 'static,
     M: Method + Send + 'static,
@@ -210,7 +210,7 @@ fn start_players<
     }
 }
 
-// What crosses threads may cross them.
+// Shows that values of this type may cross threads.
 fn crosses<T: Send>()
     ensures { IsSend T.row }
 {}

@@ -5,12 +5,12 @@ use crate::threads::NotStarted;
 use std::sync::Wait;
 use std::thread::{self, Promise, PromisedHandle, Threads};
 
-/// What a worker does in its thread, from its start to its end, with what it is given there.
+/// The work of a worker in its thread, from its start to its end. `X` is what the worker gets there.
 pub(crate) trait Work<X> {
-    /// When it may start.
+    /// The condition for its start.
     ghost ready: { Self → Type 0 };
 
-    /// What is true of it at its end.
+    /// The facts that hold at its end.
     ghost ended: { Self → Self → Type 0 };
 
     fn work<R: Wait>(self, rt: &R, with: X) -> Self

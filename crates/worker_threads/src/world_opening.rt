@@ -42,8 +42,8 @@ impl Seats for Pong {
     }
 }
 
-/// Opens the world that stands in the files for its workers: recovers it, and runs the start to its end. It
-/// returns the tick of the image that the world was built from, too. Refused, it gives the files back.
+/// Opens the world in the files for its workers: recovers it, and runs its start to the end. It also returns the tick of the
+/// image that the world was built from. If it is refused, it gives the files back.
 pub fn open_world<M: Seats, D: Disk + Drop>(
     alloc: Global,
     files: FourFiles<D>,
@@ -69,8 +69,8 @@ pub fn open_world<M: Seats, D: Disk + Drop>(
     }
 }
 
-/// Opens a world for its workers that was recovered from these files: runs its start to its end. It copies the words once,
-/// to the seats. Refused, it gives the files back.
+/// Opens a world for its workers that was recovered from these files, and runs its start to the end. It copies the words
+/// once, to the seats. If it is refused, it gives the files back.
 pub fn start_world<M: Seats, C: Capture, D: Disk + Drop>(
     alloc: Global,
     begun: Start<C>,
@@ -101,7 +101,7 @@ pub fn start_world<M: Seats, C: Capture, D: Disk + Drop>(
     }
 }
 
-// The parts of a world whose start has just ended, with two seats over its words.
+// Opens a world from its parts, once its start has ended, with two seats over its words.
 fn seated<M: Seats, D: Disk + Drop>(
     alloc: Global,
     parts: Parts<D>,

@@ -49,7 +49,7 @@ module _ {D : Type 0} (called : D → Call → Bool → D → Type 0) where
   turned a new_a b new_b (inl calls) = inr (calls.1, calls.0)
   turned a new_a b new_b (inr calls) = inl (calls.1, calls.0)
 
-  -- of two files by their slots, and so by their names
+  -- for two files by their slots, and therefore by their names
   pub by_slot : (slot : Slot) (a new_a b new_b : D) → OneCalledAtMostOnce called (of_slot slot a b) (of_slot slot new_a new_b) (of_slot slot b a) (of_slot slot new_b new_a) → OneCalledAtMostOnce called a new_a b new_b
   by_slot A a new_a b new_b calls = calls
   by_slot B a new_a b new_b calls = turned a new_a b new_b calls
@@ -66,7 +66,7 @@ module _ {D : Type 0} (called : D → Call → Bool → D → Type 0) where
   image_calls_one slot phase a new_a b new_b calls =
       by_slot slot a new_a b new_b (image_calls (of_slot slot a b) (of_slot slot new_a new_b) (of_slot slot b a) (of_slot slot new_b new_a) phase calls)
 
-  -- a take calls none
+  -- a take calls no file
   pub image_calls_none : (slot : Slot) (phase : images.Phase) (a new_a b new_b : D) → phase ≡ image.Taking
       → image_steps.CallsIn phase called (of_slot slot a b) (of_slot slot new_a new_b) (of_slot slot b a) (of_slot slot new_b new_a) → (new_a ≡ a) × (new_b ≡ b)
   image_calls_none A phase a new_a b new_b is calls = subst (λ p. image_steps.CallsIn p called a new_a b new_b) is calls

@@ -1,4 +1,4 @@
--- What is left out stays left out, whatever comes behind it, and so does what a cover takes.
+-- Records that are left out stay left out, whatever comes behind them. Records that a cover takes are left out.
 use Rattle.std.proofs.Common.{◌≡◌, ◌<◌, inl, inr, ℕ, Some, None, slice_get, List, [], ◌∷◌, ◌++◌, refl, sym, ap, ◌∙◌, subst}
 use Rattle.std.specs.Prelude.{Contains}
 use Rattle.std.proofs.lemmas.List.{append_assoc}
@@ -28,7 +28,7 @@ begins_later ticks later [] at = absurd at
 begins_later ticks later (records.Tick tick ∷ logged) at = absurd at
 begins_later ticks later (records.Switch tick ∷ logged) at = Contains-append_left ticks later tick at
 
--- more ticks are told
+-- more ticks are loaded
 pub leaves_later : (ticks later : List ℕ) (all logged : List Record) → LeavesOut ticks all logged → LeavesOut (ticks ++ later) all logged
 leaves_later ticks later [] logged none = none
 leaves_later ticks later (first ∷ all) logged (inl kept) = inl (kept.0, kept.1, leaves_later ticks later all kept.0 kept.2)
@@ -38,7 +38,7 @@ pub covered_later : (ticks later : List ℕ) (number : ℕ) → IsCovered ticks 
 covered_later ticks later number is = (is.0, Contains-append_left ticks later is.0 is.1, is.2)
 
 module _ (ticks : List ℕ) (tick : ℕ) (at : Contains ticks tick) (behind : List Record) where
-  -- what stands right before a switch at a tick that was told may be left out
+  -- records right before a switch at a loaded tick may be left out
   front_covered : (all taken : List Record) → LeavesOut ticks all (taken ++ records.Switch tick ∷ behind) → LeavesOut ticks all (records.Switch tick ∷ behind)
   front_covered all [] is = is
   front_covered [] (first ∷ taken) is = absurd (let none : first ∷ (taken ++ records.Switch tick ∷ behind) ≡ [] = is in cc)
@@ -69,9 +69,9 @@ cover_leaves ticks tick all given taken behind lost at is =
     leaves_covered ticks tick at (behind ++ lost) all given taken
     (subst (λ (l : List Record). LeavesOut ticks all (given ++ l)) (append_assoc taken (records.Switch tick ∷ behind) lost) is)
 
--- ---- loads of the word, and what is told first
+-- ---- loads of the word, and the first stored tick
 
--- none was told before
+-- no tick was published before
 pub none_before : (ticks : List ℕ) (tick : ℕ) → ticks ≡ [] → (i earlier : ℕ) → slice_get ticks i ≡ Some earlier → earlier < tick
 none_before ticks tick none i earlier is = absurd (let e : None ≡ Some earlier = ap (λ (l : List ℕ). slice_get l i) (sym none) ∙ is in cc)
 

@@ -1,4 +1,4 @@
--- What the failures of devices tell of the log goes on from step to step.
+-- The facts on failures of the log's devices carry over from step to step.
 use Rattle.std.proofs.Common.{◌≡◌, ℕ, Bool, true, false, refl, sym, ap, ◌∙◌, subst}
 use Rattle.disk_model.specs.Disk.{FaultsBy}
 use Rattle.workers.specs.declared.log_writer.Log.{Log}

@@ -1,4 +1,4 @@
--- What the mutator pushed goes on with what it does.
+-- The mutator's invariant still holds after each of its acts.
 use Rattle.std.proofs.Common.{arith, ◌≡◌, inl, inr, ℕ, ◌+◌, ◌<◌, ◌≤◌, Bool, true, false, List, [], ◌∷◌, ◌++◌, All, get_or, Option, Some, None, refl, sym, ap, ◌∙◌, subst, append-nil}
 use Rattle.std.specs.Prelude.{IfSome}
 use Rattle.std.proofs.lemmas.List.Elements.{All-nil, All-push, All-weaker}
@@ -24,7 +24,7 @@ pub leads_snoc : (w : World) (items : List Item) (mid : World) (x : Item) (v : W
 leads_snoc w [] mid x v lead after = (v, subst (λ (u : World). after_item u x v) lead after, refl)
 leads_snoc w (y ∷ ys) mid x v lead after = (lead.0, lead.1, leads_snoc lead.0 ys mid x v lead.2 after)
 
--- what was pushed leads to the front as it is
+-- the pushed items lead to the present front
 leads_now : (opening : List ℕ) (items : List Item) (down : Bool) (front : FrontState) → History opening items down front → down ≡ false → Leads (begun opening) items (world_of front)
 leads_now opening items down front h up =
     let all = h.all_told up in
@@ -140,12 +140,12 @@ module _ (m : Playing) (front : FrontState) (heard : CoverState) (is : IsMutator
         };
       }
 
--- ---- what is owed
+-- ---- the owed item
 
 pub owed_item : (m : Playing) (item : Item) → IsMutator m → m.owed ≡ Some item → Owes m item
 owed_item m item is some = subst (λ (o : Option Item). IfSome o (Owes m)) some is.owes
 
--- who hasn't stopped owes nothing
+-- a mutator that hasn't stopped owes nothing
 pub owes_nothing : (m : Playing) → IsMutator m → m.down ≡ false → m.owed ≡ None
 owes_nothing m is up = by_owed m.owed refl
   where
@@ -157,7 +157,7 @@ module _ (m : Playing) (to : Pushing) (is : IsMutator m) (owed : Option Item) (n
   owes_none : (new : Playing) → IfSome owed (Owes new)
   owes_none new = subst (λ (o : Option Item). IfSome o (Owes new)) (sym none) tt
 
-  -- all is told once the item is pushed
+  -- all acts of the front are stated once the item is pushed
   told_paid : (item : Item) → Owes m item → to.items ≡ m.to.items ++ item ∷ [] → History m.opening to.items false m.front
   told_paid item owes pushed = record {
     late = [];

@@ -72,12 +72,12 @@ images_more images (t ∷ done) s = images_more (with_opened (round_of t images)
 abbrev pub NotOpened : ImageAnswer → Type 0
 NotOpened given = (tick : ℕ) → given ≡ answer.Opened tick → ⊥
 
--- what a step says of the cells that it took
+-- the cells that a step took, by its answer
 abbrev pub TakesCells : ImageAnswer → (keeper next : Progress) (old new : BackState) → Type 0
 TakesCells given keeper next old new =
     ((new ≡ old) × IfOpened given ⊤ (cells_taken next ≡ cells_taken keeper)) ⊎ ((cell : Taken) × TookBack old (Some cell) new × (cells_taken next ≡ cells_taken keeper + 1))
 
--- what it says of the tick and the newest image
+-- the tick and the newest image after a step, by its answer
 abbrev pub Ends : ImageAnswer → (keeper next : Progress) → Type 0
 Ends given keeper next = IfOpened given (next ≡ opened_keeper keeper) ((next.tick ≡ keeper.tick) × (next.newest ≡ keeper.newest))
 
@@ -97,9 +97,9 @@ stays_busy answer.Working keeper next not idle down on busy = on
 stays_busy (answer.Opened tick) keeper next not idle down on busy = absurd (not tick refl)
 stays_busy answer.Down keeper next not idle down on busy = λ is. (let e : Down ≡ Idle = sym (down.0 refl) ∙ is in cc e)
 
--- ---- what a step leaves of the back
+-- ---- the back after a step
 
--- the back but for the cells taken
+-- the back is the same except for the cells taken
 pub record SameBack (old new : BackState) : Type 0 where
   pub same : (new.pair ≡ old.pair) × (new.cells ≡ old.cells) × (new.loads ≡ old.loads)
   pub done : new.done ≡ old.done
@@ -176,7 +176,7 @@ images_on (answer.Opened tick) cells first next old new not s = absurd (not tick
 images_on answer.Down cells first next old new not s = s.2 ∙ ap (λ (b : BackState). with_work b.now (images_after first b.done)) (sym s.3)
 
 module _ {D : Type 0} (file : D → List ℕ) (leaves : D → List ℕ → Type 0) (honest : Bool) where
-  -- what a step does to what keeper and files stand for
+  -- the effect of a step on the images that keeper and files represent
   abbrev pub GoesOn : ImageAnswer → (old new : ImageWriter D) (back next : BackState) → Type 0
   GoesOn given old new back next = IsTrue honest → (images : ImageFiles) → ImagesStand file leaves old images
       → (after : ImageFiles) × ImagesStand file leaves new after × StepsImages TookBack old.keeper.cells images given after back next
@@ -245,7 +245,7 @@ not_down : (keeper : Progress) → 0 < left_of keeper → keeper.phase ≡ Down 
 not_down keeper some is = let none : left_of keeper ≡ 0 = ap (λ (p : Phase). moves_left p keeper) is in omega (arith, some, none)
 
 module _ {D : Type 0} (faults : D → ℕ) where
-  -- what a step says of the failures
+  -- the failures of a step, by its answer
   abbrev pub Causes : ImageAnswer → (old new : ImageWriter D) → Type 0
   Causes given old new = HasCause given old.keeper.phase (faults old.image_a) (faults new.image_a) (faults old.image_b) (faults new.image_b)
 
@@ -327,7 +327,7 @@ turned_round {D} stuck old next tick found same is runs rests busy cause = inr (
     by_over false on = (let d = runs.done (rests on) in inl (on, (d.0, d.1 ∙ is.2, d.2 ∙ same.1, d.3 ∙ ap (λ (l : List Snapshot). l ++ d.0 ∷ []) same.2, d.4)))
     by_over true on = (let w = runs.in_work (busy on) in inr (on, (w.0, w.1 ∙ is.2, w.2 ∙ same.2), inr (busy on, cause on)))
 
--- what a turn answers of the round that it found
+-- the result of a turn that found a round
 pub answers_round : (given : Option ℕ) (over : Bool) (tick : ℕ) (keeper : Progress) (old found new : BackState) → SameDone old found → FoundRound old tick found → RoundRuns found keeper new
     → (over ≡ false → keeper.phase ≡ Idle) → (over ≡ true → HasRound keeper) → ((over ≡ true) × (given ≡ None)) ⊎ ((over ≡ false) × (given ≡ Some tick))
     → MatchOption given (new.done ≡ old.done) (λ t. IsDone old t new)
@@ -340,7 +340,7 @@ answers_round given over tick keeper old found new same is runs rests busy (inr 
 
 -- ---- a step
 
--- what a look found, of a round that the keeper hasn't begun
+-- the result of a look that found a round, if the keeper hasn't begun it
 pub fresh_looked : (number : ℕ) (given : Option ℕ) (back found : BackState) → given ≡ Some number → (back.working ≡ true → (given ≡ Some back.now.tick) × (found ≡ back)) → (back.working ≡ false → FoundRound back number found)
     → (back.working ≡ true → back.now.taken ≡ []) → IsFresh number found
 fresh_looked number given back found is known looked none = by_working back.working refl

@@ -1,4 +1,4 @@
--- The log writer's invariant goes on with what it does.
+-- The log writer's invariant still holds after each of its acts.
 use Rattle.std.proofs.Common.{arith, ◌≡◌, ◌⊎◌, inl, ℕ, ◌+◌, ◌≤◌, Bool, true, false, IsTrue, List, [], ◌∷◌, ◌++◌, length, length-append, append-nil, refl, sym, ap, ◌∙◌, subst, Option, None, IfSome}
 use Rattle.std.proofs.lemmas.List.{append_assoc}
 use Rattle.world_ticks.specs.declared.tick.TheConstants.{TICK_MAX}
@@ -82,7 +82,7 @@ module _ {D : Type 0} (file : D → List ℕ) (leaves : D → List ℕ → Type 
         (writes_more file leaves w.log w.ring.items (record_of item) w.covers.ticks w.acked w.down (told_in logs) (records_of w.from.items) up (is.writes h logs stands))));
   }
 
-  -- what the files tell after a step that was answered so
+  -- the content of the files after a step with this answer
   pub told_on : (covers : CoverState) (tick : ℕ) (log : Log D) (ring : Buffer Record) (given : LogAnswer) (acked : ℕ) → (acked ≡ w.acked) ⊎ (given ≡ answer.Acked acked)
       → covers ≡ loaded w.covers tick → (IsTrue honest → LogAdvances file leaves tick w.log log w.ring.items ring.items given)
       → IsTrue honest → (logs : Logs) → LogStands file leaves w.opening logs → Writes file leaves log ring.items covers.ticks acked w.down (told_in logs) (records_of w.from.items)
@@ -111,7 +111,7 @@ module _ {D : Type 0} (file : D → List ℕ) (leaves : D → List ℕ → Type 
     writes = told_on covers tick log ring given acked which told advances;
   }
 
-  -- an item is popped and its answer refused, where none waits
+  -- an item is popped and its answer refused, if no other answer waits
   module _ (seen : Logging D) (same : w ≡ seen) (none : seen.answers.waiting ≡ []) where
     none_waits : w.answers.waiting ≡ []
     none_waits = ap (λ (x : Logging D). x.answers.waiting) same ∙ none
@@ -139,7 +139,7 @@ module _ {D : Type 0} (file : D → List ℕ) (leaves : D → List ℕ → Type 
               (writes_lost file leaves w.log w.ring.items (record_of item) w.covers.ticks w.acked w.down (told_in logs) (records_of w.from.items) down (is.writes h logs stands)));
         }
 
--- ---- what a turn pops
+-- ---- the items that a turn pops
 
 -- an item that isn't the last one is queued
 pub queued_one : (end : QueueEnd) (item : Item) (ring : List Record) → Goes end item → is_end item ≡ false → length (ring ++ record_of item) ≡ length ring + 1
@@ -206,7 +206,7 @@ module _ {D : Type 0} where
       let one = no_more_answers more in
       omega (arith, ap (λ (a : Answering). length a.waiting) t.answers, ap (λ (b : Buffer Record). length b.items) t.ring, length-append u.answers.waiting (all_answers_of more), length-append u.ring.items (records_of more), one, few)
 
--- nothing to do is nothing queued
+-- if there is no work, nothing is queued
 pub no_work : (keeper : Progress) (queue : List Record) → work_of keeper queue ≡ 0 → queue ≡ []
 no_work keeper [] none = refl
 no_work keeper (records.Tick t ∷ queue) none = absurd (omega (arith, none))

@@ -1,4 +1,4 @@
--- Each step of the two ends keeps the order of the records.
+-- Each step of the two ends keeps the order of the items.
 use Rattle.std.proofs.Common.{◌≡◌, ℕ, zero, suc, List, [], ◌∷◌, ◌++◌, length, set, sym, refl, ap, ◌∙◌, subst}
 use mathlib.Core.Option.{some, some-injective, some-ne-none}
 use Rattle.std.proofs.lemmas.List.{append_assoc}
@@ -14,7 +14,7 @@ use Rattle.workers.specs.Items.{AreNumbered}
 use Rattle.workers.proofs.Numbers.{prefix_numbered}
 use Rattle.workers.specs.Order.{Knows, IsInOrder, pushed_of, popped_of, pushed, popped, tells_all, pushing_part, popping_part, whole}
 
--- what a seat knows that is neither end
+-- the knowledge of a seat that is neither end
 others : (a b : List Item) (p o : ℕ) (t s : List Item) (q r j : ℕ) (v : View) → (j ≡ p → a ≡ b) → (j ≡ p → p ≡ o) → (j ≡ q → t ≡ s) → (j ≡ q → q ≡ r) → Knows a p t q j v → Knows b o s r j v
 others a b p o t s q r j V.Spent x y z w k = tt
 others a b p o t s q r j (V.Pushes xs) x y z w k = (k.0 ∙ y k.0, k.1 ∙ x k.0)

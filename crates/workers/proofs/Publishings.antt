@@ -1,4 +1,4 @@
--- The ticks that are published go on with the rounds that are done.
+-- The published ticks stay those of the rounds that are done.
 use Rattle.std.proofs.Common.{arith, ◌≡◌, inl, inr, ℕ, ◌<◌, ◌≤◌, Bool, true, false, IsTrue, List, [], ◌∷◌, ◌++◌, Option, refl, sym, ap, subst, ◌∙◌}
 use Rattle.std.specs.Prelude.{All, map}
 use Rattle.std.proofs.lemmas.List.{map-append}
@@ -35,7 +35,7 @@ done_next tick newest opened newest' done done' covers covers' p newer last s of
       older = subst (All (λ (t : ℕ). t ≤ newest_tick newest')) (sym ticks) (All-push (λ (t : ℕ). t ≤ newest_tick newest') covers.ticks tick few (omega (arith, newest_is)));
     }
 
--- after a round all that is done is published, and nothing else
+-- after a round the ticks of all rounds that are done are published, and no other
 pub published_on : (over : Bool) (tick : ℕ) (newest opened : Option (Slot × ℕ)) (keeper : Progress) (old found new : BackState) (covers covers' : CoverState) → ArePublished newest old.done covers → newest_tick newest < tick
     → newest ≡ newest_after opened old.done → keeper.newest ≡ newest_after opened new.done → found.done ≡ old.done → found.now.tick ≡ tick → RoundRuns found keeper new → Publishes tick keeper covers covers'
     → (over ≡ false → keeper.phase ≡ Idle) → (over ≡ true → HasRound keeper) → ArePublished keeper.newest new.done covers'

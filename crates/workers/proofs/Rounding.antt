@@ -1,4 +1,4 @@
--- A round goes on from step to step.
+-- A round continues from step to step.
 use Rattle.std.proofs.Common.{◌≡◌, ◌≢◌, ◌⊎◌, inl, inr, ℕ, ◌<◌, true, false, List, [], ◌∷◌, ◌++◌, refl, sym, ap, ◌∙◌, subst}
 use Rattle.disk_model.specs.Disk.{FaultsBy}
 use Rattle.image_files.specs.declared.phase.Phase.{Phase}
@@ -47,7 +47,7 @@ module _ {D : Type 0} (faults : D → ℕ) where
       up = λ _. up;
     }
 
-    -- a step more
+    -- one more step
     pub goes_then : (old mid new : Imaging D) → mid.over ≡ false → 0 < left_of mid.images.keeper → GoesOn go stuck faults old mid → GoesOn go stuck faults mid new → GoesOn go stuck faults old new
     goes_then old mid new goes left first then = record {
       runs = runs_then mid.images.keeper new.images.keeper old.back mid.back new.back (is_busy mid.images.keeper left) first.runs then.runs;
@@ -60,7 +60,7 @@ module _ {D : Type 0} (faults : D → ℕ) where
       up = then.up;
     }
 
--- what the gate may answer to one step is what it may answer to some
+-- what the gate may answer to one step it may answer to some step
 pub goes_at : {D : Type 0} (faults : D → ℕ) (go stuck go' stuck' : Type 0) (old new : Imaging D) → (go → go') → (stuck → stuck') → GoesOn go stuck faults old new → GoesOn go' stuck' faults old new
 goes_at faults go stuck go' stuck' old new going sticking goes = record {
   runs = goes.runs;

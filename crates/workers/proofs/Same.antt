@@ -1,4 +1,4 @@
--- What `==` on requests tells.
+-- The meaning of `==` on requests.
 use Rattle.std.proofs.Common.{◌≡◌, true, ◌==◌, ◌&&◌, List, [], ◌∷◌, refl, ap, ap₂, eqb-true}
 use Rattle.std.proofs.lemmas.Bool.{and_parts}
 use Rattle.std.proofs.lemmas.Bool.Decides.{Decides-int_eq}

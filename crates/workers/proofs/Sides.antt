@@ -1,4 +1,4 @@
--- An end after a send or a receive, whatever came of it.
+-- An end after a send or a receive, whatever its result.
 use Rattle.std.proofs.Common.{◌≡◌, sym, ap, ◌∙◌, subst, Result, Ok, Err, MatchResult, IfOk}
 use Rattle.crossbeam_channel.specs.Claims.{Pass, view, IsSeatAt}
 use Rattle.crossbeam_channel.specs.Ends.{sends_on, receives_on}

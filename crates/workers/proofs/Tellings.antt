@@ -1,4 +1,4 @@
--- What the files of the log tell goes on with each step of its keeper.
+-- The content of the log's files continues with each step of its keeper.
 use Rattle.std.proofs.Common.{arith, ◌≡◌, ◌⊎◌, inl, inr, ℕ, ◌+◌, ◌≤◌, Bool, true, false, IsTrue, List, [], ◌∷◌, ◌++◌, length, length-append, append-nil, refl, sym, ap, ◌∙◌, subst, Option, Some, None, IfSome}
 use Rattle.std.specs.Prelude.{Contains}
 use Rattle.std.proofs.lemmas.List.{append_assoc}
@@ -39,7 +39,7 @@ group_told (actions ∷ ticks) (records.Tick first ∷ queue) left told s =
     )
 group_told (actions ∷ ticks) (records.Switch tick ∷ queue) left told s = absurd s
 
--- the records that a step has written are told by it, and one job is in work at most
+-- the files have the records that a step has written, and at most one job is in work
 abbrev StepTells : Logs → List Record → Logs → List Record → Type 0
 StepTells logs queue next left =
     (written : List Record) × (with_work logs.switch queue ≡ written ++ with_work next.switch left) × (told_in next ≡ after_records (told_in logs) written) × HasOneJob next
@@ -156,11 +156,11 @@ switch_fits keeper a b leaves_a leaves_b logs queue s follows number left front 
 
 -- ---- covered ticks
 
--- what is acknowledged is written, or covered
+-- the acknowledged ticks are written, or covered
 abbrev Acknowledged : List ℕ → ℕ → Logs → Type 0
 Acknowledged covers acked logs = HasAcked acked logs ⊎ IsCovered covers acked
 
--- the records that a cover takes stood in front, and its receipt is of the tick that was told
+-- the records that a cover takes were in front, so they may be left out
 cover_takes : (covers : List ℕ) (tick : ℕ) (all given lost : List Record) (logs : Logs) (queue left : List Record) (taken : List Record) → Covers logs queue tick taken left → LeavesOut covers all (given ++ (queue ++ lost)) → Contains covers tick
     → LeavesOut covers all (given ++ (left ++ lost))
 cover_takes covers tick all given lost logs queue left taken c order at =
@@ -168,7 +168,7 @@ cover_takes covers tick all given lost logs queue left taken c order at =
     subst (λ (l : List Record). LeavesOut covers all (given ++ (l ++ lost))) (sym c.next)
     (cover_leaves covers tick all given taken c.behind lost at (subst (λ (l : List Record). LeavesOut covers all (given ++ (l ++ lost))) front order))
 
--- so they stood behind no switch in work
+-- the same if a switch may be in work: the records were behind none
 cover_works : (covers : List ℕ) (tick : ℕ) (all given lost : List Record) (logs : Logs) (queue left : List Record) (taken : List Record) → Covers logs queue tick taken left
     → LeavesOut covers all (given ++ (with_work logs.switch queue ++ lost)) → Contains covers tick → LeavesOut covers all (given ++ (with_work logs.switch left ++ lost))
 cover_works covers tick all given lost logs queue left taken c order at =
@@ -194,10 +194,10 @@ step_order covers all given taken queue left lost front order =
     ap (λ (l : List Record). given ++ l) (ap (λ (l : List Record). l ++ lost) front ∙ append_assoc taken left lost) ∙ sym (append_assoc given taken (left ++ lost)) in
     subst (LeavesOut covers all) same order
 
--- ---- what is written
+-- ---- the written records
 
 module _ {D : Type 0} (file : D → List ℕ) (leaves : D → List ℕ → Type 0) where
-  -- what an advance by this tick does to what keeper and files stand for
+  -- the effect of an advance by this tick on the log that keeper and files represent
   abbrev pub LogAdvances : (tick : ℕ) → (log after : Log D) → (ring left : List Record) → LogAnswer → Type 0
   LogAdvances tick log after ring left given = (logs : Logs) → LogStands file leaves log logs → (next : Logs) × LogStands file leaves after next × Advances tick logs ring given next left
 
@@ -216,12 +216,12 @@ module _ {D : Type 0} (file : D → List ℕ) (leaves : D → List ℕ → Type 
       let c = subst (λ (g : LogAnswer). CoverStep logs ring tick g left) now step in
       inr (tick, at, omega (arith, c.3))
 
-  -- what is written stands with other ticks told, and another one acknowledged
+  -- the written records with other loaded ticks, and another acknowledged tick
   abbrev written_as : {log : Log D} {ring : List Record} {covers told : List ℕ} {acked tick : ℕ} {down : Bool} {first : Told} {all : List Record} (w : Writes file leaves log ring covers acked down first all)
       → LeavesOut told all (w.given ++ (with_work w.logs.switch ring ++ w.lost)) → Acknowledged told tick w.logs → Writes file leaves log ring told tick down first all
   written_as w order acknowledged = record { logs = w.logs; stands = w.stands; given = w.given; lost = w.lost; told = w.told; order = order; one_job = w.one_job; none_lost = w.none_lost; acknowledged = acknowledged }
 
-  -- more is told of open images
+  -- more ticks of open images are loaded
   abbrev written_later : (log : Log D) (ring : List Record) (covers later : List ℕ) (acked : ℕ) (down : Bool) (first : Told) (all : List Record) → Writes file leaves log ring covers acked down first all → Writes file leaves log ring (covers ++ later) acked down first all
   written_later log ring covers later acked down first all w = written_as w (leaves_later covers later all (w.given ++ (with_work w.logs.switch ring ++ w.lost)) w.order)
       (elim w.acknowledged [ inl has ↦ inl has | inr is ↦ inr (covered_later covers later acked is) ])
@@ -262,7 +262,7 @@ module _ {D : Type 0} (file : D → List ℕ) (leaves : D → List ℕ → Type 
       let on = advances w.logs w.stands in
       advanced log after ring left tick (covers ++ tick ∷ []) given acked acked' down first all follows (Contains-push covers tick) which told on.0 on.1 on.2
 
-  -- what is acknowledged up to a tick is so up to one before it
+  -- if the ticks up to one are acknowledged, so are those up to an earlier one
   pub writes_below : (log : Log D) (ring : List Record) (covers : List ℕ) (acked fewer : ℕ) (down : Bool) (first : Told) (all : List Record) → fewer ≤ acked → Writes file leaves log ring covers acked down first all → Writes file leaves log ring covers fewer down first all
   writes_below log ring covers acked fewer down first all few w = written_as w w.order (elim w.acknowledged [
     | inl logged ↦ inl (record { kept = omega (arith, few, logged.kept); switched = λ number is. let later = logged.switched number is in omega (arith, few, later) })

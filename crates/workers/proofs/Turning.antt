@@ -1,4 +1,4 @@
--- What the mutator did, told of it as it was.
+-- The acts of the mutator, stated for the mutator as it was before.
 use Rattle.std.proofs.Common.{◌≡◌, ◌+◌, true, List, Some, None, ap, subst}
 use Rattle.shared_capture.specs.CoverWord.{CoverState}
 use Rattle.shared_capture.specs.States.{FrontState, KeepsUntouched}
@@ -10,7 +10,7 @@ use Rattle.workers.specs.Covering.{loaded}
 use Rattle.workers.specs.Worlds.{RanBatch, world_of}
 use Rattle.workers.specs.Mutating.{Playing, Runs, OwesTick}
 
--- what was run of these requests was run of the batch that has them
+-- a run of these requests is a run of the batch that has them
 pub runs_of : (m : Playing) (ended : Ended) (front : FrontState) (asked : AskedBatch) (requests : List Request) → requests ≡ asked.requests → ended.answer.number ≡ m.ended + 1 → ended.answer.asked ≡ asked
     → front.pair ≡ m.front.pair → RanBatch requests (world_of m.front) ended (world_of front) → KeepsUntouched m.front front → Runs m asked ended front
 runs_of m ended front asked requests same number answers pair ran untouched = record {

@@ -1,4 +1,4 @@
--- Answers that wait are of ticks that follow one another.
+-- The waiting answers are of consecutive ticks.
 use Rattle.std.proofs.Common.{arith, ◌≡◌, ℕ, ◌+◌, ◌<◌, ◌≤◌, List, [], ◌∷◌, ◌++◌, length, length-append, refl, sym, ap, ◌∙◌, subst, All, Some, None, slice_get}
 use Rattle.std.proofs.lemmas.List.{append_assoc}
 use Rattle.std.proofs.lemmas.List.Elements.{All-nil, All-push, All-cons}
@@ -9,7 +9,7 @@ pub next_more : (number : ℕ) (waiting : List Unposted) (last : Unposted) → A
 next_more number [] last next is = (omega (arith, is), tt)
 next_more number (first ∷ waiting) last next is = (next.0, next_more (number + 1) waiting last next.1 (omega (arith, is)))
 
--- behind a first one that is later all are
+-- if the first tick is later than the receipt, all are
 pub all_later : (receipt number : ℕ) (waiting : List Unposted) → AreNext number waiting → receipt ≤ number → All (λ (w : Unposted). receipt < w.number) waiting
 all_later receipt number [] next later = All-nil (λ (w : Unposted). receipt < w.number)
 all_later receipt number (first ∷ waiting) next later = All-cons (λ (w : Unposted). receipt < w.number) first waiting (omega (arith, next.0, later)) (all_later receipt (number + 1) waiting next.1 (omega (arith, later)))
@@ -18,7 +18,7 @@ pub first_is : (waiting : List Unposted) (first : Unposted) → Some first ≡ s
 first_is [] first is = absurd (cc)
 first_is (other ∷ rest) first is = (rest, cc)
 
--- the first one is later, and so all are
+-- if the first answer is later than the receipt, all are
 pub first_later : (receipt number : ℕ) (waiting : List Unposted) (first : Unposted) → AreNext number waiting → Some first ≡ slice_get waiting 0 → receipt < first.number → AreLater receipt waiting
 first_later receipt number waiting first next is later =
     let front = first_is waiting first is in

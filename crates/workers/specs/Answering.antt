@@ -1,4 +1,4 @@
--- The answers that wait as contracts see them.
+-- The waiting answers as contracts see them.
 use Rattle.std.specs.Prelude.{◌≡◌, ℕ, ◌+◌, ◌≤◌, ◌<◌, List, [], ◌∷◌, ◌++◌, length, All, ⊤}
 use Rattle.workers.specs.declared.item.Item.{Item}
 use Rattle.workers.specs.declared.item.Item.TheVariants.{Tick}
@@ -20,7 +20,7 @@ abbrev pub all_answers_of : List Item → List Unposted
 all_answers_of [] = []
 all_answers_of (item ∷ items) = answers_of item ++ all_answers_of items
 
--- these are of the ticks that follow this one, each of the next
+-- these answer the ticks after this one, in order and without a gap
 abbrev pub AreNext : ℕ → List Unposted → Type 0
 AreNext number [] = ⊤
 AreNext number (first ∷ waiting) = (first.number ≡ number + 1) × AreNext (number + 1) waiting

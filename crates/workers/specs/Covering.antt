@@ -1,4 +1,4 @@
--- What the log writer leaves out of the log: records whose ticks an open image has.
+-- The records that the log writer leaves out of the log, because an open image has their ticks.
 use Rattle.std.specs.Prelude.{◌≡◌, ◌⊎◌, ℕ, ◌≤◌, List, [], ◌∷◌, ◌++◌, Contains}
 use Rattle.action_log.specs.declared.record.Record.{Record}
 use Rattle.action_log.specs.declared.record.Record.TheVariants as records
@@ -14,7 +14,8 @@ BeginsAt ticks [] = ⊥
 BeginsAt ticks (records.Tick tick ∷ queue) = ⊥
 BeginsAt ticks (records.Switch tick ∷ queue) = Contains ticks tick
 
--- these are all records, in order, but that one may be left out where a switch at one of these ticks is the next that isn't
+-- The logged records are in the order of all records. A record may be left out only if the next logged one is a switch at
+-- one of these ticks.
 abbrev pub LeavesOut : List ℕ → (all logged : List Record) → Type 0
 LeavesOut ticks [] logged = logged ≡ []
 LeavesOut ticks (first ∷ all) logged =
@@ -24,14 +25,14 @@ LeavesOut ticks (first ∷ all) logged =
 abbrev pub IsCovered : List ℕ → ℕ → Type 0
 IsCovered ticks number = (tick : ℕ) × Contains ticks tick × (number ≤ tick)
 
--- the log goes on by a step of its keeper, or by a cover of this tick
+-- the log advances by a step of its keeper, or by a cover of this tick
 abbrev pub Advances : ℕ → Logs → List Record → LogAnswer → Logs → List Record → Type 0
 Advances tick logs queue given next left = LogsStep logs queue given next left ⊎ ((next ≡ logs) × CoverStep logs queue tick given left)
 
--- the word of open images was loaded, and told this tick
+-- the word of open images was loaded, and held this tick
 abbrev pub loaded : CoverState → ℕ → CoverState
 loaded covers tick = record covers { ticks = covers.ticks ++ tick ∷ [] }
 
--- it was loaded some times more, or not
+-- it was loaded any number of times more
 abbrev pub LoadsOn : CoverState → CoverState → Type 0
 LoadsOn old new = (more : List ℕ) × (new ≡ record old { ticks = old.ticks ++ more })

@@ -1,4 +1,4 @@
--- What a gate may answer.
+-- The answers that a gate may give.
 use Rattle.workers.specs.declared.gate.Place.{Place}
 use Rattle.workers.specs.declared.gate.Pass.{Pass}
 use Rattle.workers.specs.declared.gate.Pass.TheVariants.{Go, Stuck}

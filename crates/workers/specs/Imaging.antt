@@ -40,17 +40,17 @@ newest_after newest (snapshot ∷ rest) = newest_after (Some (target_of newest, 
 
 -- ---- keeper and back
 
--- a round is in work, also one in which the keeper went down
+-- a round is in work, which may be one in which the keeper went down
 abbrev pub HasRound : Progress → Type 0
 HasRound keeper = keeper.phase ≡ Idle → ⊥
 
--- keeper and back work at one round, and as many of its cells are taken
+-- keeper and back work at the same round, and agree on how many of its cells are taken
 pub record IsAtRound (keeper : Progress) (back : BackState) : Type 0 where
   pub working : back.working ≡ true
   pub tick : keeper.tick ≡ back.now.tick
   pub taken : cells_taken keeper ≡ length back.now.taken
 
--- they are of as many cells, and the keeper's round is the back's
+-- they have the same number of cells, and the keeper's round is the back's
 pub record AreInStep (keeper : Progress) (back : BackState) : Type 0 where
   pub cells : keeper.cells ≡ back.cells
   pub round : HasRound keeper → IsAtRound keeper back
@@ -69,8 +69,8 @@ pub record Publishes (tick : ℕ) (keeper : Progress) (old new : CoverState) : T
   pub in_work : HasRound keeper → new ≡ old
   pub done : keeper.phase ≡ Idle → new ≡ told old tick
 
--- A round goes on as long as the keeper has one, and is done once the keeper has none. The pair, the number of cells and what is
--- known of the phase stay.
+-- A round stays in work as long as the keeper has one, and is done once the keeper has none. The pair, the number of cells
+-- and the loads of the phase stay the same.
 pub record RoundRuns (old : BackState) (keeper : Progress) (new : BackState) : Type 0 where
   pub same : (new.pair ≡ old.pair) × (new.cells ≡ old.cells) × (new.loads ≡ old.loads)
   pub in_work : HasRound keeper → IsInWork old old.now.tick new
@@ -79,23 +79,23 @@ pub record RoundRuns (old : BackState) (keeper : Progress) (new : BackState) : T
 -- ---- keeper, files and back
 
 module _ {D : Type 0} (file : D → List ℕ) (leaves : D → List ℕ → Type 0) where
-  -- the keeper and its files stand for these images
+  -- the keeper and its files represent these images
   abbrev pub ImagesStand : ImageWriter D → ImageFiles → Type 0
   ImagesStand writer images = Stands writer.keeper images (file writer.image_a) (file writer.image_b) (leaves writer.image_a) (leaves writer.image_b)
 
-  -- they stand for the images of the rounds that the back has done since the first ones, and of its round in work
+  -- they represent the images of the rounds that the back has done since the first ones, and its round in work
   pub record StandAfter (first : ImageFiles) (writer : ImageWriter D) (back : BackState) : Type 0 where
     pub rest : writer.keeper.phase ≡ Idle → ImagesStand writer (images_after first back.done)
     pub round : HasRound writer.keeper → ImagesStand writer (with_work back.now (images_after first back.done))
 
-  -- since the opening each round done had all its cells taken and its image opened, and on an honest disk the files have
-  -- just these images
+  -- Each round that is done since the opening had all its cells taken and its image opened. On an honest disk the files have
+  -- exactly these images.
   pub record FollowsRounds (honest : Bool) (opening : ImageWriter D) (writer : ImageWriter D) (back : BackState) : Type 0 where
     pub newest : writer.keeper.newest ≡ newest_after opening.keeper.newest back.done
     pub whole : All (λ (s : Snapshot). length s.taken ≡ back.cells) back.done
     pub stands : IsTrue honest → (first : ImageFiles) → ImagesStand opening first → StandAfter first writer back
 
--- the keeper takes the files for what they hold
+-- the keeper's state fits what the files hold
 abbrev pub WriterFits : {D : Type 0} → (D → List ℕ) → ImageWriter D → Type 0
 WriterFits file writer = FitsFiles writer.keeper (file writer.image_a) (file writer.image_b)
 
@@ -106,8 +106,8 @@ pub record TellsFaults {D : Type 0} (faults : D → ℕ) (old new : ImageWriter 
 
 -- ---- the checkpointer
 
--- the back that it takes from, what it published, its keeper and files as they are and as they were at its opening, and
--- whether it does no more
+-- The back that it takes from, and the ticks that it published. Its keeper and files now, and those at its opening. Its flag
+-- that it does no more.
 pub record Imaging (D : Type 0) : Type 0 where
   pub back : BackState
   pub covers : CoverState
@@ -119,8 +119,9 @@ pub record Imaging (D : Type 0) : Type 0 where
 abbrev pub IsAtRest : Progress → BackState → Type 0
 IsAtRest keeper back = (keeper.phase ≡ Idle) × (back.working ≡ false)
 
--- keeper, files and back are in step, and of as many cells as at the opening, and the images of the rounds that are done are
--- published. Of a round that the keeper hasn't begun no cell is taken, and one that it has begun is newer than its images.
+-- Keeper, files and back are in step, with as many cells as at the opening. The images of the rounds that are done are
+-- published. No cell is taken of a round that the keeper hasn't begun. A round that it has begun is newer than its newest
+-- image.
 pub record IsCheckpointer {D : Type 0} (honest : Bool) (file : D → List ℕ) (leaves : D → List ℕ → Type 0) (c : Imaging D) : Type 0 where
   pub step : AreInStep c.images.keeper c.back
   pub cells : c.opening.keeper.cells ≡ c.back.cells
@@ -130,8 +131,8 @@ pub record IsCheckpointer {D : Type 0} (honest : Bool) (file : D → List ℕ) (
   pub fresh : c.images.keeper.phase ≡ Idle → c.back.working ≡ true → c.back.now.taken ≡ []
   pub newer : HasRound c.images.keeper → newest_tick c.images.keeper.newest < c.back.now.tick
 
--- The open round of this tick was found. It is done, or it stays open and nothing more is done: no image is made of this
--- tick, or its image was begun, and a call of a device failed or the gate lets no other be made.
+-- The open round of this tick was found. Either it is done, or it stays open and the checkpointer does no more. In that case
+-- no image is made of this tick. Or its image was begun, and a call of a device failed or the gate lets no other be made.
 abbrev pub Found : {D : Type 0} → (stuck : Type 0) → Imaging D → (tick : ℕ) → Imaging D → Type 0
 Found stuck old tick new =
     (tick ≢ 0) × (new.back.loads ≡ old.back.loads ++ tick ∷ [])
@@ -139,7 +140,7 @@ Found stuck old tick new =
     ⊎ ((new.over ≡ true) × IsInWork old.back tick new.back
     × (IsNoneDue old.images.keeper.newest tick ⊎ (HasRound new.images.keeper × ((new.images.keeper.phase ≡ Down) ⊎ stuck)))))
 
--- what a turn did: it loaded the phase and found no round open, and nothing else changed; or it found one
+-- The effect of a turn. It loaded the phase, found no round open and changed nothing else, or it found an open round.
 abbrev pub Turned : {D : Type 0} → (stuck : Type 0) → Imaging D → Imaging D → Type 0
 Turned stuck old new =
     ((new.images ≡ old.images) × SameDone old.back new.back × (new.back.working ≡ false) × (new.back.loads ≡ old.back.loads ++ 0 ∷ []))
@@ -154,7 +155,7 @@ pub record KeepsBack {D : Type 0} (old new : Imaging D) : Type 0 where
 
 -- ---- a step
 
--- the place at which the gate is asked before a step of a round: a take's, or that of a call of a device
+-- the place at which the gate is asked before a step of a round: a take, or a call of a device
 abbrev pub place_of : Phase → Place
 place_of Taking = Take
 place_of phase = Device
@@ -173,8 +174,8 @@ pub record FindsRound {D : Type 0} (old : Imaging D) (number : ℕ) (new : Imagi
   pub begins : ((new.over ≡ true) × (new.images ≡ old.images) × IsNoneDue old.images.keeper.newest number)
       ⊎ ((new.over ≡ false) × (new.images ≡ record old.images { keeper = begun_keeper number old.images.keeper }))
 
--- The round in work goes on, where the gate lets it, or is done. It stays in work where nothing more is done: a call of a
--- device failed, or the gate lets no other be made.
+-- The round in work continues, if the gate lets it, or is done. It stays in work if the checkpointer does no more, because a
+-- call of a device failed or the gate lets no other be made.
 pub record GoesOn {D : Type 0} (go stuck : Type 0) (faults : D → ℕ) (old new : Imaging D) : Type 0 where
   pub runs : RoundRuns old.back new.images.keeper new.back
   pub failures : TellsFaults faults old.images new.images

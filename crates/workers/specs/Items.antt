@@ -18,8 +18,8 @@ abbrev pub records_of : List Item → List Record
 records_of [] = []
 records_of (item ∷ items) = record_of item ++ records_of items
 
--- An item may stand behind so many ticks since this base: no segment gets too many ticks, a tick has the next number,
--- and a switch has the number of the last tick, with a tick since the last switch or start.
+-- An item may follow so many ticks since this base. No segment gets too many ticks, and a tick has the next number. A switch
+-- has the number of the last tick, which ended since the last switch or start.
 abbrev pub Goes : QueueEnd → Item → Type 0
 Goes end (Start number) = ⊥
 Goes end (Tick ended) = (end.count < SEGMENT_TICKS) × (end.base + end.count < TICK_MAX) × (ended.answer.number ≡ end.base + end.count + 1)
@@ -40,11 +40,11 @@ abbrev pub end_all : QueueEnd → List Item → QueueEnd
 end_all end [] = end
 end_all end (item ∷ items) = end_all (end_after end item) items
 
--- the base and the ticks since, of all items
+-- the base and the count of ticks since, after all items
 abbrev pub items_end : List Item → QueueEnd
 items_end items = end_all (record { base = 0; count = 0 }) items
 
--- a start, and then items each of which may stand where it stands
+-- a start, and then items that each may follow those before it
 abbrev pub AreNumbered : List Item → Type 0
 AreNumbered [] = ⊤
 AreNumbered (Start number ∷ items) = GoAll (record { base = number; count = 0 }) items

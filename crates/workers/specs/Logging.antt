@@ -24,25 +24,25 @@ use Rattle.workers.specs.Answering.{Answering, answers_of, all_answers_of}
 use Rattle.workers.specs.Covering.{LeavesOut, IsCovered}
 use Rattle.workers.specs.Publishing.{told as with_told}
 
--- whether an item is the last one
+-- true if the item is the last one
 abbrev pub is_end : Item → Bool
 is_end items.End = true
 is_end item = false
 
--- whether the last one is among these
+-- true if the last one is among these
 abbrev pub has_end : List Item → Bool
 has_end [] = false
 has_end (items.End ∷ more) = true
 has_end (item ∷ more) = has_end more
 
--- whether a turn that popped these was the last one: the last item is among them, or a pop was refused
+-- true if a turn that popped these was the last one: the last item is among them, or a pop was refused
 abbrev pub is_over : List Item → Bool
 is_over [] = true
 is_over more = has_end more
 
--- ---- what the files tell
+-- ---- the content of the files
 
--- how the other segment reads, and the base and the ticks of the current one
+-- the other segment as it is read, and the base and the ticks of the current one
 pub record Told : Type 0 where
   pub before : Segment
   pub base : ℕ
@@ -56,7 +56,7 @@ abbrev pub after_records : Told → List Record → Told
 after_records told [] = told
 after_records told (first ∷ queue) = after_records (after_record told first) queue
 
--- what the two segments tell, with the group in work and without the switch in work
+-- the content of the two segments, with the group in work and without the switch in work
 abbrev pub told_in : Logs → Told
 told_in logs = record { before = logs.before; base = logs.base; ticks = logs.kept ++ logs.pending }
 
@@ -71,7 +71,7 @@ pub record HasAcked (acked : ℕ) (logs : Logs) : Type 0 where
 
 -- ---- the log writer
 
--- the items that it popped, the word that it loads, the word by which it tells that the log is down, and the rest
+-- the items that it popped, the word that it loads, the word by which it reports that the log is down, and the rest
 pub record Logging (D : Type 0) : Type 0 where
   pub from : Popping
   pub covers : CoverState
@@ -91,7 +91,7 @@ pub record IsReady (keeper : Progress) (tick : ℕ) : Type 0 where
   pub base : keeper.base ≡ tick
   pub count : keeper.count ≡ 0
 
--- how it begins
+-- the log writer as it begins
 abbrev pub writer_at : {D : Type 0} → Popping → (covers told_down : CoverState) → Log D → (tick : ℕ) → Logging D
 writer_at from covers told_down log tick = record {
   from = from;
@@ -111,14 +111,15 @@ pub record IsAtRest {D : Type 0} (w : Logging D) : Type 0 where
   pub written : w.down ≡ false → work_of w.log.keeper w.ring.items ≡ 0
   pub answered : w.answers.waiting ≡ []
 
--- The keeper goes down only by a failed call of a device, and no failure is passed over. Down, it makes no call.
+-- The keeper goes down only by a failed call of a device, and no failure is passed over. A keeper that is down makes no
+-- call.
 pub record LogTellsFaults {D : Type 0} (faults : D → ℕ) (old new : Log D) : Type 0 where
   pub down : old.keeper.down ≡ false → new.keeper.down ≡ true → FaultsBy true (faults old.a) (faults new.a) (faults old.b) (faults new.b)
   pub up : new.keeper.down ≡ false → FaultsBy false (faults old.a) (faults new.a) (faults old.b) (faults new.b)
   pub stays : old.keeper.down ≡ true → new ≡ old
 
--- Why it falls: its keeper is down, or its gate never lets another call be made, or all is written and an answer has no
--- receipt.
+-- The reasons why the log goes down: its keeper is down, or its gate never lets another call be made. Or all is written, and
+-- an answer has no receipt.
 abbrev pub FallsBy : {D : Type 0} → (stuck : Type 0) → Logging D → Type 0
 FallsBy stuck w =
     (w.log.keeper.down ≡ true)
@@ -129,18 +130,18 @@ pub record IsPosted {D : Type 0} (w : Logging D) : Type 0 where
   pub all : w.answers.posted ≡ (items_end w.from.items).base + (items_end w.from.items).count
   pub acknowledged : w.answers.posted ≤ w.acked
 
--- it has told that the log is down, by a 1, once it is, and nothing before
+-- the log writer has stored a single 1 once the log is down, and nothing before
 abbrev pub TellsDown : Bool → List ℕ → Type 0
 TellsDown down told = (down ≡ false → told ≡ []) × (down ≡ true → told ≡ 1 ∷ [])
 
 module _ {D : Type 0} (file : D → List ℕ) (leaves : D → List ℕ → Type 0) where
-  -- the keeper and its files stand for this log
+  -- the keeper and its files represent this log
   abbrev pub LogStands : Log D → Logs → Type 0
   LogStands log logs = Stands log.keeper (file log.a) (file log.b) (leaves log.a) (leaves log.b) (record { journal = Writing logs; left = 0 })
 
-  -- The files tell what was told at first, and behind it the first of these records, but for those left out for a switch
-  -- at one of these ticks; the switch in work comes next, those that follow are queued, and once the log is down there may be
-  -- others that are lost. What is acknowledged is written, or one of these ticks isn't below it.
+  -- The files hold what they held at first, followed by the first of these records, except those left out for a switch at
+  -- one of these ticks. Then come the switch in work and the queued records. Once the log is down, others after them may be
+  -- lost. All ticks up to the acknowledged one are written, or one of these ticks isn't below it.
   pub record Writes (log : Log D) (ring : List Record) (covers : List ℕ) (acked : ℕ) (down : Bool) (first : Told) (all : List Record) : Type 0 where
     pub logs : Logs
     pub stands : LogStands log logs
@@ -166,8 +167,8 @@ module _ {D : Type 0} (file : D → List ℕ) (leaves : D → List ℕ → Type 
     pub tells : TellsDown w.down w.told_down.ticks
     pub writes : IsTrue honest → (logs : Logs) → LogStands w.opening logs → Writes w.log w.ring.items w.covers.ticks w.acked w.down (told_in logs) (records_of w.from.items)
 
--- what the log writer holds while it posts answers: the log as it began, the items that it popped, the word that it loads, and the
--- log and the queue as they are
+-- The log writer while it posts answers: the log as it began, the popped items, the word that it loads, and the log and the
+-- queue now.
 pub record Holding (D : Type 0) : Type 0 where
   pub opening : Log D
   pub from : Popping
@@ -175,8 +176,8 @@ pub record Holding (D : Type 0) : Type 0 where
   pub log : Log D
   pub ring : Buffer Record
 
--- The tick of this number is durable, and so are those before it, if the log stood for some ticks when the log writer began:
--- whatever a crash leaves, the files have the popped records up to it, or an image that was loaded as open has them.
+-- The ticks up to this number are durable, if keeper and files represented a log when the log writer began. Whatever a crash
+-- leaves, the files have the popped records up to this tick, or an image that was loaded as open has them.
 abbrev pub IsDurable : {D : Type 0} → (file : D → List ℕ) → (leaves : D → List ℕ → Type 0) → Holding D → (number : ℕ) → Type 0
 IsDurable file leaves held number =
     (first : Logs) → LogStands file leaves held.opening first
@@ -196,8 +197,8 @@ refused answers = record answers { waiting = []; answered = answers.answered + l
 
 -- ---- a step
 
--- With nothing left to do, an answer that still waits has no receipt. So it falls: it tells that the log is down, and refuses
--- each answer that waits. If none waits, nothing changes.
+-- With nothing left to do, an answer that still waits has no receipt. The log then goes down: the log writer reports it, and
+-- refuses each waiting answer. If none waits, nothing changes.
 abbrev pub Settles : {D : Type 0} → Logging D → Logging D → Type 0
 Settles old new = ((old.answers.waiting ≡ []) × (new ≡ old))
     ⊎ ((new.answers.posted < new.answers.answered) × (new ≡ record old { down = true; told_down = with_told old.told_down 1; answers = refused old.answers }))

@@ -1,4 +1,4 @@
--- The mutator as contracts see it, and what a turn of it does.
+-- The mutator as contracts see it, and the effect of its turn.
 use Rattle.std.specs.Prelude.{◌≡◌, ◌⊎◌, ℕ, ◌+◌, ◌<◌, ◌≤◌, Bool, true, false, List, [], ◌∷◌, ◌++◌, All, Option, Some, None, IfSome, MatchOption, Result, MatchResult}
 use Rattle.world_actions.specs.declared.refusal.Refusal.{Refusal}
 use Rattle.world_actions.specs.declared.refusal.Refusal.TheVariants.{LogDown, Busy}
@@ -15,9 +15,9 @@ use Rattle.workers.specs.Channel.{Pushing, with_item, with_refusal}
 use Rattle.workers.specs.Covering.{loaded}
 use Rattle.workers.specs.Worlds.{Leads, begun, AreUnchanged, History, Counts, RanBatch, IsRefusedTick, world_of}
 
--- its front, its end of the channel, the word by which it hears that the log is down, the words that it began with, how many
--- ticks ended, how many of them since the last switch or start, after how many a round is due, whether it has stopped, and the
--- item that it owes, if it owes one
+-- Its front, its end of the channel, and the word by which it hears that the log is down. The words that it began with. How
+-- many ticks ended, how many of them since the last switch or start, and after how many a round is due. Its flag that it has
+-- stopped, and the item that it owes, if any.
 pub record Playing : Type 0 where
   pub front : FrontState
   pub to : Pushing
@@ -29,15 +29,16 @@ pub record Playing : Type 0 where
   pub down : Bool
   pub owed : Option Item
 
--- It owes this item, which may be pushed next, and tells what the front did since the last push. Up to then it has stopped.
+-- It owes this item, which may be pushed next and states what the front did since the last push. Until then it has stopped.
 pub record Owes (m : Playing) (item : Item) : Type 0 where
   pub stopped : m.down ≡ true
   pub goes : Goes (items_end m.to.items) item
   pub leads : Leads (begun m.opening) (m.to.items ++ item ∷ []) (world_of m.front)
   pub rising : All (λ (r : Round). r.tick ≤ (end_after (items_end m.to.items) item).base) m.front.rounds
 
--- What it pushed tells what its front did, its counts are those of what it pushed, and each round is of a tick up to the
--- last switch. The cells that aren't touched have the words of the round before, in a round that is marked now, too.
+-- The pushed items state what its front did, and its counts are those of the pushed items. Unless it has stopped, each round
+-- is of a tick up to the last switch. In each round, and in one that is marked now, the untouched cells have the words of
+-- the round before.
 pub record IsMutator (m : Playing) : Type 0 where
   pub history : History m.opening m.to.items m.down m.front
   pub counts : Counts (items_end m.to.items) m.ended m.since
@@ -70,7 +71,7 @@ abbrev pub Marks : Playing → Playing → Type 0
 Marks old new = (new ≡ record old { front = new.front; to = new.to; since = 0 }) × OpensRound old new.front
     × (new.to ≡ with_item old.to (Switch old.ended))
 
--- a round was opened, and the push of its switch refused
+-- a round was opened, and the push of its switch was refused
 abbrev pub LosesSwitch : Playing → Playing → Type 0
 LosesSwitch old new = (new ≡ record old { front = new.front; to = with_refusal old.to; down = true }) × OpensRound old new.front
 
@@ -83,7 +84,7 @@ abbrev pub OwesSwitch : Playing → Playing → Type 0
 OwesSwitch old new =
     (old.down ≡ false) × (old.owed ≡ None) × (new ≡ record old { front = new.front; down = true; owed = Some (Switch old.ended) }) × OpensRound old new.front
 
--- where a round is due it is opened, if none is open
+-- if a round is due and none is open, it is opened
 abbrev pub MarksIfDue : Playing → Playing → Type 0
 MarksIfDue old new = ((new ≡ old) × ((old.down ≡ true) ⊎ IsEarly old)) ⊎ (FindsRound old new ⊎ (Marks old new ⊎ LosesSwitch old new))
 
@@ -97,7 +98,7 @@ pub record Runs (old : Playing) (asked : AskedBatch) (ended : Ended) (front : Fr
   pub ran : RanBatch asked.requests (world_of old.front) ended (world_of front)
   pub untouched : KeepsUntouched old.front front
 
--- the tick was pushed, before which the log wasn't told to be down
+-- the log wasn't reported to be down, and the tick was pushed
 abbrev pub PushesTick : Playing → AskedBatch → Playing → Type 0
 PushesTick old asked new = (new ≡ record old { front = new.front; to = new.to; heard = loaded old.heard 0; ended = old.ended + 1; since = old.since + 1 })
     × ((ended : Ended) × Runs old asked ended new.front × (new.to ≡ with_item old.to (Tick ended)))
@@ -106,31 +107,31 @@ PushesTick old asked new = (new ≡ record old { front = new.front; to = new.to;
 abbrev pub LosesTick : Playing → AskedBatch → Playing → Type 0
 LosesTick old asked new = (new ≡ record old { front = new.front; to = with_refusal old.to; heard = loaded old.heard 0; down = true }) × ((ended : Ended) × Runs old asked ended new.front)
 
--- the batch was run, before which the log wasn't told to be down, and its tick is owed
+-- the log wasn't reported to be down, the batch was run, and its tick is owed
 abbrev pub OwesTick : Playing → AskedBatch → Playing → Type 0
 OwesTick old asked new = (old.owed ≡ None)
     × ((ended : Ended) × Runs old asked ended new.front × (new ≡ record old { front = new.front; heard = loaded old.heard 0; down = true; owed = Some (Tick ended) }))
 
--- the log was told to be down
+-- the log was reported to be down
 abbrev pub HearsDown : Playing → Refusal → Playing → Type 0
 HearsDown old reason new = (flag : ℕ) × (1 ≤ flag) × (new ≡ record old { heard = loaded old.heard flag }) × (reason ≡ LogDown)
 
--- Nothing was run: no tick may end or memory was refused, or the log was told to be down, or the mutator has stopped, or stops
--- here because its gate never lets another batch run.
+-- Nothing was run. Either no tick may end or memory was refused, or the log was reported to be down. Or the mutator has
+-- stopped, or stops here because its gate never lets another batch run.
 abbrev pub RefusesBatch : (stuck : Type 0) → Playing → Refusal → Playing → Type 0
 RefusesBatch stuck old reason new =
     ((new ≡ record old { heard = loaded old.heard 0 }) × IsRefusedTick false old.ended old.since reason)
     ⊎ (HearsDown old reason new ⊎ ((new ≡ record old { down = true }) × (reason ≡ LogDown) × ((old.down ≡ true) ⊎ stuck)))
 
--- a batch is run, by a mutator that hasn't stopped and where the gate lets it, or refused
+-- a batch is run, if the mutator hasn't stopped and the gate lets it, or it is refused
 abbrev pub AnswersBatch : (go stuck : Type 0) → Playing → AskedBatch → Result (Unit {0}) Refusal → Playing → Type 0
 AnswersBatch go stuck old asked given new = MatchResult given (λ _. go × (old.down ≡ false) × (PushesTick old asked new ⊎ LosesTick old asked new)) (λ reason. RefusesBatch stuck old reason new)
 
--- the same, but that the tick is owed
+-- the same, except that the tick is owed
 abbrev pub RunsBatch : (go stuck : Type 0) → Playing → AskedBatch → Result (Unit {0}) Refusal → Playing → Type 0
 RunsBatch go stuck old asked given new = MatchResult given (λ _. go × (old.down ≡ false) × OwesTick old asked new) (λ reason. RefusesBatch stuck old reason new)
 
--- ---- what is owed
+-- ---- the owed item
 
 -- this item was pushed and counts, or its push was refused; it is owed no more
 abbrev pub PaysItem : Playing → Item → Playing → Type 0
@@ -142,13 +143,13 @@ PaysItem old (Switch number) new =
     ⊎ (new ≡ record old { to = with_refusal old.to; owed = None })
 PaysItem old item new = new ≡ record old { owed = None }
 
--- what is owed is pushed, or its push refused
+-- the owed item is pushed, or its push is refused
 abbrev pub Pays : Playing → Playing → Type 0
 Pays old new = MatchOption old.owed (new ≡ old) (λ item. PaysItem old item new)
 
 -- ---- a turn
 
--- a batch, and a mark before it and after it where one is due
+-- a batch, with a mark before it and after it if one is due
 pub record Turns (go stuck : Type 0) (old : Playing) (asked : AskedBatch) (given : Result (Unit {0}) Refusal) (new : Playing) : Type 0 where
   pub before : Playing
   pub after : Playing
@@ -158,6 +159,6 @@ pub record Turns (go stuck : Type 0) (old : Playing) (asked : AskedBatch) (given
 
 -- ---- the end
 
--- the last item was pushed, or its push refused
+-- the last item was pushed, or its push was refused
 abbrev pub EndsPlay : Playing → Playing → Type 0
 EndsPlay old new = (new ≡ record old { to = with_item old.to End }) ⊎ (new ≡ record old { to = with_refusal old.to; down = true })

@@ -1,4 +1,4 @@
--- What the mutator did, by what it pushed.
+-- The acts of the mutator, by the items that it pushed.
 use Rattle.std.specs.Prelude.{◌≡◌, ◌⊎◌, ℕ, ◌+◌, Bool, false, Some, None, List, [], ◌∷◌, ◌++◌, slice_index, ⊤}
 use Rattle.world_actions.specs.declared.refusal.Refusal.{Refusal}
 use Rattle.world_actions.specs.declared.refusal.Refusal.TheVariants.{NoMemory}
@@ -26,12 +26,12 @@ pub record RanBatch (requests : List Request) (w : World) (ended : Ended) (v : W
   pub words : v.words ≡ words_after requests w.words
   pub rounds : v.rounds ≡ w.rounds
 
--- No tick may end, for this reason; only where one may, memory was refused.
+-- No tick may end, for this reason. If one may end, the reason is that memory was refused.
 abbrev pub IsRefusedTick : (down : Bool) → (ended since : ℕ) → Refusal → Type 0
 IsRefusedTick down ended since reason =
     ((tick_refusal down ended since ≡ None) × (reason ≡ NoMemory)) ⊎ (tick_refusal down ended since ≡ Some reason)
 
--- a tick's item is its batch's; a switch's is a round of the words as they were
+-- The item of a tick states its batch. The item of a switch states a round of the words at that time.
 abbrev pub after_item : World → Item → World → Type 0
 after_item w (Start number) v = v ≡ w
 after_item w (Tick ended) v = (requests : List Request) × RanBatch requests w ended v
@@ -54,19 +54,19 @@ world_of front = record { words = front.live; rounds = front.rounds }
 abbrev pub IsUnchanged : (before : List ℕ) → Round → Type 0
 IsUnchanged before r = (i : ℕ) → flag_at r.touched i ≡ false → slice_index r.words i ≡ slice_index before i
 
--- each round's cells that aren't touched have the words of the round before it, and of the first one these
+-- in each round the untouched cells have the words of the round before it, and in the first round these words
 abbrev pub AreUnchanged : List ℕ → List Round → Type 0
 AreUnchanged before [] = ⊤
 AreUnchanged before (r ∷ rounds) = IsUnchanged before r × AreUnchanged r.words rounds
 
--- ---- what the front did
+-- ---- the acts of the front
 
 -- no round, or one whose switch the channel refused
 abbrev pub IsLate : (items late : List Item) → Type 0
 IsLate items late = (late ≡ []) ⊎ ((number : ℕ) × (late ≡ Switch number ∷ []) × Goes (items_end items) (Switch number))
 
--- The items pushed tell what the front did, together with the switch of the last round where its push was refused. Only a
--- tick whose push was refused is told by none.
+-- The pushed items state what the front did, together with the switch of the last round if its push was refused. Only a tick
+-- whose push was refused is stated by no item.
 pub record History (opening : List ℕ) (items : List Item) (down : Bool) (front : FrontState) : Type 0 where
   pub late : List Item
   pub is_late : IsLate items late

@@ -13,9 +13,9 @@ use std::alloc::Global;
 use world_actions::Refusal;
 use world_ticks::Tick;
 
-/// Runs a batch on the front as the next tick: its accepted actions, and the line that answers it, in the memory of
-/// `buffer` if that suffices. `down` says if the log is, `ended` how many ticks ended, and `since` how many of them since the
-/// last mark or start.
+/// Runs a batch on the front as the next tick. Returns its accepted actions, and the line that answers it, which is in the
+/// memory of `buffer` if that suffices. `down` says if the log is down, `ended` how many ticks ended, and `since` how many
+/// of them since the last mark or start.
 pub fn play<M: Method>(
     alloc: Global,
     buffer: Vec<u8>,

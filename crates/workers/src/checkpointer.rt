@@ -27,12 +27,12 @@ mod round;
 
 pub use round::ImageWriter;
 
-/// Writes the image of each round that the front opens, while play goes on.
+/// Writes the image of each round that the front opens, while play continues.
 #[derive(Drop)]
 pub struct Checkpointer<M: Method, D: Disk + Drop, G: Gate + Drop> {
     gate: G,
     pub(crate) back: Back<M>,
-    /// Told the tick of each image that is open.
+    /// Gets the tick of each image that is open.
     pub(crate) covers: Publisher,
     images: ImageWriter<D>,
     opening: Snapshot<ImageWriter<D>>,
@@ -79,14 +79,15 @@ impl<M: Method, D: Disk + Drop, G: Gate + Drop> Checkpointer<M, D, G> {
         }
     }
 
-    /// Whether it does no more: the bell's other end is gone, a call of a device failed, or the gate holds it for good.
+    /// True if it does no more. The bell's other end is gone, a call of a device failed, or the gate holds it for good. Or
+    /// no image is made of the open round.
     pub fn is_over(&self) -> bool
         ensures { result ≡ self.now.over }
     {
         self.over
     }
 
-    /// Whether no image is written any more: a call of a device failed.
+    /// True if a call of a device failed, so that no image is written any more.
     pub fn is_down(&self) -> bool
         ensures { IsTrue result ↔ (self.now.images.keeper.phase ≡ Down) }
     {
@@ -100,7 +101,7 @@ impl<M: Method, D: Disk + Drop, G: Gate + Drop> Checkpointer<M, D, G> {
         &self.images
     }
 
-    /// Writes the image of the open round, publishes its tick and answers it, or waits for the bell where none is open. A
+    /// Writes the image of the open round, publishes its tick and returns it. If no round is open it waits for the bell. A
     /// round whose image can't be written stays open, so that no other is begun.
     pub fn turn<R: Wait>(&mut self, rt: &R) -> Option<u64>
         requires goes_on { self.old.over ≡ false }
@@ -124,7 +125,8 @@ impl<M: Method, D: Disk + Drop, G: Gate + Drop> Checkpointer<M, D, G> {
         if self.over { None } else { Some(tick) }
     }
 
-    /// Looks for an open round, begins its image, and returns its tick. It is over if no image is made of that tick.
+    /// Looks for an open round, begins its image, and returns its tick. The checkpointer is over if no image is made of that
+    /// tick.
     pub fn begin(&mut self) -> Option<u64>
         requires goes_on { self.old.over ≡ false }
         requires idle { self.old.images.keeper.phase ≡ Idle }
@@ -143,8 +145,8 @@ impl<M: Method, D: Disk + Drop, G: Gate + Drop> Checkpointer<M, D, G> {
         Some(tick)
     }
 
-    /// Makes a step of the round in work, if the gate lets it be made. It is over if a call of a device failed, or the gate
-    /// is stuck.
+    /// Makes a step of the round in work, if the gate lets it. The checkpointer is over if a call of a device failed or the
+    /// gate is stuck.
     pub fn step<R: Wait>(&mut self, rt: &R)
         requires goes_on { self.old.over ≡ false }
         requires left { 0 < left_of self.old.images.keeper }
@@ -169,7 +171,7 @@ impl<M: Method, D: Disk + Drop, G: Gate + Drop> Checkpointer<M, D, G> {
         self.over = self.images.keeper.is_down();
     }
 
-    // Steps the round in work to its end, or until it is over.
+    // Steps the round in work to its end, or until the checkpointer is over.
     fn run_round<R: Wait>(&mut self, rt: &R)
         requires goes_on { self.old.over ≡ false }
         requires round { HasRound self.old.images.keeper × (self.old.images.keeper.phase ≢ Down) × (self.old.back.working ≡ true) }
@@ -197,8 +199,8 @@ fn next_place(images: &ImageKeeper) -> Place
     }
 }
 
-// Whether an image is to be made of a round of this tick: there is such a tick, and the newest image is older. So it is
-// of each round that the front opens, which no load of the phase tells by itself.
+// True if an image is to be made of a round of this tick: there is such a tick, and the newest image is older. This holds
+// for each round that the front opens, but a load of the phase alone doesn't show it.
 fn is_due(images: &ImageKeeper, tick: u64) -> bool
     ensures due { result ≡ true → (tick ≤ TICK_MAX) × (newest_tick images.now.newest < tick) }
     ensures not_due { result ≡ false → IsNoneDue images.now.newest tick }
@@ -206,7 +208,7 @@ fn is_due(images: &ImageKeeper, tick: u64) -> bool
     tick <= TICK_MAX && tick > newest_tick(images)
 }
 
-// The tick of the newest image, or 0 where there is none.
+// The tick of the newest image, or 0 if there is none.
 fn newest_tick(images: &ImageKeeper) -> u64
     ensures { result ≡ newest_tick images.now.newest }
 {

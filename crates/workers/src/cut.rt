@@ -1,6 +1,6 @@
 use crate::gate::{Gate, Pass, Place};
 
-/// Lets its worker make so many steps, and then holds it for good. Workers that are cut so leave their files as a crash
+/// Lets its worker make `left` steps, and then holds it for good. Workers that are cut off leave their files as a crash
 /// between two steps would.
 #[derive(Clone, Copy, Debug, Drop)]
 pub struct Cut {

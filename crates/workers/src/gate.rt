@@ -1,4 +1,4 @@
-//! What holds a worker at a step.
+//! Gates, which can hold a worker at a step.
 ghost use Rattle.std.specs.Prelude.{◌≡◌, true, false};
 ghost use Rattle.workers.specs.Gates.{MayGo, MayStick};
 
@@ -16,7 +16,7 @@ pub enum Place {
     Device,
 }
 
-/// Whether a worker may go on.
+/// The answer of a gate: the worker may make its step, or not.
 #[derive(Clone, Copy, Debug, PartialEq, Eq)]
 pub enum Pass {
     Go,
@@ -26,19 +26,19 @@ pub enum Pass {
     Stuck,
 }
 
-/// Asked before each step of a worker, in the worker's thread. Tests hold workers by it.
+/// A gate is asked before each step of a worker, in the worker's thread. Tests use gates to hold workers.
 pub trait Gate {
     ghost use Rattle.workers.specs.declared.gate.Place.{Place};
     ghost use Rattle.workers.specs.declared.gate.Pass.{Pass};
 
-    /// What the gate may answer in each state, and the state after it.
+    /// The answers that the gate may give in each state, and the state after each.
     ghost told: { Self → Place → Pass → Self → Type 0 };
 
     fn at(&mut self, place: Place) -> Pass
         ensures { told self.old place result self.new };
 }
 
-/// Lets every step go on.
+/// Lets every step pass.
 #[derive(Clone, Copy, Debug, Drop)]
 pub struct Open;
 
@@ -53,7 +53,7 @@ impl Gate for Open {
     }
 }
 
-/// Asks until the gate lets the step go on, or never will.
+/// Asks until the gate lets the step pass, or says that it never will. Returns true if the step may be made.
 pub(crate) fn passes<R: Wait, G: Gate>(rt: &R, gate: &mut G, place: Place) -> bool
     ensures goes { result ≡ true → MayGo G.told place }
     ensures sticks { result ≡ false → MayStick G.told place }

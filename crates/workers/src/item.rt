@@ -1,4 +1,4 @@
-//! What goes from the mutator to the log writer.
+//! The items that go from the mutator to the log writer.
 use crate::post::Waiting;
 use world_ticks::Tick;
 
@@ -21,7 +21,8 @@ pub enum Item {
     End,
 }
 
-/// What an end of the channel knows. No value of it is made: a clause reads an array as a list of any length.
+/// The knowledge of an end of the channel. No value of this type is made, and a clause reads an array as a list of any
+/// length.
 pub enum View {
     Spent,
     Pushes([Item; 0]),

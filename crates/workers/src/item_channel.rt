@@ -54,7 +54,7 @@ impl Model for ItemSender {
 pub struct ItemReceiver {
     end: ReceiveEnd,
     pass: Pass<Item, View>,
-    /// How often it looks for an item before it sleeps. Without this it sleeps as the channel does.
+    /// How often it looks for an item before it sleeps. If this is `None`, it waits as the channel does.
     looks: Option<Looks>,
 }
 
@@ -70,7 +70,7 @@ impl Model for ItemReceiver {
     ghost invariant = { λ r. IsReceiver r.end r.pass };
 }
 
-/// A channel of 64 items for a log that begins after the tick of this number: the start is pushed and popped.
+/// Makes a channel of 64 items, for a log that begins after the tick of this number. The start is already pushed and popped.
 pub fn open<R: Wait>(
     rt: &R,
     alloc: Global,
@@ -109,7 +109,7 @@ pub fn open<R: Wait>(
 }
 
 impl ItemSender {
-    /// Pushes the item at the back, and waits while the channel is full. It answers false where the receiver is gone.
+    /// Pushes the item at the back, and waits while the channel is full. Returns false if the receiver is gone.
     pub fn push<R: Wait>(&mut self, rt: &R, item: Item) -> bool
         requires goes { Goes (items_end self.old.items) item }
         ensures end { self.new.end ≡ self.old.end }
@@ -127,7 +127,7 @@ impl ItemSender {
 }
 
 impl ItemReceiver {
-    /// Looks for items by these looks from now on.
+    /// Uses these looks for items from now on.
     pub(crate) fn look_by(&mut self, looks: Looks)
         ensures { self.new ≡ self.old }
     {
@@ -195,8 +195,8 @@ fn compare_passes(
     *theirs = end.another::<Part>(mine);
 }
 
-/// Once the two ends are in one thread again, what was popped is known to be a beginning of what was pushed, each where it
-/// may stand.
+/// Lets the two ends meet, once they are in one thread again. Then the popped items are known to be a beginning of the
+/// pushed ones, and each item is where it may be.
 pub fn compare(to: &mut ItemSender, from: &mut ItemReceiver)
     requires { AreOneChannel from.old.end to.old.end }
     ensures same { (to.new ≡ to.old) × (from.new ≡ from.old) }

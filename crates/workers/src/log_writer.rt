@@ -46,15 +46,15 @@ pub struct Log<D: Disk + Drop> {
     pub b: D,
 }
 
-/// Writes what it pops to the log, but for what an open image has, and answers what is durable. It begins after the start
-/// of the log.
+/// Writes the popped records to the log, except those that an open image has, and answers the durable ticks. It begins
+/// after the start of the log.
 #[derive(Drop)]
 pub struct LogWriter<D: Disk + Drop, G: Gate + Drop> {
     gate: G,
     pub(crate) from: ItemReceiver,
-    /// Tells the tick of the newest open image.
+    /// Holds the tick of the newest open image.
     pub(crate) covers: CoverIn,
-    /// Told 1 once the log is down.
+    /// Gets a 1 once the log is down.
     pub(crate) told_down: CoverOut,
     log: Log<D>,
     ring: HeapCircularBuffer<Record>,
@@ -79,7 +79,7 @@ impl<D: Disk + Drop, G: Gate + Drop> Model for LogWriter<D, G> {
 
 impl<D: Disk + Drop, G: Gate + Drop> LogWriter<D, G> {
     /// A log writer for a log that begins after this tick. Its keeper has just made the start, the channel was just
-    /// opened, and no image is told yet.
+    /// opened, and no tick of an open image has come yet.
     pub fn new(
         alloc: Global,
         gate: G,
@@ -115,21 +115,21 @@ impl<D: Disk + Drop, G: Gate + Drop> LogWriter<D, G> {
         })
     }
 
-    /// Looks for items by these looks before it sleeps, from now on.
+    /// Uses these looks for items before it sleeps, from now on.
     pub fn look_by(&mut self, looks: Looks)
         ensures { self.new ≡ self.old }
     {
         self.from.look_by(looks);
     }
 
-    /// Whether there are no more items.
+    /// True if there are no more items.
     pub fn is_over(&self) -> bool
         ensures { result ≡ self.now.over }
     {
         self.over
     }
 
-    /// Whether the log is down: no tick is acknowledged any more.
+    /// True if the log is down, so that no tick is acknowledged any more.
     pub fn is_down(&self) -> bool
         ensures { result ≡ self.now.down }
     {
@@ -143,14 +143,14 @@ impl<D: Disk + Drop, G: Gate + Drop> LogWriter<D, G> {
         &self.log
     }
 
-    /// The greatest tick of a receipt, or else that of the start.
+    /// The greatest tick of a receipt, or the tick of the start if there is no receipt.
     pub fn acked(&self) -> u64
         ensures { result ≡ self.now.acked }
     {
         self.acked
     }
 
-    // The log is down: tells it, and refuses each answer that waits.
+    // The log is down: reports it to the mutator, and refuses each answer that waits.
     fn fall<R: Wait>(&mut self, rt: &R)
         requires up { self.old.down ≡ false }
         ensures { self.new ≡ record self.old {
@@ -164,7 +164,7 @@ impl<D: Disk + Drop, G: Gate + Drop> LogWriter<D, G> {
         self.answers.refuse_all(rt);
     }
 
-    // Pops an item and keeps it. It waits for one.
+    // Waits for an item, pops it and keeps it.
     fn take<R: Wait>(&mut self, rt: &R)
         requires up { self.old.down ≡ false }
         requires goes_on { self.old.over ≡ false }
@@ -195,7 +195,7 @@ impl<D: Disk + Drop, G: Gate + Drop> LogWriter<D, G> {
         }
     }
 
-    // Pops what is there and keeps it, as long as there is room.
+    // Pops the items that are there and keeps them, as long as there is room.
     fn gather<R: Wait>(&mut self, rt: &R)
         requires up { self.old.down ≡ false }
         requires goes_on { self.old.over ≡ false }
@@ -209,7 +209,7 @@ impl<D: Disk + Drop, G: Gate + Drop> LogWriter<D, G> {
         }
     }
 
-    // Pops an item, waiting for one, and what is there behind it, as long as there is room.
+    // Waits for an item, and pops it with those behind it, as long as there is room.
     fn fill<R: Wait>(&mut self, rt: &R)
         requires up { self.old.down ≡ false }
         requires goes_on { self.old.over ≡ false }
@@ -223,8 +223,8 @@ impl<D: Disk + Drop, G: Gate + Drop> LogWriter<D, G> {
         self.gather(rt);
     }
 
-    /// Makes a step of the log, if the gate lets it, or leaves out what the newest open image has. It posts what that made
-    /// durable.
+    /// Leaves out the records that the newest open image has, or makes a step of the log, if the gate lets it. It posts the
+    /// answers of the ticks that became durable.
     pub fn step<R: Wait>(&mut self, rt: &R)
         requires up { self.old.down ≡ false }
         ensures same { self.new
@@ -290,15 +290,15 @@ impl<D: Disk + Drop, G: Gate + Drop> LogWriter<D, G> {
         }
     }
 
-    /// Whether a step is left to make, unless the log is down.
+    /// True if a step is left to make, unless the log is down.
     pub fn has_work(&self) -> bool
         ensures { IsTrue result ↔ (0 < work_of self.now.log.keeper self.now.ring.items) }
     {
         self.log.keeper.has_work(&self.ring)
     }
 
-    /// Ends what is written: an answer that still waits has no receipt, so it is refused, and the log counts as down. The
-    /// caller has no step left to make.
+    /// Ends the writing, for callers that have no step left to make. An answer that still waits has no receipt, so it is
+    /// refused, and the log counts as down.
     pub fn settle<R: Wait>(&mut self, rt: &R)
         requires up { self.old.down ≡ false }
         ensures { Settles self.old self.new }
@@ -309,7 +309,7 @@ impl<D: Disk + Drop, G: Gate + Drop> LogWriter<D, G> {
     }
 
     /// Pops an item and keeps it, if there is one and room for it, without waiting. Once the log is down it pops an item and
-    /// refuses its answer. Returns whether it popped one.
+    /// refuses its answer. Returns true if it popped one.
     pub fn pop<R: Wait>(&mut self, rt: &R) -> bool
         requires goes_on { self.old.over ≡ false }
         ensures popped { result ≡ true → (item : Popped) × Pops self.old item self.new }
@@ -341,7 +341,7 @@ impl<D: Disk + Drop, G: Gate + Drop> LogWriter<D, G> {
         }
     }
 
-    // Pops an item, waiting for one, and refuses its answer: the log is down.
+    // Waits for an item, pops it and refuses its answer: the log is down.
     fn refuse_next<R: Wait>(&mut self, rt: &R)
         requires down { self.old.down ≡ true }
         requires goes_on { self.old.over ≡ false }
@@ -358,8 +358,8 @@ impl<D: Disk + Drop, G: Gate + Drop> LogWriter<D, G> {
         }
     }
 
-    /// Pops an item, waiting for one, and what is there behind it, as long as there is room; writes all that to the log,
-    /// but for what an open image has, and answers what is durable. Once the log is down it pops an item and refuses it.
+    /// Waits for an item, and pops it with those behind it, as long as there is room. It writes them to the log, except
+    /// those that an open image has, and answers the durable ticks. Once the log is down it pops an item and refuses it.
     pub fn turn<R: Wait>(&mut self, rt: &R)
         requires goes_on { self.old.over ≡ false }
         requires rest { IsAtRest self.old }

@@ -26,7 +26,7 @@ pub struct Counted<'a> {
 }
 
 impl Looks {
-    /// No session waits yet, on a machine with so many processors.
+    /// The looks on a machine with this number of processors. No session waits yet.
     pub fn new(alloc: Global, processors: u64) -> Result<Self, AllocError> {
         Ok(Looks {
             waiting: Arc::new(alloc, AtomicU64::new(0))?,
@@ -78,7 +78,7 @@ impl Drop for Counted<'_> {
     }
 }
 
-// How often a session looks while so many wait.
+// How often a session looks while this number of sessions waits.
 fn session_looks(waiting: u64, processors: u64) -> u32
     ensures { result ≡ session_looks waiting processors }
 {
@@ -89,7 +89,7 @@ fn session_looks(waiting: u64, processors: u64) -> u32
     }
 }
 
-// How often a worker looks while so many sessions wait.
+// How often a worker looks while this number of sessions waits.
 fn worker_looks(waiting: u64, processors: u64) -> u32
     ensures { result ≡ worker_looks waiting processors }
 {

@@ -15,8 +15,8 @@ use crate::mutator::Mutator;
 use disk_model::Disk;
 use shared_capture::{Method, meet, meet_cover};
 
-/// The ends of a world's workers meet: their seats, their channel and their two words. What is true of each worker between
-/// two steps is told with it, for whom it is only a value.
+/// Lets the ends of a world's workers meet: their seats, their channel and their two words. It also states the invariant of
+/// each worker, for callers that see a worker only as a value.
 pub fn meet_workers<M: Method, D: Disk + Drop, A: Gate + Drop, B: Gate + Drop, C: Gate + Drop>(
     mutator: &mut Mutator<M, A>,
     checkpointer: &mut Checkpointer<M, D, B>,

@@ -21,9 +21,9 @@ use std::snapshot::Snapshot;
 use std::sync::Wait;
 use world_actions::Refusal;
 
-/// Runs batches on the front, and pushes their ticks and the switches of the rounds that it opens. Contracts
-/// see that what it pushed tells what the front did: each answer is that of its batch at its place, and each
-/// round has the words after the ticks pushed before its switch.
+/// Runs batches on the front, and pushes their ticks and the switches of the rounds that it opens. Contracts see that the
+/// pushed items state what the front did. Each answer is that of its batch at its place, and each round has the words after
+/// the ticks pushed before its switch.
 #[derive(Drop)]
 pub struct Mutator<M: Method, G: Gate + Drop> {
     gate: G,
@@ -33,13 +33,13 @@ pub struct Mutator<M: Method, G: Gate + Drop> {
     opening: Snapshot<Front<M>>,
     /// Rung after each switch.
     bell: Option<Sender<()>>,
-    /// Tells 1 once the log is down.
+    /// Holds 1 once the log is down.
     pub(crate) heard: CoverIn,
     ended: u64,
     since: u64,
     every: u64,
     down: bool,
-    /// What the front did last and isn't pushed yet. The mutator has stopped up to its push.
+    /// The item of the front's last act, if it isn't pushed yet. Until the push, the mutator has stopped.
     owed: Option<Item>,
 }
 
@@ -97,8 +97,8 @@ impl<M: Method, G: Gate + Drop> Mutator<M, G> {
         self.ended
     }
 
-    /// Runs a batch and pushes its tick, and opens a round before it and after it where one is due and none
-    /// is open. A batch that isn't run is answered here, by the refusal that is given back.
+    /// Runs a batch and pushes its tick. Before and after it, opens a round if one is due and none is open. A batch that
+    /// isn't run is answered here, by the refusal that is returned.
     pub fn turn<R: Wait>(&mut self, rt: &R, ask: Ask) -> Result<(), Refusal>
         ensures { Turns (MayGo G.told Tick) (MayStick G.told Tick) self.old ask result self.new }
     {
@@ -117,7 +117,7 @@ impl<M: Method, G: Gate + Drop> Mutator<M, G> {
         }
     }
 
-    /// Opens a round if one is due, and owes its switch. Returns whether it did.
+    /// Opens a round if one is due, and owes its switch. Returns true if it did.
     pub fn open_if_due(&mut self) -> bool
         ensures opened { result ≡ true → OwesSwitch self.old self.new }
         ensures none { result ≡ false → OpensNone self.old self.new }
@@ -133,7 +133,7 @@ impl<M: Method, G: Gate + Drop> Mutator<M, G> {
         true
     }
 
-    /// Runs a batch, and pushes its tick with the answer, or answers the refusal.
+    /// Runs a batch, and pushes its tick with the answer, or answers with the refusal.
     pub fn play_batch<R: Wait>(&mut self, rt: &R, ask: Ask) -> Result<(), Refusal>
         ensures { AnswersBatch (MayGo G.told Tick) (MayStick G.told Tick) self.old ask result self.new }
     {
@@ -146,7 +146,7 @@ impl<M: Method, G: Gate + Drop> Mutator<M, G> {
         }
     }
 
-    /// Runs a batch, and owes its tick with the answer, or answers the refusal.
+    /// Runs a batch, and owes its tick with the answer, or answers with the refusal.
     pub fn run_batch<R: Wait>(&mut self, rt: &R, ask: Ask) -> Result<(), Refusal>
         ensures { RunsBatch (MayGo G.told Tick) (MayStick G.told Tick) self.old ask result self.new }
     {
@@ -183,7 +183,7 @@ impl<M: Method, G: Gate + Drop> Mutator<M, G> {
         Ok(())
     }
 
-    /// Pushes what it owes, if it owes anything. If the push is refused it has stopped for good.
+    /// Pushes the item that it owes, if it owes one. If the push is refused, the mutator has stopped for good.
     pub fn pay<R: Wait>(&mut self, rt: &R)
         ensures { Pays self.old self.new }
     {
@@ -209,7 +209,7 @@ impl<M: Method, G: Gate + Drop> Mutator<M, G> {
         }
     }
 
-    /// Tells the log writer and the checkpointer that no more comes.
+    /// Reports to the log writer and the checkpointer that no more comes.
     pub fn end<R: Wait>(&mut self, rt: &R)
         ensures { EndsPlay self.old self.new }
     {
@@ -229,7 +229,7 @@ fn ring<R: Wait, M: Method>(rt: &R, bell: &Option<Sender<()>>, _front: &Front<M>
     }
 }
 
-// Whether the log writer has told that the log is down.
+// True if the log writer has reported that the log is down.
 fn hears_down(heard: &mut CoverIn) -> bool
     ensures up { result ≡ false → heard.new ≡ loaded heard.old 0 }
     ensures down { result ≡ true → (flag : ℕ) × (1 ≤ flag) × (heard.new ≡ loaded heard.old flag) }

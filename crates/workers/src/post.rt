@@ -37,7 +37,7 @@ impl SessionBatch {
         &self.batch
     }
 
-    // Whether it is the last ask of this session, for this batch.
+    // True if it is the last ask of this session, for this batch.
     fn is_last_of(&self, asker: &Asker, batch: &Batch) -> bool
         ensures { result ≡ true
             → self.now ≡ record { session = asker.now.session; ask = asker.now.asked; requests = batch.now.list } }
@@ -49,7 +49,7 @@ impl SessionBatch {
     }
 }
 
-// Whether two batches ask for the same.
+// True if two batches ask for the same.
 fn are_same(xs: &[Request], ys: &[Request]) -> bool
     ensures { result ≡ true → xs.now ≡ ys.now }
 {
@@ -64,7 +64,7 @@ pub struct Asker {
 }
 
 impl Asker {
-    /// No ask was made yet in the session of this number.
+    /// The asker of the session of this number, which has made no ask yet.
     pub fn new(session: u64) -> Self
         ensures { result ≡ record { session = session; asked = 0 } }
     {
@@ -93,7 +93,7 @@ impl Asker {
     }
 }
 
-/// A batch of a session, which alone knows where its answer goes. Only an `Asker` makes one.
+/// A batch of a session. It alone knows where its answer goes, and only an `Asker` makes one.
 #[derive(Drop)]
 pub struct Ask {
     asked: SessionBatch,
@@ -117,14 +117,14 @@ impl Ask {
         self.asked.batch()
     }
 
-    /// The buffer for its answer, once; then there is none.
+    /// Takes the buffer for its answer. A second call returns an empty one.
     pub(crate) fn take_buffer(&mut self, alloc: Global) -> Vec<u8>
         ensures { self.new ≡ self.old }
     {
         mem::replace(&mut self.buffer, Vec::new(alloc))
     }
 
-    /// Its answer, which waits for the tick of this number.
+    /// Turns the ask into its answer, which waits for the tick of this number.
     pub(crate) fn wait(self, number: u64, text: Vec<u8>) -> Waiting
         requires answers { IsAnswer self text.items number }
         ensures { result ≡ record { number = number; asked = self; text = text.items } }
@@ -142,7 +142,7 @@ impl Ask {
         }
     }
 
-    /// Tells its session why it isn't run.
+    /// Reports to its session why it isn't run.
     pub fn refuse<R: Wait>(self, rt: &R, reason: Refusal) {
         let Ask {
             asked: _,
@@ -184,7 +184,7 @@ impl Post {
         self.tick
     }
 
-    /// Whether it answers the last ask of this session, which was for this batch.
+    /// True if it answers the last ask of this session, which was for this batch.
     pub fn is_for(&self, asker: &Asker, batch: &Batch) -> bool
         ensures { result ≡ true → self.now.asked
             ≡ record { session = asker.now.session; ask = asker.now.asked; requests = batch.now.list } }
@@ -209,7 +209,7 @@ impl Post {
     }
 }
 
-/// What a session gets for a batch.
+/// The reply to a session for a batch.
 #[derive(Drop)]
 pub enum Reply {
     Post(Post),
@@ -259,7 +259,7 @@ impl Waiting {
         to.send(rt, Reply::Post(post));
     }
 
-    /// Tells its session a fault: the log is down.
+    /// Reports a fault to its session: the log is down.
     pub(crate) fn refuse<R: Wait>(self, rt: &R) {
         let Waiting {
             number: _,
@@ -270,7 +270,7 @@ impl Waiting {
         to.send(rt, Reply::Fault(Refusal::LogDown));
     }
 
-    // The post that it becomes, and its session.
+    // Turns it into its post, with the sender to its session.
     fn into_post(self, receipt: Receipt) -> (Post, ReplySender)
         requires durable { self.number ≤ receipt }
         ensures post { result.0 ≡ record { tick = self.number; asked = self.asked; text = self.text; receipt = receipt } }

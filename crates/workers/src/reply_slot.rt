@@ -1,4 +1,4 @@
-//! Where the replies to a session come, one at a time.
+//! The slot for the replies to a session, which come one at a time.
 ghost use Rattle.std.specs.Prelude.{◌≡◌, ⊤};
 
 use crate::post::Reply;
@@ -14,28 +14,28 @@ const EMPTY: u64 = 0;
 /// Nothing has come, and the session sleeps.
 const ASLEEP: u64 = 1;
 
-/// The sender is gone. What it sent, if anything, is there.
+/// The sender is gone. Its reply is there, if it sent one.
 const SENT: u64 = 2;
 
-// One place for a reply, and whether one has come.
+// One place for a reply, and its state: if a reply has come.
 #[derive(Drop)]
 struct Place {
     state: AtomicU64,
     reply: Mutex<Option<Reply>>,
 }
 
-/// The session's end, for its life.
+/// The session's end, which it has for its whole life.
 #[derive(Drop)]
 pub struct ReplySlot {
     place: Arc<Place, Global>,
 }
 
-/// The end that goes with an ask. One that is dropped unused tells the session that no reply comes.
+/// The end that goes with an ask. If it is dropped unused, the session finds that no reply comes.
 pub struct ReplySender {
     place: Arc<Place, Global>,
 }
 
-// Clauses see nothing of an end: what a reply is, its own type tells.
+// Clauses see nothing of an end. The type of a reply carries its promise.
 impl Model for ReplySlot {
     ghost Value = { ⊤ };
 
@@ -49,7 +49,7 @@ impl Model for ReplySender {
 }
 
 impl ReplySlot {
-    /// Nothing has come. Only this takes memory.
+    /// An empty slot. Only this call takes memory.
     pub fn new(alloc: Global) -> Result<Self, AllocError> {
         let place = Place {
             state: AtomicU64::new(EMPTY),
@@ -60,7 +60,7 @@ impl ReplySlot {
         })
     }
 
-    /// What sends the next reply. A session has one at a time, so the last one is gone.
+    /// Returns the sender of the next reply. A session has one sender at a time, so the last one is gone.
     pub fn sender(&self) -> Result<ReplySender, AllocError> {
         self.place.state.store(EMPTY, Ordering::SeqCst);
         Ok(ReplySender {
@@ -68,12 +68,13 @@ impl ReplySlot {
         })
     }
 
-    /// Whether the sender is gone, so that there is no more to wait for.
+    /// True if the sender is gone, so that there is no more to wait for.
     pub fn is_sent(&self) -> bool {
         self.place.state.load(Ordering::SeqCst) == SENT
     }
 
-    /// Looks for the reply so often, and then sleeps until the sender is gone. Nothing: it was dropped unused.
+    /// Looks for the reply up to `looks` times, and then sleeps until the sender is gone. Returns `None` if the sender was
+    /// dropped unused.
     pub fn wait<R: Wait>(&self, rt: &R, looks: u32) -> Option<Reply> {
         if !self.sees_sent(looks) {
             self.sleep(rt);
@@ -81,7 +82,7 @@ impl ReplySlot {
         self.place.reply.lock(rt).take()
     }
 
-    // Looks so often whether the sender is gone.
+    // Checks up to `looks` times if the sender is gone.
     fn sees_sent(&self, looks: u32) -> bool {
         for _ in 0..looks {
             if self.is_sent() {

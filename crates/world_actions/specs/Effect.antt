@@ -1,4 +1,4 @@
--- What an action does to a list of words, or why it is refused.
+-- The effect of an action on a list of words, or the reason why it is refused.
 use Rattle.std.specs.Prelude.{◌≡◌, ℕ, List, [], ◌∷◌, length, Bool, Option, Some, None, Result, Ok, Err, ℤ, pos, ◌+ℤ◌, neg_ℤ, ◌+◌, ◌-◌, min, ◌||◌, not, int_lt, nat_lt, nat_eq, unsigned_abs, slice_index, slice_set, if◌then◌else◌}
 use Rattle.world_actions.specs.declared.action.Action.{Action}
 use Rattle.world_actions.specs.declared.action.Action.TheVariants.{Set, Add, Transfer, Swap, Cap}
@@ -16,7 +16,7 @@ is_outside world cell = not (nat_lt cell (length world))
 abbrev pub is_not_between : ℤ → ℤ → ℤ → Bool
 is_not_between low high z = int_lt z low || int_lt high z
 
--- why an action is refused, if it is: the first line that holds decides
+-- the reason why an action is refused, if it is refused; the first line that holds decides
 abbrev pub refusal_of : List ℕ → Action → Option Refusal
 refusal_of world (Set cell value) =
     if is_outside world cell then Some BadCell else
@@ -50,7 +50,7 @@ pub record Write : Type 0 where
   pub cell : ℕ
   pub word : ℕ
 
--- what an accepted action writes, in order
+-- the writes of an accepted action, in order
 abbrev pub writes_of : List ℕ → Action → List Write
 writes_of world (Set cell value) =
     record { cell = cell; word = value } ∷ []
@@ -77,7 +77,7 @@ abbrev pub unless : {A : Type 0} → Option Refusal → A → Result A Refusal
 unless None outcome = Ok outcome
 unless (Some refusal) outcome = Err refusal
 
--- the effect of an action on a world: what it writes, unless it is refused
+-- the effect of an action on a world: the world after its writes, or its refusal
 abbrev pub effect : List ℕ → Action → Result (List ℕ) Refusal
 effect world action = unless (refusal_of world action) (written world (writes_of world action))
 
@@ -87,7 +87,7 @@ pub record Shows (world : List ℕ) (action : Action) (len first second : ℕ) :
   pub first_word : slice_index world (first_cell action) ≡ first
   pub second_word : slice_index world (second_cell action) ≡ second
 
--- the writes that a change stands for: the first cell's, and the second one's where there is one
+-- the writes of a change: the first cell's, then the second cell's if the change has a second word
 abbrev pub change_writes : Action → Change → List Write
 change_writes action change = record { cell = first_cell action; word = change.first } ∷ second_write change.second
   where

@@ -1,8 +1,8 @@
--- What a world is: a list of numbered words.
+-- A world: a list of numbered words.
 use Rattle.std.specs.Prelude.{ℕ, ◌≤◌, List, length, All}
 use Rattle.world_actions.specs.declared.world.TheConstants.{LIMIT, CELLS}
 
--- a number that may stand in a cell
+-- a number that a cell may hold
 abbrev pub IsWord : ℕ → Type 0
 IsWord word = word ≤ LIMIT
 

@@ -12,7 +12,7 @@ pub enum Action {
     Transfer { from: u32, to: u32, amount: u64 },
     /// Exchanges the words of two cells.
     Swap { a: u32, b: u32 },
-    /// Lowers a cell's word to a value where it is greater.
+    /// Lowers a cell's word to a value if the word is greater.
     Cap { cell: u32, value: u64 },
 }
 
@@ -21,7 +21,7 @@ pub enum Action {
 pub struct Change {
     /// The new word of the first cell.
     pub first: u64,
-    /// The new word of the second cell, where the action names two.
+    /// The new word of the second cell, if the action names two.
     pub second: Option<u64>,
 }
 
@@ -29,7 +29,7 @@ impl Action {
     ghost use Rattle.std.specs.Prelude.{◌≡◌};
     ghost use Rattle.world_actions.specs.Action.{first_cell, second_cell};
 
-    /// The cells that the action names, a single one twice.
+    /// Returns the two cells that the action names. If it names one, that cell is returned twice.
     pub fn cells(&self) -> (u32, u32)
         ensures first { result.0 ≡ first_cell self.now }
         ensures second { result.1 ≡ second_cell self.now }
@@ -50,8 +50,8 @@ ghost use Rattle.world_actions.specs.Action.{first_cell, second_cell};
 ghost use Rattle.world_actions.specs.World.{IsWord};
 ghost use Rattle.world_actions.specs.Effect.{Shows, refusal_of, writes_of, change_writes};
 
-/// Decides an action from the number of cells and the words at the two cells that it names, 0 for a
-/// cell that isn't below `len`. Whoever holds the words writes the change. It takes no memory.
+/// Decides an action from the number of cells and the words of the two cells that it names. The word of a cell that isn't
+/// below `len` is 0. The caller, which holds the words, writes the change. It takes no memory.
 pub fn check(a: &Action, len: usize, first: u64, second: u64) -> Result<Change, Refusal>
     requires first { IsWord first }
     requires second { IsWord second }
@@ -60,7 +60,7 @@ pub fn check(a: &Action, len: usize, first: u64, second: u64) -> Result<Change, 
     ensures writes { IfOk result (λ change. (world : List ℕ) → Shows world a.now len first second
         → writes_of world a.now ≡ change_writes a.now change) }
 
-    // What the writer of the change needs.
+    // For callers that write the change.
     ensures inside { OnOk result ((first_cell a.now < len) × (second_cell a.now < len)) }
     ensures limit { IfOk result (λ change. IsWord change.first × IfSome change.second IsWord) }
 {

@@ -1,4 +1,4 @@
-//! How an action of each kind is decided, from the number of cells and the words at its own.
+//! The decision on an action of each kind, from the number of cells and the words of the action's cells.
 ghost use Rattle.std.specs.Prelude.{◌≡◌, ℕ, List, ◌<◌, length, slice_index, OnOk, IfOk, IfSome};
 ghost use Rattle.std.specs.Result.{result_err};
 ghost use Rattle.world_actions.specs.declared.action.Action.TheVariants.{Set, Add, Transfer, Swap, Cap};

@@ -1,7 +1,7 @@
 use std::alloc::{AllocError, AllocFailed};
 use thiserror::Error;
 
-/// Why a call was refused. A refused call changes nothing, unless its own page says otherwise.
+/// Why a call was refused. A refused call changes nothing, unless its own comment says otherwise.
 #[derive(Clone, Copy, Debug, PartialEq, Eq, Error)]
 pub enum Refusal {
     /// An action or a read names a cell that the world doesn't have.
@@ -52,7 +52,7 @@ pub enum Refusal {
     /// A line isn't of the grammar.
     #[error("the line isn't understood")]
     BadLine,
-    /// A growth was really refused.
+    /// The system refused an allocation.
     #[error("there is no memory left")]
     NoMemory,
     /// A device, a reader or a writer failed in this call.
@@ -67,7 +67,7 @@ pub enum Refusal {
     /// The greatest tick number has been reached.
     #[error("the last tick number has been given out")]
     TicksEnded,
-    /// A file that is to be made anew holds something.
+    /// A file of a new world already holds something.
     #[error("a file already holds a world: choose an empty folder")]
     NotEmpty,
     /// No image of this tick, or of a later one, is open.
@@ -79,7 +79,7 @@ impl Refusal {
     ghost use Rattle.std.specs.Prelude.{◌≡◌};
     ghost use Rattle.world_actions.specs.Refusal.{code_of};
 
-    /// The number by which clients, scripts and exit texts know the refusal.
+    /// Returns the number by which clients, scripts and exit texts know the refusal.
     pub fn code(&self) -> u8
         ensures code { result ≡ code_of self.now }
     {

@@ -1,4 +1,4 @@
--- What lower crates say of their values, as it is of a core's state.
+-- The statements of lower crates on their values, turned into statements on a core's state.
 use Rattle.std.proofs.Common.{◌≡◌, ◌↔◌, ◌<◌, ◌+◌, ◌++◌, min, true, false, Bool, ℕ, List, [], ◌∷◌, ◌⊎◌, inl, inr, Some, None, refl, sym, ap, subst, ◌∙◌, arith}
 use Rattle.world_actions.specs.declared.action.Action.{Action}
 use Rattle.capture_core.specs.Content.{Content, Takes}
@@ -32,7 +32,7 @@ use Rattle.world_core.specs.declared.moves.Fate.TheVariants as fate_
 use Rattle.world_core.specs.State.{File, State, ImagesIn, LogIn, failures, HasFailed}
 use Rattle.world_core.specs.Moving.{calls_before_failure, CallsBy, FailsBy, CallsNone, StepsImageKeeper, StepsLogKeeper}
 
--- a store that was only read, and a tick that is the same
+-- a store that was only read, with the same running tick, leaves the state as it was
 pub only_read : (was now : State) (content : Content) (running : List Action) → content ≡ was.content → running ≡ was.running → was ≡ now
     → record was { content = content; running = running } ≡ now
 only_read was now content running c r e = (λ i. record was { content = c i; running = r i }) ∙ e
@@ -42,7 +42,7 @@ only_read was now content running c r e = (λ i. record was { content = c i; run
 abbrev pub called : File → Call → Bool → File → Type 0
 called = CallsThrough Calls
 
--- a file, the same armed, after the step, and disarmed
+-- a file: as it was, once armed, after the step, and once disarmed
 pub record IsMoved (fate : Fate) (file armed stepped new : File) : Type 0 where
   pub unarmed : file.left ≡ None
   pub armed_is : armed ≡ record file { left = calls_before_failure fate }
@@ -71,7 +71,7 @@ not_due file armed e h = (let g : None ≡ Some 0 = sym (ap (λ (f : File). f.le
 due : (file armed : File) → armed ≡ record file { left = Some 0 } → armed.left ≡ Some 0
 due file armed e = ap (λ (f : File). f.left) e
 
--- a call that is due counts as failed
+-- a call that is due to fail counts as failed
 counts : (call : Call) (armed stepped : File) → Fails Calls armed call stepped → Grew (failures armed) (failures stepped)
 counts (Write at bytes) armed stepped (true, made, own) = omega (arith, made.faults, own)
 counts (Write at bytes) armed stepped (false, failed, own) = (let below = ap (λ (file : FileState). file.faults) failed in omega (arith, below, own))
@@ -82,11 +82,11 @@ counts Sync armed stepped (same, own) = (let below = ap (λ (file : FileState). 
 grows : (file armed stepped : File) → armed ≡ record file { left = Some 0 } → CalledOnce called armed stepped → failures armed < last_count → failures stepped ≡ failures armed → ⊥
 grows file armed stepped e c few same = (let g = counts c.0 armed stepped (c.2.due (due file armed e)).1 in absurd (omega (arith, g, same, few)))
 
--- one of two files is called, once
+-- one of two files is called once
 abbrev pub OneCalledOnce : (one one' other other' : File) → Type 0
 OneCalledOnce one one' other other' = (CalledOnce called one one' × (other' ≡ other)) ⊎ ((one' ≡ one) × CalledOnce called other other')
 
--- no file was called, or one of the two, once
+-- no file was called, or one of the two once
 abbrev pub MayCall : (rests : Type 0) → (armed_a stepped_a armed_b stepped_b : File) → Type 0
 MayCall rests armed_a stepped_a armed_b stepped_b = (rests × (stepped_a ≡ armed_a) × (stepped_b ≡ armed_b)) ⊎ OneCalledOnce armed_a stepped_a armed_b stepped_b
 
@@ -102,14 +102,14 @@ fails_by fate_.Failed is_down rest a aa sa na b ab sb nb ma mb (inr (inl (call, 
 fails_by fate_.Failed is_down rest a aa sa na b ab sb nb ma mb (inr (inr (same, call))) (inr counts) = λ few_a few_b.
     absurd (grows b ab sb mb.armed_is call (let e = failures_before fate_.Failed b ab sb nb mb in omega (arith, few_b, e)) counts.1)
 
--- the call that is due fails, also by the file without its fuse
+-- the call that is due to fail also fails for the file before the move and after it
 fails_on : (fate : Fate) (call : Call) (file armed stepped new : File) → IsMoved fate file armed stepped new → Fails Calls armed call stepped → Fails Calls file call new
 fails_on fate (Write at bytes) file armed stepped new m h = subst (λ (f : File). Fails Calls f (Write at bytes) new) m.armed_is (subst (λ (f : File). Fails Calls armed (Write at bytes) f) (sym m.new_is) h)
 fails_on fate Length file armed stepped new m h = subst (λ (f : File). Fails Calls f Length new) m.armed_is (subst (λ (f : File). Fails Calls armed Length f) (sym m.new_is) h)
 fails_on fate (Read at count) file armed stepped new m h = subst (λ (f : File). Fails Calls f (Read at count) new) m.armed_is (subst (λ (f : File). Fails Calls armed (Read at count) f) (sym m.new_is) h)
 fails_on fate Sync file armed stepped new m h = subst (λ (f : File). Fails Calls f Sync new) m.armed_is (subst (λ (f : File). Fails Calls armed Sync f) (sym m.new_is) h)
 
--- one call of an armed file is one by its fate
+-- one call of an armed file is one call by its fate
 called_by : (fate : Fate) (file armed stepped new : File) → IsMoved fate file armed stepped new → CalledOnce called armed stepped → CalledOnce (CallsBy fate) file new
 called_by fate_.Done file armed stepped new m c =
     let none = not_due file armed m.armed_is in
@@ -125,7 +125,7 @@ called_by fate_.Failed file armed stepped new m c =
     let failed = c.2.due (due file armed m.armed_is) in
     (c.0, c.1, (failed.0, fails_on fate_.Failed c.0 file armed stepped new m failed.1))
 
--- a failure between the armed file and the one after the step is one of the move
+-- a failure between the armed file and the one after the step is a failure of the move
 pub has_failed : (fate : Fate) (a armed_a stepped_a new_a b armed_b stepped_b new_b : File) → IsMoved fate a armed_a stepped_a new_a → IsMoved fate b armed_b stepped_b new_b
     → Grew (failures armed_a) (failures stepped_a) ⊎ Grew (failures armed_b) (failures stepped_b) → HasFailed a new_a b new_b
 has_failed fate a aa sa na b ab sb nb ma mb (inl g) = inl (failures_after fate a aa sa na ma ∙ g ∙ ap (λ n. min (n + 1) last_count) (failures_before fate a aa sa na ma))
@@ -133,7 +133,7 @@ has_failed fate a aa sa na b ab sb nb ma mb (inr g) = inr (failures_after fate b
 
 -- ---- the image keeper
 
--- which file a step calls, by its phase: none, or one of the two
+-- the file that a step calls, by its phase: none, or one of the two
 abbrev IsCalled : Phase → (one one' other other' : File) → Type 0
 IsCalled phase one one' other other' =
     (CallsNone phase × (one' ≡ one) × (other' ≡ other)) ⊎ ((CallsNone phase → ⊥) × OneCalledOnce one one' other other')
@@ -158,7 +158,7 @@ may_call : (phase : Phase) (a a' b b' : File) → IsCalled phase a a' b b' → M
 may_call phase a a' b b' (inl none) = inl none
 may_call phase a a' b b' (inr (some, call)) = inr call
 
--- a step's call is one by the fate
+-- the call of a step is a call by the fate
 module _ (fate : Fate) (t at st nt n an sn nn : File) (mt : IsMoved fate t at st nt) (mn : IsMoved fate n an sn nn) where
   neither : (st ≡ at) × (sn ≡ an) → (nt ≡ t) × (nn ≡ n)
   neither c = (rests fate t at st nt mt c.0, rests fate n an sn nn mn c.1)
@@ -188,7 +188,7 @@ module _ (fate : Fate) (t at st nt n an sn nn : File) (mt : IsMoved fate t at st
   log_called phase queue c = second_called c
 
 module _ (fate : Fate) (a aa sa na b ab sb nb : File) (ma : IsMoved fate a aa sa na) (mb : IsMoved fate b ab sb nb) where
-  -- what a step does to what two armed files hold, the move does to what the files hold
+  -- the move does to the content of the files what the step does to the content of the armed files
   moved_step : {Next : Type 0} (Held : FileState → FileState → Type 0) (Holds : Next → FileState → FileState → Type 0) (Step : Next → Type 0)
       → (Held aa.inner ab.inner → (next : Next) × Holds next sa.inner sb.inner × Step next) → Held a.inner b.inner → (next : Next) × Holds next na.inner nb.inner × Step next
   moved_step Held Holds Step step has =
@@ -217,7 +217,7 @@ image_cause image_answer.Working was a na b nb h e = absurd (let g = e in cc)
 image_cause (image_answer.Opened tick) was a na b nb h e = absurd (let g = e in cc)
 image_cause image_answer.Down was a na b nb h e = h
 
--- what holds of a step that goes on
+-- a fact on a step that answers Working follows from another one
 pub on_working : (given : ImageAnswer) {P Q : Type 0} → (P → Q) → OnWorking given P → OnWorking given Q
 on_working image_answer.Idle f h = tt
 on_working image_answer.Working f h = f h
@@ -292,7 +292,7 @@ pub record StepsArmedLog (was : State) (armed_a armed_b : File) (given : LogAnsw
       (of_slot was.log.current armed_b armed_a) (of_slot was.log.current stepped_b stepped_a) was.log.phase was.queue
   pub lowers : new.log.down ≡ false → 0 < work_of was.log was.queue → work_of new.log new.queue < work_of was.log was.queue
 
--- no file is called where there is no job, else one, once
+-- no file is called if there is no job, and otherwise one is called once
 abbrev IsLogCalled : LogPhase → List Record → (one one' other other' : File) → Type 0
 IsLogCalled phase queue one one' other other' = ((phase ≡ Ready) × (queue ≡ [])) ⊎ OneCalledOnce one one' other other'
 
@@ -330,7 +330,7 @@ log_calls was given new aa ab sa sb s = elim (true_or_false was.log.down) [
   ]
 ]
 
--- a step that rests and isn't idle was down before
+-- a step that answers Down or Idle, or of a keeper that was down before, answers Down or Idle
 is_idle_or_down : (given : LogAnswer) (was new : LogProgress) → (given ≡ log_answer.Down) ↔ (new.down ≡ true) → ((given ≡ log_answer.Idle) ⊎ (was.down ≡ true) → new ≡ was)
     → (given ≡ log_answer.Down) ⊎ ((given ≡ log_answer.Idle) ⊎ (was.down ≡ true)) → (given ≡ log_answer.Down) ⊎ (given ≡ log_answer.Idle)
 is_idle_or_down given was new down rests (inl e) = inl e

@@ -1,4 +1,4 @@
--- A cover keeps what is true of a core, and is answered exactly.
+-- A cover keeps the invariant of a core, and its answer is exact.
 use Rattle.std.proofs.Common.{◌≡◌, ℕ, ◌+◌, ◌≤◌, inl, inr, Bool, true, false, nat_lt, if◌then◌else◌, List, [], ◌∷◌, ◌++◌, length, map, Option, Some, None, refl, sym, ap, subst, ◌∙◌, arith, append_assoc, lt-ltb}
 use Rattle.std.proofs.lemmas.List.{map-append}
 use Rattle.std.proofs.lemmas.Bool.{cases_lt}
@@ -28,7 +28,7 @@ use Rattle.world_core.specs.Facts.{IsCoreAt}
 use Rattle.world_core.proofs.Exact.{starting_is}
 use Rattle.world_core.proofs.Logging.{counts}
 
--- ---- what no refusal says
+-- ---- the facts if nothing is refused
 
 record MayCover (starting down : Bool) (newest tick : ℕ) : Type 0 where
   has_started : starting ≡ false

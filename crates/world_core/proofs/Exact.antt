@@ -1,4 +1,4 @@
--- What the keepers and the queue tell of a core is what moves and answers tell.
+-- The keepers and the queue of a core agree with its moves and answers.
 use Rattle.std.proofs.Common.{◌≡◌, ◌↔◌, ℕ, ◌<◌, Bool, true, false, nat_eq, nat_lt, nat_le, not, if◌then◌else◌, ◌&&◌, List, [], ◌∷◌, length, Option, Some, None, is_some, option_map, IsTrue, eq-eqb, eqb-true, suc, lt-ltb, ltb-true, refl, sym, ap, ◌∙◌, arith}
 use Rattle.world_actions.specs.declared.action.Action.{Action}
 use Rattle.world_actions.specs.declared.refusal.Refusal.TheVariants.{Starting, LogDown, ImageDown, OpenTick, Busy, NothingNew, QueueFull}
@@ -12,7 +12,7 @@ use Rattle.world_core.specs.State.{State, is_down, is_in_round}
 use Rattle.world_core.specs.Laws.{KeeperLaws}
 use Rattle.world_core.specs.Facts.{IsCoreAt}
 
--- ---- where the keepers stand
+-- ---- the state of the keepers
 
 by_bool : (b : Bool) → (b ≡ true → ⊥) → false ≡ b
 by_bool true h = absurd (h refl)
@@ -66,7 +66,7 @@ mark_refusal_is laws past state c =
     (ap newest_tick (laws.newest state.images c.images state.image_a state.image_b c.has_images) ∙ sym c.told.newest)
     ∙ ap (λ r. mark_refusal (is_starting st) st.is_log_down st.is_image_down (is_round_open st) (length past.history.ticks) st.newest queued r) c.live.running
 
--- ---- what no refusal says
+-- ---- the facts if nothing is refused
 
 pub tick_allowed : (starting down : Bool) (ended since : ℕ) → None ≡ tick_refusal starting down ended since → starting ≡ false
 tick_allowed true down ended since e = absurd (let g = e in cc)

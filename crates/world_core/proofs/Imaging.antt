@@ -1,4 +1,4 @@
--- The steps of the image keeper keep what is true of a core.
+-- The steps of the image keeper keep the invariant of a core.
 use Rattle.std.proofs.Common.{◌≡◌, ◌↔◌, ℕ, ◌<◌, inl, inr, Bool, true, false, ◌||◌, List, [], ◌∷◌, length, Option, Some, None, is_some, option_map, Ok, refl, sym, ap, subst, ◌∙◌, arith}
 use Rattle.world_actions.specs.declared.action.Action.{Action}
 use Rattle.capture_core.specs.declared.taker.Taken.{Taken}
@@ -23,7 +23,7 @@ use Rattle.std.specs.Prelude.{slice_get}
 use Rattle.world_core.specs.Moving.{StepsImageKeeper}
 use Rattle.world_core.specs.Facts.{HasEnded, IsCoreAt, is_known}
 
--- ---- what the answer tells
+-- ---- the facts by the answer
 
 pub record IsSameStanding (new old : Standing) : Type 0 where
   pub log_down : new.is_log_down ≡ old.is_log_down
@@ -158,13 +158,13 @@ image_keeps laws past old new fate given c d =
     } in
     subst (IsCoreAt after) (sym d.rest) is
 
--- ---- a round goes on
+-- ---- a round continues
 
 gave_none : (left : List (Option ℕ)) → ◌≡◌ {A = Option Taken} None (option_map taken_of (slice_get left 0)) → left ≡ []
 gave_none [] e = refl
 gave_none (entry ∷ left) e = absurd (let g = e in cc)
 
--- a capture with an open round has a cell for each that isn't taken
+-- a capture with an open round has a cell left for each that isn't taken
 no_empty_take : EventLaws → KeeperLaws → (past : Past) (old new : State) (c : IsCoreAt past old) (round : Round) → round_in c.images ≡ Some round → cells_taken old.images < old.images.cells → Takes old.content None new.content → ⊥
 no_empty_take laws keepers past old new c round is fewer t =
     let r = keepers.round old.images c.images old.image_a old.image_b c.has_images (λ e. (let g : None ≡ Some round = sym (keepers.idle old.images c.images old.image_a old.image_b c.has_images e) ∙ is in absurd (let h = g in cc))) in

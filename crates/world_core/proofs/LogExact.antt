@@ -1,4 +1,4 @@
--- What is answered to a step of the log keeper, and that it leaves less to do.
+-- The answer to a step of the log keeper is exact, and the step leaves less to do.
 use Rattle.std.proofs.Common.{◌≡◌, ℕ, ◌+◌, ◌<◌, inr, Bool, true, false, nat_lt, List, [], ◌∷◌, length, refl, sym, ap, ◌∙◌, arith}
 use Rattle.image_files.specs.Images.{ImageFiles, NoneYet, Newest}
 use Rattle.action_log.specs.declared.phase.Phase.{Phase}
@@ -28,7 +28,7 @@ use Rattle.world_core.proofs.Logging.{up_of, stays_down}
 
 -- ---- work
 
--- only with no job in work and nothing queued there is none
+-- there is work, unless no job is in work and nothing is queued
 work_in : (p : Phase) (other_shut : Bool) (queue : List Record) → ((p ≡ Ready) × (queue ≡ []) → ⊥) → 0 < rest_in p other_shut + queue_work queue
 work_in Ready shut [] h = absurd (h (refl, refl))
 work_in Ready shut (records.Tick tick ∷ queue) h = omega arith

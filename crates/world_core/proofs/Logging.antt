@@ -1,4 +1,4 @@
--- The steps of the log keeper keep what is true of a core.
+-- The steps of the log keeper keep the invariant of a core.
 use Rattle.std.proofs.Common.{◌≡◌, ◌↔◌, ℕ, ◌-◌, inl, inr, Bool, true, false, List, [], ◌++◌, map, None, refl, sym, ap, subst, ◌∙◌, append_assoc}
 use Rattle.std.proofs.lemmas.List.{map-append}
 use Rattle.world_actions.specs.declared.action.Action.{Action}
@@ -22,7 +22,7 @@ use Rattle.world_core.specs.Laws.{EventLaws}
 use Rattle.world_core.specs.Moving.{StepsLogKeeper}
 use Rattle.world_core.specs.Facts.{HasEnded, IsCoreAt, IsAtRest}
 
--- ---- what the answer tells
+-- ---- the facts by the answer
 
 record IsSameRound (new old : Standing) : Type 0 where
   newest : new.newest ≡ old.newest
@@ -94,7 +94,7 @@ none_in : (state : State) (journal : Journal) (left : ℕ) → HasLog state (rec
 none_in state (InStart start) left stands logs e = absurd (let g = e in cc)
 none_in state (Writing current) left stands logs e = stands.1
 
--- once it is down, it is only answered Down
+-- once the log keeper is down, the answer is only Down
 pub stays_down : (old new : State) (fate : Fate) (given : LogAnswer) → StepsLogKeeper fate old given new → old.log.down ≡ true → given ≡ given_.Down
 stays_down old new fate given d e = d.down.1 (ap (λ k. k.down) (d.rests (inr e)).0 ∙ e)
 

@@ -1,4 +1,4 @@
--- A mark that no refusal holds of.
+-- A mark for which no refusal holds.
 use Rattle.std.proofs.Common.{◌≡◌, ℕ, false, List, [], length, Option, None, subst, sym, ap, ◌∙◌}
 use Rattle.world_actions.specs.declared.refusal.Refusal.{Refusal}
 use Rattle.world_actions.specs.declared.action.Action.{Action}
@@ -26,7 +26,7 @@ may_mark state e = mark_allowed state.log.starting state.log.down (is_down state
 nothing_left : (cells : ℕ) (ticks : List (List Action)) (content : Content) (newest : List ℕ) (round : Option Round) → round ≡ None → StoreFollows cells ticks content newest round → content.left ≡ []
 nothing_left cells ticks content newest round e s = (let g = subst (StoreFollows cells ticks content newest) e s in g.0)
 
--- where a mark may be made no cell of a round is left
+-- if a mark may be made, no cell of a round is left
 pub none_left : KeeperLaws → (past : Past) (state : State) → IsCoreAt past state → is_in_round state.images.phase ≡ false → state.content.left ≡ []
 none_left laws past state c e = nothing_left state.cells past.history.ticks state.content (words_of c.images) (round_in c.images) (laws.idle state.images c.images state.image_a state.image_b c.has_images (idle_is state.images.phase e)) c.in_step.store
 

@@ -1,4 +1,4 @@
--- What a crash left of a core's files begins its next start.
+-- The files that a crash left begin the next start of a core.
 use Rattle.std.proofs.Common.{◌≡◌, ◌≢◌, ℕ, ◌≤◌, ◌⊎◌, inl, inr, Bool, true, false, nat_lt, List, [], take, replicate, Some, None, Result, Ok, Err, refl, sym, subst, ◌∙◌, arith}
 use Rattle.std.proofs.lemmas.List.{length-take-le, length-replicate}
 use Rattle.world_actions.specs.declared.action.Action.{Action}
@@ -38,10 +38,10 @@ ok_not_err r refusal e = absurd (let g = e in cc)
 err_same : (a b : Refusal) → ◌≡◌ {A = Result Recovery Refusal} (Err a) (Err b) → a ≡ b
 err_same a b e = cc
 
--- ---- what stands
+-- ---- the world that files hold
 
 module _ (safety : SafetyLaws) (cells : ℕ) (ticks : List (List Action)) (acknowledged : ℕ) (ia ib la lb : List ℕ) (a b : Segment) (reads_a : IsSegment la a) (reads_b : IsSegment lb b) where
-  -- what holds of how the segments read holds of these, since they read in one way
+  -- these segments have what holds for some reading of the files, since each file has only one reading
   of_these : (Holds : Segment → Segment → Type 0) → BothRead la lb Holds → Holds a b
   of_these Holds s = subst (λ x. Holds x b) (safety.once la s.a a s.reads_a reads_a) (subst (Holds s.a) (safety.once lb s.b b s.reads_b reads_b) s.holds)
 
@@ -63,7 +63,7 @@ module _ (safety : SafetyLaws) (cells : ℕ) (ticks : List (List Action)) (ackno
             (safety.restarts.sound cells [] 0 (image_of ia) (image_of ib) a b r f.3 e))
       ]
 
-  -- with no image both are closed, and so are the segments
+  -- with no image both image files and both segments are closed
   record IsBlank (has_image : Bool) : Type 0 where
     image_a_closed : image_of ia ≡ Closed
     image_b_closed : image_of ib ≡ Closed
@@ -82,7 +82,7 @@ module _ (safety : SafetyLaws) (cells : ℕ) (ticks : List (List Action)) (ackno
         | inr s ↦ absurd (ok_not_err s.0 NoImage (sym s.1 ∙ e))
       ]
 
-  -- recovery of safe files refuses nothing else
+  -- recovery of safe files is refused only because there is no image
   only_none : (image_a image_b log_a log_b : List ℕ → Type 0) (has_image : Bool) → AreSafeFor has_image image_a image_b log_a log_b cells ticks acknowledged → image_a ia → image_b ib → log_a la → log_b lb
       → (refusal : Refusal) → recovery_of (image_of ia) (image_of ib) a b ≡ Err refusal → refusal ≡ NoImage
   only_none image_a image_b log_a log_b true safe ha hb hla hlb refusal e = (let s = is_sound image_a image_b log_a log_b safe ha hb hla hlb in absurd (ok_not_err s.recovery refusal (sym s.stands ∙ e)))
@@ -139,7 +139,7 @@ blank_keeps events queues keepers safety past old new c ia ib la lb oa ob ola ol
     begins_blank events queues keepers old.cells past new ia ib la lb c.some_cells c.few_cells s.unknown s.none_acknowledged s.image_a_closed s.image_b_closed
     (subst (IsSegment la) s.log_a_closed e.reads_a) (subst (IsSegment lb) s.log_b_closed e.reads_b) b
 
--- what recovery refuses on what a crash left
+-- recovery of the bytes that a crash left is refused only because there is no image
 pub crash_refuses : SafetyLaws → (past : Past) (old : State) (c : IsCoreAt past old) (ia ib la lb : List ℕ) → IsCrashOutcome old.image_a.inner ia → IsCrashOutcome old.image_b.inner ib → IsCrashOutcome old.log_a.inner la → IsCrashOutcome old.log_b.inner lb
     → (refusal : Refusal) → Recovers ia ib la lb (Err refusal) → refusal ≡ NoImage
 crash_refuses safety past old c ia ib la lb oa ob ola olb refusal e =
@@ -162,7 +162,7 @@ begins_empty cells words a b la lb new s ew ea eb ela elb =
 pub fresh_core : EventLaws → QueueLaws → KeeperLaws → (cells : ℕ) (new : State) → 1 ≤ cells → cells ≤ CELLS → BeginsFresh cells new → IsCoreAt fresh_past new
 fresh_core events queues keepers cells new some few b = begins_blank events queues keepers cells fresh_past new [] [] [] [] some few refl refl closed_image closed_image closed_segment closed_segment b
 
--- ---- a core that stands on what a crash left
+-- ---- a core on the files that a crash left
 
 pub stands_keeps : EventLaws → QueueLaws → KeeperLaws → SafetyLaws → (past : Past) (old new : State) (c : IsCoreAt past old) (left : Remains) → MayLeave (files_in old) left.image_a.items left.image_b.items left.log_a.items left.log_b.items
     → (given : Answer) → StandsOn old.cells left.image_a.items left.image_b.items left.log_a.items left.log_b.items given new → IsCoreAt (past_after past (move.Crash left) given) new

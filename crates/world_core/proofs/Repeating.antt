@@ -17,7 +17,7 @@ use Rattle.world_core.specs.Headline.{Answers, Runs}
 use Rattle.world_core.specs.Repeating.{GoesOn, AllGoOn, told_by, told_of, IsToldAtEnd, Repeats}
 use Rattle.world_core.proofs.Headline.{past_of-more, runs-more}
 
--- the moves so far, after none of which the keeper was idle or down; each left less to do
+-- the moves so far; the keeper was neither idle nor down after any of them, and each left less to do
 pub record SoFar (asked : Move) (idle : Answer) (most left : ℕ) (past : Past) (old : State) (told : Answer) (now : State) : Type 0 where
   pub front : List Answer
   pub going : AllGoOn front
@@ -56,7 +56,7 @@ module _ (asked : Move) (idle : Answer) (most left : ℕ) (past : Past) (old : S
     stands_next : IsCoreAt (past_of past (replicate (length s.front) asked ++ asked ∷ []) (s.front ++ given ∷ [])) next
     stands_next = subst (λ p. IsCoreAt p next) (sym (past_of-more past (replicate (length s.front) asked) s.front asked given same_length)) c
 
-    -- the keeper goes on
+    -- the keeper continues
     goes_on : (less : ℕ) → GoesOn given → less < left → SoFar asked idle most less past old (told_by told given) next
     goes_on less g lt =
         let moves = replicate_more asked s.front given in
@@ -91,7 +91,7 @@ module _ (asked : Move) (idle : Answer) (most left : ℕ) (past : Past) (old : S
           },
         )
 
--- what a call that makes the move ensures
+-- the promises of a call that makes the move
 pub record Stepped (asked : Move) (old : State) (given : Answer) (new : State) : Type 0 where
   pub keeps : (past : Past) → IsCoreAt past old → IsCoreAt (past_after past asked given) new
   pub exact : (past : Past) → IsCoreAt past old → IsExact past old asked given
@@ -108,7 +108,7 @@ module _ (asked : Move) (idle : Answer) (most left : ℕ) (past : Past) (old : S
   pub step_ends : (result : Answer) → IsToldAtEnd given told result → (after : Past) × Repeats asked idle most past old result after next
   step_ends = ends asked idle most left past old told now s given next one_more (step.keeps (past_now asked idle most left past old told now s) s.stands)
 
--- the step, where it was answered so
+-- the step, if it had this answer
 pub as_image : (fate : Fate) (old new : State) (result given : ImageAnswer) → Stepped (move.Image fate) old (answer.Image result) new → result ≡ given → Stepped (move.Image fate) old (answer.Image given) new
 as_image fate old new result given step is = subst (λ r. Stepped (move.Image fate) old (answer.Image r) new) is step
 

@@ -1,4 +1,4 @@
--- What is true of a core makes its files safe.
+-- The invariant of a core makes its files safe.
 use Rattle.std.proofs.Common.{◌≡◌, ℕ, Bool, true, false, inl, inr, List, [], take, replicate, Result, Ok, sym, subst, ◌∙◌}
 use Rattle.world_actions.specs.declared.action.Action.{Action}
 use Rattle.world_actions.specs.declared.refusal.Refusal.{Refusal}
@@ -25,14 +25,14 @@ by_known : (state : State) (ticks : List (List Action)) (acknowledged : ℕ) (im
 by_known state ticks acknowledged (NoneYet images) safe = safe
 by_known state ticks acknowledged (Newest images) safe = safe
 
--- the law that the headline stands on
+-- the law on which the headline rests
 pub core_is_safe : SafetyLaws → (past : Past) (state : State) → IsCoreAt past state → AreSafe past.has_image (files_in state) state.cells past.history.ticks past.acknowledged
 core_is_safe laws past state c =
     let ticks = past.history.ticks in
     subst (λ h. AreSafe h (files_in state) state.cells ticks past.acknowledged) (sym c.told.is_image_known)
     (by_known state ticks past.acknowledged c.images (laws.safe state ticks past.acknowledged c.images c.place c.keeper_cells c.has_images c.has_log c.in_step))
 
--- the same of whatever may be left of each file
+-- the same for any bytes that may be left of each file
 abbrev pub AreSafeFor : (has_image : Bool) → (image_a image_b log_a log_b : List ℕ → Type 0) → (cells : ℕ) → List (List Action) → (acknowledged : ℕ) → Type 0
 AreSafeFor true image_a image_b log_a log_b cells ticks acknowledged = IsSound image_a image_b log_a log_b cells ticks acknowledged
 AreSafeFor false image_a image_b log_a log_b cells ticks acknowledged = IsFresh image_a image_b log_a log_b cells × (ticks ≡ []) × (acknowledged ≡ 0)

@@ -1,4 +1,4 @@
--- What is so when a keeper's moves have ended, and when a start has.
+-- The facts that hold once a keeper's moves have ended, and once a start has.
 use Rattle.std.proofs.Common.{◌≡◌, ℕ, ◌+◌, ◌⊎◌, inl, inr, Bool, true, false, nat_lt, ◌&&◌, List, [], ◌∷◌, ◌++◌, length, replicate, Option, Some, None, is_some, refl, sym, ap, subst, ◌∙◌, arith}
 use Rattle.std.proofs.lemmas.List.{length-append, length-replicate}
 use Rattle.action_log.specs.declared.progress.Progress.{Progress}
@@ -31,7 +31,7 @@ use Rattle.world_core.proofs.LogExact.{no_work}
 
 -- ---- the last move
 
--- the last of some moves was answered so, and leads to the end
+-- the last of some moves had this answer, and leads to the end
 record LastOf (past : Past) (old : State) (asked : Move) (front : List Answer) (last : Answer) (next : Past) (new : State) : Type 0 where
   mid_past : Past
   mid : State
@@ -125,7 +125,7 @@ log_settles fate past old told next new r =
 
 -- ---- the start
 
--- Log moves leave what is told of the images
+-- Log moves change nothing of what is known of the images
 record IsSameImage (new old : Standing) : Type 0 where
   round : new.round ≡ old.round
   down : new.is_image_down ≡ old.is_image_down

@@ -1,4 +1,4 @@
--- What is answered to each move, by what moves and answers tell and by what the core holds.
+-- The answer to each move. It follows from the moves and answers before it, and from the state of the core.
 use Rattle.std.specs.Prelude.{◌<◌, ◌≡◌, ◌≢◌, ◌⊎◌, ℕ, ◌+◌, List, length, true, false, Option, Some, None, Ok, Err, IsOk}
 use Rattle.world_actions.specs.declared.action.Action.{Action}
 use Rattle.world_actions.specs.declared.refusal.Refusal.{Refusal}
@@ -24,11 +24,11 @@ use Rattle.world_core.specs.Standing.{Standing, is_starting, is_round_open, is_l
 use Rattle.world_core.specs.Past.{Past}
 use Rattle.world_core.specs.State.{State, files_in}
 
--- why no tick can be added to
+-- the refusal of an action or of the tick's end, if one holds
 abbrev pub tick_refusal_in : Past → Option Refusal
 tick_refusal_in past = tick_refusal (is_starting past.standing) past.standing.is_log_down (length past.history.ticks) past.standing.since
 
--- what is answered to an action, where these are the words; want of memory refuses only one that would be accepted
+-- The answer to an action on these words. NoMemory refuses only an action that would be accepted.
 abbrev pub IsActionAnswer : Past → (words : List ℕ) → Action → Answer → Type 0
 IsActionAnswer past words action given =
     (given ≢ answer.Refused NoMemory → given ≡ unless_refused (tick_refusal_in past) (action_answer (decision words past.history.running action)))
@@ -39,7 +39,7 @@ abbrev pub MayLeave : FourFiles FileState → (image_a image_b log_a log_b : Lis
 MayLeave files image_a image_b log_a log_b =
     IsCrashOutcome files.image_a image_a × IsCrashOutcome files.image_b image_b × IsCrashOutcome files.log_a log_a × IsCrashOutcome files.log_b log_b
 
--- what is answered to a crash that leaves these bytes of four files
+-- the answer to a crash that leaves these bytes of four files
 abbrev pub IsCrashAnswer : FourFiles FileState → (image_a image_b log_a log_b : List ℕ) → Answer → Type 0
 IsCrashAnswer files image_a image_b log_a log_b (answer.Refused refusal) =
     ((refusal ≡ Impossible) × ¬ MayLeave files image_a image_b log_a log_b) ⊎ ((refusal ≡ NoMemory) × MayLeave files image_a image_b log_a log_b)
@@ -48,16 +48,16 @@ IsCrashAnswer files image_a image_b log_a log_b (answer.Recovered tick from) =
 IsCrashAnswer files image_a image_b log_a log_b answer.Blank = MayLeave files image_a image_b log_a log_b × Recovers image_a image_b log_a log_b (Err NoImage)
 IsCrashAnswer files image_a image_b log_a log_b given = ⊥
 
--- what is answered to a step of the image keeper: Idle exactly with no round open, and once it is down only Down; the
--- round's own tick is opened
+-- The answer to a step of the image keeper. It is Idle exactly if no round is open, and only Down once the keeper is down.
+-- Opened has the tick of the open round.
 abbrev pub IsImageAnswer : Standing → ImageAnswer → Type 0
 IsImageAnswer standing image_answer.Idle = standing.round ≡ None
 IsImageAnswer standing image_answer.Working = (is_round_open standing ≡ true) × (standing.is_image_down ≡ false)
 IsImageAnswer standing (image_answer.Opened tick) = (standing.round ≡ Some tick) × (standing.is_image_down ≡ false)
 IsImageAnswer standing image_answer.Down = is_round_open standing ≡ true
 
--- What is answered to a step of the log keeper: Idle exactly where the start waits for its image, or the keeper isn't down
--- and has no work. A receipt's tick is the last ended one that doesn't wait in the queue.
+-- The answer to a step of the log keeper. It is Idle exactly if the start waits for its image, or the keeper is up and has
+-- no work. The tick of a receipt is the last ended one that isn't in the queue.
 abbrev pub IsLogAnswer : Past → State → LogAnswer → Type 0
 IsLogAnswer past state log_answer.Idle =
     (is_log_waiting past.standing ≡ true) ⊎ ((past.standing.is_log_down ≡ false) × (work_of state.log state.queue ≡ 0))
@@ -68,13 +68,14 @@ IsLogAnswer past state (log_answer.Acked tick) =
     × (tick + length (ticks_in state.queue) ≡ length past.history.ticks)
 IsLogAnswer past state log_answer.Down = is_log_waiting past.standing ≡ false
 
--- what is answered to a cover. A receipt's tick is the last ended one that doesn't wait in the queue since.
+-- The answer to a cover. The tick of a receipt is the covered one, and the last ended one that isn't in the queue after the
+-- cover.
 pub record IsCoverAnswer (past : Past) (state : State) (tick : ℕ) (given : Answer) : Type 0 where
   pub is : given ≡ unless_refused (cover_refusal_at past.standing tick) (answer.Log (cover_answer state.log tick state.queue))
   pub receipt : (number : ℕ) → given ≡ answer.Log (log_answer.Acked number)
       → (number ≡ tick) × (number + length (ticks_in (uncovered state.log tick state.queue)) ≡ length past.history.ticks)
 
--- what is answered, want of memory apart
+-- the answer to a move; only whether memory runs out is left open
 abbrev pub IsExact : Past → State → Move → Answer → Type 0
 IsExact past state (move.Act action) given = IsActionAnswer past state.content.live action given
 IsExact past state (move.Get cell) given = given ≡ get_answer state.content.live cell
@@ -89,7 +90,8 @@ IsExact past state (move.Cover tick) given = IsCoverAnswer past state tick given
 IsExact past state (move.Crash left) given =
     IsCrashAnswer (files_in state) left.image_a.items left.image_b.items left.log_a.items left.log_b.items given
 
--- a step of a keeper that does its work leaves less to do, as does a cover that takes a record, and the one that opens an image nothing of the round
+-- Less work is left after a step in which a keeper works, and after a cover that takes a record. Nothing of the round is
+-- left after the step that opens its image.
 abbrev pub Progresses : Move → Answer → (old new : State) → Type 0
 Progresses (move.Image fate) (answer.Image image_answer.Working) old new = left_of new.images < left_of old.images
 Progresses (move.Image fate) (answer.Image (image_answer.Opened tick)) old new = (left_of new.images ≡ 0) × (0 < left_of old.images)

@@ -1,4 +1,4 @@
--- What is always true of a core, by what moves and their answers tell of it.
+-- The invariant of a core: its state agrees with its moves and their answers.
 use Rattle.std.specs.Prelude.{◌≡◌, ℕ, ◌-◌, ◌≤◌, List, [], ◌++◌, length, map, Bool, true, false, option_map, Ok}
 use Rattle.world_actions.specs.declared.action.Action.{Action}
 use Rattle.world_actions.specs.declared.world.TheConstants.{CELLS}
@@ -38,7 +38,7 @@ pub record HasEnded (ticks : List (List Action)) (told count recent : ℕ) : Typ
   pub few : recent ≤ SEGMENT_TICKS
   pub within : recent ≤ count
 
--- these numbers, and the queue
+-- these numbers, and the queue, which holds the last of the records
 pub record IsCounted (past : Past) (state : State) : Type 0 where
   pub numbers : HasEnded past.history.ticks past.standing.since state.ended state.since
   pub open numbers use *
@@ -47,7 +47,7 @@ pub record IsCounted (past : Past) (state : State) : Type 0 where
   pub taken : List Queued
   pub records : past.standing.records ≡ taken ++ map queued_of state.queue
 
--- the words
+-- the words: those after the ended ticks and the running one
 pub record IsLive (cells : ℕ) (history : History) (words : List ℕ) (actions : List Action) : Type 0 where
   pub last : List ℕ
   pub after_ended : after_ticks cells history.ticks ≡ Ok last
@@ -55,7 +55,7 @@ pub record IsLive (cells : ℕ) (history : History) (words : List ℕ) (actions 
   pub all : length words ≡ cells
   pub running : actions ≡ history.running
 
--- what moves and answers tell of the keepers
+-- all that moves and answers say of the keepers is true
 abbrev pub AreTold : Past → State → ImageFiles → LogPlace → Type 0
 AreTold past state images place = record {
   is_image_known : past.has_image ≡ is_known images;
@@ -71,7 +71,7 @@ pub record IsCoreAt (past : Past) (state : State) : Type 0 where
   pub open cells use *
   pub live : IsLive state.cells past.history state.content.live state.running
   pub counted : IsCounted past state
-  -- what the keepers stand for
+  -- the images and the log that keepers and files represent
   pub images : ImageFiles
   pub place : LogPlace
   pub has_images : HasImages state images

@@ -1,4 +1,4 @@
--- What a run of moves keeps. docs/HEADLINE.md reads it.
+-- The promises of a run of moves. docs/HEADLINE.md explains them.
 use Rattle.std.specs.Prelude.{◌≡◌, ◌⊎◌, ℕ, List, [], ◌∷◌, length, Bool, true, false, Ok, Err, replicate}
 use Rattle.world_actions.specs.declared.action.Action.{Action}
 use Rattle.world_actions.specs.declared.refusal.Refusal.TheVariants.{NoImage}
@@ -17,8 +17,8 @@ use Rattle.world_core.specs.Exact.{MayLeave, IsExact, Progresses}
 use Rattle.world_core.specs.Facts.{IsCoreAt}
 
 -- Whatever a crash leaves of four files, recovery gives the world after the first n of these ticks, for some n not below the
--- acknowledged count, and each open image is the world after its tick. Before there is an image no tick has ended, and
--- recovery gives zeros at tick 0 or finds no image.
+-- acknowledged count. Each open image is the world after its tick. Before the first image no tick has ended, and recovery
+-- gives zeros at tick 0 or finds no image.
 abbrev pub AreSafe : (has_image : Bool) → FourFiles FileState → (cells : ℕ) → List (List Action) → (acknowledged : ℕ) → Type 0
 AreSafe true files cells ticks acknowledged = IsSound (IsCrashOutcome files.image_a) (IsCrashOutcome files.image_b) (IsCrashOutcome files.log_a) (IsCrashOutcome files.log_b) cells ticks acknowledged
 AreSafe false files cells ticks acknowledged = IsFresh (IsCrashOutcome files.image_a) (IsCrashOutcome files.image_b) (IsCrashOutcome files.log_a) (IsCrashOutcome files.log_b) cells × (ticks ≡ []) × (acknowledged ≡ 0)
@@ -27,12 +27,12 @@ AreSafe false files cells ticks acknowledged = IsFresh (IsCrashOutcome files.ima
 abbrev pub Headline : (cells : ℕ) → List Move → List Answer → FourFiles FileState → Type 0
 Headline cells moves answers files = (length answers ≡ length moves) × AreSafe (has_opened answers) files cells (ended moves answers) (acked answers)
 
--- a core that was asked and answered so has safe files: what `step` keeps
+-- the files of each core that agrees with its moves and answers are safe
 abbrev pub CoresAreSafe : Type 0
 CoresAreSafe =
     (past : Past) (state : State) → IsCoreAt past state → AreSafe past.has_image (files_in state) state.cells past.history.ticks past.acknowledged
 
--- before there is an image recovery finds none, or zeros at tick 0
+-- before the first image recovery finds no image, or gives zeros at tick 0
 abbrev pub FreshAreRecovered : Type 0
 FreshAreRecovered =
     (files : FourFiles FileState) (cells : ℕ) (ticks : List (List Action)) (acknowledged : ℕ) → AreSafe false files cells ticks acknowledged
@@ -46,7 +46,7 @@ pub record Answers (past : Past) (old : State) (asked : Move) (given : Answer) (
   pub does : Does asked old given new
   pub progress : Progresses asked given old new
 
--- moves are answered so, one after another
+-- each move is answered exactly, one after another
 abbrev pub Runs : Past → (old : State) → List Move → List Answer → (new : State) → Type 0
 Runs past old [] [] new = new ≡ old
 Runs past old [] (given ∷ answers) new = ⊥

@@ -1,4 +1,4 @@
--- What moves and their answers tell of ticks: those that ended and stand, the running one, and what is acknowledged.
+-- The ticks by moves and their answers: those that ended and no crash lost, the running one, and the acknowledged count.
 use Rattle.std.specs.Prelude.{ℕ, max, List, [], ◌∷◌, ◌++◌, take, Bool, true, false, ◌||◌}
 use Rattle.world_actions.specs.declared.action.Action.{Action}
 use Rattle.action_log.specs.declared.answer.LogAnswer.TheVariants as log_answer
@@ -17,7 +17,7 @@ pub record History : Type 0 where
 abbrev pub no_history : History
 no_history = record { ticks = []; running = [] }
 
--- the history after a move and its answer: a recovery keeps the first ticks, and with no image none stays
+-- The history after a move and its answer. A recovery keeps the first ticks. A crash that leaves no image keeps none.
 abbrev pub history_after : History → Move → Answer → History
 history_after history (move.Act action) answer.Did = record history { running = history.running ++ action ∷ [] }
 history_after history move.End (answer.Ended tick) = record { ticks = history.ticks ++ history.running ∷ []; running = [] }
@@ -25,17 +25,17 @@ history_after history (move.Crash left) (answer.Recovered tick from) = record { 
 history_after history (move.Crash left) answer.Blank = no_history
 history_after history asked given = history
 
--- of moves and their answers, one after another
+-- the history after moves and their answers, one after another
 abbrev pub history_of : History → List Move → List Answer → History
 history_of history [] answers = history
 history_of history (asked ∷ moves) [] = history
 history_of history (asked ∷ moves) (given ∷ answers) = history_of (history_after history asked given) moves answers
 
--- the ticks that have ended and stand
+-- the ticks that ended and that no crash lost
 abbrev pub ended : List Move → List Answer → List (List Action)
 ended moves answers = (history_of no_history moves answers).ticks
 
--- the greatest tick in an answered receipt, or of an image that was answered to be open
+-- the greatest acknowledged tick: that of a receipt, or of an image that an answer said to be open
 abbrev pub acknowledged_after : ℕ → Answer → ℕ
 acknowledged_after acknowledged (answer.Image (image_answer.Opened tick)) = max acknowledged tick
 acknowledged_after acknowledged (answer.Log (log_answer.Acked tick)) = max acknowledged tick
@@ -48,7 +48,7 @@ acknowledged_of acknowledged (given ∷ answers) = acknowledged_of (acknowledged
 abbrev pub acked : List Answer → ℕ
 acked answers = acknowledged_of 0 answers
 
--- an image is known to be open durably: Opened was answered, or a crash Recovered
+-- the answer shows that an image is open and durable: Opened, or Recovered after a crash
 abbrev pub opens : Answer → Bool
 opens (answer.Image (image_answer.Opened tick)) = true
 opens (answer.Recovered tick from) = true

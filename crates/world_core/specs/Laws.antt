@@ -1,5 +1,5 @@
 -- Inside: for the proofs of this crate's private functions.
--- What the crates below say of ticks, stores, keepers and recovery, over the files of a core.
+-- The laws of the crates below on ticks, stores, keepers and recovery, for the files of a core.
 use Rattle.std.specs.Prelude.{◌≡◌, ◌<◌, ◌≤◌, ◌↔◌, ◌⊎◌, ℕ, ◌+◌, List, [], ◌∷◌, ◌++◌, length, Bool, Option, Some, None, IsTrue}
 use Rattle.world_actions.specs.declared.action.Action.{Action}
 use Rattle.world_actions.specs.declared.world.TheConstants.{CELLS}
@@ -73,7 +73,7 @@ pub record SafetyLaws : Type 0 where
   pub restarts : CrashRestarts
   pub once : ReadsOnce
 
--- a cover, with all that the log keeper says of it
+-- a cover, with all that the log keeper promises of it
 pub record CoversBy (tick : ℕ) (old : State) (given : LogAnswer) (new : State) : Type 0 where
   pub covers : CoversQueue tick old given new
   pub front : old.queue ≡ covered old.log tick old.queue ++ new.queue

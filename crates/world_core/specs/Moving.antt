@@ -1,4 +1,4 @@
--- What each move does to the state of a core.
+-- The effect of each move on the state of a core.
 use Rattle.std.specs.Prelude.{◌≡◌, ◌↔◌, ◌⊎◌, ◌<◌, Option, Some, None, ℕ, ◌+◌, Bool, List, [], ◌∷◌, ◌++◌, length, true, false, ◌&&◌, Ok}
 use Rattle.world_actions.specs.declared.action.Action.{Action}
 use Rattle.world_actions.specs.Effect.{writes_of}
@@ -51,23 +51,23 @@ abbrev pub BeginsRound : (old new : State) → Type 0
 BeginsRound old new = Marks old.content new.content
     × (new ≡ record old { content = new.content; since = 0; images = begun_keeper old.ended old.images; queue = old.queue ++ records.Switch old.ended ∷ [] })
 
--- how many calls of a file go as it lets them before one fails
+-- how many calls of a file are left to the file itself before one is made to fail, if one is
 abbrev pub calls_before_failure : Fate → Option ℕ
 calls_before_failure fate_.Done = None
 calls_before_failure fate_.Failed = Some 0
 
--- a call of a file: with Done as the file itself lets it go, with Failed it fails
+-- a call of a file: with Done the file itself decides it, and with Failed it fails
 abbrev pub CallsBy : Fate → (old : File) → Call → (succeeded : Bool) → (new : File) → Type 0
 CallsBy fate_.Done old call succeeded new = Calls old.inner call succeeded new.inner × (new.faults ≡ old.faults)
 CallsBy fate_.Failed old call succeeded new = (succeeded ≡ false) × Fails Calls old call new
 
--- Which steps a fate lets fail: with Done no call but by the file itself; with Failed the keeper goes down, unless the step
--- makes no call, as long as the file's failures can be counted.
+-- The failures that a fate brings. With Done a call fails only by the file itself. With Failed the keeper goes down, unless
+-- the step makes no call, as long as the failures of both files can be counted.
 abbrev pub FailsBy : Fate → (is_down calls_none : Type 0) → (a b new_a new_b : File) → Type 0
 FailsBy fate_.Done is_down calls_none a b new_a new_b = (new_a.faults ≡ a.faults) × (new_b.faults ≡ b.faults)
 FailsBy fate_.Failed is_down calls_none a b new_a new_b = failures a < last_count → failures b < last_count → is_down ⊎ calls_none
 
--- a step of the image keeper makes no call with no round in work, where it takes a cell, and once a call failed
+-- a step of the image keeper makes no call if no round is in work, if it takes a cell, or once a call has failed
 abbrev pub CallsNone : Phase → Type 0
 CallsNone Idle = Unit {0}
 CallsNone Taking = Unit {0}
@@ -84,11 +84,11 @@ pub record StepsImageKeeper (fate : Fate) (old : State) (given : ImageAnswer) (n
   pub stays_down : old.images.phase ≡ Down → given ≡ image_answer.Down
   pub cause : given ≡ image_answer.Down → (old.images.phase ≡ Down) ⊎ HasFailed old.image_a new.image_a old.image_b new.image_b
   pub fails : FailsBy fate (given ≡ image_answer.Down) (CallsNone old.images.phase) old.image_a old.image_b new.image_a new.image_b
-  -- by the phase no file is called, or one, once: the one that the round writes, or the newest image's
+  -- The phase decides: no file is called, or one file once, either the one that the round writes or the newest image's.
   pub calls : ImageCallsIn old.images.phase (CallsBy fate)
       (of_slot (target_of old.images.newest) old.image_a old.image_b) (of_slot (target_of old.images.newest) new.image_a new.image_b)
       (of_slot (target_of old.images.newest) old.image_b old.image_a) (of_slot (target_of old.images.newest) new.image_b new.image_a)
-  -- it goes on, but where a take gave no cell with cells still to be taken
+  -- Working leaves less work, unless a take gave no cell while cells were still to be taken.
   pub working : OnWorking given ((left_of new.images < left_of old.images) ⊎ ((cells_taken old.images < old.images.cells) × Takes old.content None new.content))
   pub opened : IfOpened given (new.images ≡ opened_keeper old.images) (Unit {0})
 
@@ -103,7 +103,8 @@ pub record StepsLogKeeper (fate : Fate) (old : State) (given : LogAnswer) (new :
   pub receipt : (tick : ℕ) → (given ≡ log_answer.Acked tick) ↔ ((old.log.phase ≡ GateSync) × (old.log.down ≡ false) × (new.log.down ≡ false) × (tick ≡ new.log.base + new.log.count))
   pub down : (given ≡ log_answer.Down) ↔ (new.log.down ≡ true)
   pub rests : (given ≡ log_answer.Idle) ⊎ (old.log.down ≡ true) → (new.log ≡ old.log) × (new.queue ≡ old.queue) × (new.log_a ≡ old.log_a) × (new.log_b ≡ old.log_b)
-  -- by the phase and the record in front no file is called, or one, once: the current segment's, or the other one
+  -- The phase and the record in front decide: no file is called, or one file once, either the current segment's or the other
+  -- one.
   pub calls : old.log.down ≡ false → LogCallsIn (CallsBy fate)
       (of_slot old.log.current old.log_a old.log_b) (of_slot old.log.current new.log_a new.log_b)
       (of_slot old.log.current old.log_b old.log_a) (of_slot old.log.current new.log_b new.log_a) old.log.phase old.queue
@@ -111,7 +112,7 @@ pub record StepsLogKeeper (fate : Fate) (old : State) (given : LogAnswer) (new :
   pub fails : FailsBy fate (given ≡ log_answer.Down) (given ≡ log_answer.Idle) old.log_a old.log_b new.log_a new.log_b
   pub lowers : new.log.down ≡ false → 0 < work_of old.log old.queue → work_of new.log new.queue < work_of old.log old.queue
 
--- what stands before the switch at a tick leaves the queue
+-- the records before the switch at this tick leave the queue
 pub record CoversQueue (tick : ℕ) (old : State) (given : LogAnswer) (new : State) : Type 0 where
   pub answer : given ≡ cover_answer old.log tick old.queue
   pub rest : new ≡ record old { queue = new.queue }
@@ -121,7 +122,7 @@ pub record CoversQueue (tick : ℕ) (old : State) (given : LogAnswer) (new : Sta
 abbrev pub Waits : State → Type 0
 Waits state = (state.log.starting && is_in_round state.images.phase) ≡ true
 
--- what a move does to the state by its answer: a refused move nothing, nor a read, nor a Log move that waits
+-- The effect of a move on the state, by its answer. A refused move, a read and a Log move that waits change nothing.
 abbrev pub Does : Move → (old : State) → Answer → (new : State) → Type 0
 Does (move.Act action) old answer.Did new = DoesAction old action new
 Does move.End old (answer.Ended tick) new = EndsTick old new

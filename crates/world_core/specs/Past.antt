@@ -1,4 +1,4 @@
--- All that moves and their answers tell.
+-- All that is known from moves and their answers.
 use Rattle.std.specs.Prelude.{ℕ, List, [], ◌∷◌, Bool, true, false, ◌||◌}
 use Rattle.world_core.specs.declared.moves.Move.{Move}
 use Rattle.world_core.specs.declared.moves.Answer.{Answer}
@@ -11,7 +11,7 @@ pub record Past : Type 0 where
   pub has_image : Bool
   pub standing : Standing
 
--- of a core just made: four empty files
+-- the past of a new core, on four empty files
 abbrev pub fresh_past : Past
 fresh_past = record { history = no_history; acknowledged = 0; has_image = false; standing = standing_at 0 0 true false false }
 

@@ -1,4 +1,4 @@
--- How each move is answered, as far as the moves and answers before it tell: by its refusal, or by its plain answer.
+-- The answer to each move, as far as the moves and answers before it decide it: its refusal, or its plain answer.
 use Rattle.std.specs.Prelude.{◌≡◌, ◌⊎◌, ◌≤◌, ℕ, List, [], ◌∷◌, length, true, false, Ok}
 use Rattle.world_ticks.specs.After.{after_actions, after_ticks}
 use Rattle.disk_model.specs.FileState.{FileState}
@@ -22,7 +22,7 @@ use Rattle.world_core.specs.Headline.{AreSafe, Runs}
 abbrev pub AreWords : (cells : ℕ) → History → (words : List ℕ) → Type 0
 AreWords cells history words = (last : List ℕ) × (after_ticks cells history.ticks ≡ Ok last) × (after_actions last history.running ≡ Ok words)
 
--- what is answered to a step of the log keeper: a receipt is of an ended tick
+-- the answer to a step of the log keeper; a receipt is of an ended tick
 abbrev pub IsPlainLogAnswer : Past → LogAnswer → Type 0
 IsPlainLogAnswer past log_answer.Idle = (is_log_waiting past.standing ≡ true) ⊎ (past.standing.is_log_down ≡ false)
 IsPlainLogAnswer past log_answer.Working = (is_log_waiting past.standing ≡ false) × (past.standing.is_log_down ≡ false)
@@ -30,8 +30,8 @@ IsPlainLogAnswer past (log_answer.Acked tick) =
     (is_starting past.standing ≡ false) × (past.standing.is_log_down ≡ false) × (tick ≤ length past.history.ticks)
 IsPlainLogAnswer past log_answer.Down = is_log_waiting past.standing ≡ false
 
--- What is answered to a move: its refusal, or its plain answer. A crash of safe files is answered by recovery of the bytes
--- that it leaves. What depends on the queue is open: how many records wait, and what a cover takes.
+-- The answer to a move: its refusal, or its plain answer. A crash of safe files is answered by recovery of the bytes that it
+-- leaves. Answers that depend on the queue stay open: how many records it holds, and what a cover takes.
 abbrev pub IsPlainAnswer : (cells : ℕ) → Past → Move → Answer → Type 0
 IsPlainAnswer cells past (move.Act action) given = (words : List ℕ) × AreWords cells past.history words × IsActionAnswer past words action given
 IsPlainAnswer cells past (move.Get cell) given = (words : List ℕ) × AreWords cells past.history words × (given ≡ get_answer words cell)
@@ -48,7 +48,7 @@ IsPlainAnswer cells past (move.Crash left) given =
     (files : FourFiles FileState) × AreSafe past.has_image files cells past.history.ticks past.acknowledged
     × IsCrashAnswer files left.image_a.items left.image_b.items left.log_a.items left.log_b.items given
 
--- moves are answered so, one after another
+-- each move is answered so, one after another
 abbrev pub AreAnswered : (cells : ℕ) → Past → List Move → List Answer → Type 0
 AreAnswered cells past [] [] = Unit {0}
 AreAnswered cells past [] (given ∷ answers) = ⊥
@@ -56,7 +56,7 @@ AreAnswered cells past (asked ∷ moves) [] = ⊥
 AreAnswered cells past (asked ∷ moves) (given ∷ answers) =
     IsPlainAnswer cells past asked given × AreAnswered cells (past_after past asked given) moves answers
 
--- of a private function: a fresh core was asked these moves, and answered so
+-- for a private function: a fresh core was asked these moves, and gave these answers
 unfoldable pub HasRun : (cells : ℕ) → List Move → List Answer → State → Type 0
 HasRun cells moves answers state =
     IsCoreAt (past_of fresh_past moves answers) state × (length answers ≡ length moves) × (state.cells ≡ cells)

@@ -1,4 +1,4 @@
--- Moves of one keeper until it is idle or down, and the start, which is such moves of both.
+-- Moves of one keeper until it is idle or down, and the start, which consists of such moves of both.
 use Rattle.std.specs.Prelude.{◌≡◌, ◌⊎◌, ℕ, ◌+◌, ◌≤◌, true, false, None, List, [], ◌∷◌, ◌++◌, length, replicate}
 use Rattle.disk_model.specs.declared.leaving.Leaving.{Leaving}
 use Rattle.disk_model.specs.Leaving.{left_by}
@@ -24,7 +24,7 @@ use Rattle.world_core.specs.State.{State}
 use Rattle.world_core.specs.Facts.{IsCoreAt}
 use Rattle.world_core.specs.Headline.{Runs}
 
--- the keeper goes on after this answer
+-- the keeper continues after this answer
 abbrev pub GoesOn : Answer → Type 0
 GoesOn (answer.Image image_answer.Working) = Unit {0}
 GoesOn (answer.Image (image_answer.Opened tick)) = Unit {0}
@@ -32,12 +32,12 @@ GoesOn (answer.Log log_answer.Working) = Unit {0}
 GoesOn (answer.Log (log_answer.Acked tick)) = Unit {0}
 GoesOn given = ⊥
 
--- after each of these
+-- the keeper continues after each of these answers
 abbrev pub AllGoOn : List Answer → Type 0
 AllGoOn [] = Unit {0}
 AllGoOn (given ∷ answers) = GoesOn given × AllGoOn answers
 
--- what is told after this answer: an opened image or a receipt is news
+-- the last news after this answer; an opened image or a receipt is news
 abbrev pub told_by : Answer → Answer → Answer
 told_by told (answer.Image (image_answer.Opened tick)) = answer.Image (image_answer.Opened tick)
 told_by told (answer.Log (log_answer.Acked tick)) = answer.Log (log_answer.Acked tick)
@@ -47,7 +47,7 @@ abbrev pub told_of : Answer → List Answer → Answer
 told_of told [] = told
 told_of told (given ∷ answers) = told_of (told_by told given) answers
 
--- what is told in the end: Down, or with Idle the last news
+-- the result in the end: Down, or the last news if the keeper is idle
 abbrev pub IsToldAtEnd : (last told result : Answer) → Type 0
 IsToldAtEnd (answer.Image image_answer.Idle) told result = result ≡ told
 IsToldAtEnd (answer.Image image_answer.Down) told result = result ≡ answer.Image image_answer.Down
@@ -55,7 +55,7 @@ IsToldAtEnd (answer.Log log_answer.Idle) told result = result ≡ told
 IsToldAtEnd (answer.Log log_answer.Down) told result = result ≡ answer.Log log_answer.Down
 IsToldAtEnd last told result = ⊥
 
--- the same move again and again, until its keeper is idle or down
+-- the same move is repeated until its keeper is idle or down
 pub record AreRepeats (asked : Move) (moves : List Move) (answers : List Answer) (idle result : Answer) : Type 0 where
   pub front : List Answer
   pub last : Answer
@@ -70,7 +70,7 @@ pub record RunsOn (past : Past) (old : State) (moves : List Move) (answers : Lis
   pub next_is : next ≡ past_of past moves answers
   pub stands : IsCoreAt next new
 
--- one move is made at most so often, and one time more, until its keeper is idle or down
+-- one move is repeated until its keeper is idle or down, at most `most` times and once more
 pub record Repeats (asked : Move) (idle : Answer) (most : ℕ) (past : Past) (old : State) (told : Answer) (next : Past) (new : State) : Type 0 where
   pub moves : List Move
   pub answers : List Answer
@@ -78,11 +78,11 @@ pub record Repeats (asked : Move) (idle : Answer) (most : ℕ) (past : Past) (ol
   pub few : length moves ≤ most + 1
   pub on : RunsOn past old moves answers next new
 
--- steps of the image keeper: no more than the open round has left, and one
+-- steps of the image keeper, at most one more than the open round has left
 abbrev pub RepeatsImages : Fate → Past → State → (told : ImageAnswer) → Past → State → Type 0
 RepeatsImages fate past old told next new = Repeats (move.Image fate) (answer.Image image_answer.Idle) (left_of old.images) past old (answer.Image told) next new
 
--- steps of the log keeper: no more than its job and its queue want, and one
+-- steps of the log keeper, at most one more than its job and its queue need
 abbrev pub RepeatsLog : Fate → Past → State → (told : LogAnswer) → Past → State → Type 0
 RepeatsLog fate past old told next new = Repeats (move.Log fate) (answer.Log log_answer.Idle) (work_of old.log old.queue) past old (answer.Log told) next new
 
@@ -119,7 +119,7 @@ file_in ImageB state = state.image_b.inner
 file_in LogA state = state.log_a.inner
 file_in LogB state = state.log_b.inner
 
--- what a crash that leaves so leaves of each file
+-- the bytes that such a crash leaves of each file
 pub record AreLeft (leaving : Leaving) (state : State) (left : Remains) : Type 0 where
   pub image_a : left.image_a.items ≡ left_by leaving state.image_a.inner
   pub image_b : left.image_b.items ≡ left_by leaving state.image_b.inner

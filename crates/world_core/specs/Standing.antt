@@ -1,4 +1,4 @@
--- Where core and keepers stand, as moves and their answers tell it, and which refusal holds.
+-- The state of core and keepers as far as moves and their answers show it, and the refusal that holds.
 use Rattle.std.specs.Prelude.{ℕ, ◌+◌, ◌-◌, List, [], ◌∷◌, ◌++◌, length, Bool, true, false, not, nat_eq, nat_lt, nat_le, ◌&&◌, Option, Some, None, is_some, Result, Ok, Err, slice_index, if◌then◌else◌}
 use Rattle.world_actions.specs.declared.action.Action.{Action}
 use Rattle.world_actions.specs.declared.refusal.Refusal.{Refusal}
@@ -29,9 +29,8 @@ queued_of (record_.Switch tick) = QueuedSwitch tick
 abbrev pub queue_most : ℕ
 queue_most = 64
 
--- The tick of the newest image, 0 before the first; the tick of the open round; which keeper is down; how many Log moves
--- the start has ahead; the ticks that ended since the last mark or start; and the records of the ends and marks since the
--- start.
+-- The tick of the newest image, 0 before the first. The tick of the open round. Which keeper is down. How many Log moves the
+-- start has left. How many ticks ended since the last mark or start. The records of the ends and marks since the start.
 pub record Standing : Type 0 where
   pub newest : ℕ
   pub round : Option ℕ
@@ -41,12 +40,13 @@ pub record Standing : Type 0 where
   pub since : ℕ
   pub records : List Queued
 
--- the round of a start, where it has one
+-- the round of a start, if it has one
 abbrev pub start_round : (has_round : Bool) → (tick : ℕ) → Option ℕ
 start_round true tick = Some tick
 start_round false tick = None
 
--- at the beginning of a start, at this tick, from the image of that one, on segments of which this is known
+-- The beginning of a start at the tick `tick`, from the image of the tick `from`. The last two flags say which log segments
+-- are shut.
 abbrev pub standing_at : (from tick : ℕ) → (has_round shut_a shut_b : Bool) → Standing
 standing_at from tick has_round shut_a shut_b = record {
   newest = from;
@@ -58,7 +58,7 @@ standing_at from tick has_round shut_a shut_b = record {
   records = [];
 }
 
--- after a move and its answer, where this is the running tick
+-- after a move and its answer, if this was the running tick
 abbrev pub standing_after : Standing → (running : List Action) → Move → Answer → Standing
 standing_after standing running move.End (answer.Ended tick) = record standing { since = standing.since + 1; records = standing.records ++ QueuedTick running ∷ [] }
 standing_after standing running move.Mark (answer.Started tick) = record standing { round = Some tick; since = 0; records = standing.records ++ QueuedSwitch tick ∷ [] }
@@ -86,12 +86,12 @@ is_log_waiting standing = is_starting standing && is_round_open standing
 
 -- ---- the refusals: the first line that holds
 
--- why no tick can be added to, if so
+-- the refusal of an action or of the tick's end, if one holds
 abbrev pub tick_refusal : (is_starting is_log_down : Bool) → (ended since : ℕ) → Option Refusal
 tick_refusal is_starting is_log_down ended since =
     if is_starting then Some Starting else log_tick_refusal is_log_down ended since
 
--- why no round can begin, if so
+-- the refusal of a mark, if one holds
 abbrev pub mark_refusal : (is_starting is_log_down is_image_down is_round_open : Bool) → (ended newest queued : ℕ) → (running : List Action) → Option Refusal
 mark_refusal is_starting is_log_down is_image_down is_round_open ended newest queued running =
     if is_starting then Some Starting else
@@ -103,7 +103,7 @@ mark_refusal is_starting is_log_down is_image_down is_round_open ended newest qu
     if nat_le queue_most queued then Some QueueFull else
     None
 
--- why no tick can be covered, if so
+-- the refusal of a cover, if one holds
 abbrev pub cover_refusal : (is_starting is_log_down : Bool) → (newest tick : ℕ) → Option Refusal
 cover_refusal is_starting is_log_down newest tick =
     if is_starting then Some Starting else
@@ -116,7 +116,7 @@ abbrev pub unless_refused : Option Refusal → Answer → Answer
 unless_refused None given = given
 unless_refused (Some refusal) given = answer.Refused refusal
 
--- what is answered to an action, by what was decided on it; want of memory apart
+-- the answer to an action by the decision on it, unless memory runs out
 abbrev pub action_answer : Result (List ℕ) Refusal → Answer
 action_answer (Ok words) = answer.Did
 action_answer (Err refusal) = answer.Refused refusal
@@ -127,7 +127,7 @@ get_answer words cell = if is_outside words cell then answer.Refused BadCell els
 abbrev pub end_answer : Option Refusal → (ended queued : ℕ) → Answer
 end_answer refusal ended queued = unless_refused refusal (if nat_le queue_most queued then answer.Refused QueueFull else answer.Ended (ended + 1))
 
--- by where core and keepers stand
+-- the refusals by the state of core and keepers
 abbrev pub mark_refusal_at : Standing → (ended queued : ℕ) → (running : List Action) → Option Refusal
 mark_refusal_at standing ended queued running =
     mark_refusal (is_starting standing) standing.is_log_down standing.is_image_down (is_round_open standing) ended standing.newest queued running

@@ -1,4 +1,4 @@
--- A core at the beginning of a start: of a fresh world's, or of that after a crash.
+-- A core at the beginning of a start, of a fresh world or after a crash.
 use Rattle.std.specs.Prelude.{◌≡◌, ◌≤◌, ℕ, List, [], Bool, true, nat_lt, Option, Some, None, Ok, Err, replicate}
 use Rattle.world_actions.specs.declared.refusal.Refusal.TheVariants.{NoImage}
 use Rattle.world_ticks.specs.declared.tick.TheConstants.{TICK_MAX}
@@ -37,7 +37,7 @@ pub record Begins (cells : ℕ) (newest : Option (Slot × ℕ)) (tick : ℕ) (wo
 abbrev pub BeginsFresh : (cells : ℕ) → State → Type 0
 BeginsFresh cells new = Begins cells None 0 (replicate cells 0) true [] [] [] [] new
 
--- what stands in four files, as it is answered, and a start from it
+-- recovery of four files agrees with this answer, and the core begins a start from what was recovered
 abbrev pub StandsOn : (cells : ℕ) → (image_a image_b log_a log_b : List ℕ) → Answer → State → Type 0
 StandsOn cells image_a image_b log_a log_b (answer.Recovered tick from) new =
     (r : Recovery) × Recovers image_a image_b log_a log_b (Ok r) × (tick ≡ r.tick) × (from ≡ r.from) × (r.tick ≤ TICK_MAX)

@@ -1,4 +1,4 @@
--- What contracts see of a core's parts.
+-- The parts of a core as contracts see them.
 use Rattle.std.specs.Prelude.{◌⊎◌, ℕ, List, Bool, true, false, min}
 use Rattle.world_actions.specs.declared.action.Action.{Action}
 use Rattle.capture_core.specs.Content.{Content}
@@ -17,12 +17,12 @@ use Rattle.action_log.specs.declared.record.Record.{Record}
 use Rattle.action_log.specs.Logs.{LogPlace}
 use Rattle.action_log.specs.Stands.{Stands as LogStands}
 
--- a file in memory whose calls can be let fail
+-- a file in memory whose calls can be made to fail
 abbrev pub File : Type 0
 File = Fuse FileState
 
--- the store, the actions of the running tick, how many ticks have ended, and how many since the last mark or start; the
--- records that wait for the log; the two keepers, and the four files
+-- The number of cells, the store, and the actions of the running tick. How many ticks have ended, and how many since the
+-- last mark or start. The records that wait for the log, the two keepers, and the four files.
 pub record State : Type 0 where
   pub cells : ℕ
   pub content : Content
@@ -37,7 +37,7 @@ pub record State : Type 0 where
   pub log_a : File
   pub log_b : File
 
--- its four files, without what may let their calls fail
+-- its four files, without the fuses that make their calls fail
 abbrev pub files_in : State → FourFiles FileState
 files_in state = record { image_a = state.image_a.inner; image_b = state.image_b.inner; log_a = state.log_a.inner; log_b = state.log_b.inner }
 
@@ -59,7 +59,7 @@ failures file = fault_count (λ (below : FileState). min below.faults last_count
 abbrev pub HasFailed : (one_before one_after other_before other_after : File) → Type 0
 HasFailed one_before one_after other_before other_after = Grew (failures one_before) (failures one_after) ⊎ Grew (failures other_before) (failures other_after)
 
--- what an image keeper and its files stand for
+-- an image keeper and its files represent these images
 abbrev pub ImagesIn : ImageProgress → ImageFiles → (image_a image_b : FileState) → Type 0
 ImagesIn keeper images image_a image_b =
     ImagesStand keeper images image_a.content image_b.content (IsCrashOutcome image_a) (IsCrashOutcome image_b)
@@ -67,7 +67,7 @@ ImagesIn keeper images image_a image_b =
 abbrev pub HasImages : State → ImageFiles → Type 0
 HasImages state images = ImagesIn state.images images state.image_a.inner state.image_b.inner
 
--- what a log keeper and its files stand for
+-- a log keeper and its files represent this log
 abbrev pub LogIn : LogProgress → LogPlace → (log_a log_b : FileState) → Type 0
 LogIn keeper place log_a log_b = LogStands keeper log_a.content log_b.content (IsCrashOutcome log_a) (IsCrashOutcome log_b) place
 

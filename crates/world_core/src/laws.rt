@@ -9,11 +9,11 @@ use recovery::{crash_restarts, events_keep};
 use restart::{gates_are_told, worlds_are_safe, worlds_go_on};
 use world_ticks::actions_go_on;
 
-/// What happens to the files of a core.
+/// A file of a core, with a fuse that can make its calls fail.
 type File = Fused<ModelFile>;
 
-/// Laws: store, images, log and queue begin in step with the ticks, and each event keeps them so. They
-/// speak of no kind of store, and the plain copy stands for any.
+/// Laws: store, images, log and queue begin in step with the ticks, and each event keeps them in step. They are the same for
+/// every kind of store, so the plain copy represents any.
 pub fn event_laws()
     ensures { EventLaws }
 {
@@ -22,14 +22,14 @@ pub fn event_laws()
     worlds_go_on();
 }
 
-/// Laws: which records may be queued.
+/// Laws: the records that may be queued.
 pub fn queue_laws()
     ensures { QueueLaws }
 {
     log_queues();
 }
 
-/// Laws: what the keepers and their files stand for, and that it is told rightly which gates are shut.
+/// Laws: the keepers with their files represent images and a log, and the flags of shut gates are correct.
 pub fn keeper_laws()
     ensures { KeeperLaws }
 {
@@ -38,8 +38,7 @@ pub fn keeper_laws()
     gates_are_told();
 }
 
-/// Laws: the files of a core in step are safe, and a crash begins the next start. A file reads in one
-/// way.
+/// Laws: the files of a core in step are safe, and a crash begins the next start. Each file has only one reading.
 pub fn safety_laws()
     ensures { SafetyLaws }
 {
@@ -50,9 +49,8 @@ pub fn safety_laws()
     segments_read_once();
 }
 
-/// Laws: the files of a core are safe for the ticks that ended and the acknowledged count, so that
-/// `Core::step` keeps the promise of `run` move by move. Before there is an image recovery of safe files
-/// finds none, or zeros at tick 0.
+/// Laws: the files of a core are safe for the ended ticks and the acknowledged count. So `Core::step` keeps the promise of
+/// `run`, move by move. Before the first image, recovery of safe files finds no image, or zeros at tick 0.
 pub fn cores_are_safe()
     ensures safe { CoresAreSafe }
     ensures fresh { FreshAreRecovered }

@@ -1,10 +1,9 @@
 //! A world with its store, its keepers and its four files, run one move at a time.
 //!
-//! A move is an action, a read or the end of a tick by the mutator, a mark, a step of the image keeper
-//! or of the log keeper, whose call of a device may be let fail, or a crash that leaves some bytes of
-//! the four files, and the restart. `run` carries the promise: after any list of moves, whatever bytes
-//! a crash may leave then, recovery gives the world after the first n ended ticks, for some n not below
-//! the acknowledged count, and every open image is the world after exactly its tick.
+//! A move is an action, a read, the end of a tick, a mark, a step of a keeper, a cover or a crash. The device call of a
+//! keeper's step can be made to fail. A crash leaves some bytes of the four files, and includes the restart. `run` carries
+//! the promise: whatever bytes a crash may leave after any list of moves, recovery gives the world after the first n ended
+//! ticks. The number n is not below the acknowledged count, and every open image is the world after exactly its tick.
 #![tactic(auto)]
 
 mod laws;

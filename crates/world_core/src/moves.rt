@@ -3,16 +3,16 @@ use image_files::ImageAnswer;
 use std::alloc::Global;
 use world_actions::{Action, Refusal};
 
-/// What becomes of the device call that a move makes, if it makes one.
+/// The fate of the device call of a move, if it makes one.
 #[derive(Clone, Copy, Debug, PartialEq, Eq)]
 pub enum Fate {
-    /// The call goes as the device lets it.
+    /// The device itself decides the call.
     Done,
     /// The call fails.
     Failed,
 }
 
-/// One thing that a core may be asked to do.
+/// One request to a core.
 #[derive(Drop)]
 pub enum Move {
     /// An action of the running tick.
@@ -21,7 +21,7 @@ pub enum Move {
     Get(u32),
     /// The end of the running tick.
     End,
-    /// Opens a round: the words as they are now are to be written as an image.
+    /// Opens a round, which writes the present words as an image.
     Mark,
     /// A step of the image keeper: a take, or at most one call of a device.
     Image(Fate),
@@ -46,7 +46,7 @@ pub enum FileName {
     LogB,
 }
 
-/// What a crash leaves of the four files.
+/// The bytes that a crash leaves of the four files.
 #[derive(Drop)]
 pub struct Remains {
     pub image_a: Vec<u8>,
@@ -74,7 +74,7 @@ impl Remains {
     }
 }
 
-/// What is answered to one move.
+/// The answer to one move.
 #[derive(Clone, Copy, Debug, PartialEq, Eq)]
 pub enum Answer {
     /// The action was accepted.
@@ -85,13 +85,13 @@ pub enum Answer {
     Ended(u64),
     /// A round of this tick is open.
     Started(u64),
-    /// What came of a step of the image keeper.
+    /// The result of a step of the image keeper.
     Image(ImageAnswer),
-    /// What came of a step of the log keeper, or of a cover.
+    /// The result of a step of the log keeper, or of a cover.
     Log(LogAnswer),
-    /// The world after this tick stands, built from the image of that one.
+    /// Recovery built the world after `tick`, from the image of the tick `from`.
     Recovered { tick: u64, from: u64 },
-    /// No image stands: the world is of zeros at tick 0.
+    /// Recovery found no image: the world is of zeros at tick 0.
     Blank,
     /// The move was refused, and nothing changed.
     Refused(Refusal),

@@ -21,7 +21,7 @@ mod files;
 mod keepers;
 mod play;
 
-/// What a core is made of. Contracts see it as a `State`, whatever its store.
+/// The parts of a core. Contracts see them as a `State`, whatever the store is.
 #[derive(Drop)]
 pub struct Parts<C: Capture> {
     alloc: Global,
@@ -74,7 +74,7 @@ impl<C: Capture> Parts<C> {
         self.cells
     }
 
-    /// Why no tick can be added to, if so.
+    /// Returns the refusal of an action or of the tick's end, if one holds.
     pub fn tick_refusal(&self) -> Option<Refusal>
         ensures refusal { result ≡ tick_refusal self.now.log.starting self.now.log.down
             self.now.ended self.now.since }
@@ -87,7 +87,7 @@ impl<C: Capture> Parts<C> {
         }
     }
 
-    /// Why no round can begin, if so.
+    /// Returns the refusal of a mark, if one holds.
     pub fn mark_refusal(&self) -> Option<Refusal>
         ensures refusal { result ≡ mark_refusal self.now.log.starting self.now.log.down
             (is_down self.now.images.phase) (is_in_round self.now.images.phase) self.now.ended
@@ -113,7 +113,7 @@ impl<C: Capture> Parts<C> {
         }
     }
 
-    /// Why no tick can be covered, if so.
+    /// Returns the refusal of a cover, if one holds.
     pub fn cover_refusal(&self, tick: u64) -> Option<Refusal>
         ensures { result ≡ cover_refusal self.now.log.starting self.now.log.down
             (newest_tick self.now.images.newest) tick }
@@ -129,7 +129,7 @@ impl<C: Capture> Parts<C> {
         }
     }
 
-    /// Whether as many records wait as may.
+    /// True if the queue is full: it holds 64 records.
     pub fn queue_is_full(&self) -> bool
         ensures full { result ≡ nat_le queue_most (length self.now.queue) }
         ensures room { result ≡ false → length self.now.queue < queue_most }
@@ -137,14 +137,14 @@ impl<C: Capture> Parts<C> {
         self.queue.len() >= QUEUE_RECORDS
     }
 
-    /// Whether the log's part of the start is ahead or in work.
+    /// True if the log's part of the start is ahead or in work.
     pub fn starting(&self) -> bool
         ensures { result ≡ self.now.log.starting }
     {
         self.log.starting()
     }
 
-    /// Whether the log's part of the start waits for the image.
+    /// True if the log's part of the start waits for the image.
     pub fn log_waits(&self) -> bool
         ensures { result ≡ (self.now.log.starting && is_in_round self.now.images.phase) }
     {
@@ -157,7 +157,7 @@ impl<C: Capture> Parts<C> {
         self.images.is_down()
     }
 
-    // It is in work, or was when a call failed.
+    // True if a round is in work, or was when a call failed.
     fn round_is_open(&self) -> bool
         ensures { result ≡ is_in_round self.now.images.phase }
     {

@@ -14,10 +14,10 @@ use capture_core::Capture;
 use std::alloc::Global;
 use world_actions::Refusal;
 
-/// Runs moves over a fresh world: the answers, one for each, and the core after them. Whatever a crash
-/// leaves of its files then, recovery gives the world after the first ended ticks, all acknowledged ones
-/// among them, and each open image is the world after exactly its tick. Each move is answered by its
-/// refusal or its plain answer, a crash by recovery. `Core::step` goes on with the core from there.
+/// Runs moves over a fresh world, and returns one answer for each and the core after them. Whatever a crash leaves of its
+/// files then, recovery gives the world after the first ended ticks, and all acknowledged ones are among them. Each open
+/// image is the world after exactly its tick. Each move gets its refusal or its plain answer, and a crash the result of
+/// recovery. `Core::step` continues with the core from there.
 pub fn run<C: Capture>(
     alloc: Global,
     cells: u32,

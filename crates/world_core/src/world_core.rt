@@ -56,7 +56,7 @@ impl<C: Capture> Core<C> {
         Ok(Core { parts })
     }
 
-    /// Whether the start has not ended.
+    /// True if the start has not ended.
     pub fn starting(&self) -> bool
         ensures { (past : Past) → IsCoreAt past self.now → result ≡ is_starting past.standing }
     {
@@ -72,8 +72,8 @@ impl<C: Capture> Core<C> {
         self.parts.newest_tick()
     }
 
-    /// Makes one move. What moves and answers tell of ticks, images and keepers stays true of the core;
-    /// the answer is exact, and the state is the one that it names.
+    /// Makes one move. All that moves and answers say of ticks, images and keepers stays true of the core. The answer is
+    /// exact, and the new state is the one that it names.
     pub fn step(&mut self, asked: Move) -> Answer
         ensures keeps { (past : Past) → IsCoreAt past self.old
             → IsCoreAt (past_after past asked result) self.new }
@@ -176,7 +176,7 @@ impl<C: Capture> Core<C> {
         self.parts.move_images(fate)
     }
 
-    // In a start it waits until the image is open.
+    // In a start the log waits until the image is open.
     fn log(&mut self, fate: Fate) -> LogAnswer
         ensures keeps { (past : Past) → IsCoreAt past self.old
             → IsCoreAt (past_after past (Move.Log fate) (Answer.Log result)) self.new }
@@ -194,7 +194,7 @@ impl<C: Capture> Core<C> {
         self.parts.move_log(fate)
     }
 
-    // What the image of the tick has needs no logging.
+    // Records that the image of this tick has need no logging.
     fn cover(&mut self, tick: u64) -> Answer
         ensures keeps { (past : Past) → IsCoreAt past self.old
             → IsCoreAt (past_after past (Move.Cover tick) result) self.new }
@@ -213,7 +213,7 @@ impl<C: Capture> Core<C> {
         Answer::Log(self.parts.cover(tick))
     }
 
-    // What recovery finds in what the crash left begins the next start.
+    // The next start begins from what recovery finds in the bytes that the crash left.
     fn crash(&mut self, left: Remains) -> Answer
         ensures keeps { (past : Past) → IsCoreAt past self.old
             → IsCoreAt (past_after past (Move.Crash left) result) self.new }

@@ -29,10 +29,10 @@ behind_first x xs place bytes e =
     let next : suc place ≡ place + 1 = omega arith in
     ap (λ (n : ℕ). drop n bytes) next ∙ sym (drop-drop 1 place bytes) ∙ ap (drop 1) e
 
--- ---- what a copy has
+-- ---- the bytes of a copy
 
 module _ (file : ℕ → List ℕ) where
-  -- a copy from a place on begins with these bytes, and goes on behind them
+  -- a copy from a place on begins with these bytes, and continues behind them
   record Begins (xs : List ℕ) (place moment : ℕ) (copy : List ℕ) : Type 0 where
     pub rest : List ℕ
     pub later : ℕ

@@ -18,7 +18,7 @@ abbrev Four : Type 0
 Four = List ℕ × List ℕ × List ℕ × List ℕ
 
 module _ {D : Type 0} (file : D → List ℕ) where
-  -- what is told of files is told of those that have the same bytes
+  -- a report of files is also one of files with the same bytes
   tells_before : (folder : List ℕ) (files left : FourFiles D) (ending : Ending)
       → file left.image_a ≡ file files.image_a → file left.image_b ≡ file files.image_b → file left.log_a ≡ file files.log_a → file left.log_b ≡ file files.log_b
       → TellsUnmade file folder left ending → TellsUnmade file folder files ending

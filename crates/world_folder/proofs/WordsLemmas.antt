@@ -52,7 +52,7 @@ no_separator_at bytes i inside other none =
 separator_first : (left : List ℕ) (byte : ℕ) (more : List ℕ) → left ≡ byte ∷ more → EndsPart left → IsSeparator byte
 separator_first left byte more is ends = subst EndsPart is ends
 
--- a text goes on behind a word and its separator
+-- a text continues behind a word and its separator
 pub record GoesOn (words front rest text : List ℕ) (word end : ℕ) (more : List ℕ) : Type 0 where
   pub is_text : text ≡ more ++ drop (end + 1) rest
   pub listed : ListsEach (words ++ word ∷ []) more

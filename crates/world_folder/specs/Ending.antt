@@ -28,13 +28,13 @@ IsFault Mistaken = ⊥
 IsFault (Server ending) = status_of ending ≡ 1
 IsFault other = Unit {0}
 
--- it tells this error of the file of this name in a folder, or that there was no memory for its path
+-- the ending names this error and the file of this name in a folder, or there was no memory for its path
 abbrev pub TellsOf : (folder name : List ℕ) → Error → Ending → Type 0
 TellsOf folder name error (Fault refusal) = refusal ≡ NoMemory
 TellsOf folder name error (Unreadable file) = (path_buf_bytes file.path ≡ path_join folder name) × (file.error ≡ error)
 TellsOf folder name error other = ⊥
 
--- it tells of the first of four files in a folder that couldn't be read
+-- the ending names the first of four files in a folder that couldn't be read, with its error
 abbrev pub TellsOfFirst : (folder : List ℕ) → FourFiles (Named (Result (Vec ℕ Global) Error)) → Ending → Type 0
 TellsOfFirst folder files ending =
     MatchResult files.image_a.value (λ _. MatchResult files.image_b.value (λ _. MatchResult files.log_a.value (λ _. MatchResult files.log_b.value (λ _. ⊥)
@@ -43,7 +43,7 @@ TellsOfFirst folder files ending =
     (λ error. TellsOf folder (name_of files.image_b.file) error ending))
     (λ error. TellsOf folder (name_of files.image_a.file) error ending)
 
--- it tells why no world was found in the four files of a folder, which were read so
+-- the ending says why no world was found in the four files of a folder, which were read so
 abbrev pub TellsWhy : (folder : List ℕ) → FourFiles (Named (Result (Vec ℕ Global) Error)) → Ending → Type 0
 TellsWhy folder files (NoWorld fault) = (bytes : Files) × AreRead files bytes × Explains bytes fault
 TellsWhy folder files ending = TellsOfFirst folder files ending

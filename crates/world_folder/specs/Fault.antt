@@ -1,4 +1,4 @@
--- Why no world stands in four files.
+-- The reasons why four files hold no world.
 use Rattle.std.specs.Prelude.{◌≡◌, ◌↔◌, ℕ, true, ◌||◌, IsTrue, Result, Ok, Err, Vec}
 use Rattle.std.specs.declared.alloc.Global.{Global}
 use Rattle.world_actions.specs.declared.refusal.Refusal.{Refusal}
@@ -38,7 +38,7 @@ refusal_of Replay = refusal.BadLog
 abbrev pub IsRefused : Files → Refusal → Type 0
 IsRefused files refused = Recovers files.image_a.items files.image_b.items files.log_a.items files.log_b.items (Err refused)
 
--- what a fault tells of the four files; of NoMemory nothing can be said
+-- a fault is true of the four files; NoMemory says nothing of them
 abbrev pub Explains : Files → Fault → Type 0
 Explains files NoMemory = Unit {0}
 Explains files NoImage = IsRefused files refusal.NoImage

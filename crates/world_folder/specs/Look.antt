@@ -1,4 +1,4 @@
--- What the heads of four files say.
+-- The findings in the heads of four files.
 use Rattle.std.specs.Prelude.{ℕ, List, ◌&&◌, ◌==◌, nat_le, nat_lt, length, get_or, drop, Option, Some, None, if◌then◌else◌}
 use Rattle.file_format.specs.declared.slot.Slot.{Slot}
 use Rattle.file_format.specs.declared.slot.Slot.TheVariants.{A, B}
@@ -9,16 +9,16 @@ use Rattle.image_files.specs.Image.{is_open, tick_in}
 use Rattle.action_log.specs.declared.format.TheConstants.{HEADER_BYTES}
 use Rattle.world_folder.specs.declared.look.Look.{Look}
 
--- the tick of an image, where it is open
+-- the tick of an image, if it is open
 abbrev pub opened_tick : List ℕ → Option ℕ
 opened_tick bytes = if is_open bytes then Some (tick_in bytes) else None
 
--- the base of a segment with the mark of its format, where it is open
+-- the base of a segment with the mark of its format, if it is open
 abbrev pub opened_base : List ℕ → Option ℕ
 opened_base bytes =
     if nat_le HEADER_BYTES (length bytes) && (get_or bytes 0 0 == OPEN_GATE) then Some (number_of 8 (drop MARK_PLACE bytes)) else None
 
--- the greater tick, and the file that has it, image.a where both are alike
+-- the greater tick, and the file that has it, image.a if both are alike
 abbrev pub newest_tick : Option ℕ → Option ℕ → Option (Slot × ℕ)
 newest_tick (Some s) (Some t) = if nat_lt s t then Some (B, t) else Some (A, s)
 newest_tick (Some s) None = Some (A, s)

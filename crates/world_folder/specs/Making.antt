@@ -1,4 +1,4 @@
--- What making a world in a folder gives.
+-- The results of making a world in a folder.
 use Rattle.std.specs.Prelude.{◌≡◌, ◌≢◌, ◌⊎◌, ℕ, List, [], Ok, Err}
 use Rattle.std.specs.Path.{path_buf_bytes, path_join}
 use Rattle.world_actions.specs.declared.refusal.Refusal.TheVariants.{NoMemory, Device, NotEmpty, NoImage}
@@ -25,7 +25,8 @@ IsFirstOpen image_a image_b log_a log_b name =
     ⊎ ((name ≡ LOG_B.now) × (image_of image_a ≡ Closed) × (image_of image_b ≡ Closed) × IsSegment log_a ClosedSegment × ¬ IsSegment log_b ClosedSegment)))
 
 module _ {D : Type 0} (file : D → List ℕ) where
-  -- it tells why no world was made of the four files of a folder: it names the first one that isn't closed, or no file
+  -- the ending says why no world was made of the four files of a folder: it names the first one that isn't closed, or no
+  -- file
   abbrev pub TellsUnmade : (folder : List ℕ) → FourFiles D → Ending → Type 0
   TellsUnmade folder files (Occupied told) =
       (name : List ℕ) × (path_buf_bytes told.path ≡ path_join folder name)
@@ -34,8 +35,8 @@ module _ {D : Type 0} (file : D → List ℕ) where
   TellsUnmade folder files other = ⊥
 
 module _ {D : Type 0} (file : D → List ℕ) (leaves : D → List ℕ → Type 0) where
-  -- No world was made, and the program ends so. But for a device that failed the files were only read. Where they held no
-  -- world, whatever a crash leaves of them is of no world yet, or of one of zeros at tick 0.
+  -- No world was made, and the program ends so. The files were only read, except if a device failed. If they held no world,
+  -- whatever a crash leaves of them is of no world yet, or of one of zeros at tick 0.
   pub record IsUnmade (folder : List ℕ) (files : FourFiles D) (cells : ℕ) (ending : Ending) (left : FourFiles D) : Type 0 where
     pub told : TellsUnmade file folder files ending
     pub kept : ending ≢ Fault Device → EachFile files left (KeepsFile file leaves)
@@ -58,8 +59,8 @@ module _ {D : Type 0} (file : D → List ℕ) (leaves : D → List ℕ → Type 
     pub log_b : KeepsFile file leaves files.log_b made.log_b
     pub recovers : RecoversFiles file made (recovery_of_words words)
 
-  -- No world was made, and the program ends so. But for a device that failed the files were only read. Where they held no
-  -- world, a crash leaves none in them, or that of these words at tick 0.
+  -- No world was made, and the program ends so. The files were only read, except if a device failed. If they held no world,
+  -- a crash leaves none in them, or that of these words at tick 0.
   pub record HoldsNoOther (folder : List ℕ) (files : FourFiles D) (words : List ℕ) (ending : Ending) (left : FourFiles D) : Type 0 where
     pub told : TellsUnmade file folder files ending
     pub kept : ending ≢ Fault Device → EachFile files left (KeepsFile file leaves)

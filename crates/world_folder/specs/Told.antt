@@ -1,4 +1,4 @@
--- What is told of a file: how it reads.
+-- The report on a file: how it reads.
 use Rattle.std.specs.Prelude.{◌≡◌, List, ℕ, length, Some}
 use Rattle.file_format.specs.declared.format.Format.{Format}
 use Rattle.file_format.specs.declared.format.Format.TheVariants.{First, Second}
@@ -15,14 +15,14 @@ abbrev pub format_number : Format → ℕ
 format_number First = 1
 format_number Second = 2
 
--- this is told of an image file's bytes: of an open image the format that its mark tells, how many cells it has, and its tick
+-- the report on an image file's bytes: of an open image the format by its mark, the number of cells, and its tick
 abbrev pub IsImageTold : List ℕ → ImageTold → Type 0
 IsImageTold bytes image.Closed = image_of bytes ≡ Closed
 IsImageTold bytes image.Damaged = image_of bytes ≡ Bad
 IsImageTold bytes (image.Open format cells tick) =
     (format_in bytes ≡ Some format) × (words : List ℕ) × (image_of bytes ≡ Open tick words) × (cells ≡ length words)
 
--- this is told of a log file's bytes: of an open segment its format, the base, and how many groups and ticks it has
+-- the report on a log file's bytes: of an open segment its format, its base, and the numbers of groups and ticks
 abbrev pub IsLogTold : List ℕ → LogTold → Type 0
 IsLogTold bytes log.Closed = IsSegment bytes ClosedSegment
 IsLogTold bytes log.Damaged = IsSegment bytes MalformedSegment

@@ -1,4 +1,4 @@
--- What a crash leaves of a file while an image is written over it.
+-- The bytes that a crash leaves of a file while an image is written over it.
 use Rattle.std.specs.Prelude.{◌≡◌, ℕ, List}
 use Rattle.image_files.specs.Image.{Closed, image_of}
 

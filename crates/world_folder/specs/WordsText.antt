@@ -32,7 +32,7 @@ abbrev pub EndsPart : List ℕ → Type 0
 EndsPart [] = Unit {0}
 EndsPart (byte ∷ bytes) = IsSeparator byte
 
--- words are listed, and then stands a part in this line, up to a separator or the end, that is no word
+-- words are listed, and then comes a part in this line, up to a separator or the end, that is no word
 pub record IsUnreadAt (line : ℕ) (text : List ℕ) : Type 0 where
   pub words : List ℕ
   pub front : List ℕ

@@ -46,8 +46,8 @@ struct Source<'a> {
     files: FourFiles<File>,
 }
 
-/// Copies the files of a folder without a lock, also while a server writes them. It ends with `Device` where each try met
-/// a new image or a new segment.
+/// Copies the files of a folder without a lock, also while a server writes them. It ends with `Device` if each try met a
+/// new image or a new segment.
 pub fn copy_world<R: Files<File = File> + Clock + AllocGlobal>(
     rt: &R,
     folder: &str,
@@ -122,7 +122,7 @@ fn open_one<R: Files<File = File> + AllocGlobal>(
     opened(rt.alloc(), folder, file.name(), answer)
 }
 
-// What a try came to.
+// The result of a try.
 #[derive(Drop)]
 enum Tried {
     Copied(FourFiles<Vec<u8>>),
@@ -132,7 +132,7 @@ enum Tried {
     Unsteady,
 }
 
-// Copies the newest image and the log between two looks at all heads. What was copied is a third look.
+// Copies the newest image and the log between two looks at all heads. The copied files are looked at too.
 fn try_copy(alloc: Global, source: &mut Source<'_>) -> Result<Tried, Ending>
     ensures { IfErr result IsFault }
 {
@@ -231,7 +231,7 @@ fn read_from_start(alloc: Global, from: &mut File, most: usize) -> io::Result<Ve
     read_forward(alloc, from, most)
 }
 
-// The files without the bytes of the older image. Of that one only the head was copied.
+// The files without the bytes of the older image, of which only the head was copied.
 fn without_older(files: FourFiles<Vec<u8>>, newest: Slot) -> FourFiles<Vec<u8>>
     ensures a { newest ≡ Slot.A → (result.image_a ≡ files.image_a) × (result.image_b.items ≡ []) }
     ensures b { newest ≡ Slot.B → (result.image_b ≡ files.image_b) × (result.image_a.items ≡ []) }
@@ -265,7 +265,7 @@ fn length_of(alloc: Global, folder: &str, file: WorldFile, from: &File) -> Resul
     Ok(metadata.len())
 }
 
-// How the program ends where no copy could be taken.
+// How the program ends if no copy could be taken.
 fn unsteady(alloc: Global, folder: &str) -> Ending
     ensures { IsFault result }
 {

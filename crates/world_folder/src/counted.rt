@@ -1,6 +1,6 @@
 use std::fmt;
 
-/// A count of things, told with their noun.
+/// A count of things, which prints with their noun.
 #[derive(Clone, Copy)]
 pub struct Counted {
     pub count: usize,

@@ -14,8 +14,8 @@ use std::fs::{File, Files};
 use std::io;
 use world_actions::Refusal;
 
-/// Makes the files of a world of zeros at tick 0 in a folder, and tells how many cells it has. Where one of
-/// the files isn't closed no world is made, and no file is written; files that it made stay.
+/// Makes the files of a world of zeros at tick 0 in a folder, and prints how many cells it has. If one of the files isn't
+/// closed, it makes no world and writes no file. Files that it made stay.
 pub fn create<R: Files<File = File> + Print + AllocGlobal>(
     rt: &R,
     folder: &str,
@@ -34,7 +34,7 @@ pub fn create<R: Files<File = File> + Print + AllocGlobal>(
     Ok(made)
 }
 
-/// Makes the files of a world of the words that a file lists, at tick 0, and tells how many cells it has. A file that
+/// Makes the files of a world of the words that a file lists, at tick 0, and prints how many cells it has. A file that
 /// lists no words of a world is refused before anything is opened in the folder.
 pub fn create_of_words<R: Files<File = File> + Print + AllocGlobal>(
     rt: &R,

@@ -16,7 +16,7 @@ use world_actions::Refusal;
 /// How the program ends.
 #[derive(Debug, Drop)]
 pub enum Ending {
-    /// What was asked for was done.
+    /// The command did its work.
     Ran,
     /// The help or the version was printed.
     Told,
@@ -26,7 +26,7 @@ pub enum Ending {
     Fault(Refusal),
     /// This file can't be read.
     Unreadable(Unreadable),
-    /// No world stands in the files.
+    /// The files hold no world.
     NoWorld(Fault),
     /// A world can't be made over this file.
     Occupied(Occupied),
@@ -146,7 +146,7 @@ impl Ending {
         }
     }
 
-    /// The end of a command that tells how it ends where it doesn't end well.
+    /// The end of a command that returns an ending only if it fails.
     pub fn of_command<T: Drop>(run: Result<T, Self>) -> Self
         ensures well { IsOk run → result ≡ Ending.Ran }
         ensures fails { IfErr run (λ ending. result ≡ ending) }

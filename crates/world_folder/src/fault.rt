@@ -20,7 +20,7 @@ pub struct Damaged {
     pub b: bool,
 }
 
-/// Why no world stands in four files.
+/// The reason why four files hold no world.
 #[derive(Clone, Copy, Debug, PartialEq, Eq)]
 pub enum Fault {
     /// There is no memory to read them.
@@ -39,7 +39,7 @@ impl Fault {
     ghost use Rattle.std.specs.Prelude.{◌≡◌};
     ghost use Rattle.world_folder.specs.Fault.{refusal_of};
 
-    /// What recovery answers.
+    /// The refusal by which recovery answers.
     pub fn refusal(&self) -> Refusal
         ensures { result ≡ refusal_of self.now }
     {
@@ -83,7 +83,7 @@ fn names_of(
     }
 }
 
-/// What stands in four files, or why nothing does.
+/// The world that four files hold, or the reason why they hold none.
 pub fn stands_in(alloc: Global, files: &FourFiles<Vec<u8>>) -> Result<Recovered, Fault>
     ensures recovered { IfOk result (Stands files.now) }
     ensures fault { IfErr result (Explains files.now) }
@@ -136,14 +136,14 @@ fn fault_of_log(alloc: Global, files: &FourFiles<Vec<u8>>) -> Fault
     }
 }
 
-// Whether an image is open and of neither format. An image that wants memory is of one.
+// True if an image is open and of neither format. An image for which there is no memory is of one.
 fn is_bad_image(alloc: Global, bytes: &[u8]) -> bool
     ensures { result ≡ is_bad_image (image_of bytes.now) }
 {
     matches!(read_image(alloc, bytes), Err(Refusal::BadImage))
 }
 
-// Whether a segment is open and of neither format, as far as there is memory to tell.
+// True if a segment is open and of neither format. It is refused if there is no memory to read it.
 fn is_bad_segment(alloc: Global, bytes: &[u8]) -> Result<bool, Refusal>
     ensures told { IfOk result (λ is_bad. IsTrue is_bad ↔ IsSegment bytes.now MalformedSegment) }
     ensures memory { IfErr result (λ refusal. refusal ≡ Refusal.NoMemory) }

@@ -50,7 +50,7 @@ pub fn figures_of(alloc: Global, files: &FourFiles<Vec<u8>>) -> Result<Figures, 
     }
 }
 
-// The open segment with the greater base, log.b where both have it, and how many ticks it has.
+// The open segment with the greater base, log.b if both have it, and how many ticks it has.
 fn current_segment(log_a: LogTold, log_b: LogTold) -> Option<(Slot, usize)>
     ensures { result ≡ current_segment (told_segment log_a) (told_segment log_b) }
 {

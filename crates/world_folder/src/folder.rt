@@ -222,7 +222,7 @@ pub fn path_of(alloc: Global, folder: &str, name: &str) -> Result<PathBuf, Alloc
     Path::new(folder).join(alloc, name)
 }
 
-/// How the program ends where a call of one of the files failed: the first one is named.
+/// How the program ends if a call of one of the files failed: the first one is named.
 pub fn failure_of(alloc: Global, folder: &str, files: FourFiles<FileDisk>) -> Ending
     ensures { IsFault result }
 {
@@ -281,8 +281,8 @@ fn sync_folder<R: Files<File = File>>(rt: &R, folder: Path<'_>) -> io::Result<()
 // The name of the folder above a folder.
 const ABOVE: &str = "..";
 
-// Makes the name of a folder durable, unless a file system is mounted there, which needs no name, or this user can't read the
-// folder above it.
+// Makes the name of a folder durable. It does nothing if a file system is mounted there, which needs no name, or if this
+// user can't read the folder above it.
 fn sync_above<R: Files<File = File> + AllocGlobal>(rt: &R, folder: &str) -> io::Result<()> {
     let above = Path::new(folder).join(rt.alloc(), ABOVE)?;
     let device = fs::metadata(rt, above.as_path())?.dev();
@@ -295,7 +295,7 @@ fn sync_above<R: Files<File = File> + AllocGlobal>(rt: &R, folder: &str) -> io::
     }
 }
 
-/// The bytes of all files, where each was read, else how the program ends for the first that wasn't.
+/// The bytes of all files if each was read, else how the program ends for the first that wasn't.
 pub fn all_read(
     alloc: Global,
     folder: &str,

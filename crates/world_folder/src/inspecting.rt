@@ -14,8 +14,8 @@ use std::fs::{File, Files};
 use std::io;
 use world_actions::Refusal;
 
-/// Tells how each file of a folder reads, and then what stands in them, with the words where they are
-/// asked for. It writes nothing into the folder.
+/// Prints how each file of a folder reads, and then which world they hold, with its words if they are asked for. It
+/// writes nothing into the folder.
 pub fn inspect<R: Files<File = File> + Print + AllocGlobal>(
     rt: &R,
     folder: &str,
@@ -37,7 +37,7 @@ pub fn inspect<R: Files<File = File> + Print + AllocGlobal>(
     Ok(())
 }
 
-// Prints what is told of a file, or why it can't be read.
+// Prints the report on a file, or why it can't be read.
 fn print_file<
     R: Print + AllocGlobal,
     T: Display + Drop,

@@ -1,8 +1,8 @@
-//! A world in the files of a folder: the commands that make one and tell what stands there, and how a program over one
+//! A world in the files of a folder: the commands that make a world and print what it holds, and how a program over one
 //! ends.
 //!
 //! `create` makes the files of a new world, and `create_of_words` those of one with given words. `recover` and `inspect`
-//! tell what four files hold, and `status` gives figures of it; they write nothing. `back_up` copies a world that may be
+//! print what four files hold, and `status` prints figures. These three write nothing. `back_up` copies a world that may be
 //! served. `open_existing` locks the files to serve their world. An `Ending` says what went wrong, and names the file.
 #![tactic(auto)]
 

@@ -1,4 +1,4 @@
-//! What the heads of four files say: which image is the newest, and which segments the log has.
+//! The findings in the heads of four files: which image is the newest, and which segments the log has.
 ghost use Rattle.std.specs.Prelude.{◌≡◌, ◌≤◌, length};
 ghost use Rattle.world_folder.specs.Look.{opened_tick, opened_base, newest_tick, look_of};
 
@@ -17,13 +17,13 @@ pub const SEGMENT_HEAD: usize = action_log::HEADER_BYTES;
 pub struct Look {
     /// The open image with the greatest tick, and this tick.
     pub newest: Option<(Slot, u64)>,
-    /// The base of log.a with the mark of its format, where it is open.
+    /// The base of log.a with the mark of its format, if it is open.
     pub log_a: Option<u64>,
     /// The same of log.b.
     pub log_b: Option<u64>,
 }
 
-/// What four files say by their first bytes. Of each no more is looked at than its head.
+/// Looks at the first bytes of four files, and at no more of each than its head.
 pub fn look_at(files: &FourFiles<Vec<u8>>) -> Look
     ensures { result ≡ look_of files.now.image_a.items files.now.image_b.items
         files.now.log_a.items files.now.log_b.items }
@@ -35,7 +35,7 @@ pub fn look_at(files: &FourFiles<Vec<u8>>) -> Look
     }
 }
 
-// The greater of two ticks, and the file that has it; image.a where both are alike.
+// The greater of two ticks, and the file that has it; image.a if both are alike.
 fn newest_of(a: Option<u64>, b: Option<u64>) -> Option<(Slot, u64)>
     ensures { result ≡ newest_tick a b }
 {
@@ -47,7 +47,7 @@ fn newest_of(a: Option<u64>, b: Option<u64>) -> Option<(Slot, u64)>
     }
 }
 
-// The tick of an image, where it is open.
+// The tick of an image, if it is open.
 fn opened_tick(bytes: &[u8]) -> Option<u64>
     ensures { result ≡ opened_tick bytes.now }
 {
@@ -57,7 +57,7 @@ fn opened_tick(bytes: &[u8]) -> Option<u64>
     Some(u64_at(bytes, TICK_PLACE))
 }
 
-// The base of a segment with the mark of its format, where it is open.
+// The base of a segment with the mark of its format, if it is open.
 fn opened_base(bytes: &[u8]) -> Option<u64>
     ensures { result ≡ opened_base bytes.now }
 {

@@ -33,8 +33,8 @@ impl Made {
     }
 }
 
-/// Makes the files of a world of zeros at tick 0, of the four files of a folder. Where one of them isn't closed it only
-/// reads them, and names the first such file. Refused, it gives the files back, and a device's fault names no file.
+/// Makes the files of a world of zeros at tick 0, of the four files of a folder. If one of them isn't closed, it only
+/// reads them, and names the first such file. A refusal gives the files back. A fault of a device names no file.
 pub fn make_in<D: Disk>(
     alloc: Global,
     folder: &str,
@@ -98,7 +98,7 @@ pub fn make_of_words<D: Disk>(
     }
 }
 
-// How the program ends where one of the files isn't closed. They are read once more, to find the first such file.
+// How the program ends if one of the files isn't closed. They are read once more, to find the first such file.
 fn occupied<D: Disk>(alloc: Global, folder: &str, files: &mut FourFiles<D>) -> Ending
     ensures told { IsTrue D.honest → ¬ FilesAreClosed D.content files.old
         → TellsUnmade D.content folder.now files.old result }

@@ -53,7 +53,7 @@ impl OwnFile {
 /// The permissions of a new file.
 const OWNER_ALONE: u32 = 0o600;
 
-/// What is done about a file that isn't there.
+/// The action if a file doesn't exist.
 #[derive(Clone, Copy, PartialEq, Eq)]
 pub enum Absent {
     Make,

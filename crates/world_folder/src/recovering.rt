@@ -12,7 +12,7 @@ use std::alloc::Global;
 use std::fs::{self, File};
 use std::io;
 
-/// Tells what stands in the files of a folder, and writes nothing into it.
+/// Prints which world the files of a folder hold, and writes nothing into it.
 pub fn recover<R: fs::Files<File = File> + Print + AllocGlobal>(
     rt: &R,
     folder: &str,
@@ -25,7 +25,7 @@ pub fn recover<R: fs::Files<File = File> + Print + AllocGlobal>(
     Ok(())
 }
 
-/// What stands in files that were read so, or how the program ends.
+/// The world that files hold which were read so, or how the program ends.
 pub fn found_in(
     alloc: Global,
     folder: &str,

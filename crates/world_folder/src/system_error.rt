@@ -23,7 +23,7 @@ impl fmt::Display for Reason {
     }
 }
 
-/// What an error of the system is told as: want of memory, or a fault of its device.
+/// The refusal for an error of the system: want of memory, or a fault of its device.
 pub fn refusal_of(error: &io::Error) -> Refusal
     ensures memory { error_kind error.now ≡ ErrorKind.OutOfMemory → result ≡ Refusal.NoMemory }
     ensures device { error_kind error.now ≢ ErrorKind.OutOfMemory → result ≡ Refusal.Device }
@@ -35,7 +35,7 @@ pub fn refusal_of(error: &io::Error) -> Refusal
     }
 }
 
-/// The error of the system that a refusal stands for.
+/// The error of the system for a refusal.
 pub fn error_of(refusal: Refusal) -> io::Error
     ensures memory { refusal ≡ Refusal.NoMemory → error_kind result ≡ ErrorKind.OutOfMemory }
     ensures other { refusal ≢ Refusal.NoMemory → error_kind result ≢ ErrorKind.OutOfMemory }

@@ -12,7 +12,7 @@ use std::alloc::Global;
 use std::fmt;
 use world_actions::Refusal;
 
-/// What is told of an image file.
+/// The report on an image file.
 #[derive(Clone, Copy, Debug, PartialEq, Eq)]
 pub enum ImageTold {
     Closed,
@@ -25,7 +25,7 @@ pub enum ImageTold {
     },
 }
 
-/// What is told of a log file.
+/// The report on a log file.
 #[derive(Clone, Copy, Debug, PartialEq, Eq)]
 pub enum LogTold {
     Closed,

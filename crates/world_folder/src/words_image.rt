@@ -66,7 +66,7 @@ fn shut_gate<D: Disk>(bytes: &[u8], image: &mut D) -> Result<(), Refusal>
     image.sync()
 }
 
-// Writes what stands behind a shut gate, and makes it durable.
+// Writes the bytes behind a shut gate, and makes them durable.
 fn write_body<D: Disk>(body: &[u8], image: &mut D) -> Result<(), Refusal>
     requires { IsTrue D.honest → HasShutGate (D.content image.old) }
     ensures written { IsTrue D.honest

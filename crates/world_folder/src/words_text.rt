@@ -53,8 +53,8 @@ impl fmt::Display for BadWords {
     }
 }
 
-/// The words that a text lists, of which a world is made: each in decimal, with a space or a newline behind it, which
-/// the last one may lack.
+/// Reads the words of a world from a text. Each word is in decimal, with a space or a newline behind it, which the last
+/// one may lack.
 pub fn read_words(alloc: Global, text: &[u8]) -> Result<Vec<u64>, BadWords>
     ensures listed { IfOk result (λ words. Lists words.items text.now) }
     ensures world { IfOk result (λ words. IsWorld words.items) }
@@ -126,7 +126,7 @@ fn newlines_at(text: &[u8], at: usize) -> u64
     if text[at] == b'\n' { 1 } else { 0 }
 }
 
-// What stands behind a place.
+// The bytes behind a place.
 fn behind(text: &[u8], at: usize) -> &[u8]
     requires { at < length text.now }
     ensures { result.now ≡ drop (at + 1) text.now }

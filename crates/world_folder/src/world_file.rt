@@ -34,7 +34,7 @@ impl WorldFile {
     }
 }
 
-/// What was opened or read by the name of a file.
+/// The result of opening or reading a file, with the file's name.
 #[derive(Drop)]
 pub struct Named<T> {
     pub file: WorldFile,

@@ -1,4 +1,4 @@
--- What a server answers the batches of a connection.
+-- The answers of a server to the batches of a connection.
 use Rattle.std.specs.Prelude.{◌≡◌, ℕ, zero, suc, ◌≤◌, ◌<◌, List, [], ◌∷◌, ◌++◌, length, All, codes, decimal}
 use Rattle.std.specs.List.{flat_map, AllPairs}
 
@@ -11,7 +11,7 @@ abbrev pub pluses : ℕ → List ℕ
 pluses zero = 10 ∷ []
 pluses (suc lines) = codes " +" ++ pluses lines
 
--- what follows the number where so many lines were accepted
+-- the text behind the number if so many lines were accepted
 abbrev pub all_accepted : ℕ → List ℕ
 all_accepted lines = 58 ∷ pluses lines
 

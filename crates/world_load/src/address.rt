@@ -3,7 +3,7 @@ use std::net::{Ipv4Addr, Net, TcpStream};
 use std::os::unix::net::UnixStream;
 use transports::Stream;
 
-/// Where a server listens.
+/// The address of a server.
 #[derive(Clone, Copy, Debug)]
 pub enum Address<'a> {
     /// A port of 127.0.0.1.

@@ -7,7 +7,7 @@ use line_grammar::{after, read_number};
 use std::alloc::{AllocError, Global};
 use world_actions::Refusal;
 
-/// What follows the number in an answer to so many lines, all of which were accepted.
+/// The text behind the number in an answer to so many lines, all of which were accepted.
 pub fn accepted(alloc: Global, lines: u32) -> Result<Vec<u8>, AllocError>
     ensures { IfOk result (λ text. text.items ≡ all_accepted lines) }
 {
@@ -49,7 +49,7 @@ fn number_between(text: &[u8], front: &[u8], end: &[u8]) -> Option<u64>
     read_number(digits)
 }
 
-/// Whether a line of a batch is refused since the world doesn't have its cell.
+/// True if a line of a batch is refused since the world doesn't have its cell.
 pub fn names_no_cell(answer: &[u8]) -> bool {
     answer
         .trim_ascii_end()

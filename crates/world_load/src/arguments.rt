@@ -40,7 +40,7 @@ Each second it prints on standard error how many ticks were answered. Its status
 each answer was right; 1 after a fault or a wrong answer, with a line that names it; 2
 for a wrong command line.";
 
-/// What the words ask for; the error has clap's text.
+/// Reads the words by the command line's grammar. The error has clap's text.
 pub fn matches_of<'a>(alloc: Global, words: &'a [String]) -> Result<ArgMatches<'a>, Error> {
     command(alloc)?.try_get_matches_from(words)
 }

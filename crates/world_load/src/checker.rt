@@ -2,7 +2,7 @@ use crate::answer::{accepted, tick_of};
 use std::alloc::{AllocError, Global};
 use std::marker::Model;
 
-/// What the answers of a connection have to be, and the last tick that was answered.
+/// The wanted answers of a connection, and the last tick that was answered.
 #[derive(Drop)]
 pub struct Checker {
     end: Vec<u8>,
@@ -38,7 +38,7 @@ impl Checker {
         self.last
     }
 
-    /// Whether the next batch may be answered so: all its lines are accepted, and its tick is after the last one.
+    /// True if the next batch may be answered so: all its lines are accepted, and its tick is after the last one.
     pub fn hear(&mut self, answer: &[u8]) -> bool
         ensures right { IsTrue result → (answer.now ≡ answer_with self.old.end self.new.last)
             × (self.old.last < self.new.last) × (self.new.end ≡ self.old.end) }

@@ -16,8 +16,8 @@ use world_actions::LIMIT;
 /// The most batches of a connection.
 const MOST_BATCHES: u64 = 1 << 40;
 
-/// Sends batch after batch over a connection, each once the last one is answered. It gives how many nanoseconds each waited. Where
-/// another client failed it ends early.
+/// Sends batch after batch over a connection, each once the last one is answered. It returns how many nanoseconds each
+/// waited. It ends early if another client failed.
 pub fn play<R: Clock, A: BufRead, W: Write>(
     rt: &R,
     alloc: Global,
@@ -36,7 +36,7 @@ pub fn play<R: Clock, A: BufRead, W: Write>(
     Ok(latencies)
 }
 
-/// What a client sends comes of its random numbers, and what it is answered is checked.
+/// A client of a load: it sends lines by its random numbers, and checks each answer.
 #[derive(Drop)]
 struct Client {
     random: Random,
@@ -125,7 +125,7 @@ impl Client {
     }
 }
 
-// Whether the seconds of a load have passed.
+// True if the seconds of a load have passed.
 fn is_over<R: Clock>(rt: &R, begin: Instant, load: &Load) -> io::Result<bool> {
     Ok(begin.elapsed(rt)?.as_secs() >= u64::from(load.seconds))
 }

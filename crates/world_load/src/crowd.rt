@@ -17,7 +17,7 @@ use trial_kit::Latencies;
 /// How many milliseconds pass from a look at the clients' progress to the next one.
 const PAUSE: u64 = 10;
 
-/// What the clients saw.
+/// The results of the clients together.
 #[derive(Drop)]
 pub struct Seen {
     pub latencies: Latencies,

@@ -1,4 +1,4 @@
-/// What clients ask of a server.
+/// The requests of clients to a server.
 #[derive(Clone, Copy, Debug, PartialEq, Eq)]
 pub struct Load {
     /// How many connections there are at once, each with a thread of its own.

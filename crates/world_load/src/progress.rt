@@ -43,7 +43,7 @@ impl Progress {
         self.ended.load(Ordering::SeqCst)
     }
 
-    /// Whether something failed.
+    /// True if something failed.
     pub fn has_failed(&self) -> bool {
         self.failed.load(Ordering::SeqCst)
     }

@@ -91,7 +91,7 @@ fn rows_of(latencies: &Latencies) -> [usize; BOUNDS.len() + 1] {
     rows
 }
 
-// A bar for so many, where the longest one stands for the most.
+// A bar for a count, as a share of the longest bar, which is for the greatest one.
 fn bar(count: usize, most: usize) -> &'static str {
     let length = BAR
         .len()

@@ -1,4 +1,4 @@
--- Who may connect to a socket.
+-- The users who may connect to a socket.
 use Rattle.std.specs.Prelude.{ℕ, List, codes}
 use Rattle.world_server.specs.declared.socket.SocketMode.{SocketMode}
 use Rattle.world_server.specs.declared.socket.SocketMode.TheVariants.{Owner, Group, Everyone}

@@ -22,7 +22,7 @@ use worker_threads::NotStarted;
 use world_actions::Refusal;
 use world_folder::{Ending, NoPort, ServerEnding, opened};
 
-/// The streams, the listener, where that is, and the lines of the workers and sessions.
+/// The streams, the listener with its place, and the lines of the workers and sessions.
 #[derive(Drop)]
 pub struct Front<R: Wait + Net + Copy> {
     pub streams: Streams,
@@ -109,7 +109,7 @@ fn lines_of<R: Threads + Wait + Clock + Net + AllocGlobal + Copy + Send + 'stati
     })
 }
 
-// Where the server counts, if its figures are printed. Their thread is started.
+// Starts the thread that prints figures, if they are asked for, and returns the counts that it prints.
 fn reported<R: Threads + Wait + Clock + AllocGlobal + Copy + Send + 'static>(
     rt: &R,
     seconds: u32,
@@ -142,7 +142,7 @@ fn not_started(reason: NotStarted) -> Ending
     }
 }
 
-// A listener at this address, and where it is.
+// A listener at this address, and its place.
 fn listen<R: Net<Listener = TcpListener, Stream = TcpStream> + Files<File = File> + AllocGlobal>(
     rt: &R,
     address: Address<'_>,

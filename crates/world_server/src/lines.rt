@@ -23,9 +23,9 @@ pub struct Lines<R: Wait + Net + Copy> {
     pub output: Printer,
     pub errors: Printer,
     pub exits_when_log_down: bool,
-    /// Whether the server is to be left, since its log is down.
+    /// True if the server is to be left, since its log is down.
     pub is_left: Arc<AtomicBool, Global>,
-    /// Where the server counts, if its figures are printed.
+    /// The counts of the server, if its figures are printed.
     pub pulse: Option<Arc<Pulse, Global>>,
 }
 

@@ -12,7 +12,7 @@ pub struct Every(pub u32);
 #[derive(Clone, Copy, Debug, PartialEq, Eq)]
 pub struct Clients(pub u32);
 
-/// Where a server listens.
+/// The address of a server.
 #[derive(Clone, Copy, Debug)]
 pub enum Address<'a> {
     /// A port of 127.0.0.1; 0 lets the system choose.
@@ -21,7 +21,7 @@ pub enum Address<'a> {
     Socket { path: &'a str, mode: SocketMode },
 }
 
-/// What a server is asked to do.
+/// The service that a command line asks for.
 #[derive(Clone, Copy)]
 pub struct Service<'a> {
     pub folder: &'a str,
@@ -33,7 +33,7 @@ pub struct Service<'a> {
     pub idle: Option<u32>,
     /// After how many seconds its figures are printed, again and again; 0 for never.
     pub report: u32,
-    /// Whether the program ends as soon as its log is down.
+    /// True if the program ends as soon as its log is down.
     pub exits_when_log_down: bool,
 }
 

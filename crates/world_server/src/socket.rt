@@ -11,7 +11,7 @@ use std::os::unix::net::{UnixListener, UnixStream};
 use std::path::PathBuf;
 use transports::Listener;
 
-/// Who may connect to a socket. The system's administrator always may.
+/// The users who may connect to a socket. The system's administrator always may.
 #[derive(Clone, Copy, Debug, PartialEq, Eq)]
 pub enum SocketMode {
     /// The user that runs the server.
@@ -87,7 +87,7 @@ pub fn listen_at<R: Files + Net + AllocGlobal>(
     Ok((Listener::Unix(listener), SocketFile { path: own, made }))
 }
 
-// Makes sure that nothing stands at a path. It removes a socket that nobody listens on, and refuses anything else.
+// Makes sure that no file is at a path. It removes a socket that nobody listens on, and refuses anything else.
 fn clear<R: Files + Net>(rt: &R, path: &str) -> io::Result<()> {
     let there = match fs::symlink_metadata(rt, path) {
         Ok(there) => there,

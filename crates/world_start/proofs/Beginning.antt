@@ -42,7 +42,7 @@ pub started_newest : (round : Bool) (tick : ℕ) (keeper : ImageProgress) → (s
 started_newest false tick keeper = refl
 started_newest true tick keeper = refl
 
--- all cells are left of a round, and none with no round
+-- all cells of a round are left, and none if there is no round
 cells_left : (cells tick : ℕ) (newest : Option (Slot × ℕ)) (shut_a shut_b round : Bool) (words : List ℕ) (content : Content) → length words ≡ cells → IsBuilt words round content
     → CellsLeft (started_keeper round tick (made_keeper cells newest shut_a shut_b)) content
 cells_left cells tick newest shut_a shut_b false words content all built = record {

@@ -1,4 +1,4 @@
--- A device that is told to have failed did.
+-- A device that is reported as failed did fail.
 use Rattle.std.proofs.Common.{◌≡◌, ◌↔◌, ◌⊎◌, inl, inr, ℕ, ◌+◌, ◌<◌, ◌≤◌, min, Bool, true, false, List, ◌||◌, get_or, lit<, Option, Some, None, Result, Ok, Err, refl, sym, ap, subst, ◌∙◌, arith}
 use Rattle.std.specs.Prelude.{if◌then◌else◌, IfErr, OnErr}
 use Rattle.std.proofs.lemmas.List.{get_or-set_same}
@@ -138,7 +138,7 @@ pub start_is_down : (keeper : LogProgress) (queue : List Record) → (keeper.dow
 start_is_down keeper queue (inl down) some = down
 start_is_down keeper queue (inr none) some = absurd (let most = at_most keeper.starting (rest_of keeper) in omega (arith, none, some, most))
 
--- ---- recovery never tells of a device
+-- ---- recovery never reports a device
 
 of_replay : (image : Newest) (ticks : List (List Action)) (r : Result (List ℕ) Refusal) → recovery_with image ticks r ≡ Err Device → ⊥
 of_replay image ticks (Ok words) e = absurd (let h = e in cc)
@@ -161,7 +161,7 @@ no_device image_a image_b log_a log_b refusal found is =
 pub no_memory : (refusal : Refusal) → refusal ≡ NoMemory → refusal ≡ Device → ⊥
 no_memory refusal memory device = (let h : NoMemory ≡ Device = sym memory ∙ device in absurd (let g = h in cc))
 
--- what holds of each refusal holds of a device's
+-- if something holds for each refusal, it holds for a device's
 pub refused_device : {T : Type 0} (r : Result T Refusal) (P : Type 0) → OnErr r P → IfErr r (λ refusal. refusal ≡ Device → P)
 refused_device (Ok value) P holds = tt
 refused_device (Err refusal) P holds = λ device. holds

@@ -1,4 +1,4 @@
--- What runs of images and log do keeps the world in step with its ticks.
+-- Runs of images and log keep the world in step with its ticks.
 use Rattle.std.proofs.Common.{◌≡◌, ◌↔◌, ℕ, zero, suc, Bool, IsTrue, ◌-◌, ◌<◌, ◌≤◌, ◌⊎◌, inl, inr, List, [], ◌∷◌, ◌++◌, length, true, false, None, Ok, refl, sym, ap, subst, ◌∙◌, arith}
 use Rattle.std.proofs.lemmas.List.{length-append, take_all}
 use Rattle.world_actions.specs.declared.action.Action.{Action}
@@ -40,7 +40,7 @@ no_queue [] e = refl
 no_queue (records.Tick tick ∷ queue) e = absurd (omega (arith, e))
 no_queue (records.Switch tick ∷ queue) e = absurd (omega (arith, e))
 
--- with no work left nothing waits
+-- if no work is left, nothing waits
 pub none_waits : (keeper : LogProgress) (queue : List Record) → work_of keeper queue ≡ 0 → (keeper.phase ≡ phase.Ready) × (queue ≡ [])
 none_waits keeper queue e = (no_rest keeper.phase keeper.other_shut (omega (arith, e)), no_queue queue (omega (arith, e)))
 
@@ -58,7 +58,7 @@ stands_at keeper queue base count none end =
     let e = sym (end_ready keeper none.0) ∙ (ap (end_of keeper) (sym none.1) ∙ end) in
     (ap (λ (e : QueueEnd). e.base) e, ap (λ (e : QueueEnd). e.count) e)
 
--- a keeper that isn't down is ready to go on from the ended ticks
+-- a keeper that isn't down is ready to continue from the ended ticks
 pub log_is_ready : (keeper : LogProgress) (queue : List Record) (ended since : ℕ) → (keeper.down ≡ true) ⊎ (work_of keeper queue ≡ 0)
     → end_of keeper queue ≡ record { base = ended - since; count = since } → since ≤ ended → keeper.down ≡ false → LogIsReady keeper ended since
 log_is_ready keeper queue ended since rests end within up =
@@ -77,7 +77,7 @@ pub logs_of_place : (keeper : LogProgress) (a b : List ℕ) (leaves_a leaves_b :
     → LogStands keeper a b leaves_a leaves_b place → (logs : Logs) × (place.journal ≡ Writing logs)
 logs_of_place keeper a b leaves_a leaves_b place over stands = logs_in keeper a b leaves_a leaves_b place.journal place.left over stands
 
--- then there is an image
+-- after the start there is an image
 newest_in_phase : (cells : ℕ) (ticks : List (List Action)) (acknowledged : ℕ) (images : ImageFiles) (logs : Logs) (queue : List Record) → HasPhase cells ticks acknowledged images (Writing logs) queue → (newest : Images) × (images ≡ Newest newest)
 newest_in_phase cells ticks acknowledged (NoneYet images) logs queue phase = absurd phase
 newest_in_phase cells ticks acknowledged (Newest images) logs queue phase = (images, refl)
@@ -85,14 +85,14 @@ newest_in_phase cells ticks acknowledged (Newest images) logs queue phase = (ima
 pub newest_of : (cells : ℕ) (ticks : List (List Action)) (acknowledged : ℕ) (content : Content) (images : ImageFiles) (logs : Logs) (queue : List Record) → InStep cells ticks acknowledged content images (Writing logs) queue → (newest : Images) × (images ≡ Newest newest)
 newest_of cells ticks acknowledged content images logs queue w = newest_in_phase cells ticks acknowledged images logs queue w.phase
 
--- lists that end with one item each
+-- two equal lists have the same last item
 last_same : (xs ys : List ℕ) (x y : ℕ) → xs ++ x ∷ [] ≡ ys ++ y ∷ [] → x ≡ y
 last_same [] [] x y e = cc
 last_same [] (b ∷ ys) x y e = absurd (omega (arith, ap length e, length-append ys (y ∷ [])))
 last_same (a ∷ xs) [] x y e = absurd (omega (arith, ap length e, length-append xs (x ∷ [])))
 last_same (a ∷ xs) (b ∷ ys) x y e = last_same xs ys x y cc
 
--- with nothing queued and no round in work, the log goes on from the tick of the newest image
+-- with nothing queued and no round in work, the log continues from the tick of the newest image
 pub newest_is_base : (cells : ℕ) (ticks : List (List Action)) (acknowledged : ℕ) (images : Images) (logs : Logs) → IsKept cells ticks acknowledged images logs [] → images.round ≡ None → logs.switch ≡ None → images.tick ≡ logs.base
 newest_is_base cells ticks acknowledged images logs k none no_switch =
     let m = k.follow_marks in
@@ -114,7 +114,7 @@ module _ {C D : Type 0} (content : C → Content) (file : D → List ℕ) (leave
   abbrev HasLog : LogPlace → Type 0
   HasLog place = LogStands engine.log (file files.log_a) (file files.log_b) (leaves files.log_a) (leaves files.log_b) place
 
-  -- a world at rest stands in it
+  -- the engine holds a world at rest
   pub record Settles (ticks : List (List Action)) : Type 0 where
     pub images : Images
     pub logs : Logs

@@ -1,4 +1,4 @@
--- The steps of the log keep it in step.
+-- The steps of the log keep the log in step.
 use Rattle.std.proofs.Common.{◌≡◌, ℕ, ◌<◌, ◌≤◌, ◌⊎◌, inl, inr, List, [], ◌∷◌, ◌++◌, length, true, false, None, sym, ap, ◌∙◌, arith}
 use Rattle.image_files.specs.Images.{ImageFiles, round_in}
 use Rattle.action_log.specs.declared.record.Record.{Record}
@@ -61,7 +61,7 @@ module _ {D : Type 0} (file : D → List ℕ) (leaves : D → List ℕ → Type 
         in_step = goes_on.log_step cells ticks g.count content images g.place queue given after.0 left some none after.2 g.in_step;
       }
 
-  -- what waits for nothing goes on so
+  -- a log that waits for nothing still waits for nothing
   pub still_waits : (first keeper : Progress) (images : ImageFiles) → (first.starting ≡ false → keeper.starting ≡ false) → (first.starting ≡ false) ⊎ (round_in images ≡ None) → (keeper.starting ≡ false) ⊎ (round_in images ≡ None)
   still_waits first keeper images stays (inl over) = inl (stays over)
   still_waits first keeper images stays (inr none) = inr none

@@ -22,7 +22,7 @@ use Rattle.world_start.proofs.Beginning.{start_follows}
 use Rattle.world_start.proofs.Recovered.{synced_on}
 use Rattle.world_start.proofs.Sound.{fewer_sound}
 
--- what holds of an answer gives what holds of it
+-- a fact on a result follows from another one
 pub if_ok : {T : Type 0} (r : Result T Refusal) (P Q : T → Type 0) → ((value : T) → P value → Q value) → IfOk r P → IfOk r Q
 if_ok (Ok value) P Q f h = f value h
 if_ok (Err refusal) P Q f h = tt
@@ -31,7 +31,7 @@ pub on_ok : {T : Type 0} (r : Result T Refusal) (P Q R S X : Type 0) → (P → 
 on_ok (Ok value) P Q R S X f p q r s = f p q r s
 on_ok (Err refusal) P Q R S X f p q r s = tt
 
--- a list of no length
+-- a list of length 0 is empty
 pub no_items : {T : Type 0} (items : List T) → length items ≡ 0 → items ≡ []
 no_items [] e = refl
 no_items (item ∷ items) e = absurd (omega (arith, e))
@@ -74,12 +74,12 @@ module _ {C D : Type 0} (content : C → Content) (file : D → List ℕ) (leave
           subst (λ f. Begins content cells None 0 words f b2 c2 d2 engine) ea (subst (λ f. Begins content cells None 0 words a f c2 d2 engine) eb
           (subst (λ f. Begins content cells None 0 words a b f d2 engine) ec (subst (λ f. Begins content cells None 0 words a b c f engine) ed e)))
 
--- safe files of no ticks are of no world yet, or of one at tick 0
+-- safe files of no ticks hold no world yet, or one at tick 0
 safe_fresh : (images : ImageFiles) (a b la lb : List ℕ → Type 0) (cells count : ℕ) → IsSafe images a b la lb cells [] count → IsFresh a b la lb cells ⊎ IsSound a b la lb cells [] 0
 safe_fresh (NoneYet images) a b la lb cells count s = inl s.0
 safe_fresh (Newest images) a b la lb cells count s = inr (fewer_sound a b la lb cells [] 0 count (omega arith) s)
 
--- what a start that a device ended leaves of the files of a new world
+-- the files of a new world after a start that a device ended
 pub start_failed : {C D : Type 0} (content : C → Content) (file : D → List ℕ) (leaves : D → List ℕ → Type 0) (files left : FourFiles D) (cells : ℕ) (last : Engine C) (refusal : Refusal) → refusal ≡ Device
     → (AreSynced file leaves files → (last.images.cells ≡ cells) × Follows content file leaves last left [] 0)
     → ((f : Follows content file leaves last left [] 0) → IsSafe f.images (leaves left.image_a) (leaves left.image_b) (leaves left.log_a) (leaves left.log_b) last.images.cells [] f.count)

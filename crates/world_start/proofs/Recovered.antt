@@ -1,4 +1,4 @@
--- The world that stands in sound files is opened.
+-- The world in sound files is opened.
 use Rattle.std.proofs.Common.{◌≡◌, ◌≤◌, ℕ, false, nat_lt, List, length, take, Option, Some, None, Result, Ok, Err, refl, sym, ap, subst, ◌∙◌, arith}
 use Rattle.std.specs.Prelude.{IfErr, IsErrAnd}
 use Rattle.std.proofs.lemmas.List.{length-take-le}
@@ -37,13 +37,13 @@ holds_newest restarts cells r ia ib la lb all e =
     let b = restarts.built (image_of ia) (image_of ib) e.a e.b r e.holds in
     (b.words, sym b.cells ∙ all, by_slot r.slot ia ib ∙ b.image)
 
--- the same of other names of the bytes
+-- the same for other names of the bytes
 pub recovers_on : {a b c d a2 b2 c2 d2 : List ℕ} (x : Result Recovery Refusal) → a ≡ a2 → b ≡ b2 → c ≡ c2 → d ≡ d2 → Recovers a b c d x → Recovers a2 b2 c2 d2 x
 recovers_on {a} {b} {c} {d} {a2} {b2} {c2} {d2} x ea eb ec ed e =
     subst (λ f. Recovers f b2 c2 d2 x) ea (subst (λ f. Recovers a f c2 d2 x) eb (subst (λ f. Recovers a b f d2 x) ec (subst (λ f. Recovers a b c f x) ed e)))
 
 module _ {C D : Type 0} (content : C → Content) (file : D → List ℕ) (leaves : D → List ℕ → Type 0) where
-  -- what was read stays synced
+  -- files that were only read stay synced
   pub synced_on : (files left : FourFiles D) → EachFile files left (KeepsFile file leaves) → AreSynced file leaves files → AreSynced file leaves left
   synced_on files left kept s = record {
     image_a = λ bytes h. s.image_a bytes (kept.image_a.crash bytes h) ∙ sym kept.image_a.same_content;
@@ -52,11 +52,11 @@ module _ {C D : Type 0} (content : C → Content) (file : D → List ℕ) (leave
     log_b = λ bytes h. s.log_b bytes (kept.log_b.crash bytes h) ∙ sym kept.log_b.same_content;
   }
 
-  -- and sound
+  -- and they stay sound
   pub sound_on : (files left : FourFiles D) → EachFile files left (KeepsFile file leaves) → (cells : ℕ) (ticks : List (List Action)) (acknowledged : ℕ) → AreSound file leaves files cells ticks acknowledged → AreSound file leaves left cells ticks acknowledged
   sound_on files left kept cells ticks acknowledged s a b la lb ha hb hla hlb = s a b la lb (kept.image_a.crash a ha) (kept.image_b.crash b hb) (kept.log_a.crash la hla) (kept.log_b.crash lb hlb)
 
-  -- what stands in sound files begins a start in step with the recovered ticks
+  -- the world in sound files begins a start in step with the recovered ticks
   pub recovered_follows : StartLaws file leaves → ReadsOnce → CrashRestarts → WorldsGoOn → ((disk : D) → leaves disk (file disk))
       → (r : Recovery) (engine : Engine C) (files : FourFiles D) → IsWorld r.words → r.tick ≤ TICK_MAX
       → Recovers (file files.image_a) (file files.image_b) (file files.log_a) (file files.log_b) (Ok r)
@@ -84,7 +84,7 @@ module _ {C D : Type 0} (content : C → Content) (file : D → List ℕ) (leave
             e.a e.b e.reads_a e.reads_b (take r.tick ticks) acknowledged step s.world.words_are (sym count),
       )
 
-  -- what was read, recovered and begun
+  -- the result of reading the files, recovering them and beginning the start
   pub is_read : StartLaws file leaves → ReadsOnce → CrashRestarts → WorldsGoOn → ((disk : D) → leaves disk (file disk))
       → (files left : FourFiles D) → EachFile files left (KeepsFile file leaves) → (ia ib la lb : List ℕ) → AreRead file files ia ib la lb
       → (r : Recovery) (n from : ℕ) (words : List ℕ) (engine : Engine C) → IsWorld r.words → r.tick ≤ TICK_MAX → words ≡ r.words → n ≡ length r.words → from ≡ r.from

@@ -57,7 +57,7 @@ module _ {S : Type 0} (content : S → Content) (took : S → Option Taken → S
 
   -- ---- whatever the disks are
 
-  -- what a step says of the cells that it took
+  -- the cells that a step took, by its answer
   abbrev pub TakesCells : ImageAnswer → (keeper next : Progress) (old new : S) → Type 0
   TakesCells given keeper next old new =
       ((new ≡ old) × IfOpened given ⊤ (cells_taken next ≡ cells_taken keeper)) ⊎ ((cell : Taken) × took old (Some cell) new × (cells_taken next ≡ cells_taken keeper + 1))

@@ -1,4 +1,4 @@
--- The files of a world that is followed are sound.
+-- The files of an engine that follows its ticks are sound.
 use Rattle.std.proofs.Common.{◌≡◌, ◌≤◌, ℕ, false, List, length, take, Some, None, refl, sym, ap, subst, ◌∙◌, arith}
 use Rattle.std.proofs.lemmas.List.{length-take, take_all, take-take}
 use Rattle.world_actions.specs.declared.action.Action.{Action}
@@ -70,7 +70,7 @@ module _ {C D : Type 0} (content : C → Content) (file : D → List ℕ) (leave
     (safe : (image_a image_b log_a log_b : D) (cells : ℕ) (ticks : List (List Action)) (acknowledged : ℕ) (content : Content) (images : ImageFiles) (journal : Journal) (queue : List Record)
     → InStep cells ticks acknowledged content images journal queue → ImageFilesAre cells images (leaves image_a) (leaves image_b) → JournalIs journal (leaves log_a) (leaves log_b)
     → IsSafe images (leaves image_a) (leaves image_b) (leaves log_a) (leaves log_b) cells ticks acknowledged) where
-  -- what is true of a world's files
+  -- the files of a world are safe
   pub follows_safe : (engine : Engine C) (files : FourFiles D) (ticks : List (List Action)) (acknowledged : ℕ) (f : Follows content file leaves engine files ticks acknowledged)
       → IsSafe f.images (leaves files.image_a) (leaves files.image_b) (leaves files.log_a) (leaves files.log_b) engine.images.cells ticks f.count
   follows_safe engine files ticks acknowledged f =

@@ -1,5 +1,5 @@
--- A world's store, keepers and queue beside its four files: what is true of them whatever the disks are, and how they follow
--- the ticks that ended.
+-- A world's store, keepers and queue beside its four files: the facts that hold whatever the disks are, and how they follow
+-- the ended ticks.
 use Rattle.std.specs.Prelude.{◌≡◌, ℕ, List, length, Ok}
 use Rattle.world_actions.specs.declared.action.Action.{Action}
 use Rattle.world_ticks.specs.After.{after_ticks}
@@ -22,14 +22,14 @@ module _ {C D : Type 0} (content : C → Content) (file : D → List ℕ) (leave
     pub world : after_ticks engine.images.cells ticks ≡ Ok (content engine.store).live
     pub ended : engine.ended ≡ length ticks
 
-  -- the ticks that an engine and its files follow, they still follow
+  -- an engine and its files still follow the ticks that they followed
   abbrev pub StillFollows : (old : Engine C) (files : FourFiles D) (new : Engine C) (left : FourFiles D) → Type 0
   StillFollows old files new left = (ticks : List (List Action)) (acknowledged : ℕ) → Follows old files ticks acknowledged → Follows new left ticks acknowledged
 
 -- ---- whatever the disks are
 
 module _ {C D : Type 0} (faults : D → ℕ) where
-  -- what the two counts of faults say of a run of images, and of a run of the log
+  -- the counts of faults of two files, over a run of images and over a run of the log
   abbrev pub ImageFaults : (old : Engine C) (files : FourFiles D) (new : Engine C) (left : FourFiles D) → Type 0
   ImageFaults old files new left = RoundFaults old.images.phase new.images.phase (faults files.image_a) (faults left.image_a) (faults files.image_b) (faults left.image_b)
 

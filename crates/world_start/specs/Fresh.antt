@@ -1,4 +1,4 @@
--- What making the files of a new world gives.
+-- The result of making the files of a new world.
 use Rattle.std.specs.Prelude.{◌≡◌, ◌≢◌, ◌⊎◌, ℕ, List, []}
 use Rattle.world_actions.specs.declared.refusal.Refusal.{Refusal}
 use Rattle.world_actions.specs.declared.refusal.Refusal.TheVariants.{Device, NotEmpty}
@@ -20,15 +20,16 @@ abbrev pub FilesAreClosed : {D : Type 0} → (file : D → List ℕ) → FourFil
 FilesAreClosed file files = AreClosed (file files.image_a) (file files.image_b) (file files.log_a) (file files.log_b)
 
 module _ {D : Type 0} (file : D → List ℕ) (leaves : D → List ℕ → Type 0) where
-  -- the files held no world, and hold one of zeros at tick 0: nothing of them is unsynced, and log.a is open
+  -- The files held no world, and log.a is now open. If the files were synced, they now hold a world of zeros at tick 0 and
+  -- are synced again.
   pub record AreMade (files : FourFiles D) (cells : ℕ) (made : FourFiles D) : Type 0 where
     pub closed : FilesAreClosed file files
     pub sound : AreSynced file leaves files → AreSound file leaves made cells [] 0
     pub synced : AreSynced file leaves files → AreSynced file leaves made
     pub log : IsSegment (file made.log_a) (OpenSegment 0 [])
 
-  -- No world was made: where the files hold one, for want of memory, or by a device. But for a device the files were only
-  -- read. Where they held none, whatever a crash leaves of them is of no world yet, or of one of zeros at tick 0.
+  -- No world was made: the files hold one, memory ran out, or a device failed. Unless a device failed, the files were only
+  -- read. If they were synced and held no world, whatever a crash leaves of them is no world yet, or one of zeros at tick 0.
   pub record AreNotMade (files : FourFiles D) (cells : ℕ) (refusal : Refusal) (left : FourFiles D) : Type 0 where
     pub not_empty : refusal ≡ NotEmpty → ¬ FilesAreClosed file files
     pub kept : refusal ≢ Device → EachFile files left (KeepsFile file leaves)

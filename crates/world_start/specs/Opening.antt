@@ -1,4 +1,4 @@
--- What recovering the files of a world gives, and what sound files are.
+-- The result of recovering the files of a world, and the definition of sound files.
 use Rattle.std.specs.Prelude.{◌≡◌, ◌⊎◌, ◌<◌, ℕ, Bool, IsTrue, List, length, take, slice_index, Ok, Err}
 use Rattle.world_actions.specs.declared.action.Action.{Action}
 use Rattle.world_actions.specs.declared.refusal.Refusal.{Refusal}
@@ -24,12 +24,12 @@ module _ {D : Type 0} (file : D → List ℕ) (leaves : D → List ℕ → Type 
     pub log_b : Only (file files.log_b) (leaves files.log_b)
 
   -- Whatever a crash leaves of the files, recovery gives the world after the first n of these ticks, for some n not below
-  -- the acknowledged count, and each open image is the world after its tick.
+  -- the acknowledged count. Each open image is the world after its tick.
   abbrev pub AreSound : FourFiles D → (cells : ℕ) → List (List Action) → (acknowledged : ℕ) → Type 0
   AreSound files cells ticks acknowledged = IsSound (leaves files.image_a) (leaves files.image_b) (leaves files.log_a) (leaves files.log_b) cells ticks acknowledged
 
 module _ {D : Type 0} (file : D → List ℕ) where
-  -- recovery answers so on what reads of the files give
+  -- recovery of the bytes that reads of the files give has this result
   abbrev pub RecoversFiles : FourFiles D → Recovery → Type 0
   RecoversFiles files r = Recovers (file files.image_a) (file files.image_b) (file files.log_a) (file files.log_b) (Ok r)
 
@@ -40,8 +40,8 @@ module _ {D : Type 0} (file : D → List ℕ) where
     pub log_a_is : log_a ≡ file files.log_a
     pub log_b_is : log_b ≡ file files.log_b
 
--- Why no world is recovered: for want of memory, by a device, or because recovery refuses what was read. That is what the files
--- hold where they keep to the disk model.
+-- The reasons why no world is recovered: memory ran out, a device failed, or recovery refuses the bytes that were read. On
+-- files that keep to the disk model, those bytes are what the files hold.
 abbrev pub IsRefused : {D : Type 0} → (file : D → List ℕ) → (honest : Bool) → FourFiles D → Refusal → Type 0
 IsRefused file honest files refusal =
     (refusal ≡ NoMemory) ⊎ ((refusal ≡ Device)
@@ -51,11 +51,11 @@ IsRefused file honest files refusal =
 abbrev pub SomeGrew : List ℕ → List ℕ → Type 0
 SomeGrew old new = (place : ℕ) × (place < length old) × Grew (slice_index old place) (slice_index new place)
 
--- a refusal by a device comes only where the count of a file's faults grew
+-- a refusal by a device comes only if the count of a file's faults grew
 abbrev pub HasFaulted : {D : Type 0} → (faults : D → ℕ) → (files left : FourFiles D) → Refusal → Type 0
 HasFaulted faults files left refusal = refusal ≡ Device → SomeGrew (fault_counts faults files) (fault_counts faults left)
 
--- what recovery answers on bytes, which are what the files hold where they keep to the disk model
+-- recovery of some bytes has this result; on files that keep to the disk model, the bytes are what the files hold
 pub record RecoversBytes {D : Type 0} (file : D → List ℕ) (honest : Bool) (files : FourFiles D) : Type 0 where
   pub image_a : List ℕ
   pub image_b : List ℕ
@@ -65,7 +65,7 @@ pub record RecoversBytes {D : Type 0} (file : D → List ℕ) (honest : Bool) (f
   pub recovers : Recovers image_a image_b log_a log_b (Ok recovery)
   pub read : IsTrue honest → AreRead file files image_a image_b log_a log_b
 
--- what was recovered
+-- the engine and these ticks agree with the recovery
 pub record IsRecovered {C D : Type 0} (content : C → Content) (file : D → List ℕ) (honest : Bool) (files : FourFiles D) (engine : Engine C) (tick from : ℕ) : Type 0 where
   pub bytes : RecoversBytes file honest files
   pub open bytes use *
@@ -74,7 +74,7 @@ pub record IsRecovered {C D : Type 0} (content : C → Content) (file : D → Li
   pub words : (content engine.store).live ≡ recovery.words
   pub ended : engine.ended ≡ recovery.tick
 
--- the engine has what recovery answers on the files, and no tick since
+-- the engine agrees with the recovery of the files, and no tick has ended since
 pub record MatchesRecovery {C D : Type 0} (content : C → Content) (file : D → List ℕ) (files : FourFiles D) (engine : Engine C) (from : ℕ) : Type 0 where
   pub recovery : Recovery
   pub recovers : RecoversFiles file files recovery
@@ -84,8 +84,8 @@ pub record MatchesRecovery {C D : Type 0} (content : C → Content) (file : D �
   pub since : engine.since ≡ 0
 
 module _ {C D : Type 0} (content : C → Content) (file : D → List ℕ) (leaves : D → List ℕ → Type 0) where
-  -- The engine begins the start of the recovered world. Where the files were sound for some ticks, it follows the recovered
-  -- ones among them.
+  -- The engine begins the start of the recovered world. If the files were synced and sound for some ticks, it follows the
+  -- recovered ones among them.
   pub record IsRead (files : FourFiles D) (engine : Engine C) (from : ℕ) (left : FourFiles D) : Type 0 where
     pub matches : MatchesRecovery content file files engine from
     pub open matches use *

@@ -14,15 +14,15 @@ use Rattle.action_log.specs.Stands.{Stands as LogStands}
 use Rattle.restart.specs.InStep.{IsSettled}
 use Rattle.world_start.specs.declared.parts.Parts.{Parts}
 
--- the log keeper may take ticks from the ended ones on
+-- the log keeper may take the ticks after the ended ones
 pub record LogIsReady (log : LogProgress) (ended since : ℕ) : Type 0 where
   pub ready : log.phase ≡ Ready
   pub count : log.count ≡ since
   pub all : log.base + since ≡ ended
 
 module _ {D : Type 0} (file : D → List ℕ) (honest : Bool) where
-  -- The start is over, and neither keeper has work left, but one that is down. They fit the words, and on files that keep to
-  -- the disk model the files.
+  -- The start is over, and neither keeper has work left, unless it is down. They fit the words, and the files too if those
+  -- keep to the disk model.
   pub record AreAtRest (parts : Parts D) : Type 0 where
     pub words : All IsWord parts.words.items
     pub cells : parts.images.cells ≡ length parts.words.items
@@ -35,7 +35,7 @@ module _ {D : Type 0} (file : D → List ℕ) (honest : Bool) where
     pub most : parts.ended ≤ TICK_MAX
 
 module _ {D : Type 0} (file : D → List ℕ) (leaves : D → List ℕ → Type 0) where
-  -- these ticks have ended, and a world at rest after them stands in the parts: both keepers with their files stand for it
+  -- These ticks have ended, and the parts hold a world at rest after them. Both keepers with their files represent it.
   pub record AreSettled (parts : Parts D) (ticks : List (List Action)) : Type 0 where
     pub images : Images
     pub logs : Logs

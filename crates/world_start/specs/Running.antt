@@ -1,4 +1,5 @@
--- What is kept while images and log are stepped to an end. `RoundGoes` and `LogGoes` are for private functions alone.
+-- The facts that stay true while images and log are stepped to an end. `RoundGoes` and `LogGoes` are for private functions
+-- alone.
 use Rattle.std.specs.Prelude.{◌≡◌, ◌⊎◌, ℕ, ◌+◌, ◌≤◌, Bool, true, false, List, [], length, Some, None}
 use Rattle.world_actions.specs.declared.action.Action.{Action}
 use Rattle.file_format.specs.declared.slot.Slot.{Slot}
@@ -17,7 +18,7 @@ use Rattle.action_log.specs.Logs.{Journal, LogPlace}
 use Rattle.action_log.specs.Stands.{Stands as LogStands}
 use Rattle.restart.specs.InStep.{InStep}
 
--- in a round each cell is taken or left, and else none is left
+-- In a round each cell is taken or left. Without a round none is left.
 pub record CellsLeft (keeper : ImageProgress) (content : Content) : Type 0 where
   pub in_round : (keeper.phase ≡ Idle → ⊥) → cells_taken keeper + length content.left ≡ keeper.cells
   pub idle : keeper.phase ≡ Idle → content.left ≡ []
@@ -26,13 +27,14 @@ pub record CellsLeft (keeper : ImageProgress) (content : Content) : Type 0 where
 abbrev pub HasNewest : ImageProgress → Type 0
 HasNewest keeper = keeper.newest ≡ None → ⊥
 
--- a round in work keeps its tick, and where it is over its image is the newest one
+-- A round in work keeps its tick. Once the round is over, its image is the newest one.
 pub record RoundTick (old new : ImageProgress) : Type 0 where
   pub in_work : (new.phase ≡ Idle → ⊥) → new.tick ≡ old.tick
   pub over : new.phase ≡ Idle → (old.phase ≡ Idle) ⊎ ((slot : Slot) × (new.newest ≡ Some (slot, old.tick)))
   pub newest : HasNewest old → HasNewest new
 
--- The counts of faults of two files while a keeper runs that was up: it is up and neither grew, or it is down and one did.
+-- The counts of faults of two files, over a run of a keeper that was up. It is up and neither count grew, or it is down and
+-- one did.
 abbrev pub RoundFaults : (was now : Phase) → (a now_a b now_b : ℕ) → Type 0
 RoundFaults was now a now_a b now_b =
     (was ≡ Down → ⊥) → ((now ≡ Down → ⊥) × (now_a ≡ a) × (now_b ≡ b)) ⊎ ((now ≡ Down) × (Grew a now_a ⊎ Grew b now_b))
@@ -41,13 +43,13 @@ abbrev pub LogFaults : (was now : Bool) → (a now_a b now_b : ℕ) → Type 0
 LogFaults was now a now_a b now_b =
     was ≡ false → ((now ≡ false) × (now_a ≡ a) × (now_b ≡ b)) ⊎ ((now ≡ true) × (Grew a now_a ⊎ Grew b now_b))
 
--- with nothing queued: the log is in its start, or writes to log.a and has no job in work
+-- nothing is queued, and the log is in its start, or writes to log.a and has no job in work
 abbrev pub IsFirst : LogProgress → List Record → Type 0
 IsFirst keeper queue = (queue ≡ []) × ((keeper.starting ≡ true) ⊎ ((keeper.current ≡ A) × (keeper.phase ≡ Ready)))
 
 module _ {S D : Type 0} (content : S → Content) (file : D → List ℕ) (leaves : D → List ℕ → Type 0) where
-  -- the keeper and its files stand for images that are in step with these ticks, beside this log; as many of the ticks are
-  -- acknowledged, or more
+  -- The keeper and its files represent images that are in step with these ticks, beside this log. At least so many of the
+  -- ticks are acknowledged.
   pub record RoundStands (keeper : ImageProgress) (store : S) (a b : D) (ticks : List (List Action)) (acknowledged : ℕ) (journal : Journal) (queue : List Record) : Type 0 where
     pub images : ImageFiles
     pub stands : ImagesStand keeper images (file a) (file b) (leaves a) (leaves b)
@@ -55,7 +57,7 @@ module _ {S D : Type 0} (content : S → Content) (file : D → List ℕ) (leave
     pub at_least : acknowledged ≤ count
     pub in_step : InStep keeper.cells ticks count (content store) images journal queue
 
-  -- and they go on to
+  -- After the run they still do, for the same ticks and the same log.
   abbrev pub RoundGoes : (keeper_before keeper_after : ImageProgress) (store_before store_after : S) (a_before a_after b_before b_after : D) → Type 0
   RoundGoes keeper_before keeper_after store_before store_after a_before a_after b_before b_after =
       (ticks : List (List Action)) (acknowledged : ℕ) (journal : Journal) (queue : List Record)
@@ -63,8 +65,8 @@ module _ {S D : Type 0} (content : S → Content) (file : D → List ℕ) (leave
       → RoundStands keeper_after store_after a_after b_after ticks acknowledged journal queue
 
 module _ {D : Type 0} (file : D → List ℕ) (leaves : D → List ℕ → Type 0) where
-  -- the log keeper and its files stand for a log that is in step with these ticks, beside this store and these images; as
-  -- many of the ticks are acknowledged, or more
+  -- The log keeper and its files represent a log that is in step with these ticks, beside this store and these images. At
+  -- least so many of the ticks are acknowledged.
   pub record LogGoesOn (keeper : LogProgress) (queue : List Record) (a b : D) (cells : ℕ) (ticks : List (List Action)) (acknowledged : ℕ) (content : Content) (images : ImageFiles) : Type 0 where
     pub place : LogPlace
     pub stands : LogStands keeper (file a) (file b) (leaves a) (leaves b) place
@@ -72,7 +74,7 @@ module _ {D : Type 0} (file : D → List ℕ) (leaves : D → List ℕ → Type 
     pub at_least : acknowledged ≤ count
     pub in_step : InStep cells ticks count content images place.journal queue
 
-  -- And they go on to. The log of a start waits for its image.
+  -- After the run they still do, for the same ticks, store and images. The log of a start waits for its image.
   abbrev pub LogGoes : (keeper_before keeper_after : LogProgress) (queue_before queue_after : List Record) (a_before a_after b_before b_after : D) → Type 0
   LogGoes keeper_before keeper_after queue_before queue_after a_before a_after b_before b_after =
       (cells : ℕ) (ticks : List (List Action)) (acknowledged : ℕ) (content : Content) (images : ImageFiles)

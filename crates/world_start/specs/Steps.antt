@@ -1,4 +1,4 @@
--- What is true of an engine and its files between two steps, and what a start begins with. The last part is for private
+-- The facts on an engine and its files between two steps, and the beginning of a start. The last part is for private
 -- functions alone.
 use Rattle.std.specs.Prelude.{◌≡◌, ◌≤◌, ◌⊎◌, ℕ, ◌-◌, Bool, true, false, IsTrue, List, [], All, length, Option}
 use Rattle.action_log.specs.Files.{FitsFiles as LogFits}
@@ -30,13 +30,13 @@ use Rattle.world_start.specs.Fresh.{FilesAreClosed}
 -- ---- whatever the disks are
 
 module _ {C D : Type 0} (content : C → Content) (file : D → List ℕ) (honest : Bool) where
-  -- the image keeper goes with the store, and with its files where they keep to the disk model
+  -- the image keeper fits the store, and its files too if they keep to the disk model
   pub record ImagesInOrder (engine : Engine C) (files : FourFiles D) : Type 0 where
     pub cells : engine.images.cells ≡ length (content engine.store).live
     pub left : CellsLeft engine.images (content engine.store)
     pub fits : IsTrue honest → ImagesFit engine.images (file files.image_a) (file files.image_b)
 
-  -- the log keeper may take the queue, whose ticks go on to the ended ones
+  -- the log keeper may take the queue, which ends with the last ended tick
   pub record LogInOrder (engine : Engine C) (files : FourFiles D) : Type 0 where
     pub fits : IsTrue honest → LogFits engine.log (file files.log_a) (file files.log_b)
     pub queue : QueueFollows engine.log engine.queue.items
@@ -45,7 +45,7 @@ module _ {C D : Type 0} (content : C → Content) (file : D → List ℕ) (hones
     pub most : engine.ended ≤ TICK_MAX
     pub ring : engine.queue.capacity ≡ QUEUE_RECORDS
 
-  -- the start is over, and neither keeper has work left, but one that is down
+  -- the start is over, and neither keeper has work left, unless it is down
   pub record IsAtRest (engine : Engine C) (files : FourFiles D) : Type 0 where
     pub images : ImagesInOrder engine files
     pub log : LogInOrder engine files
@@ -62,10 +62,10 @@ module _ {C D : Type 0} (content : C → Content) (file : D → List ℕ) (hones
     pub words : begun.words.items ≡ (content begun.engine.store).live
     pub limit : All IsWord begun.words.items
 
--- ---- what a start begins with
+-- ---- the beginning of a start
 
 module _ {C : Type 0} (content : C → Content) where
-  -- at the beginning of a start at this tick and of these words, from this newest image, on files with these bytes
+  -- the beginning of a start at this tick, with these words, from this newest image, on files with these bytes
   pub record Begins (cells : ℕ) (newest : Option (Slot × ℕ)) (tick : ℕ) (words image_a image_b log_a log_b : List ℕ) (engine : Engine C) : Type 0 where
     pub store : IsBuilt words (has_round newest tick) (content engine.store)
     pub images : engine.images ≡ started_keeper (has_round newest tick) tick (made_keeper cells newest (is_shut image_a) (is_shut image_b))
@@ -77,7 +77,7 @@ module _ {C : Type 0} (content : C → Content) where
     pub ended : engine.ended ≡ tick
     pub since : engine.since ≡ 0
 
--- what the laws say of keepers just made, on files of which nothing is unsynced, and of a world in step
+-- the laws on new keepers, on files of which nothing is unsynced, and the law on a world in step
 pub record StartLaws {D : Type 0} (file : D → List ℕ) (leaves : D → List ℕ → Type 0) : Type 0 where
   pub made : (cells : ℕ) (newest : Option (Slot × ℕ)) (shut_a shut_b : Bool) (images : ImageFiles) (image_a image_b : D) → 1 ≤ cells → cells ≤ CELLS
       → Only (file image_a) (leaves image_a) → Only (file image_b) (leaves image_b) → TellsShut shut_a (file image_a) → TellsShut shut_b (file image_b) → IsTold cells newest images (file image_a) (file image_b)

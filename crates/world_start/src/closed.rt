@@ -8,7 +8,8 @@ use disk_model::FourFiles;
 use image_files::{ImageState, read_image};
 use std::alloc::Global;
 
-/// Whether none of four files holds an image or a segment. An open one that wants memory isn't closed.
+/// True if none of four files holds an image or a segment. An open file isn't closed, even if memory runs out when it is
+/// read.
 pub fn are_closed(alloc: Global, bytes: &FourFiles<Vec<u8>>) -> bool
     ensures { IsTrue result ↔ AreClosed bytes.now.image_a.items bytes.now.image_b.items
         bytes.now.log_a.items bytes.now.log_b.items }
@@ -19,14 +20,14 @@ pub fn are_closed(alloc: Global, bytes: &FourFiles<Vec<u8>>) -> bool
         && is_closed_segment(alloc, &bytes.log_b)
 }
 
-/// Whether a file holds no image.
+/// True if a file holds no image.
 pub fn is_closed_image(alloc: Global, bytes: &[u8]) -> bool
     ensures { IsTrue result ↔ (image_of bytes.now ≡ Closed) }
 {
     matches!(read_image(alloc, bytes), Ok(ImageState::Closed))
 }
 
-/// Whether a file holds no segment.
+/// True if a file holds no segment.
 pub fn is_closed_segment(alloc: Global, bytes: &[u8]) -> bool
     ensures { IsTrue result ↔ IsSegment bytes.now ClosedSegment }
 {

@@ -17,8 +17,8 @@ use restart::{worlds_are_safe, zeros};
 use std::alloc::Global;
 use world_actions::Refusal;
 
-/// Makes the files of a world of zeros at tick 0, of files that hold none, by the start of a fresh world.
-/// It refuses `NotEmpty` where one of them isn't closed. Refused, it gives the files back.
+/// Makes the files of a world of zeros at tick 0 from files that hold no world, by the start of a fresh world. It refuses
+/// with `NotEmpty` if one of them isn't closed. If it refuses, it gives the files back.
 pub fn fresh_files<D: Disk>(
     alloc: Global,
     cells: u32,

@@ -14,7 +14,7 @@ use image_files::images_stay;
 use restart::{gates_are_told, worlds_are_safe, worlds_go_on};
 
 /// Laws: the files of a world that follows its ticks are sound for them and the acknowledged count, once there is an image.
-/// After a start there is one.
+/// After a start there is an image.
 pub fn followed_files_are_sound<C: Capture, D: Disk>()
     ensures begun { (engine : Engine C) (files : FourFiles D) (ticks : List (List Action)) (acknowledged : ℕ)
         → HasNewest engine.images → Follows C.content D.content D.may_leave engine files ticks acknowledged
@@ -28,7 +28,8 @@ pub fn followed_files_are_sound<C: Capture, D: Disk>()
     worlds_are_safe::<D>();
 }
 
-/// Laws: what keepers just made and their files stand for, of files of which nothing is unsynced, and that a world goes on in step.
+/// Laws: on files of which nothing is unsynced, new keepers with their files represent images and a log. A world in step
+/// stays in step.
 pub fn starts_begin<D: Disk>()
     ensures { StartLaws D.content D.may_leave }
 {

@@ -12,7 +12,7 @@ use capture_core::Capture;
 use disk_model::{Disk, FourFiles};
 use image_files::{ImageKeeper, images_stay};
 
-/// What a world at rest is made of, for whom goes on with it in another way.
+/// The parts of a world at rest, for callers that continue with it in another way.
 #[derive(Drop)]
 pub struct Parts<D: Disk> {
     /// The words, in the order of their cells.
@@ -27,7 +27,7 @@ pub struct Parts<D: Disk> {
 }
 
 impl<C: Capture> Engine<C> {
-    /// Takes a world at rest apart, of which these are the words and the files. It takes no memory, and copies no word.
+    /// Takes apart a world at rest that has these words and files. It takes no memory, and copies no word.
     pub fn into_parts<D: Disk>(self, words: Vec<u64>, files: FourFiles<D>) -> Parts<D>
         requires rest { IsAtRest C.content D.content D.honest self files }
         requires words { words.items ≡ (C.content self.store).live }

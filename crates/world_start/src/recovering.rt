@@ -22,8 +22,8 @@ pub struct Start<C: Capture> {
     pub from: u64,
 }
 
-/// Recovers the world that stands in the files. They are only read: its start, which is still to be run, is the first to
-/// write. All memory is taken here that the world needs besides its batches.
+/// Recovers the world in the files, which are only read. Its start, which is still to be run, is the first to write. It
+/// takes all memory that the world needs besides its batches.
 pub fn recover_world<C: Capture, D: Disk>(
     alloc: Global,
     files: &mut FourFiles<D>,

@@ -31,7 +31,7 @@ writes_then-append : (r : Result (List ℕ) Refusal) (now : List ℕ) (writes re
 writes_then-append (Ok next) now writes rest after one both each done = ap (λ more. writes ++ more) (each next done) ∙ sym (append_assoc writes (one next) rest)
 writes_then-append (Err e) now writes rest after one both each done = cc
 
--- what is written by actions that are all accepted, and then by the rest
+-- the writes of actions that are all accepted, and then those of the rest
 accepted_writes-append : (world now : List ℕ) (before after : List Action) → after_actions world before ≡ Ok now
     → accepted_writes world (before ++ after) ≡ accepted_writes world before ++ accepted_writes now after
 accepted_writes-append world now [] after done = let same : world ≡ now = cc in ap (λ w. accepted_writes w after) same
@@ -39,12 +39,12 @@ accepted_writes-append world now (a ∷ more) after done =
     writes_then-append (effect world a) now (writes_of world a) (accepted_writes now after) (λ next. after_actions next more) (λ next. accepted_writes next more) (λ next. accepted_writes next (more ++ after))
     (λ next done_next. accepted_writes-append next now more after done_next) done
 
--- what one action writes
+-- the writes of one action
 writes_one : (r : Result (List ℕ) Refusal) (next : List ℕ) (writes : List Write) → r ≡ Ok next → writes_then r writes (λ n. []) ≡ writes
 writes_one (Ok now) next writes is = append-nil writes
 writes_one (Err e) next writes is = cc
 
--- what one more accepted action writes
+-- the writes of one more accepted action
 pub accepted_writes-snoc : (world now next : List ℕ) (before : List Action) (a : Action) → after_actions world before ≡ Ok now → effect now a ≡ Ok next
     → accepted_writes world (before ++ a ∷ []) ≡ accepted_writes world before ++ writes_of now a
 accepted_writes-snoc world now next before a done accepted =
@@ -64,7 +64,7 @@ done_next world now next actions i d below done accepted =
     (after_actions-snoc world now (take i actions) (get_or actions i d) done
     ∙ ap (λ r. and_then r (λ n. after_actions n [])) accepted)
 
--- what is left after it
+-- the rest of the actions after an accepted one
 pub rest_next : (now next : List ℕ) (actions : List Action) (i : ℕ) (d : Action) → i < length actions
     → effect now (get_or actions i d) ≡ Ok next
     → after_actions now (drop i actions) ≡ after_actions next (drop (i + 1) actions)
@@ -72,7 +72,7 @@ rest_next now next actions i d below accepted =
     rw (add-one, drop-cons actions i d below)
     (ap (λ r. and_then r (λ n. after_actions n (drop (suc i) actions))) accepted)
 
--- what it writes
+-- the writes of the actions up to an accepted one
 pub writes_next : (world now next : List ℕ) (actions : List Action) (i : ℕ) (d : Action) → i < length actions
     → after_actions world (take i actions) ≡ Ok now → effect now (get_or actions i d) ≡ Ok next
     → accepted_writes world (take (i + 1) actions) ≡ accepted_writes world (take i actions) ++ writes_of now (get_or actions i d)
@@ -80,7 +80,7 @@ writes_next world now next actions i d below done accepted =
     rw (add-one, take-suc actions i d below)
     (accepted_writes-snoc world now next (take i actions) (get_or actions i d) done accepted)
 
--- a refused action is where what is left stops
+-- the actions that are left stop at a refused action
 pub rest_stops : (world now : List ℕ) (actions : List Action) (i : ℕ) (d : Action) → i < length actions
     → after_actions world actions ≡ after_actions now (drop i actions) → IsErr (effect now (get_or actions i d)) → IsErr (after_actions world actions)
 rest_stops world now actions i d below rest stops =
@@ -131,7 +131,7 @@ written_then world (Ok next) after writes onwards more one each done =
     written-append world writes (more next) ∙ (ap (λ w. written w (more next)) (one next refl) ∙ each next done)
 written_then world (Err e) after writes onwards more one each done = cc
 
--- the world after actions is what their writes make of the world before
+-- the world after actions is the world before with their writes
 pub written-accepted_writes : (world after : List ℕ) (actions : List Action) → after_actions world actions ≡ Ok after → written world (accepted_writes world actions) ≡ after
 written-accepted_writes world after [] done = cc
 written-accepted_writes world after (a ∷ actions) done =

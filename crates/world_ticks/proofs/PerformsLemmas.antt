@@ -1,4 +1,4 @@
--- Accesses one after another, and what they write.
+-- Accesses one after another, and their writes.
 use Rattle.std.proofs.Common.{◌≡◌, refl, ◌∙◌, ap, subst, ℕ, List, [], ◌∷◌, ◌++◌, append-nil}
 use Rattle.world_actions.specs.Effect.{Write}
 use Rattle.world_ticks.specs.Cells.{Access, Read, Wrote, Accesses, writes_among, Performs}
@@ -25,7 +25,7 @@ performs_read accessed old new cell access = record { accesses = Read cell ∷ [
 pub performs_write : {S : Type 0} (accessed : S → Access → S → Type 0) (old new : S) (write : Write) → accessed old (Wrote write) new → Performs accessed old (write ∷ []) new
 performs_write accessed old new write access = record { accesses = Wrote write ∷ []; lead = (new, access, refl); all_writes = refl }
 
--- one after the other
+-- some accesses, and then others
 pub performs_then : {S : Type 0} {accessed : S → Access → S → Type 0} {old mid new : S} {first more : List Write}
     → Performs accessed old first mid → Performs accessed mid more new → Performs accessed old (first ++ more) new
 performs_then {S} {accessed} {old} {mid} {new} {first} {more} one two = record {
@@ -34,7 +34,7 @@ performs_then {S} {accessed} {old} {mid} {new} {first} {more} one two = record {
   all_writes = writes_among-append one.accesses two.accesses ∙ (ap (λ writes. writes ++ writes_among two.accesses) one.all_writes ∙ ap (λ writes. first ++ writes) two.all_writes);
 }
 
--- and then only reads
+-- some accesses, and then only reads
 pub performs_then_reads : {S : Type 0} {accessed : S → Access → S → Type 0} {old mid new : S} {writes : List Write}
     → Performs accessed old writes mid → Performs accessed mid [] new → Performs accessed old writes new
 performs_then_reads {S} {accessed} {old} {mid} {new} {writes} one two =

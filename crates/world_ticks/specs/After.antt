@@ -5,12 +5,12 @@ use Rattle.world_actions.specs.declared.action.Action.{Action}
 use Rattle.world_actions.specs.declared.refusal.Refusal.{Refusal}
 use Rattle.world_actions.specs.Effect.{Write, effect, writes_of}
 
--- what comes of the next step, unless this one was refused
+-- the result of the next step, or this step's refusal if it was refused
 abbrev pub and_then : {A B E : Type 0} → Result A E → (A → Result B E) → Result B E
 and_then (Ok a) next = next a
 and_then (Err e) next = Err e
 
--- the world after actions in order, or why the first refused one is refused
+-- the world after actions in order, or the refusal of the first one that is refused
 abbrev pub after_actions : List ℕ → List Action → Result (List ℕ) Refusal
 after_actions world [] = Ok world
 after_actions world (action ∷ actions) = and_then (effect world action) (λ next. after_actions next actions)
@@ -19,12 +19,12 @@ after_actions world (action ∷ actions) = and_then (effect world action) (λ ne
 abbrev pub after_ticks : ℕ → List (List Action) → Result (List ℕ) Refusal
 after_ticks cells ticks = after_actions (replicate cells 0) (flat_map (λ tick. tick) ticks)
 
--- writes and those after them, unless the action was refused
+-- these writes and the later ones, or none if the action was refused
 abbrev pub writes_then : Result (List ℕ) Refusal → List Write → (List ℕ → List Write) → List Write
 writes_then (Ok next) writes more = writes ++ more next
 writes_then (Err refusal) writes more = []
 
--- what the actions before the first refused one write, in order
+-- the writes of the actions before the first refused one, in order
 abbrev pub accepted_writes : List ℕ → List Action → List Write
 accepted_writes world [] = []
 accepted_writes world (action ∷ actions) = writes_then (effect world action) (writes_of world action) (λ next. accepted_writes next actions)

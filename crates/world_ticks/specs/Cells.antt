@@ -1,4 +1,4 @@
--- What was done to a store of words: which cells were read, and what was written.
+-- The accesses to a store of words: the cells that were read, and the words that were written.
 use Rattle.std.specs.Prelude.{◌≡◌, ℕ, List, [], ◌∷◌}
 use Rattle.world_actions.specs.Effect.{Write}
 
@@ -7,7 +7,7 @@ pub data Access : Type 0 where
   Read : ℕ → Access
   Wrote : Write → Access
 
--- from old to new by these accesses, one after another
+-- these accesses, one after another, lead from old to new
 abbrev pub Accesses : {S : Type 0} → (S → Access → S → Type 0) → S → List Access → S → Type 0
 Accesses accessed old [] new = new ≡ old
 Accesses {S} accessed old (access ∷ rest) new = (mid : S) × accessed old access mid × Accesses accessed mid rest new

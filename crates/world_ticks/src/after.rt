@@ -3,8 +3,8 @@ ghost use Rattle.world_actions.specs.declared.action.Action.{Action};
 ghost use Rattle.world_actions.specs.Effect.{written};
 ghost use Rattle.world_ticks.specs.After.{and_then, after_actions, after_ticks, accepted_writes};
 
-/// Laws: the world after actions is that after the first of them, taken on by the rest; it is what
-/// their writes make of the world before; and it has as many cells.
+/// Laws: the world after actions is the world after the first of them, followed by the rest. It is the old world with
+/// their writes, and it has as many cells.
 pub fn actions_go_on()
     ensures append { (world : List ℕ) (before after : List Action) → after_actions world (before ++ after)
         ≡ and_then (after_actions world before) (λ next. after_actions next after) }

@@ -7,16 +7,16 @@ pub trait Cells {
     /// The words, in the order of their cells.
     ghost words: { Self → List ℕ };
 
-    /// One access may lead from the first state to the second. It is the store's own, so that what a
-    /// list of accesses did is known in the store's terms, and not of its words alone.
+    /// One access may lead from the first state to the second. Each store defines it. So the effect of a list of accesses
+    /// is known for the store's whole state, and not for its words alone.
     ghost accessed: { Self → Access → Self → Type 0 };
 
-    /// The number of cells.
+    /// Returns the number of cells.
     fn len(&self) -> usize
         ensures cells { result ≡ length (words self.now) }
         ensures limit { All IsWord (words self.now) };
 
-    /// The word of a cell.
+    /// Returns the word of a cell.
     fn read(&mut self, i: usize) -> u64
         requires { i < length (words self.old) }
         ensures word { result ≡ slice_index (words self.old) i }

@@ -11,8 +11,8 @@ use crate::cells::Cells;
 use crate::tick::Tick;
 use world_actions::{Action, Change, Refusal, check};
 
-/// Does an action on the cells and adds it to the running tick, or refuses it: `TickFull` first,
-/// then by `check`, then `NoMemory` for the tick's growth, which is made before a cell is written.
+/// Does an action on the cells and adds it to the running tick, or refuses it. It refuses with `TickFull` first, then
+/// with the refusal of `check`, then with `NoMemory`. The memory for the tick is taken before a cell is written.
 pub fn act<C: Cells>(c: &mut C, t: &mut Tick, a: Action) -> Result<(), Refusal>
     ensures done { OnOk result ((decision (C.words c.old) t.old.list a ≡ Ok (C.words c.new))
         × (t.new.list ≡ t.old.list ++ a ∷ [])) }
@@ -37,8 +37,8 @@ pub fn act<C: Cells>(c: &mut C, t: &mut Tick, a: Action) -> Result<(), Refusal>
     Ok(())
 }
 
-/// Does actions in order, up to the first that is refused: then it answers `BadLog`, and those before
-/// it stay done. It takes no memory.
+/// Does actions in order. If one is refused, it stops and returns `BadLog`; the actions before that one stay done. It
+/// takes no memory.
 pub fn replay<C: Cells>(c: &mut C, actions: &[Action]) -> Result<(), Refusal>
     ensures done { OnOk result (after_actions (C.words c.old) actions.now ≡ Ok (C.words c.new)) }
     ensures refused { IfErr result (λ refusal. (refusal ≡ Refusal.BadLog)
@@ -55,7 +55,7 @@ pub fn replay<C: Cells>(c: &mut C, actions: &[Action]) -> Result<(), Refusal>
     Ok(())
 }
 
-// What is decided on an action from the words of its cells. It only reads.
+// Decides an action from the words of its cells. It only reads.
 fn decided<C: Cells>(c: &mut C, a: &Action) -> Result<Change, Refusal>
     ensures refuses { refusal_of (C.words c.old) a.now ≡ result_err result }
     ensures writes { IfOk result (λ change. writes_of (C.words c.old) a.now ≡ change_writes a.now change) }
@@ -72,7 +72,7 @@ fn decided<C: Cells>(c: &mut C, a: &Action) -> Result<Change, Refusal>
     check(a, len, first, second)
 }
 
-// The word of a cell, or 0 where there is no such cell.
+// Returns the word of a cell, or 0 if there is no such cell.
 fn word_or_zero<C: Cells>(c: &mut C, i: usize) -> u64
     ensures word { result ≡ slice_index (C.words c.old) i }
     ensures limit { IsWord result }

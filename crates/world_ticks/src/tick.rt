@@ -8,7 +8,7 @@ pub const TICK_ACTIONS: usize = 256;
 /// The greatest tick number.
 pub const TICK_MAX: u64 = 1_000_000_000_000_000_000;
 
-/// The accepted actions of one batch, in order. Contracts see its actions, and for how many more it
+/// The accepted actions of one batch, in order. Contracts see the actions, and the number of further ones for which it
 /// has memory.
 #[derive(Drop)]
 pub struct Tick {
@@ -30,7 +30,7 @@ impl Model for Tick {
 impl Tick {
     ghost use Rattle.std.specs.Prelude.{◌≡◌, ◌+◌, ◌≤◌, ◌<◌, ◌↔◌, [], ◌∷◌, ◌++◌, length, IsTrue, OnOk, OnErr, IfErr};
 
-    /// A tick with no action. It takes no memory.
+    /// Makes a tick with no action. It takes no memory.
     pub fn new(alloc: Global) -> Self
         ensures list { result.list ≡ [] }
         ensures room { result.room ≡ 0 }
@@ -40,7 +40,7 @@ impl Tick {
         }
     }
 
-    /// The actions in order.
+    /// Returns the actions in order.
     pub fn actions(&self) -> &[Action]
         ensures list { result.now ≡ self.now.list }
         ensures most { length self.now.list ≤ TICK_ACTIONS }
@@ -55,7 +55,7 @@ impl Tick {
         self.actions.len() >= TICK_ACTIONS
     }
 
-    /// Makes room for `more` actions, which then take no memory. It takes none where there is room.
+    /// Makes room for `more` actions, which then take no memory. It takes none if there is room.
     pub fn reserve(&mut self, more: usize) -> Result<(), Refusal>
         ensures list { self.new.list ≡ self.old.list }
         ensures room { OnOk result (more ≤ self.new.room) }

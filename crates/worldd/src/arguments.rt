@@ -20,13 +20,13 @@ pub const TO: &str = "to";
 /// The name of the group of the number of cells and the words.
 const CONTENT: &str = "content";
 
-/// What `recover` does.
+/// The line of help on `recover`.
 const RECOVER_ABOUT: &str = "Prints which world the files of a folder hold";
 
-/// What `status` does.
+/// The line of help on `status`.
 const STATUS_ABOUT: &str = "Prints figures of the world in a folder, also while it is served";
 
-/// What the words ask for; the error has clap's text.
+/// Reads the words by the command line's grammar. The error has clap's text.
 pub fn matches_of<'a>(alloc: Global, words: &'a [String]) -> Result<ArgMatches<'a>, Error> {
     commands(alloc)?.try_get_matches_from(words)
 }

@@ -96,7 +96,7 @@ fn cells_of(given: &ArgMatches<'_>) -> Option<u32>
         .then_some(cells)
 }
 
-// How the program ends where it isn't run.
+// How the program ends if it isn't run.
 fn not_run(reason: NotRun) -> Ending
     ensures told { reason ≡ NotRun.Told → result ≡ Ending.Told }
     ensures mistaken { reason ≡ NotRun.Mistaken → result ≡ Ending.Mistaken }

@@ -47,7 +47,7 @@ impl Desk {
         Ok(())
     }
 
-    // What was printed, and what was printed as errors.
+    // The text that was printed, and the text that was printed as errors.
     fn printed(self) -> (String, String) {
         (self.output.into_inner(), self.errors.into_inner())
     }
@@ -124,7 +124,7 @@ fn what_is_down_is_told_by_the_status(rt: HostRuntime) {
     }
 }
 
-// What is printed for words that can't be read, and whether they end as mistaken.
+// The text for words that can't be read, and whether they end as mistaken.
 fn unread(alloc: Global) -> (bool, String) {
     let desk = Desk::new(alloc);
     let ending = not_run(unreadable(&desk, &io::Error::from(ErrorKind::InvalidData)));
@@ -166,9 +166,9 @@ fn words(alloc: Global, line: &[&str]) -> Result<Vec<String>, Fail> {
     Ok(words)
 }
 
-// The parts of the service that a command line asks for: the folder, whether the method is Ping-Pong, the number of ticks
-// and the address as text. Then the number of clients, their seconds of silence, those between two reports, and whether it
-// ends when the log is down.
+// The parts of the service that a command line asks for. They are the folder, whether the method is Ping-Pong, the number
+// of ticks and the address as text. Then come the number of clients, their seconds of silence, those between two reports,
+// and whether it ends when the log is down.
 fn asked(alloc: Global, line: &[&str]) -> Result<Option<Asked>, Fail> {
     let words = words(alloc, line)?;
     let matches = matches_of(alloc, &words)?;

@@ -1,4 +1,4 @@
--- What the calls of a store do to its words.
+-- The effect of a store's calls on its words.
 use Rattle.std.proofs.Common.{◌≡◌, refl, sym, ◌∙◌, ap, ℕ, zero, suc, ◌+◌, ◌<◌, ◌≤◌, Bool, true, false, not, cond, List, [], ◌∷◌, length, drop, map, replicate, get_or, set, Some, None, arith, inl, ◌-◌}
 use Rattle.std.proofs.lemmas.List.{length-map, length-drop, drop_more, get_or-map, set-get_or}
 use Rattle.std.proofs.Math.Seq.{drop-length}
@@ -39,7 +39,7 @@ words_at-set_both (m ∷ marks) (x ∷ zeros) [] (suc i) v w mark = refl
 words_at-set_both (m ∷ marks) (x ∷ zeros) (y ∷ ones) zero v w mark = refl
 words_at-set_both (m ∷ marks) (x ∷ zeros) (y ∷ ones) (suc i) v w mark = ap (λ words. cond m y x ∷ words) (words_at-set_both marks zeros ones i v w mark)
 
--- a write to the array that the mark names then: the other one keeps its entry
+-- a write to the array that the mark names after it: the other array keeps its entry
 words_at-set : (marks : List Bool) (zeros ones : List ℕ) (i v : ℕ) (mark : Bool) →
     words_at (set marks i mark) (cond mark zeros (set zeros i v)) (cond mark (set ones i v) ones) ≡ set (words_at marks zeros ones) i v
 words_at-set marks zeros ones i v true =
@@ -47,7 +47,7 @@ words_at-set marks zeros ones i v true =
 words_at-set marks zeros ones i v false =
     ap (λ (kept : List ℕ). words_at (set marks i false) (set zeros i v) kept) (sym (set-get_or ones i 0)) ∙ words_at-set_both marks zeros ones i v (get_or ones i 0) false
 
--- a write to array one, where the opposite of the mark does not look
+-- a write to array one, which the opposite of the mark does not name
 words_at-set_unseen_one : (marks : List Bool) (zeros ones : List ℕ) (i v : ℕ) → get_or marks i false ≡ true → words_at (map not marks) zeros (set ones i v) ≡ words_at (map not marks) zeros ones
 words_at-set_unseen_one [] zeros ones i v e = refl
 words_at-set_unseen_one (m ∷ marks) [] ones i v e = refl
@@ -92,7 +92,7 @@ All-words_at P (m ∷ marks) (x ∷ zeros) [] p q = All-nil P
 All-words_at P (true ∷ marks) (x ∷ zeros) (y ∷ ones) p q = All-cons P y _ (All-head P y ones q) (All-words_at P marks zeros ones (All-tail P x zeros p) (All-tail P y ones q))
 All-words_at P (false ∷ marks) (x ∷ zeros) (y ∷ ones) p q = All-cons P x _ (All-head P x zeros p) (All-words_at P marks zeros ones (All-tail P x zeros p) (All-tail P y ones q))
 
--- live words may stand in a cell
+-- a cell may hold a live word
 pub live_words-are_words : (store : Arrays) → IsInOrder store → All IsWord (live_words store)
 live_words-are_words store ok = All-words_at IsWord store.read_marks store.array_zero store.array_one ok.zero_words ok.one_words
 
@@ -159,7 +159,7 @@ length-words_at-le (m ∷ marks) (x ∷ zeros) (y ∷ ones) = omega (arith, leng
 pub within-live_words : (store : Arrays) (i : ℕ) → i < length (live_words store) → i < length store.array_zero
 within-live_words store i lt = omega (arith, length-words_at-le store.read_marks store.array_zero store.array_one)
 
--- a take where a cell is left
+-- a take if a cell is left
 pub takes-word : (store : Arrays) (word : ℕ) → Some word ≡ slice_get (captured_words store) store.taken →
     Takes (content_of store) (Some (Word word)) (content_of (taken_arrays store))
 takes-word store word is =
@@ -172,7 +172,7 @@ takes-word store word is =
       rest = ap (λ left. record (content_of store) { left = left }) (sym (ap (λ list. drop 1 (map Some list)) split));
     }
 
--- a take where none is left
+-- a take if none is left
 pub takes-none : (store : Arrays) → None ≡ slice_get (captured_words store) store.taken → Takes (content_of store) None (content_of store)
 takes-none store is = takes_none (content_of store) (ap (map Some) (none_behind (captured_words store) store.taken is))
 
@@ -180,7 +180,7 @@ takes-none store is = takes_none (content_of store) (ap (map Some) (none_behind 
 pub length-left : (store : Arrays) → IsInOrder store → length (content_of store).left ≡ length store.array_zero - store.taken
 length-left store ok = simp (length-map, length-drop, length-captured_words store ok)
 
--- what a read finds, by what the code reads of the marks and the arrays
+-- the word of a read, from the marks and the entries that the code reads
 pub word-is : (store : Arrays) (i word : ℕ) (mark : Bool) (zeros ones : List ℕ) → IsInOrder store → i < length store.array_zero →
     mark ≡ get_or store.read_marks i false → zeros ≡ store.array_zero → ones ≡ store.array_one →
     word ≡ cond mark (get_or ones i 0) (get_or zeros i 0) → word ≡ get_or (live_words store) i 0
@@ -191,7 +191,7 @@ word-is store i word mark zeros ones ok lt m z o is =
     ∙ ap (λ list. cond (get_or store.read_marks i false) (get_or list i 0) (get_or store.array_zero i 0)) o
     ∙ sym found
 
--- what a take finds
+-- the word of a take
 pub captured-is : (store : Arrays) (i word : ℕ) (mark : Bool) (zeros ones : List ℕ) → IsInOrder store → i < length store.array_zero →
     mark ≡ get_or store.write_marks i false → zeros ≡ store.array_zero → ones ≡ store.array_one →
     word ≡ cond (not mark) (get_or ones i 0) (get_or zeros i 0) → Some word ≡ slice_get (captured_words store) i

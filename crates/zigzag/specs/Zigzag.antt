@@ -1,10 +1,11 @@
--- The two arrays of words, the two marks of each cell, and what each call does to them.
+-- The two arrays of words, the two marks of each cell, and the effect of each call on them.
 use Rattle.std.specs.Prelude.{◌≡◌, ◌≤◌, ◌+◌, ℕ, Bool, true, false, not, List, [], ◌∷◌, length, drop, map, replicate, All, slice_set, if◌then◌else◌}
 use Rattle.std.specs.List.{slice_index_or}
 use Rattle.world_actions.specs.World.{IsWord}
 use Rattle.capture_core.specs.Content.{Content, all_touched}
 
--- the words of both arrays, for each cell whether reads and whether writes go to array one, and how many cells of the round are taken
+-- The words of both arrays, and the number of taken cells of the round. A set read mark sends a cell's reads to array
+-- one, and a set write mark its writes.
 pub record Arrays : Type 0 where
   pub array_zero : List ℕ
   pub array_one : List ℕ
@@ -12,7 +13,7 @@ pub record Arrays : Type 0 where
   pub write_marks : List Bool
   pub taken : ℕ
 
--- for each cell its word in the array that its mark names
+-- each cell's word in the array that its mark names: array one if the mark is set, else array zero
 abbrev pub words_at : List Bool → List ℕ → List ℕ → List ℕ
 words_at [] zeros ones = []
 words_at (mark ∷ marks) [] ones = []
@@ -23,15 +24,15 @@ words_at (mark ∷ marks) (zero_word ∷ zeros) (one_word ∷ ones) = (if mark t
 abbrev pub live_words : Arrays → List ℕ
 live_words store = words_at store.read_marks store.array_zero store.array_one
 
--- the words that no write reaches before the next mark
+-- the words that no write changes before the next mark
 abbrev pub captured_words : Arrays → List ℕ
 captured_words store = words_at (map not store.write_marks) store.array_zero store.array_one
 
--- the content of a store: every round hands out a word for each cell, so each counts as touched
+-- the content of a store; every round hands out a word for each cell, so each cell counts as touched
 abbrev pub content_of : Arrays → Content
 content_of store = all_touched (live_words store) (drop store.taken (captured_words store))
 
--- what is true of every store
+-- the facts that hold for every store
 pub record IsInOrder (store : Arrays) : Type 0 where
   pub one_length : length store.array_one ≡ length store.array_zero
   pub read_length : length store.read_marks ≡ length store.array_zero
@@ -50,7 +51,7 @@ built_arrays words = record {
   taken = length words;
 }
 
--- a write changes the entry to which the write mark points, and reads go there from then on
+-- a write changes the entry that the write mark names, and from then on reads go there
 abbrev pub written_arrays : Arrays → ℕ → ℕ → Arrays
 written_arrays store i v =
     let mark = slice_index_or store.write_marks i false in
@@ -60,10 +61,10 @@ written_arrays store i v =
       read_marks = slice_set store.read_marks i mark;
     }
 
--- a mark lets each write go where reads do not, and no cell is taken
+-- a mark sends each cell's writes to the entry that its reads don't use, and no cell is taken
 abbrev pub marked_arrays : Arrays → Arrays
 marked_arrays store = record store { write_marks = map not store.read_marks; taken = 0 }
 
--- a take of a cell goes on to the next
+-- a take of a cell moves to the next cell
 abbrev pub taken_arrays : Arrays → Arrays
 taken_arrays store = record store { taken = store.taken + 1 }

@@ -12,8 +12,8 @@ use std::marker::Model;
 use world_actions::Refusal;
 use world_ticks::Cells;
 
-/// A store of words in two arrays. For each cell a read mark says which of them has its live word,
-/// and a write mark which of them a write goes to: array zero, or for a mark that is set array one.
+/// A store of words in two arrays. For each cell a read mark names the array with its live word, and a write mark names
+/// the array that a write goes to. A clear mark names array zero, and a set mark array one.
 #[derive(Drop)]
 pub struct Zigzag {
     array_zero: Vec<u64>,
@@ -35,7 +35,7 @@ impl Model for Zigzag {
 }
 
 impl Zigzag {
-    /// A store of these words, with no round open. It takes all the memory that it will ever need.
+    /// Builds a store of these words, with no round open. It takes all the memory that it will ever need.
     pub fn new(alloc: Global, words: &[u64]) -> Result<Self, Refusal>
         requires { All IsWord words.now }
         ensures ok { IfOk result (λ store. store ≡ built_arrays words.now) }
@@ -51,7 +51,7 @@ impl Zigzag {
         })
     }
 
-    /// A cell's entries in array zero and array one.
+    /// Returns a cell's entries in array zero and array one.
     pub fn arrays(&self, i: usize) -> (u64, u64)
         requires { i < length (live_words self.now) }
         ensures zero { result.0 ≡ slice_index self.now.array_zero i }
@@ -61,7 +61,7 @@ impl Zigzag {
     }
 }
 
-// The calls by the arrays alone.
+// The calls, stated on the arrays alone.
 impl Zigzag {
     fn entries(&self, i: usize) -> (u64, u64)
         requires { i < length self.now.array_zero }
@@ -188,7 +188,7 @@ impl Capture for Zigzag {
     }
 }
 
-// The entry that a mark names.
+// Returns the entry that a mark names.
 fn entry(zeros: &[u64], ones: &[u64], mark: bool, i: usize) -> u64
     requires zero { i < length zeros.now }
     requires one { i < length ones.now }

@@ -180,7 +180,7 @@ impl Progress {
         Ok(())
     }
 
-    // The first phase of a switch to the other segment: a file that is known to be shut isn't closed again.
+    // Returns the first phase of a switch to the other segment. A file that is known to be shut isn't closed again.
     fn first_of_switch(&self) -> Phase
         ensures { result ≡ if self.now.other_shut then Header else Closing }
     {

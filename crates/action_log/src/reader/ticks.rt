@@ -16,7 +16,7 @@ use std::alloc::Global;
 use world_actions::{Action, Refusal};
 use world_ticks::TICK_ACTIONS;
 
-// A number of two bytes, and what follows it.
+// Reads a number of two bytes, and returns it with the bytes after it.
 fn read_u16(bytes: &[u8]) -> Option<(u16, &[u8])>
     ensures { found_in result ≡ number_at 2 bytes.now }
 {
@@ -26,7 +26,7 @@ fn read_u16(bytes: &[u8]) -> Option<(u16, &[u8])>
     Some((u16_at(bytes, 0), &bytes[2..]))
 }
 
-// A number of four bytes, and what follows it.
+// Reads a number of four bytes, and returns it with the bytes after it.
 fn read_u32(bytes: &[u8]) -> Option<(u32, &[u8])>
     ensures { found_in result ≡ number_at 4 bytes.now }
 {
@@ -36,7 +36,7 @@ fn read_u32(bytes: &[u8]) -> Option<(u32, &[u8])>
     Some((u32_at(bytes, 0), &bytes[4..]))
 }
 
-// A number of eight bytes, and what follows it.
+// Reads a number of eight bytes, and returns it with the bytes after it.
 fn read_u64(bytes: &[u8]) -> Option<(u64, &[u8])>
     ensures { found_in result ≡ number_at 8 bytes.now }
 {
@@ -46,7 +46,7 @@ fn read_u64(bytes: &[u8]) -> Option<(u64, &[u8])>
     Some((u64_at(bytes, 0), &bytes[8..]))
 }
 
-// An action of a format, and what follows it.
+// Reads an action of a format, and returns it with the bytes after it.
 fn read_action(format: Format, bytes: &[u8]) -> Option<(Action, &[u8])>
     ensures { found_in result ≡ action_at format bytes.now }
 {
@@ -57,7 +57,7 @@ fn read_action(format: Format, bytes: &[u8]) -> Option<(Action, &[u8])>
     read_fields(*kind, fields)
 }
 
-// The fields of an action of a kind, and what follows them.
+// Reads the fields of an action of a kind, and returns the action with the bytes after it.
 fn read_fields(kind: u8, fields: &[u8]) -> Option<(Action, &[u8])>
     ensures { found_in result ≡ fields_at kind fields.now }
 {
@@ -93,7 +93,7 @@ fn read_fields(kind: u8, fields: &[u8]) -> Option<(Action, &[u8])>
     }
 }
 
-// What follows an open gate, if there is one.
+// Returns the bytes after an open gate, if there is one.
 fn behind_gate(bytes: &[u8]) -> Option<&[u8]>
     ensures gate { IfSome result (λ group. bytes.now ≡ OPEN_GATE ∷ group.now) }
     ensures ends { IfNone result (EndsGroups bytes.now) }
@@ -106,7 +106,7 @@ fn behind_gate(bytes: &[u8]) -> Option<&[u8]>
     }
 }
 
-// The number of a tick's actions, and what follows it.
+// Reads the number of a tick's actions, and returns it with the bytes after it.
 fn action_count(bytes: &[u8]) -> Option<(usize, &[u8])>
     ensures some { IfSome result (λ found. (format : Format)
         → tick_at format bytes.now ≡ several_at (action_at format) found.0 found.1.now) }
@@ -121,7 +121,7 @@ fn action_count(bytes: &[u8]) -> Option<(usize, &[u8])>
     Some((count, rest))
 }
 
-// The number of ticks of a group behind its gate, and what follows it.
+// Reads the number of ticks of a group behind its gate, and returns it with the bytes after it.
 fn tick_count(bytes: &[u8]) -> Option<(usize, &[u8])>
     ensures some { IfSome result (λ found. (format : Format)
         → group_at format bytes.now ≡ several_at (tick_at format) found.0 found.1.now) }
@@ -136,7 +136,7 @@ fn tick_count(bytes: &[u8]) -> Option<(usize, &[u8])>
     Some((count, rest))
 }
 
-// How many actions a tick has, and what follows it, if there is one.
+// Returns the number of a tick's actions, and the bytes after the tick, if there is one.
 fn count_tick(format: Format, bytes: &[u8]) -> Option<(usize, &[u8])>
     ensures some { IfSome result (λ found. (tick : List Action)
         × (tick_at format bytes.now ≡ Some (tick, found.1.now)) × (length tick ≡ found.0)) }
@@ -151,7 +151,7 @@ fn count_tick(format: Format, bytes: &[u8]) -> Option<(usize, &[u8])>
     Some((count, rest))
 }
 
-/// How many groups there are, and how many ticks and actions in all of them.
+/// The number of groups, and the numbers of ticks and actions in all of them.
 #[derive(Clone, Copy)]
 pub(super) struct Counts {
     pub(super) groups: usize,
@@ -159,7 +159,7 @@ pub(super) struct Counts {
     pub(super) actions: usize,
 }
 
-// Counts the ticks and the actions of a group behind its gate, and gives what follows it.
+// Counts the ticks and the actions of a group behind its gate, and returns the bytes after it.
 fn count_group(format: Format, bytes: &[u8]) -> Option<(usize, usize, &[u8])>
     ensures some { IfSome result (λ found. (ticks : List (List Action))
         × (group_at format bytes.now ≡ Some (ticks, found.2.now)) × (length ticks ≡ found.0)
@@ -177,7 +177,7 @@ fn count_group(format: Format, bytes: &[u8]) -> Option<(usize, usize, &[u8])>
     Some((count, actions, rest))
 }
 
-/// Counts all groups, their ticks and actions, where there may be `most` ticks. It takes no memory.
+/// Counts all groups, their ticks and actions. At most `most` ticks are allowed. It takes no memory.
 pub(super) fn count_all(format: Format, bytes: &[u8], most: usize) -> Option<Counts>
     requires { most ≤ SEGMENT_TICKS }
     ensures some { IfSome result (λ counts. (groups : List (List (List Action)))
@@ -206,7 +206,7 @@ pub(super) fn count_all(format: Format, bytes: &[u8], most: usize) -> Option<Cou
     Some(counts)
 }
 
-// Adds the actions of a tick, and its end, and gives what follows it.
+// Adds the actions of a tick, and its end, and returns the bytes after it.
 fn read_tick<'a>(
     format: Format,
     bytes: &'a [u8],
@@ -232,7 +232,7 @@ fn read_tick<'a>(
     Ok(rest)
 }
 
-// Adds the ticks of a group behind its gate, and gives what follows it.
+// Adds the ticks of a group behind its gate, and returns the bytes after it.
 fn read_group<'a>(
     format: Format,
     bytes: &'a [u8],
@@ -270,7 +270,7 @@ fn read_groups(
     Ok(())
 }
 
-/// The ticks of all groups. Memory is taken once, for as many ticks and actions as were counted.
+/// Returns the ticks of all groups. It takes memory once, for as many ticks and actions as were counted.
 pub(super) fn read_ticks(
     alloc: Global,
     format: Format,

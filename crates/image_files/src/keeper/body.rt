@@ -77,8 +77,7 @@ impl ImageKeeper {
         };
     }
 
-    // Reads the newest image's words of the chunk in work, and puts them in the place of the cells
-    // whose words are these.
+    // Reads the newest image's words of the chunk in work, and gives them to the cells without a word of their own.
     pub(super) fn read_chunk<D: Disk>(&mut self, newest: &mut D) -> Result<(), Refusal>
         requires phase { self.old.phase ≡ Reading }
         requires image { IsTrue D.honest
@@ -131,7 +130,7 @@ impl ImageKeeper {
         Ok(())
     }
 
-    // Goes on to the next chunk, or to the end of the body.
+    // Continues with the next chunk, or with the end of the body.
     fn end_chunk(&mut self)
         requires phase { self.old.phase ≡ Writing }
         ensures ended { self.new ≡ with_chunk_written self.old }
@@ -166,7 +165,7 @@ impl ImageKeeper {
     }
 }
 
-// Reads so many bytes to the front of a buffer.
+// Reads `count` bytes to the front of a buffer.
 fn read_front<D: Disk>(
     disk: &mut D,
     at: u64,

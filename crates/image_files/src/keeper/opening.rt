@@ -31,8 +31,7 @@ impl ImageKeeper {
         Ok(())
     }
 
-    // Makes the open gate durable. The target holds the newest image then, and the files change their
-    // parts.
+    // Makes the open gate durable. The target then holds the newest image, and the files exchange their parts.
     pub(super) fn finish<D: Disk>(&mut self, target: &mut D) -> Result<u64, Refusal>
         requires phase { self.old.phase ≡ OpeningSync }
         ensures ok { OnOk result (self.new ≡ opened_keeper self.old) }

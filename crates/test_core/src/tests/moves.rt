@@ -20,7 +20,7 @@ const LOG: Asked = Asked::Log(Fate::Done);
 
 const LOG_FAILS: Asked = Asked::Log(Fate::Failed);
 
-// Moves that are asked so often, and the answer to each.
+// How often a move is made, the move, and its answer.
 type Line = (u32, Asked, Told);
 
 const START: [Line; 5] = [
@@ -31,7 +31,7 @@ const START: [Line; 5] = [
     (1, Asked::Get(0), Told::Word(0)),
 ];
 
-// A core that was asked these moves, each of which was answered so.
+// Makes these moves on a core, and asserts the answer to each.
 fn answers<C: Capture>(rt: &impl Abort, core: &mut Core<C>, lines: &[Line]) {
     for (times, asked, told) in lines {
         for _ in 0..*times {
@@ -124,8 +124,8 @@ fn ends<C: Capture>(core: &mut Core<C>, times: u32) {
 
 const NOTHING_NEW: Line = (1, Asked::Mark, Told::Refused(Refusal::NothingNew));
 
-// Each refusal of a mark comes while some of those after it hold too: the queue is full, and then a round
-// is open, the running tick has an action, and either keeper is down.
+// Marks that are refused for one reason after another, while the earlier reasons still hold. The queue is full, and then a
+// round is open, the running tick has an action, and either keeper is down.
 const MARKS: [Line; 8] = [
     (1, Asked::Mark, Told::Started(63)),
     (1, Asked::Mark, Told::Refused(Refusal::Busy)),
@@ -151,7 +151,7 @@ fn refuses_marks_in_order(rt: HostRuntime) -> Result<(), Fail> {
     Ok(mark_in_order::<PingPong>(&rt, rt.alloc())?)
 }
 
-// The log is down, and a mark is refused by the start.
+// The log is down in a start, and the start is the reason why a mark is refused.
 const DOWN_IN_A_START: [Line; 4] = [
     (7, IMAGE, Told::ImageWorking),
     (1, IMAGE, Told::ImageOpened(0)),
@@ -159,7 +159,7 @@ const DOWN_IN_A_START: [Line; 4] = [
     (1, Asked::Mark, Told::Refused(Refusal::Starting)),
 ];
 
-// A round of a cell that is the newest image's.
+// A round whose cell is unchanged since the newest image.
 const ROUND: [Line; 4] = [
     (1, Asked::Mark, Told::Started(63)),
     (7, IMAGE, Told::ImageWorking),
@@ -194,7 +194,7 @@ fn mark_on_full_queue<C: Capture>(rt: &impl Abort, alloc: Global) -> Result<(), 
     ends(&mut core, 63);
     answers(rt, &mut core, &ROUND);
     answers(rt, &mut core, &[NOTHING_NEW]);
-    // The log takes the ticks from the queue, and its switch, and then 64 ticks wait.
+    // The log takes the ticks and the switch from the queue, and then 64 ticks wait.
     log_all(&mut core);
     ends(&mut core, 64);
     answers(rt, &mut core, &FULL_FOR_A_MARK);
@@ -251,7 +251,7 @@ fn some_moves(alloc: Global) -> Result<Vec<Move>, Refusal> {
     Ok(moves)
 }
 
-// What a fresh core tells, asked one by one.
+// The answers of a fresh core, to one move after another.
 fn stepped<C: Capture>(alloc: Global) -> Result<Vec<Told>, Refusal> {
     let mut core = Core::<C>::fresh(alloc, 1)?;
     step_all(alloc, &mut core, some_moves(alloc)?)
@@ -269,7 +269,7 @@ fn step_all<C: Capture>(
     Ok(told)
 }
 
-// What a run of the same moves tells.
+// The answers of a run of the same moves.
 fn ran<C: Capture>(alloc: Global) -> Result<Vec<Told>, Refusal> {
     let (answers, _) = run::<C>(alloc, 1, some_moves(alloc)?)?;
     told_by(alloc, &answers)

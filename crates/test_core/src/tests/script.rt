@@ -9,17 +9,17 @@ const TRANSFERS: &[u8] = b"open plain 2\nset 0 5\nmove 0 1 2\nget 1\nend\nmove 1
 
 const TRANSFERS_TEXT: &[u8] = b"ready 0\n+\n+\n= 2\ntick 1\n- 3\n3 2\n";
 
-// How many of its calls are interrupted, fail or go well.
+// The trouble that calls of a reader or a writer have.
 #[derive(Clone, Copy)]
 enum Trouble {
     Never,
-    // The call with this number and all after it fail.
+    // The call of this number and all later ones fail.
     FailsAt(usize),
-    // Each call that goes well comes after one that was interrupted.
+    // Each call that succeeds comes after one that was interrupted.
     Interrupts,
 }
 
-// Whether a call goes well.
+// The answer to a call, after so many calls.
 fn call(calls: usize, trouble: Trouble) -> io::Result<()> {
     match trouble {
         Trouble::Never => Ok(()),
@@ -103,7 +103,7 @@ impl Write for Page {
     }
 }
 
-// What a script writes that is read in pieces of so many bytes.
+// Runs a script that is read in pieces of so many bytes. Returns its result and its text.
 fn run(alloc: Global, input: &[u8], most: usize) -> (Result<(), Refusal>, Page) {
     let mut reader = Pieces {
         bytes: input,
@@ -157,7 +157,7 @@ const SCRIPTS: [(&[u8], &[u8]); 16] = [
         b"open plain 1\ncrash\ncrash lose \ncrash fill 0\ncrash fill 000\ncrash fill 0A\ncrash fill g0\ncrash fill +1\nfail\nfail mark\nlog *\nmark \n",
         b"ready 0\n- 16\n- 16\n- 16\n- 16\n- 16\n- 16\n- 16\n- 16\n- 16\n- 16\n- 16\n",
     ),
-    // A world that is opened later takes the place of the first; a bad opening leaves it.
+    // A world that is opened later takes the place of the first. A bad opening leaves it as it is.
     (
         b"open plain 1\nset 0 7\nend\nopen quick 1\nopen zigzag 01\nopen  plain 1\nget 0\nopen plain 3\nworld\nend\n",
         b"ready 0\n+\ntick 1\n- 16\n- 16\n- 16\n= 7\nready 0\n0 0 0\ntick 1\n",
@@ -179,7 +179,7 @@ const SCRIPTS: [(&[u8], &[u8]); 16] = [
     (b"\n", b"- 16\n"),
 ];
 
-// A script that is read in pieces of so many bytes has this text.
+// Asserts that a script that is read in pieces of so many bytes has this text.
 fn check_pieces(rt: &impl Abort, alloc: Global, input: &[u8], text: &[u8], most: usize) {
     let (ended, page) = run(alloc, input, most);
     assert!(rt; ended == Ok(()), "in pieces of {most}");
@@ -216,7 +216,7 @@ impl Script {
         self.text.extend_from_slice(answers).expect(rt, "memory");
     }
 
-    // A run writes the text.
+    // Asserts that a run writes the text.
     fn check(&self, rt: &impl Abort, alloc: Global) {
         let mut reader = self.input.as_slice();
         let mut out = Vec::new(alloc);
@@ -245,7 +245,7 @@ const METHODS: [&[u8]; 5] = [
     b"pingpong-shared",
 ];
 
-// Scripts whose text is the same for every store: what follows the method's name.
+// Scripts whose text is the same for every store. They begin after the method's name.
 const FOR_EACH_STORE: [(&[u8], &[u8]); 18] = [
     // Marks are refused in their order: an open tick, an open round, nothing new.
     (
@@ -261,7 +261,7 @@ const FOR_EACH_STORE: [(&[u8], &[u8]); 18] = [
         b"1\nset 0 5\nend\ncrash keep\nget 0\n",
         b"ready 0\n+\ntick 1\nrecovered 0 from 0\n= 0\n",
     ),
-    // A torn group, by how many of its calls went.
+    // A torn group, by how many of its calls were made.
     (
         b"1\nset 0 5\nend\nlog\ncrash fill 01\n",
         b"ready 0\n+\ntick 1\nworking\nrecovered 0 from 0\n",
@@ -292,7 +292,8 @@ const FOR_EACH_STORE: [(&[u8], &[u8]); 18] = [
         b"1\nset 0 1\nend\nmark\nimage*\nset 0 2\nend\nmark\nimage*\nset 0 3\nend\nmark\nimage*\nlog*\ncrash lose\nget 0\n",
         b"ready 0\n+\ntick 1\nmark 1\nimage open 1\n+\ntick 2\nmark 2\nimage open 2\n+\ntick 3\nmark 3\nimage open 3\nacked 3\nrecovered 3 from 3\n= 3\n",
     ),
-    // What an open image has leaves the queue: a tick, and older switches with it; numbers go on behind.
+    // The records that an open image has leave the queue: a tick, and older switches with it. The numbers of later ticks
+    // continue.
     (
         b"1\nset 0 1\nend\nmark\ncover\nimage*\ncover\nlog*\nset 0 2\nend\nlog*\ncrash lose\nget 0\n",
         b"ready 0\n+\ntick 1\nmark 1\nidle\nimage open 1\nacked 1\nidle\n+\ntick 2\nacked 2\nrecovered 2 from 1\n= 2\n",
@@ -301,12 +302,12 @@ const FOR_EACH_STORE: [(&[u8], &[u8]); 18] = [
         b"1\nset 0 1\nend\nmark\nimage*\nset 0 2\nend\nmark\nimage*\nset 0 3\nend\nmark\nimage*\ncover\nlog*\ncrash lose\nget 0\n",
         b"ready 0\n+\ntick 1\nmark 1\nimage open 1\n+\ntick 2\nmark 2\nimage open 2\n+\ntick 3\nmark 3\nimage open 3\nacked 3\nidle\nrecovered 3 from 3\n= 3\n",
     ),
-    // While a group is in work nothing is covered, and nothing once the log is down.
+    // Nothing is covered while a group is in work, or once the log is down.
     (
         b"1\nset 0 1\nend\nlog\nmark\nimage*\ncover\nlog*\nend\nfail log\ncover\n",
         b"ready 0\n+\ntick 1\nworking\nmark 1\nimage open 1\nidle\nacked 1\ntick 2\nlog down\n- 12\n",
     ),
-    // The image keeper is down, and the log goes on.
+    // The image keeper is down, and the log continues.
     (
         b"1\nset 0 1\nend\nmark\nfail image\nmark\nset 0 2\nend\nlog*\ncrash lose\n",
         b"ready 0\n+\ntick 1\nmark 1\nimage down\n- 11\n+\ntick 2\nacked 2\nrecovered 2 from 0\n",
@@ -327,7 +328,7 @@ const FOR_EACH_STORE: [(&[u8], &[u8]); 18] = [
     (b"1\nget 0\n", b"ready 0\n= 0\n"),
 ];
 
-// The script that opens a store by this method, and goes on so, has this text.
+// Asserts the text of a script that opens a store by this method and continues with `rest`.
 fn check_opened(rt: &impl Abort, alloc: Global, method: &[u8], rest: &[u8], text: &[u8]) {
     let mut script = Script::new(alloc);
     script.say(rt, b"open ", b"");
@@ -375,7 +376,7 @@ fn end_ticks(rt: &impl Abort, alloc: Global, script: &mut Script, ticks: u64) {
     }
 }
 
-// So many ticks may wait for the log, by this method.
+// Asserts how many ticks may wait for the log, by this method.
 fn fill_queue(rt: &impl Abort, alloc: Global, method: &[u8]) {
     let mut script = Script::new(alloc);
     script.say(rt, b"open ", b"");
@@ -393,7 +394,7 @@ fn a_full_queue_takes_no_more(rt: HostRuntime) {
     }
 }
 
-// A tick of a set, a get, an end and a log's work.
+// A tick: a set, a get, an end, and the work of the log.
 fn play_tick(rt: &impl Abort, alloc: Global, script: &mut Script, tick: u64) {
     let lines = format!(in alloc; "set 0 {tick}\nget 0\nend\nlog*\n").expect(rt, "memory");
     let answers = format!(in alloc; "+\n= {tick}\ntick {tick}\nacked {tick}\n").expect(
@@ -402,7 +403,7 @@ fn play_tick(rt: &impl Abort, alloc: Global, script: &mut Script, tick: u64) {
     script.say(rt, lines.as_bytes(), answers.as_bytes());
 }
 
-// A script of so many ticks, read in pieces of so many bytes, takes more than 2,000 reads.
+// Runs a script of so many ticks, read in pieces of so many bytes. It takes more than 2,000 reads.
 fn read_often(rt: &impl Abort, alloc: Global, ticks: u64, most: usize) {
     let mut script = Script::new(alloc);
     script.say(rt, b"open zigzag 1\n", b"ready 0\n");
@@ -442,7 +443,7 @@ fn answers_to_what_was_read_at_once_take_one_call(rt: HostRuntime) {
     }
 }
 
-// A writer that takes all, and remembers how much each of its first calls brought.
+// A writer that takes all, and remembers how many bytes each of its first calls brought.
 #[derive(Drop)]
 struct Lengths {
     list: [usize; 4],
@@ -463,7 +464,7 @@ impl Write for Lengths {
     }
 }
 
-// Answers of 8 and of 600 bytes: they are written once there are 4,096 or more, and the last ones at the end.
+// Answers of 8 and of 600 bytes. They are written once there are 4,096 bytes or more, and the last ones at the end.
 #[test]
 fn long_answers_are_written_as_they_come(rt: HostRuntime) {
     let mut script = Script::new(rt.alloc());
@@ -549,7 +550,7 @@ fn a_full_writer_is_a_fault(rt: HostRuntime) {
     assert_eq!(rt; page.written(), b"".as_slice());
 }
 
-// With a refused allocation, the script ends with `NoMemory` and whole answers, or it is whole.
+// If an allocation is refused, the script ends with `NoMemory` and whole answers, or it runs to its end.
 #[test]
 fn wanting_memory_leaves_whole_answers(rt: HostRuntime) {
     let (ended, page) = run(rt.alloc(), TRANSFERS, 512);

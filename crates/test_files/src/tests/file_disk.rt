@@ -8,7 +8,7 @@ use std::test::Fail;
 use std::{env, fs, process};
 use world_actions::Refusal;
 
-// Where a test of this name has its folder.
+// The folder of a test of this name.
 fn folder_of(rt: &HostRuntime, test: &str) -> Result<PathBuf, Fail> {
     let name = format!(in rt.alloc(); "disk_model-{test}-{}", process::id(rt.process()))?;
     Ok(env::temp_dir(rt)?.join(rt.alloc(), name.as_str())?)
@@ -21,7 +21,7 @@ fn new_folder(rt: &HostRuntime, test: &str) -> Result<PathBuf, Fail> {
     Ok(folder)
 }
 
-// The file `file` of a folder, opened for reading, and for writing too where that is asked.
+// Opens the file `file` of a folder for reading, and for writing too if `to_write` is true.
 fn open(rt: &HostRuntime, folder: &PathBuf, to_write: bool) -> Result<FileDisk, Fail> {
     let path = folder.join(rt.alloc(), "file")?;
     let mut options = OpenOptions::new();
@@ -30,7 +30,7 @@ fn open(rt: &HostRuntime, folder: &PathBuf, to_write: bool) -> Result<FileDisk, 
     Ok(FileDisk::open(file)?)
 }
 
-// Whether all bytes of a disk are these.
+// True if these are all bytes of a disk.
 fn reads(alloc: Global, disk: &mut FileDisk, bytes: &[u8]) -> Result<bool, Refusal> {
     let read = read_all(alloc, disk)?;
     Ok(read.as_slice() == bytes)
@@ -49,14 +49,14 @@ fn write_pieces(disk: &mut FileDisk) -> Result<(), Refusal> {
     disk.sync()
 }
 
-// The length before and after the pieces are written.
+// Writes the pieces, and returns the length before and after that.
 fn lengths(disk: &mut FileDisk) -> Result<(u64, u64), Refusal> {
     let before = disk.len()?;
     write_pieces(disk)?;
     Ok((before, disk.len()?))
 }
 
-// The bytes at 1 and 2.
+// Reads the bytes at 1 and 2.
 fn middle(disk: &mut FileDisk) -> Result<[u8; 2], Refusal> {
     let mut middle = [0; 2];
     disk.read_at(1, &mut middle)?;
@@ -71,7 +71,7 @@ fn check_written(rt: &impl Abort, disk: &mut FileDisk) -> Result<(), Refusal> {
     Ok(())
 }
 
-// Whether a call that was answered so was refused by the device, and a reason is kept.
+// True if a call with this answer was refused by the device, and the disk keeps a reason.
 fn is_fault(disk: &FileDisk, answer: Result<(), Refusal>) -> bool {
     answer == Err(Refusal::Device) && disk.failure().is_some()
 }
@@ -83,13 +83,13 @@ fn is_invalid(failure: Option<&io::Error>) -> bool {
     }
 }
 
-// A write that fails in the system, and one that isn't tried.
+// Codes for a write that fails in the system, and for one that isn't tried.
 const TRIED: u8 = 1;
 
 const NOT_TRIED: u8 = 2;
 
-// What becomes of a write to a disk that is open for reading alone, 0 where no reason of a failure
-// is kept. A write behind the known length isn't tried.
+// Writes to a disk that is open for reading alone. Returns the code of the failure, or 0 if the disk keeps no reason of one.
+// A write behind the known length isn't tried.
 fn fail_write(disk: &mut FileDisk, at: u64) -> u8 {
     let _ = disk.take_failure();
     let answer = disk.write_at(at, &[9]);
@@ -103,7 +103,7 @@ fn fail_write(disk: &mut FileDisk, at: u64) -> u8 {
     }
 }
 
-// Reads the pieces from the disk, of which four bytes are known.
+// Reads the pieces from the disk. The known length is four bytes.
 fn check_read(rt: &impl Abort, alloc: Global, disk: &mut FileDisk) -> Result<(), Refusal> {
     assert!(rt; reads(alloc, disk, &[1, 7, 8, 4])?);
     assert_eq!(rt;
@@ -121,7 +121,7 @@ fn what_was_written_is_read(rt: HostRuntime) -> Result<(), Fail> {
     remove(&rt, &folder)
 }
 
-// How many reads fail: past the end, at the end, and far behind it.
+// Counts the reads that fail: past the end, at the end, and far behind it.
 fn faults_of_reads(disk: &mut FileDisk) -> u32 {
     let mut faults = 0u32;
     for at in [2, 3, u64::MAX] {
@@ -132,7 +132,7 @@ fn faults_of_reads(disk: &mut FileDisk) -> u32 {
     faults
 }
 
-// How many writes fail: behind the end, and far behind it.
+// Counts the writes that fail: behind the end, and far behind it.
 fn faults_of_writes(disk: &mut FileDisk) -> u32 {
     let mut faults = 0u32;
     for at in [4, u64::MAX] {
@@ -143,7 +143,8 @@ fn faults_of_writes(disk: &mut FileDisk) -> u32 {
     faults
 }
 
-// Whether a failure is kept, is taken, and is kept no more. It is one of invalid input.
+// Takes the failure, which is one of invalid input. Returns if it was kept, if it was the one taken, and if none is kept
+// then.
 fn takes_failure(disk: &mut FileDisk) -> [bool; 3] {
     [
         is_invalid(disk.failure()),
@@ -167,7 +168,7 @@ fn what_is_not_whole_is_a_fault(rt: HostRuntime) -> Result<(), Fail> {
     remove(&rt, &folder)
 }
 
-// Tries to write to a disk of 1 2 3 that is open for reading alone. Three bytes are known of it.
+// Tries to write to a disk of 1 2 3 that is open for reading alone. The known length is three bytes.
 fn check_read_only(rt: &impl Abort, alloc: Global, disk: &mut FileDisk) -> Result<(), Refusal> {
     for (at, want) in [(0, TRIED), (3, TRIED), (4, NOT_TRIED)] {
         assert_eq!(rt; fail_write(disk, at), want, "at {at}");
@@ -189,7 +190,7 @@ fn open_folder(rt: &HostRuntime, folder: &PathBuf) -> Result<FileDisk, Fail> {
     Ok(FileDisk::open(file)?)
 }
 
-// Whether a read of one byte fails.
+// True if a read of one byte fails.
 fn fails_read(disk: &mut FileDisk) -> bool {
     let answer = disk.read_at(0, &mut [0]);
     is_fault(disk, answer)

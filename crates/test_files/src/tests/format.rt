@@ -1,7 +1,7 @@
 use file_format::{Format, MARK_PLACE, format_of, marked, marked_at, u64_at};
 use std::process::Abort;
 
-// A format that no mark is of, the first and the second one.
+// Codes for no format, for the first one and for the second one.
 const NONE: u8 = 0;
 
 const FIRST: u8 = 1;

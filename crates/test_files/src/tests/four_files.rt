@@ -40,7 +40,7 @@ fn arm(disks: &mut FourFiles<Fused<ModelFile>>, place: u32, call: u64)
     }
 }
 
-// The code of what reading is refused with, 0 for none.
+// Reads all files, and returns the code of the refusal, or 0 if there is none.
 fn refused(alloc: Global, disks: &mut FourFiles<Fused<ModelFile>>) -> u8 {
     match disks.read_all(alloc) {
         Ok(_) => 0,
@@ -48,8 +48,8 @@ fn refused(alloc: Global, disks: &mut FourFiles<Fused<ModelFile>>) -> u8 {
     }
 }
 
-// The code of what reading is refused with where this call of one of the disks fails, and how
-// many files are read as they were made the next time.
+// Lets this call of one of the disks fail. Returns the code of the refusal, and how many files a second reading gives as
+// they were made.
 fn fails_once(alloc: Global, place: u32, call: u64) -> Result<(u8, u32), Refusal>
     requires { 1 ≤ call }
 {

@@ -6,7 +6,7 @@ use std::process::Abort;
 use std::test::Fail;
 use world_actions::Refusal;
 
-// Whether the length is told, and the write of 9 at 1 fails that comes after.
+// Lets the second call fail. True if the length is right, and then the write of 9 at 1 fails.
 fn fails_write(disk: &mut Fused<ModelFile>) -> bool
     requires { length disk.old.inner.content ≡ 3 }
     ensures { length disk.new.inner.content ≡ 3 }
@@ -16,7 +16,7 @@ fn fails_write(disk: &mut Fused<ModelFile>) -> bool
     length == Ok(3) && disk.write_at(1, &[9]) == Err(Refusal::Device)
 }
 
-// The bytes at 1 and 2.
+// Reads the bytes at 1 and 2.
 fn read_pair(disk: &mut Fused<ModelFile>) -> Result<[u8; 2], Refusal>
     requires { length disk.old.inner.content ≡ 3 }
     ensures { length disk.new.inner.content ≡ 3 }
@@ -26,7 +26,7 @@ fn read_pair(disk: &mut Fused<ModelFile>) -> Result<[u8; 2], Refusal>
     Ok(pair)
 }
 
-// Whether a read fails, and reads nothing.
+// Lets a read fail. True if it fails, and reads nothing.
 fn fails_read(disk: &mut Fused<ModelFile>) -> bool
     requires { length disk.old.inner.content ≡ 3 }
 {
@@ -35,13 +35,13 @@ fn fails_read(disk: &mut Fused<ModelFile>) -> bool
     disk.read_at(0, &mut read) == Err(Refusal::Device) && read == [9, 7]
 }
 
-// Whether a call for the length fails.
+// Lets a call for the length fail. True if it fails.
 fn fails_len(disk: &mut Fused<ModelFile>) -> bool {
     disk.arm(1);
     disk.len() == Err(Refusal::Device)
 }
 
-// Whether a sync succeeds that was let fail, but then isn't, and leaves the written byte.
+// Arms a sync to fail, and disarms it. True if the sync succeeds, and makes the written byte durable.
 fn syncs(disk: &mut Fused<ModelFile>) -> bool {
     disk.arm(1);
     disk.disarm();

@@ -1,4 +1,4 @@
-// Disks of bytes in memory whose calls can be let fail, for the tests of what reads them.
+// Disks in memory whose calls can be made to fail, for the tests of readers.
 ghost use Rattle.std.specs.Prelude.{◌≡◌, IfOk};
 
 use disk_model::{FourFiles, Fused, ModelFile};
@@ -23,7 +23,7 @@ fn two_disks(
     Ok((first, disk(alloc, second)?))
 }
 
-// A disk of one byte, one of none, and two of two and three bytes.
+// A disk of one byte, one of none, one of two and one of three bytes.
 pub(crate) fn four_disks(alloc: Global) -> Result<FourFiles<Fused<ModelFile>>, Refusal> {
     let (image_a, image_b) = two_disks(alloc, &[1], &[])?;
     let (log_a, log_b) = two_disks(alloc, &[2, 3], &[4, 5, 6])?;

@@ -19,7 +19,7 @@ use world_ticks::Cells;
 // More steps than any round here has.
 const MOST_STEPS: u32 = 2_000_000;
 
-// Hands out the newest image's words.
+// Answers Same for each cell, so that an image gets the newest image's words.
 #[derive(Drop)]
 struct AllSame;
 
@@ -33,7 +33,7 @@ impl Taker for AllSame {
     }
 }
 
-// Runs a round, and tells how many of its steps answered Working, and what the last one answered.
+// Runs a round. Returns how many of its steps answered Working, and the answer of the last one.
 fn run<T: Taker, D: Disk>(
     keeper: &mut ImageKeeper,
     tick: u64,
@@ -59,7 +59,7 @@ fn run<T: Taker, D: Disk>(
     (MOST_STEPS, ImageAnswer::Working)
 }
 
-// Runs a round up to its opened image, and tells how many of its steps answered Working.
+// Runs a round up to its opened image. Returns how many of its steps answered Working.
 fn open_image<T: Taker, D: Disk>(
     rt: &impl Abort,
     keeper: &mut ImageKeeper,
@@ -81,7 +81,7 @@ fn open_image<T: Taker, D: Disk>(
     working
 }
 
-// A keeper of no image, and its two empty files.
+// A keeper that has no image, and its two empty files.
 fn keep_empty(alloc: Global, cells: u32) -> Result<(ImageKeeper, ModelFile, ModelFile), Refusal>
     requires some_cells { 1 ≤ cells }
     requires most_cells { cells ≤ CELLS_MAX }
@@ -101,7 +101,7 @@ fn shut_file(alloc: Global) -> Result<ModelFile, Refusal>
     ModelFile::new(alloc, [0].to_vec(alloc)?)
 }
 
-// A keeper of no image of one cell, and its two files, which are shut.
+// A keeper for one cell that has no image, and its two files, which are shut.
 fn keep_shut(alloc: Global) -> Result<(ImageKeeper, ModelFile, ModelFile), Refusal>
     ensures idle { IfOk result (λ made. made.0.phase ≡ Idle) }
     ensures fits { IfOk result (λ made. FitsFiles made.0 made.1.content made.2.content) }
@@ -125,7 +125,7 @@ fn is_newest(keeper: &ImageKeeper, slot: Slot, tick: u64) -> bool {
     keeper.newest() == Some((slot, tick))
 }
 
-// Whether the words 5 and 7 at this tick are durable.
+// True if an image of the words 5 and 7 at this tick is durable.
 fn has_image(file: &ModelFile, tick: u8) -> bool {
     let image = [
         1, 2, 0, 0, 0, 0, 0, 0, 0x20, tick, 0, 0, 0, 0, 0, 0, 0, 5, 0, 0, 0, 0, 0, 0, 0, 7, 0, 0,
@@ -171,7 +171,7 @@ fn leaves_shut_file_shut(rt: HostRuntime) -> Result<(), Fail> {
     Ok(())
 }
 
-// A store of so many cells at a mark: the last word is 5, the others are the greatest.
+// A store of so many cells at a mark. The last word is 5, and the others are the greatest.
 fn marked_store(alloc: Global, cells: usize) -> Result<PlainCopy, Refusal> {
     let words = vec![in alloc; LIMIT; cells]?;
     let mut store = PlainCopy::build(alloc, &words)?;
@@ -182,7 +182,7 @@ fn marked_store(alloc: Global, cells: usize) -> Result<PlainCopy, Refusal> {
     Ok(store)
 }
 
-// Whether the words are those of such a store.
+// True if the words are those of such a store of the most cells.
 fn are_right(words: &[u64]) -> bool {
     for cell in 0..words.len() {
         let want = if cell == 1_048_575 { 5 } else { LIMIT };
@@ -193,7 +193,7 @@ fn are_right(words: &[u64]) -> bool {
     words.len() == 1_048_576
 }
 
-// Whether a file has the image of such a store at this tick.
+// True if a file has the image of that store at this tick.
 fn is_right(alloc: Global, file: &ModelFile, at: u64) -> Result<bool, Refusal> {
     match read_image(alloc, file.durable())? {
         ImageState::Open { tick, words } => {
@@ -203,7 +203,7 @@ fn is_right(alloc: Global, file: &ModelFile, at: u64) -> Result<bool, Refusal> {
     }
 }
 
-// The steps of two rounds of such a store, and whether both images are right.
+// Runs two rounds of such a store. Returns how many steps each has, and if both images are right.
 fn largest_rounds(
     rt: &impl Abort,
     alloc: Global,
@@ -224,7 +224,7 @@ fn opens_largest_images(rt: HostRuntime) -> Result<(), Fail> {
     Ok(())
 }
 
-// How many moves are left before a round and at its begin, and whether it is then open.
+// Returns how many moves are left before a round and at its beginning, and if the round is then open.
 fn moves_of(alloc: Global, cells: u32, is_shut: bool) -> Result<(u64, u64, bool), Refusal>
     requires some_cells { 1 ≤ cells }
     requires most_cells { cells ≤ CELLS_MAX }
@@ -248,7 +248,7 @@ fn counts_moves_of_round(rt: HostRuntime) -> Result<(), Fail> {
     Ok(())
 }
 
-// Whether a keeper is down, and no further step makes a call, which would fail.
+// True if a keeper is down, and no further step makes a call. A call would fail.
 fn stays_down(
     keeper: &mut ImageKeeper,
     store: &mut PlainCopy,
@@ -263,8 +263,7 @@ fn stays_down(
     was_down && again == ImageAnswer::Down && image_a.len() == Err(Refusal::Device)
 }
 
-// The steps of a round where this call of image.a fails, its last answer, and whether the keeper
-// stays down then.
+// Runs a round in which this call of image.a fails. Returns its steps, its last answer, and if the keeper stays down then.
 fn round_failing_at(alloc: Global, call: u64) -> Result<(u32, ImageAnswer, bool), Refusal>
     requires { 1 ≤ call }
 {

@@ -15,15 +15,15 @@ const SMALL: [u8; 8] = [5, 1, 0, 0, 0, 0, 0, 0];
 // LIMIT + 1 as a word, TICK_MAX as a tick.
 const MUCH: [u8; 8] = [0x00, 0x00, 0x64, 0xa7, 0xb3, 0xb6, 0xe0, 0x0d];
 
-// What an image reads as, where the code isn't that of a refusal.
+// Codes for the outcomes that are no refusal.
 const CLOSED: u8 = 100;
 
 const AS_WANTED: u8 = 101;
 
 const OTHER: u8 = 102;
 
-// Whether an image is closed, is open with this tick and these words, or is open with others; else
-// the code of the refusal.
+// The outcome of reading an image: closed, open with this tick and these words, or open with others. If it is refused, the
+// outcome is the code of the refusal.
 fn outcome(alloc: Global, bytes: &[u8], want_tick: u64, want: &[u64]) -> u8 {
     match read_image(alloc, bytes) {
         Ok(ImageState::Closed) => CLOSED,
@@ -38,7 +38,7 @@ fn outcome(alloc: Global, bytes: &[u8], want_tick: u64, want: &[u64]) -> u8 {
     }
 }
 
-// The outcomes of an image of two words that is cut anywhere.
+// Asserts the outcomes of an image of two words that is cut at each place.
 fn assert_cut(rt: &impl Abort, alloc: Global, image: &[u8; 33]) {
     for length in 0..=33 {
         let want = match length {
@@ -77,7 +77,7 @@ fn file(alloc: Global, cells: &[u8], tick: &[u8], word: &[u8]) -> Result<Vec<u8>
     Ok(file)
 }
 
-// The outcome of a file with this header and word, where it is to be open with this tick and word.
+// The outcome of a file with this header and word, if it should be open with this tick and word.
 fn outcome_of_one(
     alloc: Global,
     cells: &[u8],
@@ -136,7 +136,7 @@ fn numbered(alloc: Global, header: &[u8], cells: u32) -> Result<Vec<u8>, Refusal
     Ok(image)
 }
 
-// Whether the words are their cells' numbers.
+// True if each word is the number of its cell.
 fn are_numbered(words: &[u64]) -> bool {
     for cell in 0..words.len() {
         if words[cell] != cell as u64 {
@@ -146,8 +146,7 @@ fn are_numbered(words: &[u64]) -> bool {
     true
 }
 
-// The tick, the number of the words, and whether they are their cells' numbers; or the code of the
-// refusal.
+// Returns the tick, how many words there are, and if each is the number of its cell. The error is the refusal.
 fn told(alloc: Global, header: &[u8], cells: u32) -> Result<(u64, usize, bool), Refusal> {
     let image = numbered(alloc, header, cells)?;
     match read_image(alloc, &image)? {
@@ -156,7 +155,7 @@ fn told(alloc: Global, header: &[u8], cells: u32) -> Result<(u64, usize, bool), 
     }
 }
 
-// The code of what an image of so many words is refused with.
+// The code of the refusal of an image of so many words.
 fn refused(alloc: Global, header: &[u8], cells: u32) -> Result<u8, Refusal> {
     let image = numbered(alloc, header, cells)?;
     Ok(outcome(alloc, &image, 0, &[]))

@@ -35,7 +35,7 @@ fn queue_tick(
     Ok(())
 }
 
-// The first ticks behind base 0.
+// Queues the first ticks behind base 0.
 fn queue_ticks(
     rt: &impl Abort,
     alloc: Global,
@@ -70,12 +70,12 @@ fn queue_switch(
     assert!(rt; queue.try_push_back(Record::Switch(tick)).is_ok());
 }
 
-// An answer other than of a tick that is acknowledged.
+// Numbers for answers that acknowledge no tick.
 const IDLE: u64 = 1_000;
 
 const OTHER: u64 = 1_001;
 
-// The tick that an answer acknowledges.
+// The tick that an answer acknowledges, or a number for another answer.
 fn acked(answer: LogAnswer) -> u64 {
     match answer {
         LogAnswer::Acked(receipt) => receipt.tick(),
@@ -84,7 +84,8 @@ fn acked(answer: LogAnswer) -> u64 {
     }
 }
 
-// Counts the steps that are answered Working, and gives what the first other answer acknowledges.
+// Makes steps up to the first answer that isn't Working. Returns how many were answered Working, and `acked` of the other
+// one.
 fn run(
     keeper: &mut LogKeeper,
     queue: &mut HeapCircularBuffer<Record>,
@@ -140,7 +141,7 @@ fn two_ticks(
     Ok(queue)
 }
 
-// Whether log.a has tick 1 behind base 0.
+// True if log.a has tick 1 behind base 0.
 fn has_first(a: &ModelFile) -> bool {
     let segment = [
         1, 0, 0, 0, 0, 0, 0, 0, 0x20, 1, 1, 0, 1, 0, 1, 0, 0, 0, 0, 5, 0, 0, 0, 0, 0, 0, 0, 0,
@@ -148,7 +149,7 @@ fn has_first(a: &ModelFile) -> bool {
     a.durable() == segment.as_slice()
 }
 
-// Whether log.b has tick 2 behind base 1.
+// True if log.b has tick 2 behind base 1.
 fn has_second(b: &ModelFile) -> bool {
     let segment = [
         1, 1, 0, 0, 0, 0, 0, 0, 0x20, 1, 1, 0, 1, 0, 2, 0, 0, 0, 0, 2, 0, 0, 0, 0, 0, 0, 0, 0,
@@ -188,7 +189,7 @@ fn writes_ticks_and_switches(rt: HostRuntime) -> Result<(), Fail> {
     Ok(())
 }
 
-// Writes 33 ticks, a group of which has 32.
+// Writes 33 ticks, of which the first group has 32.
 fn check_groups(
     rt: &impl Abort,
     alloc: Global,
@@ -217,8 +218,8 @@ fn writes_ticks_in_groups(rt: HostRuntime) -> Result<(), Fail> {
     Ok(())
 }
 
-// Covers nothing in front of a switch, and then an older switch alone. It tells how much work the
-// switch at tick 3 is that is left.
+// Covers nothing in front of a switch, and then an older switch alone. Returns the work of the switch that is left, which is
+// at tick 3.
 fn cover_switches(
     rt: &impl Abort,
     keeper: &LogKeeper,
@@ -236,7 +237,7 @@ fn cover_switches(
     keeper.work(queue)
 }
 
-// Covers a tick. It tells how much work the switch at tick 4 is that is left.
+// Covers a tick. Returns the work of the switch that is left, which is at tick 4.
 fn cover_tick(
     rt: &impl Abort,
     alloc: Global,
@@ -254,7 +255,7 @@ fn cover_tick(
     Ok(keeper.work(queue))
 }
 
-// Covers what stands in the queue, and writes the switch that is left.
+// Covers the records of the queue, and writes the switch that is left.
 fn check_covers(
     rt: &impl Abort,
     alloc: Global,
@@ -277,7 +278,7 @@ fn check_covers(
     Ok(())
 }
 
-// A cover takes what stands before the switch: a tick, nothing, and an older switch alone.
+// A cover takes the records before the switch: a tick, nothing, and an older switch alone.
 #[test]
 fn covers_what_stands_before_a_switch(rt: HostRuntime) -> Result<(), Fail> {
     let mut queue = HeapCircularBuffer::with_capacity(rt.alloc(), 8)?;

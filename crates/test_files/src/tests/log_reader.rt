@@ -10,7 +10,7 @@ const ONE_TICK: [u8; 28] = [
     1, 0, 0, 0, 0, 0, 0, 0, 0, 1, 1, 0, 1, 0, 1, 0, 0, 0, 0, 5, 0, 0, 0, 0, 0, 0, 0, 0,
 ];
 
-// 200 for a closed segment, the code of a refusal, else the number of ticks.
+// The outcome of reading a segment: 200 if it is closed, the code of a refusal, else the number of ticks.
 fn outcome(alloc: Global, bytes: &[u8]) -> usize {
     match read_log(alloc, bytes) {
         Ok(LogState::Closed) => 200,
@@ -19,7 +19,7 @@ fn outcome(alloc: Global, bytes: &[u8]) -> usize {
     }
 }
 
-// Whether these are the actions of each tick.
+// True if these are the actions of each tick.
 fn are_ticks(ticks: &TickList, want: &[&[Action]]) -> bool {
     for i in 0..want.len() {
         if ticks.get(i) != Some(want[i]) {
@@ -29,7 +29,7 @@ fn are_ticks(ticks: &TickList, want: &[&[Action]]) -> bool {
     ticks.len() == want.len() && ticks.get(want.len()).is_none()
 }
 
-// Whether a segment is open, with this base and these ticks' actions.
+// True if a segment is open, with this base and these ticks' actions.
 fn reads(alloc: Global, bytes: &[u8], want_base: u64, want: &[&[Action]]) -> bool {
     match read_log(alloc, bytes) {
         Ok(LogState::Open { base, ticks }) => base == want_base && are_ticks(&ticks, want),
@@ -37,7 +37,7 @@ fn reads(alloc: Global, bytes: &[u8], want_base: u64, want: &[&[Action]]) -> boo
     }
 }
 
-// The outcomes of a segment of one tick that is cut anywhere.
+// Asserts the outcomes of a segment of one tick that is cut at each place.
 fn assert_cut(rt: &impl Abort, alloc: Global, bytes: &[u8; 28]) {
     for k in 0..29 {
         let want = match k {
@@ -110,7 +110,7 @@ fn reads_each_action_of_the_second_format(rt: HostRuntime) {
     assert_eq!(rt; outcome(rt.alloc(), &bytes), 15);
 }
 
-// An open segment of 32 ticks of no action, and one more, and what stands behind a closed gate.
+// An open segment: a group of 32 ticks without an action, a group of one more, a closed gate, and bytes behind it.
 fn two_groups() -> [u8; 87] {
     let mut bytes = [0; 87];
     bytes[0] = 1;
@@ -124,7 +124,7 @@ fn assert_groups(rt: &impl Abort, bytes: &[u8], want: Option<usize>) {
     assert_eq!(rt; count_groups(bytes), want, "{} bytes", bytes.len());
 }
 
-// The groups of the segment, without and with what stands behind the closed gate.
+// Asserts the groups of the segment, without and with the bytes behind the closed gate.
 fn assert_two_groups(rt: &impl Abort, bytes: &[u8; 87]) {
     assert_groups(rt, &bytes[..81], Some(2));
     assert_groups(rt, bytes, Some(2));
@@ -147,7 +147,7 @@ fn counts_groups_of_an_open_segment(rt: HostRuntime) {
     assert_groups(&rt, &bytes, None);
 }
 
-// A base with its gate, and what stands behind it.
+// A base with its gate, and the bytes behind it.
 fn joined(base: &[u8; 9], group: &[u8; 5]) -> [u8; 14] {
     let mut bytes = [0; 14];
     bytes[..9].copy_from_slice(base);
@@ -176,7 +176,7 @@ fn refuses_what_is_out_of_bounds(rt: HostRuntime) {
     }
 }
 
-// A segment of a group of so many ticks of no action, with bytes for 33 of them.
+// A segment of a group of so many ticks without an action. It has bytes for 33 of them.
 fn group_of(ticks: u8) -> [u8; 78] {
     let mut bytes = [0; 78];
     bytes[0] = 1;
@@ -200,8 +200,7 @@ fn outcome_of_tick(alloc: Global, more: u8) -> Result<usize, Refusal> {
     Ok(outcome(alloc, &bytes))
 }
 
-// A segment with this mark, of one action of this kind, with as many bytes as the longest action
-// has.
+// A segment with this mark, of one action of this kind. The action has as many bytes as the longest one.
 fn action_of(mark: u8, kind: u8) -> [u8; 31] {
     let mut bytes = [0; 31];
     bytes[..14].copy_from_slice(&[1, 0, 0, 0, 0, 0, 0, 0, mark, 1, 1, 0, 1, 0]);

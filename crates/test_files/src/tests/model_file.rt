@@ -6,8 +6,7 @@ use std::process::Abort;
 use std::test::Fail;
 use world_actions::Refusal;
 
-// A file whose bytes 11 22 33 are durable, with the unsynced writes of aa bb at 1 and of cc dd ee
-// at 2.
+// A file whose bytes 11 22 33 are durable, with unsynced writes of aa bb at 1 and of cc dd ee at 2.
 fn written_file(alloc: Global) -> Result<ModelFile, Refusal> {
     let mut file = ModelFile::new(alloc, vec![in alloc; 0x11, 0x22, 0x33]?)?;
     file.write_at(1, &[0xaa, 0xbb])?;
@@ -15,7 +14,7 @@ fn written_file(alloc: Global) -> Result<ModelFile, Refusal> {
     Ok(file)
 }
 
-// Whether a sync fails that is let fail, and leaves what reads give.
+// Lets a sync fail. True if it fails and leaves the present bytes as they are.
 fn fails_sync(disk: &mut Fused<ModelFile>) -> bool {
     disk.arm(1);
     let answer = disk.sync();
@@ -23,14 +22,14 @@ fn fails_sync(disk: &mut Fused<ModelFile>) -> bool {
     answer == Err(Refusal::Device) && disk.inner().now() == content.as_slice()
 }
 
-// The same after a sync that failed.
+// The same file after a failed sync.
 fn unsynced_file(rt: &impl Abort, alloc: Global) -> Result<ModelFile, Refusal> {
     let mut disk = Fused::new(written_file(alloc)?);
     assert!(rt; fails_sync(&mut disk));
     Ok(disk.into_inner())
 }
 
-// The same after a sync.
+// The same file after a sync.
 fn synced_file(alloc: Global) -> Result<ModelFile, Refusal> {
     let mut file = written_file(alloc)?;
     file.sync()?;
@@ -53,7 +52,8 @@ fn small_file(alloc: Global) -> Result<ModelFile, Refusal>
     Ok(file)
 }
 
-// The code of a crash that is to leave these bytes, 0 where it is taken, and the file after it.
+// Crashes a file so that it leaves these bytes. Returns the code of the refusal, or 0 if there is none, and the file after
+// it.
 fn crash(file: ModelFile, left: Vec<u8>) -> (u8, ModelFile) {
     match file.crash(left) {
         Ok(file) => (0, file),
@@ -61,19 +61,19 @@ fn crash(file: ModelFile, left: Vec<u8>) -> (u8, ModelFile) {
     }
 }
 
-// The code alone.
+// Returns the code alone.
 fn crash_code(alloc: Global, file: ModelFile, left: &[u8]) -> Result<u8, Refusal> {
     let (code, _) = crash(file, left.to_vec(alloc)?);
     Ok(code)
 }
 
-// Whether these bytes are durable, and reads give those.
+// True if the file has these durable bytes, and these present ones.
 fn holds(file: &ModelFile, durable: &[u8], now: &[u8]) -> bool {
     file.durable() == durable && file.now() == now
 }
 
-// Whether the torn file allows these bytes, the code of a crash that is to leave them, whether the
-// file then holds what it should, and whether place 2 is uncertain.
+// Crashes the torn file so that it leaves these bytes. Returns if the file allows them, the code of the crash, if the file
+// then has the right bytes, and if place 2 is uncertain.
 fn crash_torn(
     alloc: Global,
     left: &[u8],
@@ -107,8 +107,7 @@ fn leaves_torn_write(rt: HostRuntime) -> Result<(), Fail> {
     Ok(())
 }
 
-// The codes of crashes of the written file that are to leave these bytes: before a sync, after one
-// that failed, and after one.
+// The codes of crashes that leave these bytes of the written file: before a sync, after a failed one, and after one.
 fn crash_codes(rt: &impl Abort, alloc: Global, left: &[u8]) -> Result<(u8, u8, u8), Refusal> {
     let before = crash_code(alloc, written_file(alloc)?, left)?;
     let after_failed = crash_code(alloc, unsynced_file(rt, alloc)?, left)?;
@@ -166,8 +165,8 @@ fn tells_uncertain_places(rt: HostRuntime) -> Result<(), Fail> {
     Ok(())
 }
 
-// Whether a write of 64 bytes at the end makes the small file longer, or is refused by the device
-// and changes nothing.
+// Writes 64 bytes at the end of the small file. True if it is longer then, or if the device refused the write and nothing
+// has changed.
 fn grows_or_stays(file: &mut ModelFile) -> bool
     requires { length file.old.content ≡ 3 }
     ensures { 3 ≤ length file.new.content }
@@ -193,7 +192,7 @@ fn refused_growth_changes_nothing(rt: HostRuntime) -> Result<(), Fail> {
     Ok(())
 }
 
-// How long the small file is after a write at its end.
+// Writes at the end of the small file, and returns its length.
 fn grow(file: &mut ModelFile) -> Result<usize, Refusal>
     requires { length file.old.content ≡ 3 }
 {
@@ -215,7 +214,7 @@ fn sevens(alloc: Global, count: usize) -> Result<Vec<u8>, Refusal> {
     Ok(vec![in alloc; 7; count]?)
 }
 
-// How long an empty file is after a write of these bytes, which a sync makes durable.
+// Writes these bytes to an empty file, syncs it, and returns its length.
 fn fill(file: &mut ModelFile, bytes: &[u8]) -> Result<u64, Refusal> {
     file.write_at(0, bytes)?;
     let length = file.len()?;
@@ -223,12 +222,12 @@ fn fill(file: &mut ModelFile, bytes: &[u8]) -> Result<u64, Refusal> {
     Ok(length)
 }
 
-// Whether these bytes are durable, and a crash may leave them.
+// True if these bytes are durable, and a crash may leave them.
 fn stays(file: &ModelFile, bytes: &[u8]) -> bool {
     file.durable() == bytes && file.allows(bytes)
 }
 
-// The code of a crash that is to leave these bytes, and how many are read after it.
+// Crashes a file so that it leaves these bytes. Returns the code, and how many bytes the file then has.
 fn crash_length(file: ModelFile, left: Vec<u8>) -> (u8, usize) {
     let (code, file) = crash(file, left);
     (code, file.now().len())

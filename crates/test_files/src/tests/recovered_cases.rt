@@ -1,10 +1,9 @@
-// The cases of what stands in four files.
+// The cases of recovery from four files.
 use std::alloc::Global;
 use world_actions::Refusal;
 
-// Files, byte by byte. Of images: the gate, the number of cells, the tick, the words. They stand here in the
-// first format, and are of the second one with its mark in byte 8; from `pair` on a file has the mark that it
-// is to have.
+// Files, byte by byte. An image has the gate, the number of cells, the tick and the words. The files are in the first format
+// here. A file becomes one of the second format by its mark in byte 8. From `pair` on each file has its own mark.
 const FILES: &str = "\
 none
 gate      01
@@ -69,8 +68,8 @@ set@1     01 0100000000000000 01 0100 0100 01 01000000 0900000000000000 00
 set@1/2   01 0100000000000020 01 0100 0100 01 01000000 0900000000000000 00
 ";
 
-// image.a, image.b, log.a, log.b, and what stands in them: the tick, the image's tick and file, and the
-// words; or the number of the refusal.
+// The names of image.a, image.b, log.a and log.b, and the answer of recovery. It is the tick, the image's tick and file, and
+// the words, or the number of the refusal.
 pub(crate) const CASES: &str = "\
 none    none    none     none    refused 13
 gate    none    none     none    refused 13
@@ -136,7 +135,7 @@ seven@2 pair@3  add@2    move@3  4 from 3 in B: 3 9
 five@1  pair@3  add@2    empty@1 3 from 3 in B: 5 7
 ";
 
-// The same, of files that have their marks.
+// The same for files that have their own marks.
 pub(crate) const CASES_OF_A_FORMAT: &str = "\
 pair    none    swap,cap/2 none   1 from 0 in A: 3 5
 pair/2  none    swap,cap/2 none   1 from 0 in A: 3 5
@@ -176,7 +175,7 @@ fn digits_of(name: &str) -> &'static str {
     ""
 }
 
-// The first word of a line, and what follows it.
+// The first word of a line, and the rest of the line.
 fn first_word(line: &str) -> (&str, &str) {
     match line.split_once(' ') {
         Some((word, rest)) => (word, rest.trim_start()),
@@ -192,7 +191,7 @@ fn value_of(digit: u8) -> u8 {
     }
 }
 
-// The bytes that pairs of digits stand for, with spaces between them.
+// The bytes that pairs of digits represent, with spaces between them.
 fn bytes_of(alloc: Global, digits: &str) -> Result<Vec<u8>, Refusal> {
     let mut bytes = Vec::new(alloc);
     let mut high = None;
@@ -211,7 +210,7 @@ fn bytes_of(alloc: Global, digits: &str) -> Result<Vec<u8>, Refusal> {
     }
     Ok(bytes)
 }
-// The file of this name, as it stands or with the mark of the second format.
+// The file of this name, as it is or with the mark of the second format.
 fn file_of(alloc: Global, name: &str, is_second: bool) -> Result<Vec<u8>, Refusal> {
     let mut file = bytes_of(alloc, digits_of(name))?;
     if is_second && file.len() > 8 {
@@ -220,8 +219,7 @@ fn file_of(alloc: Global, name: &str, is_second: bool) -> Result<Vec<u8>, Refusa
     Ok(file)
 }
 
-// The four files that a line begins with, in a mix of the two formats, a bit for each, and the rest
-// of the line.
+// The four files that a line begins with, and the rest of the line. `mix` has a bit for the format of each file.
 pub(crate) fn files_of(
     alloc: Global,
     line: &str,

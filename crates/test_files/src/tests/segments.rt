@@ -1,7 +1,7 @@
 // Segments of the log, byte by byte.
 use world_actions::Refusal;
 
-// Groups of 32 ticks, none of which has an action.
+// Adds groups of 32 ticks without an action.
 pub(crate) fn push_groups(bytes: &mut Vec<u8>, groups: u32) -> Result<(), Refusal> {
     let mut group = [0; 67];
     group[0] = 1;

@@ -6,13 +6,13 @@ use std::alloc::Global;
 use std::test::Fail;
 use world_actions::Refusal;
 
-// Whether all bytes of a disk are these.
+// True if these are all bytes of a disk.
 fn reads<D: Disk>(alloc: Global, disk: &mut D, bytes: &[u8]) -> Result<bool, Refusal> {
     let read = read_all(alloc, disk)?;
     Ok(read.as_slice() == bytes)
 }
 
-// Whether all bytes of a disk of these are read.
+// True if all bytes of a disk with these bytes are read.
 fn reads_all(alloc: Global, bytes: &[u8]) -> Result<bool, Refusal> {
     let mut disk = disk(alloc, bytes)?;
     reads(alloc, &mut disk, bytes)
@@ -27,8 +27,7 @@ fn all_bytes_are_read(rt: HostRuntime) -> Result<(), Fail> {
     Ok(())
 }
 
-// The code of what reading is refused with where this call fails, and whether all is read the
-// next time.
+// Lets this call fail. Returns the code of the refusal, and if all is read the next time.
 fn fails_once(alloc: Global, call: u64) -> Result<(u8, bool), Refusal>
     requires { 1 ≤ call }
 {
@@ -38,7 +37,7 @@ fn fails_once(alloc: Global, call: u64) -> Result<(u8, bool), Refusal>
     Ok((code, reads(alloc, &mut disk, &[1, 2, 3])?))
 }
 
-// The code of what reading is refused with, 0 for none.
+// Reads a disk, and returns the code of the refusal, or 0 if there is none.
 fn refused<D: Disk>(alloc: Global, disk: &mut D) -> u8 {
     match read_all(alloc, disk) {
         Ok(_) => 0,

@@ -18,10 +18,10 @@ fn names_cells(rt: HostRuntime) {
     same(&rt, Action::Cap { cell: 9, value: 1 }.cells(), (9, 9));
 }
 
-// The new words of the first cell and of the second, or why they are refused.
+// The new words of the first cell and of the second, or the refusal.
 type Decided = Result<(u64, Option<u64>), Refusal>;
 
-// What is decided on an action in a world of so many cells, by the words of its cells.
+// Decides an action in a world of so many cells, from the words of the action's cells.
 fn decided(rt: &impl Abort, action: Action, cells: usize, words: (u64, u64)) -> Decided {
     assert!(rt; words.0 <= LIMIT && words.1 <= LIMIT);
     let Change { first, second } = check(&action, cells, words.0, words.1)?;

@@ -7,8 +7,7 @@ use std::process::Abort;
 use world_actions::LIMIT;
 use world_ticks::{Tick, Words};
 
-// What is answered to the batch of a reader, as the tick of this number, and how many actions the
-// tick has.
+// Answers the batch of a reader as the tick of this number. Returns the answer, and how many actions the tick has.
 fn answered(
     rt: &impl Abort,
     alloc: Global,
@@ -37,7 +36,7 @@ const BATCHES: [(u64, &[u8], &[u8]); 3] = [
     ),
 ];
 
-// A batch is answered so, and leaves 5 in the first cell and 0 in the other.
+// Asserts the answer to a batch that leaves 5 in the first cell and 0 in the other.
 fn check_answer(
     rt: &impl Abort,
     alloc: Global,
@@ -69,7 +68,7 @@ fn reader_of(rt: &impl Abort, alloc: Global, line: &[u8], count: usize) -> Batch
     reader
 }
 
-// What is answered in a world of one cell that has this word.
+// The answer in a world of one cell that has this word.
 fn answered_by(
     rt: &impl Abort,
     alloc: Global,
@@ -83,7 +82,7 @@ fn answered_by(
     answered(rt, alloc, &mut words, reader, number)
 }
 
-// Whether 256 actions are answered by a plus each, the next by a refusal, and the word that is got.
+// True if 256 actions are answered by a plus each, and the next by a refusal. Then comes the word that is got.
 fn has_256_actions(text: &[u8]) -> bool {
     text.starts_with(b"tick 7: + + + ")
         && text.ends_with(b" + + -5 =256\n")

@@ -60,7 +60,7 @@ fn transfer(amount: u64) -> Action {
     }
 }
 
-// Replays two actions, and then these and one that is refused.
+// Replays two actions, and then these two and one that is refused.
 fn replay_both(rt: &impl Abort, memory: &mut Words, tick: &mut Tick)
     requires { tick.old.list ≡ [] }
 {

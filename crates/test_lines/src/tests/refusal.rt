@@ -3,7 +3,7 @@ use std::alloc::{AllocError, AllocFailed, Global};
 use std::process::Abort;
 use world_actions::Refusal;
 
-// All refusals by their codes, from 1 on, and what each tells.
+// All refusals in the order of their codes, from 1 on, and the text of each.
 const REFUSALS: [(Refusal, &str); 23] = [
     (
         Refusal::BadCell,
@@ -78,7 +78,7 @@ const REFUSALS: [(Refusal, &str); 23] = [
     ),
 ];
 
-// A refusal has this code and this text.
+// Asserts that a refusal has this code and this text.
 fn check_text(rt: &impl Abort, alloc: Global, refusal: Refusal, code: usize, text: &str) {
     same(rt, refusal.code() as usize, code);
     let told = refusal.to_string(alloc).expect(rt, "memory");

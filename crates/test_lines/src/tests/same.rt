@@ -1,13 +1,13 @@
-// Comparisons. A call of these is proved faster than the macro that they stand for.
+// Comparisons. A call of one is proved faster than the macro in it.
 use std::fmt::Debug;
 use std::process::Abort;
 
-// What is given is what is wanted.
+// Asserts that the given value is the right one.
 pub fn same<T: PartialEq + Debug + Drop>(rt: &impl Abort, given: T, want: T) {
     assert_eq!(rt; given, want);
 }
 
-// The same, of a case of some table.
+// Asserts the same for a case of a table.
 pub fn same_for<C: Debug + Drop, T: PartialEq + Debug + Drop>(
     rt: &impl Abort,
     case: C,

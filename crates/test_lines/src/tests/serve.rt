@@ -11,7 +11,7 @@ const BATCH: &[u8] = b"set 0 5\nget 0\nmove 0 1 9\nfoo\nend\n";
 
 const ANSWER: &[u8] = b"tick 1: + =5 -3 -16\n";
 
-// A world in memory of which nothing is lost. What its batches do is `answer_text`'s contract.
+// A world in memory, which loses nothing. The contract of `answer_text` defines what its batches do.
 #[derive(Drop)]
 struct Memory {
     alloc: Global,
@@ -33,7 +33,7 @@ impl World for Memory {
     }
 }
 
-// Bytes that come a few at a time, and a failure where they end, if it is to fail.
+// Bytes that come a few at a time, and a failure at their end, if it is to fail.
 #[derive(Drop)]
 struct Pieces<'a> {
     bytes: &'a [u8],
@@ -54,7 +54,7 @@ impl Read for Pieces<'_> {
     }
 }
 
-// A page that takes so many bytes more, and fails then.
+// A page that takes `room` more bytes, and then fails.
 #[derive(Drop)]
 struct Page {
     bytes: Vec<u8>,
@@ -76,7 +76,7 @@ impl Write for Page {
     }
 }
 
-// What a session ends with: its result, its text, and how many ticks ended in it.
+// The end of a session: its result, its text, and how many ticks ended in it.
 #[derive(Clone, Copy)]
 struct End<'a> {
     result: Result<(), Refusal>,
@@ -93,7 +93,7 @@ fn new_world(rt: &impl Abort, alloc: Global) -> Memory {
     }
 }
 
-// A session with a world of two cells ends so.
+// Asserts that a session on a world of two cells ends so.
 fn check_session(rt: &impl Abort, alloc: Global, mut input: Pieces<'_>, room: usize, end: End<'_>) {
     let mut world = new_world(rt, alloc);
     let mut page = Page {
@@ -118,7 +118,7 @@ fn try_pieces(rt: &impl Abort, alloc: Global, bytes: &[u8], end: End<'_>) {
     }
 }
 
-// Inputs, what is answered to each, and how many ticks end.
+// Inputs, the answers to each, and how many ticks end.
 const SESSIONS: [(&[u8], &[u8], u64); 6] = [
     (BATCH, ANSWER, 1),
     (b"set 0 5\nget 0\nmove 0 1 9\nfoo\n", b"", 0),
@@ -159,7 +159,7 @@ fn too_many_lines(alloc: Global, before: &[u8]) -> Result<Vec<u8>, AllocError> {
     Ok(input)
 }
 
-// What comes before a batch that is too long, what is answered, and how many ticks end.
+// The input before a batch that is too long, the answers, and how many ticks end.
 const BEFORE: [(&[u8], &[u8], u64); 2] = [
     (b"", b"fault 16\n", 0),
     (BATCH, b"tick 1: + =5 -3 -16\nfault 16\n", 1),
@@ -196,7 +196,7 @@ fn a_writer_that_fails_has_a_front(rt: HostRuntime) {
     }
 }
 
-// How many bytes of an input that comes byte by byte are left once an answer to it can't be written.
+// How many bytes of an input are left unread once an answer to it can't be written. The input comes byte by byte.
 fn left_unread(rt: &impl Abort, alloc: Global, bytes: &[u8]) -> usize {
     let mut input = Pieces {
         bytes,

@@ -17,13 +17,13 @@ use zigzag::Zigzag;
 // More calls than a file has in a trial.
 const CALLS: u64 = 200;
 
-// A checkpoint is made after the second of them.
+// Three batches. A checkpoint is made after the second of them.
 const INPUT: &[u8] = b"set 0 5\nend\nmove 0 1 2\nend\nset 1 9\nend\n";
 
 // The words after so many ticks.
 const WORLDS: [[u64; 2]; 4] = [[0, 0], [5, 0], [3, 2], [3, 9]];
 
-// The text where so many ticks are acknowledged.
+// The texts, by how many ticks are acknowledged.
 const TEXTS: [&[u8]; 4] = [
     b"fault 12\nfault 12\nfault 12\n",
     b"tick 1: +\nfault 12\nfault 12\n",
@@ -31,10 +31,10 @@ const TEXTS: [&[u8]; 4] = [
     b"tick 1: +\ntick 2: +\ntick 3: +\n",
 ];
 
-// What came of the batches: so many ticks were acknowledged, or the world wasn't opened.
+// The result of a run is the number of acknowledged ticks, or this number if the world wasn't opened.
 const REFUSED: usize = 4;
 
-// Whether it is a world that has ended, and one of so many ticks at least.
+// True if it is the world after one of the ticks, and after at least the acknowledged ones.
 fn is_safe(found: &Recovered, acked: u64) -> bool {
     match WORLDS.get(found.tick as usize) {
         Some(words) => acked <= found.tick && found.words.as_slice() == words.as_slice(),
@@ -47,14 +47,14 @@ fn try_crash(rt: &impl Abort, alloc: Global, disks: &Disks, leaving: Leaving, ac
     may_stand(rt, leaving, &found, is_safe(&found, acked));
 }
 
-// Whatever a crash leaves is safe.
+// Asserts that whatever a crash leaves is safe.
 fn try_crashes(rt: &impl Abort, alloc: Global, disks: &Disks, acked: u64) {
     for leaving in LEAVINGS {
         try_crash(rt, alloc, disks, leaving, acked);
     }
 }
 
-// The text where so many ticks are acknowledged.
+// The text if so many ticks are acknowledged.
 fn text_of(acked: u64) -> &'static [u8] {
     match TEXTS.get(acked as usize) {
         Some(text) => text,
@@ -62,7 +62,7 @@ fn text_of(acked: u64) -> &'static [u8] {
     }
 }
 
-// Serves the batches, and tells how many ticks are acknowledged.
+// Serves the batches, and returns how many ticks are acknowledged.
 fn serve_batches<C: Capture>(
     rt: &impl Abort,
     alloc: Global,
@@ -76,7 +76,7 @@ fn serve_batches<C: Capture>(
     acked
 }
 
-// Opens a world and serves the batches. It gives the files, and what came of the batches.
+// Opens a world and serves the batches. Returns the files, and the result of the run.
 fn play<C: Capture>(rt: &impl Abort, alloc: Global, disks: Disks) -> (Disks, usize) {
     match SerialWorld::<C, Fused<ModelFile>>::open(alloc, disks, 2) {
         Ok(mut served) => {
@@ -94,7 +94,7 @@ fn acked_by(answer: usize) -> u64 {
     if answer == REFUSED { 0 } else { answer as u64 }
 }
 
-// Lets the k-th call of a file fail. It tells what came of the batches, and whether the call was made.
+// Lets the k-th call of a file fail. Returns the result of the run, and if the call was made.
 fn fail_call<C: Capture>(
     rt: &impl Abort,
     alloc: Global,
@@ -128,7 +128,7 @@ fn all_are_met(rt: &impl Abort, met: &[u64]) {
     }
 }
 
-// Lets each call of a file fail in turn, and counts the answers. It tells whether there are no more.
+// Lets each call of a file fail in turn, and counts the results. Returns true if there are no more calls.
 fn fail_each_call<C: Capture>(
     rt: &impl Abort,
     alloc: Global,
@@ -183,7 +183,7 @@ fn is_new(found: &Recovered) -> bool {
     (found.tick, found.from) == (0, 0) && found.words.as_slice() == [0, 0].as_slice()
 }
 
-// Whatever a crash leaves of files of which no world was made, it is a new world, or none yet. It tells which.
+// Asserts that a crash leaves a new world, or none yet, if making it failed. Returns 0 for a new world, and 1 for none.
 fn new_or_none(rt: &impl Abort, alloc: Global, disks: &Disks, leaving: Leaving) -> usize {
     match after_crash(rt, alloc, disks, leaving) {
         Ok(found) => {
@@ -197,7 +197,7 @@ fn new_or_none(rt: &impl Abort, alloc: Global, disks: &Disks, leaving: Leaving) 
     }
 }
 
-// Files whose device failed while a new world was made. It counts what a crash leaves.
+// Tries crashes of files whose device failed while a new world was made. Counts the worlds that are left.
 fn try_unmade(rt: &impl Abort, alloc: Global, disks: &Disks, refusal: Refusal, met: &mut [u64]) {
     same(rt, "a refusal", refusal, Refusal::Device);
     for leaving in LEAVINGS {
@@ -206,8 +206,7 @@ fn try_unmade(rt: &impl Abort, alloc: Global, disks: &Disks, refusal: Refusal, m
     }
 }
 
-// Makes a new world of these disks, of which one fails its k-th call. It tells whether one is made, and whether the
-// call failed.
+// Makes a new world of these disks, one of which fails its k-th call. Returns if a world is made, and if the call failed.
 fn fail_making(
     rt: &impl Abort,
     alloc: Global,
@@ -230,7 +229,7 @@ fn fail_making(
     }
 }
 
-// Lets each call of a file fail in turn. It tells whether there are no more.
+// Lets each call of a file fail in turn. Returns true if there are no more calls.
 fn fail_each_making(rt: &impl Abort, alloc: Global, place: usize, met: &mut [u64]) -> bool {
     for k in 1..CALLS {
         let disks = disks_of(rt, alloc, [NONE; 4], place, k);

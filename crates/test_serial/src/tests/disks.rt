@@ -1,4 +1,4 @@
-//! Four files in memory, of which one fails at one of its calls, and what a crash leaves of them.
+//! Four files in memory, one of which fails at one of its calls, and the bytes that a crash leaves of them.
 ghost use Rattle.std.specs.Prelude.{◌≤◌};
 
 use super::worlds::files_of;
@@ -10,7 +10,7 @@ use world_actions::Refusal;
 
 pub type Disks = FourFiles<Fused<ModelFile>>;
 
-/// What crashes leave of writes that aren't synced.
+/// The kinds of crashes: what each leaves of writes that aren't synced.
 pub const LEAVINGS: [Leaving; 5] = [
     Leaving::Lose,
     Leaving::Keep,
@@ -34,7 +34,7 @@ fn fused(files: FourFiles<ModelFile>) -> Disks {
     }
 }
 
-/// Disks with these bytes, of which this one fails its k-th call.
+/// Disks with these bytes. The one at this place fails its k-th call.
 pub fn disks_of(rt: &impl Abort, alloc: Global, bytes: [&[u8]; 4], place: usize, k: u64) -> Disks
     requires { 1 ≤ k }
 {
@@ -52,7 +52,7 @@ fn disk_at(disks: &mut Disks, place: usize) -> &mut Fused<ModelFile> {
     }
 }
 
-/// Whether a disk that was to fail its k-th call did.
+/// True if the disk that was to fail its k-th call has failed it.
 pub fn has_failed(disks: &mut Disks, place: usize, k: u64) -> bool {
     let disk = disk_at(disks, place);
     for _ in 0..k {
@@ -67,7 +67,7 @@ fn left_by(rt: &impl Abort, alloc: Global, disk: &Fused<ModelFile>, leaving: Lea
     disk.inner().left_by(alloc, leaving).expect(rt, "memory")
 }
 
-/// What stands in the files after a crash that leaves so.
+/// Recovers from what a crash of this kind leaves of the files.
 pub fn after_crash(
     rt: &impl Abort,
     alloc: Global,
@@ -81,7 +81,7 @@ pub fn after_crash(
     recover(alloc, &image_a, &image_b, &log_a, &log_b)
 }
 
-/// This may stand after a crash that leaves so.
+/// Asserts that this world may be recovered after a crash of this kind.
 pub fn may_stand(rt: &impl Abort, leaving: Leaving, found: &Recovered, is_right: bool) {
     assert!(rt; is_right, "{leaving:?}: {found:?}");
 }

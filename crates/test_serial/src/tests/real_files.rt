@@ -48,7 +48,7 @@ fn open_files(rt: &HostRuntime, abort: &impl Abort, folder: &PathBuf) -> FourFil
 struct Opening<'a> {
     // After how many ticks a checkpoint is made.
     every: u32,
-    // The size of the input's pieces.
+    // The greatest size of the input's pieces.
     most: usize,
     session: Session<'a>,
 }
@@ -72,7 +72,7 @@ fn try_opening<C: Capture>(
     drop(served);
 }
 
-// Makes a new world in the files of a folder, unless it is refused.
+// Makes a new world in the files of a folder. Returns the refusal, if there is one.
 fn make(rt: &HostRuntime, abort: &impl Abort, folder: &PathBuf) -> Option<Refusal> {
     let files = open_files(rt, abort, folder);
     told(fresh_files(rt.alloc(), 2, files)).err()

@@ -1,4 +1,4 @@
-//! Files in which no world is made or opened.
+//! Files in which a world isn't made or isn't opened.
 use super::same::same;
 use super::worlds::{IMAGE, NONE, bytes_of, files_of, fresh, stands, told};
 use capture_core::PlainCopy;
@@ -21,7 +21,7 @@ const BAD_LOG: &[u8] = &[1, 0, 0, 0, 0, 0, 0, 0, 0, 1];
 // A closed image or segment.
 const SHUT: &[u8] = &[0, 1, 2];
 
-// The refusal's number, and whether the files are given back with these bytes.
+// Returns the number of the refusal, and if the files are given back with these bytes.
 fn refused<T: Drop>(
     answer: Result<T, (FourFiles<ModelFile>, Refusal)>,
     bytes: [&[u8]; 4],
@@ -36,7 +36,7 @@ fn refused<T: Drop>(
     }
 }
 
-// No new world is made of these files, which are given back as they were.
+// Asserts that no new world is made of these files, which are given back as they were.
 fn try_not_empty(rt: &impl Abort, alloc: Global, bytes: [&[u8]; 4]) {
     let answer = fresh_files(alloc, 1, files_of(rt, alloc, bytes));
     let code = Refusal::NotEmpty.code();
@@ -54,21 +54,21 @@ static OPEN: [[&[u8]; 4]; 8] = [
     [NONE, SHUT, NONE, BAD_LOG],
 ];
 
-/// Files of which one is open.
+/// Tries to make a world of files one of which is open.
 pub fn try_open_files(rt: &impl Abort, alloc: Global) {
     for bytes in &OPEN {
         try_not_empty(rt, alloc, *bytes);
     }
 }
 
-/// Files of a new world.
+/// Tries to make a world of the files of a new world.
 pub fn try_made_files(rt: &impl Abort, alloc: Global) {
     let made = fresh(rt, alloc, 1);
     try_not_empty(rt, alloc, bytes_of(&made));
     drop(made);
 }
 
-/// Files that are closed, of which a new world is made.
+/// Makes a new world of files that are closed.
 pub fn try_closed_files(rt: &impl Abort, alloc: Global) {
     let shut = files_of(rt, alloc, [SHUT; 4]);
     let files = told(fresh_files(alloc, 2, shut)).expect(rt, "a new world");
@@ -87,14 +87,14 @@ static DAMAGED: [([&[u8]; 4], u8); 8] = [
     ([NONE, NONE, NONE, BAD_LOG], 15),
 ];
 
-// No world is opened in these files, which are given back as they were.
+// Asserts that no world is opened in these files, which are given back as they were.
 fn try_damaged(rt: &impl Abort, alloc: Global, bytes: [&[u8]; 4], code: u8) {
     let files = files_of(rt, alloc, bytes);
     let answer = SerialWorld::<PlainCopy, ModelFile>::open(alloc, files, 64);
     same(rt, "a refusal", refused(answer, bytes), Some((code, true)));
 }
 
-/// Each of the damaged worlds.
+/// Tries each of the damaged worlds.
 pub fn try_damaged_files(rt: &impl Abort, alloc: Global) {
     for (bytes, code) in &DAMAGED {
         try_damaged(rt, alloc, *bytes, *code);

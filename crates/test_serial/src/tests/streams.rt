@@ -16,13 +16,13 @@ pub const INPUT: &[u8] = b"set 0 5\nend\nget 0\nset 0 6\nend\n";
 /// Their answers.
 pub const TEXT: &[u8] = b"tick 1: +\ntick 2: =5 +\n";
 
-/// After so many bytes the first batch is whole, and the second.
+/// How many bytes the input has up to the end of the first batch, and of the second.
 pub const WHOLE: [usize; 2] = [12, 30];
 
-/// So many bytes has the first answer.
+/// How many bytes the first answer has.
 pub const FIRST_ANSWER: usize = 10;
 
-// Bytes, and a failure where they end.
+// Bytes, and a failure at their end.
 #[derive(Drop)]
 struct Broken<'a> {
     bytes: &'a [u8],
@@ -41,7 +41,7 @@ impl Read for Broken<'_> {
     }
 }
 
-// A page that takes so many bytes more, and fails then.
+// A page that takes `room` more bytes, and then fails.
 #[derive(Drop)]
 struct Page {
     bytes: Vec<u8>,
@@ -81,8 +81,8 @@ fn serve_broken(
     page.bytes
 }
 
-/// Of a session on a world of one cell this input was read, and so many bytes of its answers were written, before a
-/// call failed: this text was, and so many batches stand, each with an image.
+/// Plays a session on a world of one cell. A call fails after this input is read, or after so many bytes of answers are
+/// written. Asserts the written text, and how many batches are acknowledged and recovered. Each has an image.
 pub fn try_broken(
     rt: &impl Abort,
     alloc: Global,

@@ -22,7 +22,7 @@ pub const IMAGE: &[u8] = &[
     1, 1, 0, 0, 0, 0, 0, 0, 0, 0, 0, 0, 0, 0, 0, 0, 0, 0, 0, 0, 0, 0, 0, 0, 0,
 ];
 
-/// Bytes that come at most so many at a time.
+/// Bytes that come in pieces of at most `most`.
 #[derive(Drop)]
 struct Pieces<'a> {
     bytes: &'a [u8],
@@ -39,7 +39,7 @@ impl Read for Pieces<'_> {
     }
 }
 
-/// The answer without the files of a refusal.
+/// Returns the answer, without the files of a refusal.
 pub fn told<T: Drop, D: Disk + Drop>(
     answer: Result<T, (FourFiles<D>, Refusal)>,
 ) -> Result<T, Refusal> {
@@ -65,7 +65,7 @@ pub fn files_of(rt: &impl Abort, alloc: Global, bytes: [&[u8]; 4]) -> FourFiles<
     }
 }
 
-/// What reads of the files give.
+/// The present bytes of the files.
 pub fn bytes_of(files: &FourFiles<ModelFile>) -> [&[u8]; 4] {
     [
         files.image_a.now(),
@@ -115,7 +115,7 @@ fn durable(alloc: Global, files: &FourFiles<ModelFile>) -> Result<Recovered, Ref
     )
 }
 
-/// This stands in the durable bytes: the tick, that of the image, and the words.
+/// Asserts what recovery finds in the durable bytes: the tick, that of the image, and the words.
 pub fn stands(
     rt: &impl Abort,
     alloc: Global,
@@ -133,7 +133,8 @@ pub fn stands(
     same(rt, "the words", found.words.as_slice(), words);
 }
 
-/// A session: what its world recovered, and its input; how it ends, its text, and what is acknowledged then.
+/// A session: the recovered tick and that of its image, and the input. Then its end, its text, and the last acknowledged
+/// tick.
 #[derive(Clone, Copy)]
 pub struct Session<'a> {
     pub recovered: (u64, u64),
@@ -143,7 +144,7 @@ pub struct Session<'a> {
     pub acked: u64,
 }
 
-/// What a session on this input ended with, and its text. The input comes in pieces of at most so many bytes.
+/// Serves a session on this input, which comes in pieces of at most so many bytes. Returns its end and its text.
 pub fn serve<C: Capture, D: Disk>(
     alloc: Global,
     served: &mut SerialWorld<C, D>,
@@ -174,8 +175,8 @@ pub fn play<C: Capture, D: Disk>(
     same(rt, "after the session", stands, (recovered, acked));
 }
 
-/// A session on a world that makes a checkpoint after so many ticks, and what stands in the durable bytes then: the
-/// tick, that of the image, and the words.
+/// A session on a world that makes a checkpoint after so many ticks. `found` and `words` are then recovered from the durable
+/// bytes: the tick, that of the image, and the words.
 #[derive(Clone, Copy)]
 pub struct Case<'a> {
     pub every: u32,

@@ -3,7 +3,7 @@ use packed_marks::{chunks_of, full_marks, has_bit, with_bit};
 use std::alloc::Global;
 use std::process::Abort;
 
-// Numbers of cells, and of the words of their marks.
+// Numbers of cells, and how many words their marks have.
 const COUNTS: [(usize, usize); 7] = [
     (0, 0),
     (1, 1),
@@ -40,7 +40,7 @@ fn full_marks_end_with_last_cell(rt: HostRuntime) {
     }
 }
 
-// The full marks of so many cells are these words.
+// Asserts that the full marks of so many cells are these words.
 fn check_full(rt: &impl Abort, alloc: Global, cells: usize, words: &[u64]) {
     let full = full_marks(alloc, cells).expect(rt, "memory");
     same(rt, full.as_slice(), words);

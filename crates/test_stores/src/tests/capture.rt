@@ -10,7 +10,7 @@ use std::process::Abort;
 use world_actions::{Action, Refusal};
 use world_ticks::{Tick, act};
 
-// An action, by what `act` says of any cells.
+// Plays an action. The contract follows from that of `act` for any cells.
 fn act_on<C: Capture>(store: &mut C, tick: &mut Tick, action: Action) -> Result<(), Refusal>
     ensures done { OnOk result (C.content store.new
         ≡ content_after (C.content store.old) (writes_of (C.words store.old) action)) }
@@ -31,7 +31,7 @@ const TAKES: [Move; 5] = [
     Move::TakeWord(9),
 ];
 
-// An action of an open round, and one that is refused.
+// Plays an action in an open round, and one that is refused.
 fn check_actions<C: Capture>(rt: &impl Abort, alloc: Global) {
     let mut store = C::build(alloc, &[5, 7]).expect(rt, "memory");
     let mut tick = Tick::new(alloc);

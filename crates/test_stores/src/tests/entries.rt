@@ -23,7 +23,7 @@ const NEXT_WRITE: [Move; 1] = [Move::Write(0, 4)];
 
 const LAST_TAKE: [Move; 1] = [Move::TakeWord(9)];
 
-// Moves of a new store over 5 and 7, and the entries after them.
+// Makes moves of a new store over 5 and 7, and checks the entries after them.
 pub fn check_entries<C: TwoArrays>(rt: &impl Abort, mut store: C) {
     follow(rt, &mut store, &MARK_AND_WRITE);
     same(rt, store.first_entries(), Some((5, 9)));

@@ -10,7 +10,7 @@ use zigzag::Zigzag;
 
 const CELLS: usize = 1_048_576;
 
-// The takes of a round that give this word.
+// Counts the takes of a round that give this word.
 fn takes_of<C: Capture>(store: &mut C, cells: usize, word: u64) -> usize {
     let mut count = 0_usize;
     for _ in 0..cells {
@@ -21,7 +21,7 @@ fn takes_of<C: Capture>(store: &mut C, cells: usize, word: u64) -> usize {
     count
 }
 
-// A mark, a write to the last cell, and the takes of the round, which give the words of the mark.
+// Makes a mark and a write to the last cell. The takes of the round give the words of the mark.
 fn check_cells<C: Capture>(rt: &impl Abort, alloc: Global, cells: usize) {
     let words = Vec::from_elem(alloc, 0, cells).expect(rt, "memory");
     let mut store = C::build(alloc, &words).expect(rt, "memory");

@@ -6,8 +6,8 @@ use capture_core::{Capture, Taken};
 use std::alloc::Global;
 use std::process::Abort;
 
-// Rounds over some numbers of cells, with writes between them and between their takes. It is said
-// whether takes give `Same` for the cells that were not written since the mark before.
+// Checks rounds over some numbers of cells, with writes between them and between their takes. `tells_same` is true if takes
+// give `Same` for the cells that were not written since the mark before.
 pub fn check_list<C: Capture>(rt: &impl Abort, alloc: Global, tells_same: bool) {
     for cells in [1, 63, 64, 65, 130] {
         let mut listed: Listed<C> = Listed::new(rt, alloc, cells, tells_same);
@@ -15,7 +15,7 @@ pub fn check_list<C: Capture>(rt: &impl Abort, alloc: Global, tells_same: bool) 
     }
 }
 
-// A store, its words, and for each whether it was written since the last mark.
+// A store, its words, and for each cell if it was written since the last mark.
 #[derive(Drop)]
 struct Listed<C: Capture> {
     store: C,
@@ -25,7 +25,7 @@ struct Listed<C: Capture> {
 }
 
 impl<C: Capture> Listed<C> {
-    // So many cells that are 0.
+    // A store of so many cells that are 0.
     fn new(rt: &impl Abort, alloc: Global, cells: usize, tells_same: bool) -> Self {
         let words = Vec::from_elem(alloc, 0, cells).expect(rt, "memory");
         Listed {
@@ -36,7 +36,7 @@ impl<C: Capture> Listed<C> {
         }
     }
 
-    // A round, and one after each batch of writes.
+    // Checks a round, and one after each batch of writes.
     fn check_rounds(&mut self, rt: &impl Abort, alloc: Global) {
         self.check_round(rt, alloc);
         for step in 1..4 {
@@ -45,7 +45,7 @@ impl<C: Capture> Listed<C> {
         }
     }
 
-    // Writes each cell of which the step is a divisor.
+    // Writes each cell whose number the step divides.
     fn write_each(&mut self, rt: &impl Abort, step: usize)
         requires { (0 < step) × (step < 4) }
     {
@@ -56,14 +56,14 @@ impl<C: Capture> Listed<C> {
         }
     }
 
-    // A round takes the words of the mark, whatever is written between its takes.
+    // Checks that a round takes the words of the mark, whatever is written between its takes.
     fn check_round(&mut self, rt: &impl Abort, alloc: Global) {
         let words = Vec::from_slice(alloc, &self.words).expect(rt, "memory");
         let touched = Vec::from_slice(alloc, &self.touched).expect(rt, "memory");
         self.check_takes(rt, &words, &touched);
     }
 
-    // Marks, and takes these words where they are touched.
+    // Marks, and checks each take. A touched cell gives its word of this list.
     fn check_takes(&mut self, rt: &impl Abort, words: &[u64], touched: &[bool]) {
         self.touched.fill(false);
         assert!(rt; mark(&mut self.store));
@@ -81,8 +81,8 @@ impl<C: Capture> Listed<C> {
             && self.reads(i)
     }
 
-    // Writes the cell as far from the end as this one is from the front. If takes tell what is the
-    // same, each third turn writes nothing.
+    // Writes the cell that is as far from the end as this one is from the front. If takes give `Same`, each third turn
+    // writes nothing.
     fn writes_opposite(&mut self, i: usize, word: u64) -> bool {
         let cells = self.words.len();
         if self.tells_same && i % 3 == 0 {
@@ -91,7 +91,7 @@ impl<C: Capture> Listed<C> {
         i < cells && self.write(cells - 1 - i, word ^ 1)
     }
 
-    // Whether the next take gives the word of a cell, or that it is the same.
+    // True if the next take gives the word of a touched cell, or `Same` for another one if takes do so.
     fn takes(&mut self, word: u64, touched: bool) -> bool {
         let want = if touched || !self.tells_same {
             Taken::Word(word)
@@ -101,7 +101,7 @@ impl<C: Capture> Listed<C> {
         self.store.take() == Some(want)
     }
 
-    // Whether a cell has the word of the list.
+    // True if a cell has the word of the list.
     fn reads(&mut self, i: usize) -> bool {
         read(&mut self.store, i) == self.words.get(i).copied()
     }

@@ -12,7 +12,7 @@ fn words_of(marks: &PackedMarks) -> [u64; 3] {
     words
 }
 
-// The marks of 65 cells, all set or all clear, have these words.
+// Asserts the words of the marks of 65 cells, which are all set or all clear.
 fn check_equal(rt: &impl Abort, alloc: Global, set: bool, words: [u64; 3]) {
     let marks = PackedMarks::new(alloc, 65, set).expect(rt, "memory");
     same(rt, marks.len(), 65);
@@ -25,7 +25,7 @@ fn begins_with_equal_marks(rt: HostRuntime) {
     check_equal(&rt, rt.alloc(), false, [0, 0, 0]);
 }
 
-// The words once the marks of some cells were set or cleared.
+// Sets or clears the marks of some cells, and returns the words.
 fn with_put(rt: &impl Abort, marks: &mut PackedMarks, cells: &[usize], set: bool) -> [u64; 3] {
     for i in cells {
         assert!(rt; *i < marks.len());
@@ -41,7 +41,7 @@ fn puts_one_mark(rt: HostRuntime) {
     same(&rt, with_put(&rt, &mut marks, &[64], false), [0, 0, 2]);
 }
 
-// Makes marks the opposites of others, and these the opposites of those.
+// Makes `marks` the opposites of `others`, and then `others` the opposites of `marks`.
 fn check_opposites(rt: &impl Abort, marks: &mut PackedMarks, others: &mut PackedMarks) {
     with_put(rt, others, &[1, 65], true);
     assert!(rt; marks.len() == others.len());

@@ -1,10 +1,10 @@
-// Calls of a store in order, and what each gives.
+// Calls of a store in order, and the answer to each.
 use capture_core::{Capture, Taken};
 use std::alloc::Global;
 use std::process::Abort;
 use world_actions::LIMIT;
 
-// A call of a store, and its answer where it has one.
+// A call of a store, and its answer if it has one.
 #[derive(Clone, Copy)]
 pub enum Move {
     Len(usize),
@@ -23,14 +23,14 @@ pub fn follow_new<C: Capture>(rt: &impl Abort, alloc: Global, moves: &[Move]) {
     follow(rt, &mut store, moves);
 }
 
-// Makes the calls, each of which gives its answer.
+// Makes the calls, and asserts the answer of each.
 pub fn follow<C: Capture>(rt: &impl Abort, store: &mut C, moves: &[Move]) {
     for (i, next) in moves.iter().enumerate() {
         assert!(rt; gives(store, *next), "move {i}");
     }
 }
 
-// Makes a call, and tells whether it gives its answer.
+// Makes a call. Returns true if it gives its answer.
 fn gives<C: Capture>(store: &mut C, next: Move) -> bool {
     match next {
         Move::Len(cells) => store.len() == cells,
@@ -44,7 +44,7 @@ fn gives<C: Capture>(store: &mut C, next: Move) -> bool {
     }
 }
 
-// Marks a store, if no round is open.
+// Marks a store if no round is open. Returns true if it did.
 pub fn mark<C: Capture>(store: &mut C) -> bool {
     if store.open_round() {
         return false;
@@ -53,7 +53,7 @@ pub fn mark<C: Capture>(store: &mut C) -> bool {
     true
 }
 
-// Writes a word into a cell, if there are such a cell and such a word.
+// Writes a word into a cell, if there are such a cell and such a word. Returns true if it did.
 pub fn write<C: Capture>(store: &mut C, cell: usize, word: u64) -> bool {
     if cell >= store.len() || word > LIMIT {
         return false;
@@ -70,8 +70,8 @@ pub fn read<C: Capture>(store: &mut C, cell: usize) -> Option<u64> {
     Some(store.read(cell))
 }
 
-// The moves of a store over 5 and 7 that is marked, taken and written, and marked and taken again. A take
-// of an untouched cell gives its word.
+// The moves of a store over 5 and 7. It is marked, taken and written, and marked and taken again. A take of an untouched
+// cell gives its word.
 pub const TWO_ROUNDS: [Move; 13] = [
     Move::IsOpen(false),
     Move::Mark,
@@ -88,7 +88,7 @@ pub const TWO_ROUNDS: [Move; 13] = [
     Move::TakeWord(9),
 ];
 
-// The same with takes that tell that a cell is untouched.
+// The same moves, if takes of untouched cells give `Same`.
 pub const TWO_CHANGES: [Move; 13] = [
     Move::IsOpen(false),
     Move::Mark,

@@ -44,7 +44,7 @@ const UNCHANGED: [Move; 4] = [
     Move::TakeSame,
 ];
 
-// An action that is refused between two rounds.
+// Plays an action between two rounds, which is refused.
 fn check_refused<C: Capture>(rt: &impl Abort, alloc: Global) {
     let mut store = C::build(alloc, &[5, 7]).expect(rt, "memory");
     let mut tick = Tick::new(alloc);

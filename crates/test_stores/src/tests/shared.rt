@@ -1,4 +1,4 @@
-// Pairs of seats, in one thread.
+// Pairs of seats, in one thread and in two.
 mod covers;
 mod joined;
 mod rows;

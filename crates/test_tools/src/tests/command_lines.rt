@@ -5,7 +5,7 @@ use std::alloc::{AllocError, Global};
 use std::io;
 use std::test::Fail;
 
-// What the words ask for of a program with one command.
+// Reads the words for a program with one command.
 fn matches_of<'a>(alloc: Global, words: &'a [String]) -> Result<ArgMatches<'a>, Error> {
     let all = Command::new(alloc, "all").about("Does all of it");
     Command::new(alloc, "measures")
@@ -24,7 +24,7 @@ fn words(alloc: Global, line: &[&str]) -> Result<Vec<String>, Fail> {
     Ok(words)
 }
 
-// Why a command line isn't run, and the text that says it.
+// The reason why a command line starts no work, and the text that says it.
 fn not_run(rt: &HostRuntime, line: &[&str]) -> Result<(NotRun, String), Fail> {
     let words = words(rt.alloc(), line)?;
     match matches_of(rt.alloc(), &words) {

@@ -2,7 +2,7 @@ use std::alloc::Global;
 use std::test::Fail;
 use trial_kit::Latencies;
 
-// As many latencies as there are microseconds up to this one, the longest first.
+// The latencies of 1 microsecond up to this many, the longest first.
 fn microseconds(alloc: Global, most: u64) -> Result<Latencies, Fail> {
     let mut list = Vec::new(alloc);
     for shorter in 0..most {

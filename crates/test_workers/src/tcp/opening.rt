@@ -60,7 +60,7 @@ fn has_words<M: Method>(rt: &impl Abort, front: &mut Front<M>) {
     }
 }
 
-// What recovery finds in the durable bytes.
+// Recovers from the durable bytes.
 fn found<M: Method>(alloc: Global, opened: &Opened<M, ModelFile>) -> Result<Recovered, Refusal> {
     recover(
         alloc,
@@ -71,7 +71,7 @@ fn found<M: Method>(alloc: Global, opened: &Opened<M, ModelFile>) -> Result<Reco
     )
 }
 
-// The start has ended.
+// The start has ended, and the files have its image.
 fn is_started<M: Method>(rt: &impl Abort, alloc: Global, opened: &Opened<M, ModelFile>) {
     let found = found(alloc, opened).expect(rt, "a world that stands");
     let ticks = (found.tick, found.from);
@@ -102,7 +102,7 @@ fn opens_worlds_for_their_workers(rt: HostRuntime) {
     try_open::<Pong>(&rt, rt.alloc());
 }
 
-// The refusal of these files, and whether image.a still has these bytes.
+// Returns the refusal of these files, and if image.a still has these bytes.
 fn refused<M: Seats>(
     alloc: Global,
     files: FourFiles<ModelFile>,

@@ -24,7 +24,7 @@ impl PlainModel {
         self.begin(tick, Some(from))
     }
 
-    // The start at this tick, from the image of that one.
+    // Begins the start at this tick. `newest` is the tick of the newest image, if there is one.
     fn begin(&mut self, tick: u64, newest: Option<u64>) -> Result<(), Wrong> {
         let Some(world) = self.worlds.get(tick as usize) else {
             return hold(false, Rule::KeepsEnded);

@@ -67,7 +67,7 @@ impl PlainModel {
         Ok(())
     }
 
-    // Why no tick can be added to, if so.
+    // The reason why the tick gets no action and can't end, if there is one.
     fn tick_refusal(&self) -> Option<Refusal> {
         if self.is_starting() {
             Some(Refusal::Starting)

@@ -1,4 +1,4 @@
-//! Who tells the log writer of the images that are open.
+//! The publisher, which reports the ticks of open images to the log writer.
 ghost use Rattle.std.specs.Prelude.{◌≡◌, true};
 ghost use Rattle.shared_capture.specs.CoverWord.{CoverState, AreStored};
 ghost use Rattle.workers.specs.Publishing.{IsNext, told};
@@ -19,14 +19,15 @@ impl Model for Publisher {
 }
 
 impl Publisher {
-    /// Publishes by this word.
+    /// A publisher that stores ticks in this word.
     pub(crate) fn new(covers: CoverOut) -> Self
         ensures { result ≡ covers }
     {
         Publisher { covers }
     }
 
-    /// Publishes the tick of an image that is open. Who sees later that the back's round has ended finds it published.
+    /// Publishes the tick of an image that is open. A thread that later sees the end of the back's round finds the tick
+    /// published.
     pub(crate) fn publish<M: Method>(&mut self, _back: &Back<M>, tick: u64)
         requires in_work { _back.now.working ≡ true }
         requires next { IsNext self.old tick }

@@ -20,7 +20,7 @@ pub struct ImageWriter<D: Disk> {
     pub image_b: D,
 }
 
-// A step of the round in work. Where it opens the image its tick is published, and the back ends the round.
+// Makes a step of the round in work. If the step opens the image, its tick is published and the back ends the round.
 pub(crate) fn step<M: Method, D: Disk>(
     back: &mut Back<M>,
     covers: &mut Publisher,

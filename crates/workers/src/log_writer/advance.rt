@@ -1,4 +1,4 @@
-//! The log goes on.
+//! A step of the log.
 ghost use Rattle.std.specs.Prelude.{◌≡◌, ◌≢◌, ◌↔◌, ◌<◌, true, false, IsTrue};
 ghost use Rattle.disk_model.specs.Disk.{OneCalledAtMostOnce};
 ghost use Rattle.action_log.specs.declared.answer.LogAnswer.TheVariants.{Idle, Down};
@@ -14,7 +14,8 @@ use action_log::{LogAnswer, Record, log_outcomes};
 use circular_buffer::HeapCircularBuffer;
 use disk_model::Disk;
 
-/// Takes from the queue what the open image of this tick has. Where it has nothing of it, the keeper makes its next step.
+/// Takes the records from the queue that the open image of this tick has. If it has none of them, the keeper makes its next
+/// step.
 pub(crate) fn advance<D: Disk + Drop>(
     log: &mut Log<D>,
     queue: &mut HeapCircularBuffer<Record>,

@@ -68,7 +68,7 @@ impl Model for Answers {
 }
 
 impl Answers {
-    /// None wait; the ticks up to this one are answered.
+    /// No answer waits, and the ticks up to this one are answered.
     pub(crate) fn new(alloc: Global, room: usize, tick: u64) -> Result<Self, AllocError>
         ensures { IfOk result (λ a. a ≡ record { waiting = []; room = room; answered = tick; posted = tick }) }
     {
@@ -130,7 +130,7 @@ impl Answers {
         }
     }
 
-    /// Refuses the answer of the next tick, where none waits: the log is down.
+    /// Refuses the answer of the next tick while no other waits: the log is down.
     pub(crate) fn refuse<R: Wait>(&mut self, rt: &R, next: Waiting)
         requires none { self.old.waiting ≡ [] }
         requires next { next.number ≡ self.old.answered + 1 }

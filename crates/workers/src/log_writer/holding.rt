@@ -1,4 +1,4 @@
-//! What the log writer holds while it posts answers.
+//! The parts that the log writer holds while it posts answers.
 use super::Log;
 use crate::item_channel::ItemReceiver;
 use action_log::Record;
@@ -8,7 +8,7 @@ use shared_capture::CoverIn;
 use std::marker::Model;
 use std::snapshot::Snapshot;
 
-/// Lent to each post, so that nothing of it changes while one is made.
+/// The parts that are lent to each post, so that none of them changes while the post is made.
 #[derive(Drop)]
 pub struct Holding<'a, D: Disk + Drop> {
     pub(crate) opening: &'a Snapshot<Log<D>>,

@@ -1,4 +1,4 @@
-//! What becomes of an item that was popped.
+//! The handling of a popped item.
 ghost use Rattle.std.specs.Prelude.{◌≡◌, ◌+◌, ◌<◌, ◌≤◌, ◌++◌, [], length};
 ghost use Rattle.world_ticks.specs.declared.tick.TheConstants.{TICK_MAX};
 ghost use Rattle.action_log.specs.Progress.{QueueFollows, end_of};
@@ -12,7 +12,7 @@ use action_log::{LogKeeper, Record, log_queues};
 use circular_buffer::HeapCircularBuffer;
 use std::sync::Wait;
 
-/// Queues the record of an item, and lets its answer wait. It tells whether the item was the last one.
+/// Queues the record of an item, and lets its answer wait. Returns true if the item was the last one.
 pub(crate) fn keep(
     keeper: &LogKeeper,
     ring: &mut HeapCircularBuffer<Record>,
@@ -49,7 +49,7 @@ pub(crate) fn keep(
     }
 }
 
-/// Refuses the answer of an item: the log is down. It tells whether the item was the last one.
+/// Refuses the answer of an item: the log is down. Returns true if the item was the last one.
 pub(crate) fn lose<R: Wait>(rt: &R, answers: &mut Answers, item: Item) -> bool
     requires none { answers.old.waiting ≡ [] }
     requires next { AreNext answers.old.answered (answers_of item) }

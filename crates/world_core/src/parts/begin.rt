@@ -20,8 +20,8 @@ use world_actions::Refusal;
 use world_ticks::Tick;
 
 impl<C: Capture> Parts<C> {
-    /// What begins a start at this tick and of these words, from this newest image, on files with these
-    /// bytes. All memory that the start needs is taken here.
+    /// Builds the parts at the beginning of a start: at this tick, with these words, from this newest image, on files with
+    /// these bytes. It takes all memory that the start needs.
     pub fn begin(
         alloc: Global,
         cells: u32,
@@ -74,7 +74,7 @@ impl<C: Capture> Parts<C> {
         })
     }
 
-    /// Whether a crash may leave this of the four files.
+    /// True if a crash may leave these bytes of the four files.
     pub fn allows(&self, left: &Remains) -> bool
         ensures { IsTrue result ↔ (IsCrashOutcome self.now.image_a.inner left.now.image_a.items
             × IsCrashOutcome self.now.image_b.inner left.now.image_b.items
@@ -87,7 +87,7 @@ impl<C: Capture> Parts<C> {
             && self.log_b.inner().allows(&left.log_b)
     }
 
-    /// The restart on what a crash left: all parts are new, and nothing of the old ones is kept.
+    /// Restarts on the bytes that a crash left. All parts are new, and nothing of the old ones is kept.
     pub fn restart(&mut self, left: Remains) -> Result<Answer, Refusal>
         requires { (1 ≤ self.old.cells) × (self.old.cells ≤ CELLS) }
         ensures stands { IfOk result (λ answer. StandsOn self.old.cells
@@ -101,7 +101,7 @@ impl<C: Capture> Parts<C> {
         Ok(answer)
     }
 
-    // What recovery finds in these files, and what begins the start from it.
+    // Recovers these files, and builds the parts that begin the start from the result.
     fn stand_on(alloc: Global, cells: u32, left: Remains) -> Result<(Self, Answer), Refusal>
         requires { (1 ≤ cells) × (cells ≤ CELLS) }
         ensures stands { IfOk result (λ made. StandsOn cells

@@ -20,7 +20,7 @@ impl<C: Capture> Parts<C> {
         }
     }
 
-    /// What a crash that leaves so leaves of the four files.
+    /// Returns the bytes that such a crash leaves of the four files.
     pub fn remains(&self, leaving: Leaving) -> Result<Remains, Refusal>
         ensures left { IfOk result (AreLeft leaving self.now) }
         ensures memory { IfErr result (λ refusal. refusal ≡ Refusal.NoMemory) }

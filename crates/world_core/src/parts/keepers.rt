@@ -14,7 +14,7 @@ use disk_model::{Fused, ModelFile};
 use image_files::ImageAnswer;
 
 impl<C: Capture> Parts<C> {
-    /// A step of the image keeper, whose call of a device fails where that is asked.
+    /// Makes a step of the image keeper. Its device call fails if `fate` says so.
     pub fn move_images(&mut self, fate: Fate) -> ImageAnswer
         requires { (images : ImageFiles) × HasImages self.old images }
         ensures steps { StepsImageKeeper fate self.old result self.new }
@@ -29,7 +29,7 @@ impl<C: Capture> Parts<C> {
         answer
     }
 
-    /// Takes from the queue what the image of the tick has.
+    /// Takes the records from the queue that the image of this tick has.
     pub fn cover(&mut self, tick: u64) -> LogAnswer
         requires { QueueFollows self.old.log self.old.queue }
         ensures { CoversBy tick self.old result self.new }
@@ -37,7 +37,7 @@ impl<C: Capture> Parts<C> {
         self.log.cover(&mut self.queue, tick)
     }
 
-    /// A step of the log keeper, whose call of a device fails where that is asked.
+    /// Makes a step of the log keeper. Its device call fails if `fate` says so.
     pub fn move_log(&mut self, fate: Fate) -> LogAnswer
         requires stands { (place : LogPlace) × HasLog self.old place }
         requires queue { QueueFollows self.old.log self.old.queue }
@@ -54,7 +54,7 @@ impl<C: Capture> Parts<C> {
     }
 }
 
-// Lets the next call of a file fail, where that is asked.
+// Makes the next call of a file fail, if `fate` says so.
 fn arm(file: &mut Fused<ModelFile>, fate: Fate)
     ensures { file.new ≡ record file.old { left = calls_before_failure fate } }
 {

@@ -41,7 +41,7 @@ impl<C: Capture> Parts<C> {
         act(&mut self.store, &mut self.running, action)
     }
 
-    /// Ends the running tick, and answers its number.
+    /// Ends the running tick, and returns its number.
     pub fn end(&mut self) -> u64
         requires number { self.old.ended < TICK_MAX }
         requires few { self.old.since < SEGMENT_TICKS }
@@ -56,7 +56,7 @@ impl<C: Capture> Parts<C> {
         self.ended
     }
 
-    /// Begins the round of the ended ticks, and answers its tick.
+    /// Begins the round of the ended ticks, and returns its tick.
     pub fn begin_round(&mut self) -> u64
         requires none_left { self.old.content.left ≡ [] }
         requires idle { self.old.images.phase ≡ Idle }

@@ -22,7 +22,7 @@ impl<C: Capture> Core<C> {
         self.parts.file(name)
     }
 
-    /// What a crash that leaves so leaves of the four files; `NoMemory` is its only refusal.
+    /// Returns the bytes that such a crash leaves of the four files. Its only refusal is `NoMemory`.
     pub fn remains(&self, leaving: Leaving) -> Result<Remains, Refusal>
         ensures left { IfOk result (AreLeft leaving self.now) }
         ensures memory { IfErr result (λ refusal. refusal ≡ Refusal.NoMemory) }

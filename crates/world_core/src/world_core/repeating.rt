@@ -9,8 +9,8 @@ use capture_core::Capture;
 use image_files::ImageAnswer;
 
 impl<C: Capture> Core<C> {
-    /// Steps of the image keeper until it is idle or down: `Down`, or the last image that was opened, or
-    /// `Idle` where none was.
+    /// Steps the image keeper until it is idle or down. Returns `Down`, or else the last image that was opened, or `Idle` if
+    /// none was.
     pub fn run_images(&mut self, fate: Fate) -> ImageAnswer
         ensures repeats { (past : Past) → IsCoreAt past self.old
             → (next : Past) × RepeatsImages fate past self.old result next self.new
@@ -28,8 +28,7 @@ impl<C: Capture> Core<C> {
         }
     }
 
-    /// Steps of the log keeper until it is idle or down: `Down`, or the last receipt, or `Idle` where
-    /// there was none.
+    /// Steps the log keeper until it is idle or down. Returns `Down`, or else the last receipt, or `Idle` if there was none.
     pub fn run_log(&mut self, fate: Fate) -> LogAnswer
         ensures repeats { (past : Past) → IsCoreAt past self.old
             → (next : Past) × RepeatsLog fate past self.old result next self.new

@@ -14,8 +14,8 @@ use std::alloc::Global;
 use world_actions::Refusal;
 
 impl<C: Capture> Engine<C> {
-    /// What begins a start at this tick and of these words, from this newest image, on files with these
-    /// bytes. All memory is taken here that the world needs beside its batches.
+    /// Builds the engine at the beginning of a start: at this tick, with these words, from this newest image, on files with
+    /// these bytes. It takes all memory that the world needs besides its batches.
     pub fn begin(
         alloc: Global,
         cells: u32,

@@ -14,7 +14,7 @@ use disk_model::{Disk, FourFiles};
 use image_files::images_stay;
 
 impl<C: Capture> Engine<C> {
-    /// Writes the image of the round in work, or goes down.
+    /// Writes the image of the round in work, or the image keeper goes down.
     pub fn write_image<D: Disk>(&mut self, files: &mut FourFiles<D>)
         requires images { ImagesInOrder C.content D.content D.honest self.old files.old }
         ensures images { ImagesInOrder C.content D.content D.honest self.new files.new }
@@ -36,7 +36,7 @@ impl<C: Capture> Engine<C> {
         );
     }
 
-    /// Lets the log write all that is queued, or go down. In a start no round may be in work.
+    /// Writes all queued records to the log, or the log goes down. In a start no round may be in work.
     pub fn write_log<D: Disk>(&mut self, files: &mut FourFiles<D>)
         requires log { LogInOrder C.content D.content D.honest self.old files.old }
         requires turn { (self.old.log.starting ≡ false) ⊎ (self.old.images.phase ≡ Idle) }

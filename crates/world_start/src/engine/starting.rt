@@ -16,8 +16,8 @@ use restart::worlds_go_on;
 use world_actions::Refusal;
 
 impl<C: Capture> Engine<C> {
-    /// Runs the start to its end: the image of its tick, where it has a round, and then the log, which
-    /// begins anew there. A device that fails ends it.
+    /// Runs the start to its end. If it has a round, the image of its tick is written first. Then the log begins anew at
+    /// that tick. A device that fails ends the start.
     pub fn start<D: Disk>(&mut self, files: &mut FourFiles<D>) -> Result<(), Refusal>
         requires images { ImagesInOrder C.content D.content D.honest self.old files.old }
         requires log { LogInOrder C.content D.content D.honest self.old files.old }

@@ -3,7 +3,7 @@ use Rattle.std.specs.Io.KnownBytes.{Appends}
 use Rattle.steps.specs.Progress.{Stands}
 use Rattle.steps.proofs.script.run_script.Given as goal
 
--- no answer waits, and of each input that the reader had, what was written stands for what was read
+-- no answer waits, and for each input that the reader had, the written text answers the bytes that were read
 abbrev pub invariant-loop : goal.invariant-loop
 invariant-loop g l = record {
   none : l.text.items ≡ [];

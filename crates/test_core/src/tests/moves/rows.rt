@@ -51,16 +51,16 @@ fn transfer(from: u32, to: u32) -> Asked {
     })
 }
 
-// Moves that are asked so often with the answer to each, or a crash with its answer.
+// Moves, each with how often it is made and its answer, or a crash with its answer.
 #[derive(Clone, Copy)]
 enum Part<'a> {
     Lines(&'a [Line]),
     Crash(Leaving, Told),
-    // One that leaves so many bytes of image.a, and none of the other files.
+    // A crash that leaves so many bytes of image.a, and none of the other files.
     LeavesOnes(usize, Told),
 }
 
-// Moves, and the answer that each is to have.
+// Moves, and the right answer of each.
 #[derive(Drop)]
 struct Row {
     alloc: Global,
@@ -76,7 +76,7 @@ impl Row {
     }
 }
 
-// Adds the moves of a part, and asks the core for them: it tells what a crash leaves.
+// Adds the moves of a part, and makes them on the core, from which the bytes that a crash leaves are taken.
 fn add_part<C: Capture>(row: &mut Row, core: &mut Core<C>, part: Part<'_>) -> Result<(), Refusal> {
     match part {
         Part::Lines(lines) => add_lines(row, core, lines),
@@ -137,13 +137,13 @@ fn add_parts<C: Capture>(
     Ok(())
 }
 
-// Adds the moves of these parts, as a fresh core is asked for them.
+// Adds the moves of these parts, and makes them on a fresh core.
 fn fill<C: Capture>(row: &mut Row, cells: u32, parts: &[Part<'_>]) -> Result<(), Refusal> {
     let mut core = Core::<C>::fresh(row.alloc, cells.clamp(1, 65536))?;
     add_parts(row, &mut core, parts)
 }
 
-// A run of a fresh world answers the moves of a row so.
+// Asserts that a run of a fresh world answers the moves of a row as it says.
 fn compare<C: Capture>(rt: &impl Abort, cells: u32, row: Row) -> Result<(), Refusal> {
     let Row { alloc, moves, told } = row;
     let given = ran::<C>(alloc, cells, moves)?;
@@ -151,7 +151,7 @@ fn compare<C: Capture>(rt: &impl Abort, cells: u32, row: Row) -> Result<(), Refu
     Ok(())
 }
 
-// A run of a fresh world answers the moves of these parts so.
+// Asserts that a run of a fresh world answers the moves of these parts as they say.
 fn check<C: Capture>(
     rt: &(impl Abort + AllocGlobal),
     cells: u32,
@@ -332,7 +332,7 @@ fn images_ahead_of_the_log(rt: HostRuntime) -> Result<(), Fail> {
     Ok(())
 }
 
-// Two ticks, and a round of the first; then so many steps of a round of the second.
+// Two ticks, and a round of the first. Then come so many steps of a round of the second.
 fn two_rounds(steps: u32) -> [Line; 10] {
     [
         (1, set(0, 5), Told::Did),
@@ -400,7 +400,7 @@ fn tick(number: u64) -> [Line; 2] {
     ]
 }
 
-// A switch into the segment that was shut in the start takes four steps, and one into another six.
+// A switch into the segment that the start has shut takes four steps. A switch into another one takes six.
 const SWITCHES: [Line; 9] = [
     (3, LOG, Told::LogWorking),
     (1, LOG, Told::LogAcked(1)),
@@ -435,7 +435,8 @@ fn switches_use_segments_again(rt: HostRuntime) -> Result<(), Fail> {
     Ok(())
 }
 
-// What an open image has leaves the queue: in a start nothing, then up to the first switch, and up to the next.
+// The ticks that an open image has leave the queue. In a start there are none, then those up to the first switch, and up to
+// the next.
 #[test]
 fn open_images_cover_ticks(rt: HostRuntime) -> Result<(), Fail> {
     let before = [(1, Asked::Cover(0), Told::Refused(Refusal::Starting))];
@@ -511,7 +512,7 @@ fn images_down(rt: HostRuntime) -> Result<(), Fail> {
     Ok(())
 }
 
-// No image stands until the start has written one, and no crash leaves a byte that was never written.
+// There is no image until the start has written one, and no crash leaves a byte that was never written.
 #[test]
 fn starts_and_blanks(rt: HostRuntime) -> Result<(), Fail> {
     let failed = [
@@ -536,8 +537,8 @@ fn starts_and_blanks(rt: HostRuntime) -> Result<(), Fail> {
     Ok(())
 }
 
-// The second crash finds the image that the start after the first one wrote, so the start after it has
-// none to write. The second segment is shut since the first start.
+// The second crash finds the image that the start after the first crash wrote. So the start after the second one has no
+// image to write. The second segment is shut since the first start.
 #[test]
 fn crashes_twice(rt: HostRuntime) -> Result<(), Fail> {
     let image = [

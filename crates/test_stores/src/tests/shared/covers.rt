@@ -1,4 +1,4 @@
-// The tick of the newest open image goes from one thread to another.
+// The tick of the newest open image, passed from one thread to another.
 ghost use Rattle.std.specs.Prelude.{◌≡◌, []};
 ghost use Rattle.shared_capture.specs.CoverWord.{AreStored};
 
@@ -11,7 +11,7 @@ const TICKS: u64 = 1000;
 
 const TRIES: u64 = 1_000_000_000;
 
-// The first ticks, one after the other.
+// Publishes the first ticks, one after the other.
 fn publish_all(mut out: CoverOut) -> CoverOut
     requires { out.ticks ≡ [] }
     ensures { result.pair ≡ out.pair }
@@ -22,7 +22,7 @@ fn publish_all(mut out: CoverOut) -> CoverOut
     out
 }
 
-// Loads until the last tick comes, and tells whether none was below the one before.
+// Loads until the last tick comes. Returns true if no tick was below the one before.
 fn load_all(mut from: CoverIn) -> (CoverIn, bool)
     ensures { result.0.pair ≡ from.pair }
 {
@@ -38,7 +38,7 @@ fn load_all(mut from: CoverIn) -> (CoverIn, bool)
     (from, false)
 }
 
-// What one thread loaded the other stored.
+// Runs both threads. Each tick that one loaded was stored by the other.
 fn run_both<R: Threads + Sync>(rt: &R, out: CoverOut, from: CoverIn) -> (CoverOut, CoverIn, bool)
     requires pair { out.pair ≡ from.pair }
     requires fresh { out.ticks ≡ [] }

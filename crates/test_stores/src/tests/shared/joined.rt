@@ -9,7 +9,7 @@ use shared_capture::{Back, Front, Joined, Method, Pong, Zig};
 use std::alloc::Global;
 use std::process::Abort;
 
-// A store beside the plain copy, and an image of what its takes give.
+// A store beside the plain copy, and an image of the words that its takes give.
 #[derive(Drop)]
 struct Beside<C: Capture> {
     store: C,
@@ -69,8 +69,8 @@ impl<C: Capture> Beside<C> {
         write(&mut self.store, cell, word) && write(&mut self.plain, cell, word)
     }
 
-    // Takes a cell of both, and tells whether they have the same word. The store's is as the image
-    // says where it is unchanged.
+    // Takes a cell of both. Returns true if they have the same word. An unchanged cell of the store has its word of the
+    // image.
     fn takes_same(&mut self, i: usize) -> bool {
         let taken = self.store.take();
         if let Some(Taken::Word(word)) = taken
@@ -83,7 +83,7 @@ impl<C: Capture> Beside<C> {
     }
 }
 
-// One list of writes and marks on a store and on the plain copy.
+// Makes one list of writes and marks on a store and on the plain copy.
 fn check_beside_plain_copy<C: Capture>(rt: &impl Abort, alloc: Global) {
     for cells in [0, 1, 63, 64, 65, 130] {
         let mut both: Beside<C> = Beside::new(rt, alloc, cells);
@@ -101,7 +101,7 @@ fn stands_for_plain_copy(rt: HostRuntime) {
     check_joined::<Pong>(&rt, rt.alloc());
 }
 
-// Whether no cell is left.
+// True if no cell is left.
 fn is_ended<C: Capture>(store: &C) -> bool
     ensures { IsTrue result → (C.content store.now).left ≡ [] }
 {
@@ -128,7 +128,7 @@ const MOVES: [Move; 5] = [
     Move::IsOpen(false),
 ];
 
-// The seats of a store once the calls were made, which leave no cell.
+// Makes the calls, which leave no cell, and returns the seats of the store.
 fn split_after<M: Method>(
     rt: &impl Abort,
     mut joined: Joined<M>,

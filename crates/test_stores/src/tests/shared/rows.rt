@@ -1,4 +1,4 @@
-// For each method a pair over 5 and 7, step by step.
+// A pair of seats over 5 and 7 for each method, step by step.
 ghost use Rattle.std.specs.Prelude.{◌≡◌, ◌<◌, [], true, length, All};
 ghost use Rattle.shared_capture.specs.declared.view.Round.{Round};
 

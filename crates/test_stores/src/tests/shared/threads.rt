@@ -1,4 +1,4 @@
-// One thread writes and marks while another takes, and what is known once both are joined.
+// One thread writes and marks while another takes. Once both are joined, their rounds are known to agree.
 ghost use Rattle.std.specs.Prelude.{◌≡◌, ◌+◌, ◌<◌, [], true, length, All};
 ghost use Rattle.shared_capture.specs.declared.view.Round.{Round};
 ghost use Rattle.shared_capture.specs.Rounds.{Agree};
@@ -15,7 +15,7 @@ const ROUNDS: u64 = 50;
 
 const TRIES: u64 = 1_000_000_000;
 
-// Marks a round after each batch of writes where none is open.
+// Writes one cell after another. After each write it marks a round, if none is open.
 fn mark_rounds<M: Method>(mut front: Front<M>) -> Front<M>
     requires cells { 0 < length front.live }
     requires rounds { front.rounds ≡ [] }
@@ -33,7 +33,7 @@ fn mark_rounds<M: Method>(mut front: Front<M>) -> Front<M>
     front
 }
 
-// Marks one more round, if none is open. It gives the number of those that are marked.
+// Marks one more round, if none is open. Returns how many are marked.
 fn mark_next<M: Method>(front: &mut Front<M>, marked: u64) -> u64
     requires few { marked < ROUNDS }
     requires rounds { All (λ (r : Round). r.tick < marked + 1) front.old.rounds }
@@ -79,7 +79,7 @@ fn take_round<M: Method>(back: &mut Back<M>)
     }
 }
 
-// The rounds that one thread marked are those that the other took.
+// Runs both threads. The rounds that one marked are those that the other took.
 fn run_both<M: Method + Send + 'static, R: Threads + Sync>(
     rt: &R,
     front: Front<M>,
@@ -105,7 +105,7 @@ fn run_both<M: Method + Send + 'static, R: Threads + Sync>(
     (front, back)
 }
 
-// Each seat in a thread of its own. At the end no round is open.
+// Runs each seat in a thread of its own. At the end no round is open.
 fn check_pair<M: Method + Send + 'static, R: Threads + Sync + Abort>(
     rt: &R,
     front: Front<M>,

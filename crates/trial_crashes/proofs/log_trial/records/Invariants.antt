@@ -2,7 +2,7 @@ use Rattle.std.proofs.Common.{◌≡◌, length}
 use Rattle.trial_crashes.proofs.QueueLemmas.{AreTicks}
 use Rattle.trial_crashes.proofs.log_trial.records.Given as goal
 
--- the ring has a tick for each number so far
+-- the queue has a tick for each number so far, and nothing else
 abbrev pub invariant-loop-i : goal.invariant-loop-i
 invariant-loop-i l = record {
   capacity : l.queue.capacity ≡ 64;

@@ -2,7 +2,7 @@ use Rattle.std.proofs.Common.{◌≡◌, ◌⊎◌, inl, inr, ◌↔◌, IsTrue,
 use Rattle.action_log.specs.Segment.{MalformedSegment, IsSegment}
 use Rattle.world_folder.proofs.fault.fault_of_log.Goals as goal
 
--- what is told of bytes is told of those that they are
+-- a finding on bytes is one on the file that has them
 told_of : (is_bad : Bool) (bytes file : List ℕ) → bytes ≡ file → (IsTrue is_bad ↔ IsSegment bytes MalformedSegment) → (IsTrue is_bad ↔ IsSegment file MalformedSegment)
 told_of is_bad bytes file e = subst (λ (b : List ℕ). IsTrue is_bad ↔ IsSegment b MalformedSegment) e
 

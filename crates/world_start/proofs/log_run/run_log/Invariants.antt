@@ -4,7 +4,7 @@ use Rattle.action_log.specs.Files.{FitsFiles}
 use Rattle.world_start.specs.Running.{IsFirst, LogFaults, LogGoes}
 use Rattle.world_start.proofs.log_run.run_log.Given as goal
 
--- the log goes on from where it was
+-- the log continues from where it was
 abbrev pub invariant-loop-keeper : goal.invariant-loop-keeper
 invariant-loop-keeper g l = record {
   fits : IsTrue g.D.Disk.honest → FitsFiles l.keeper (g.D.Disk.content l.log_a) (g.D.Disk.content l.log_b);

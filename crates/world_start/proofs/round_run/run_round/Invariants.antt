@@ -4,7 +4,7 @@ use Rattle.image_files.specs.Files.{FitsFiles}
 use Rattle.world_start.specs.Running.{CellsLeft, RoundTick, RoundFaults, RoundGoes}
 use Rattle.world_start.proofs.round_run.run_round.Given as goal
 
--- the round goes on from where it was
+-- the round continues from where it was
 abbrev pub invariant-loop-keeper : goal.invariant-loop-keeper
 invariant-loop-keeper g l = record {
   fits : IsTrue g.D.Disk.honest → FitsFiles l.keeper (g.D.Disk.content l.image_a) (g.D.Disk.content l.image_b);

@@ -3,7 +3,7 @@ use Rattle.world_ticks.specs.Cells.{Performs}
 use Rattle.world_ticks.specs.After.{after_actions, accepted_writes}
 use Rattle.world_ticks.proofs.play.replay.Given as goal
 
--- the actions so far are done and have written their words, and what is left leads where all lead
+-- the actions so far are done and have written their words, and the rest leads to the same world as all actions
 abbrev pub invariant-loop-a : goal.invariant-loop-a
 invariant-loop-a g l = record {
   done : after_actions (g.C.Cells.words l.fn.c) (take l.a-index l.actions) ≡ Ok (g.C.Cells.words l.c);

@@ -3,7 +3,7 @@ use Rattle.world_ticks.specs.declared.tick.TheConstants.{TICK_ACTIONS}
 use Rattle.action_log.proofs.GroupReadingLemmas.{IsReadOver}
 use Rattle.action_log.proofs.reader.ticks.count_all.Given as goal
 
--- so many groups, ticks and actions are read: no more groups than bytes, and not too many ticks
+-- these numbers of groups, ticks and actions are read: no more groups than bytes, and not too many ticks
 abbrev pub invariant-loop-group : goal.invariant-loop-group
 invariant-loop-group l = record {
   short : l.counts.groups + length l.rest ≤ length l.bytes;

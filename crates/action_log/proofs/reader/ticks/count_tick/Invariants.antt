@@ -4,6 +4,6 @@ use Rattle.action_log.specs.Reading.{action_at}
 use Rattle.action_log.proofs.ValueReadingLemmas.{AreRead}
 use Rattle.action_log.proofs.reader.ticks.count_tick.Given as goal
 
--- so many actions are read
+-- this number of actions is read
 abbrev pub invariant-loop : goal.invariant-loop
 invariant-loop l = (tick : List Action) × AreRead (action_at l.format) l.count l.counter tick l.initial.rest l.rest

@@ -4,7 +4,7 @@ use Rattle.disk_model.specs.Disk.{last_count}
 use Rattle.disk_model.specs.FourFiles.{OneGrew}
 use Rattle.disk_model.proofs.four_files.FourFiles.read_all.Goals as goal
 
--- the count of the file that failed grew, where those before it stay
+-- the count of the file that failed grew, and the counts before it stay
 second_grew : (a b c d a' b' : ℕ) → a' ≡ a → b' ≡ min (b + 1) last_count → OneGrew (a ∷ b ∷ c ∷ d ∷ []) (a' ∷ b' ∷ c ∷ d ∷ [])
 second_grew a b c d a' b' first grew = record { place = 1; inside = lit< tt; grew = cc }
 

@@ -2,7 +2,7 @@ use Rattle.std.proofs.Common.{◌≡◌, ℕ, ◌<◌, ◌≤◌, length, slice_
 use Rattle.trial_kit.specs.Counts.{sum_of}
 use Rattle.trial_kit.proofs.counts.Counts.add.Given as goal
 
--- the counts of the things so far are the sums, and the others are as they were
+-- the counts of the things so far are the sums, and the other counts are as they were
 abbrev pub invariant-loop-thing : goal.invariant-loop-thing
 invariant-loop-thing g l =
     (length l.self-inside.counts ≡ g.row.N)

@@ -4,7 +4,7 @@ use Rattle.std.proofs.lemmas.List.Sorted.{IsPartitionPoint-from_clause, IsPartit
 use Rattle.trial_kit.proofs.LatencyLemmas.{none_above, all_above}
 use Rattle.trial_kit.proofs.latencies.Latencies.up_to.Goals as goal
 
--- the place where the test turns
+-- the result is the partition point
 point : (c : goal.After-partition_point) → IsPartitionPoint (λ x. leb x c.args.bound ≡ true) (λ x. leb x c.args.bound ≡ false) c.args.self.now c.partition_point.result
 point c =
     let shown : c.deref.result.now ≡ c.args.self.now = c.deref.ensures.value ∙ c.self.view_is in

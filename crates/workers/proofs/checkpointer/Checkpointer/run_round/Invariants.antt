@@ -6,7 +6,7 @@ use Rattle.workers.specs.Imaging.{KeepsBack, GoesOn}
 use Rattle.workers.proofs.Rounding.{FilesAsk}
 use Rattle.workers.proofs.checkpointer.Checkpointer.run_round.Given as goal
 
--- the round goes on from where it was
+-- the round continues from where it was
 abbrev pub invariant-loop-self : goal.invariant-loop-self
 invariant-loop-self g l = record {
   keeps : KeepsBack l.fn.self l.self;
