@@ -1,4 +1,4 @@
-use crate::ending::ended;
+use crate::exit_code::exit_code_of;
 use std::alloc::AllocError;
 use std::process::ExitCode;
 
@@ -27,7 +27,7 @@ impl NotRun {
         match self {
             NotRun::Told => ExitCode::SUCCESS,
             NotRun::Mistaken => ExitCode::from(2),
-            NotRun::NoMemory => ended(rt, Err(AllocError)),
+            NotRun::NoMemory => exit_code_of(rt, Err(AllocError)),
         }
     }
 }

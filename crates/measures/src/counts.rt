@@ -78,7 +78,7 @@ fn count_takes<S: Store>(store: &mut S) -> Counts {
         if store.try_mark() {
             store.find_round();
             number = count_round(store, number, &mut counts);
-            store.end_round();
+            store.finish_round();
         }
     }
     counts

@@ -88,7 +88,7 @@ impl Figures {
             let sum = take_cells(store, cells);
             time = time.saturating_add(nanoseconds_of(start.elapsed(rt)?));
             takes = takes.saturating_add(cells as u64);
-            store.end_round();
+            store.finish_round();
             self.sum = self.sum.wrapping_add(sum);
         }
         Ok(self.take.push(picoseconds(time, takes))?)

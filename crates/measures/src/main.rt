@@ -29,7 +29,7 @@ mod times;
 use allocations::make_calls;
 use anyhow::Error;
 use arguments::matches_of;
-use command_line::{command_words, ended, refused, unreadable};
+use command_line::{command_words, exit_code_of, refused, unreadable};
 use counts::tell_counts;
 use devices::tell_devices;
 use file_report::{tell_keepers, tell_recovery};
@@ -50,7 +50,7 @@ fn main(rt: HostRuntime) -> ExitCode {
         Err(error) => return unreadable(&rt, &error).report(&rt),
     };
     match matches_of(rt.alloc(), &words) {
-        Ok(matches) => ended(&rt, run(&rt, matches.subcommand_name())),
+        Ok(matches) => exit_code_of(&rt, run(&rt, matches.subcommand_name())),
         Err(error) => refused(&rt, &error).report(&rt),
     }
 }

@@ -105,7 +105,7 @@ impl<M: Method> Store for Seats<M> {
         self.back.look();
     }
 
-    fn end_round(&mut self) {
+    fn finish_round(&mut self) {
         end_taken(&mut self.back);
     }
 }

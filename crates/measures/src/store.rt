@@ -12,7 +12,7 @@ pub trait Store: Cells + Taker {
     fn find_round(&mut self);
 
     /// Ends the round, if marks need that. All its cells were taken.
-    fn end_round(&mut self);
+    fn finish_round(&mut self);
 }
 
 impl Store for PlainCopy {
@@ -22,7 +22,7 @@ impl Store for PlainCopy {
 
     fn find_round(&mut self) {}
 
-    fn end_round(&mut self) {}
+    fn finish_round(&mut self) {}
 }
 
 impl Store for Zigzag {
@@ -32,7 +32,7 @@ impl Store for Zigzag {
 
     fn find_round(&mut self) {}
 
-    fn end_round(&mut self) {}
+    fn finish_round(&mut self) {}
 }
 
 impl Store for PingPong {
@@ -42,7 +42,7 @@ impl Store for PingPong {
 
     fn find_round(&mut self) {}
 
-    fn end_round(&mut self) {}
+    fn finish_round(&mut self) {}
 }
 
 /// Opens a round if none is open. Returns true if it did.

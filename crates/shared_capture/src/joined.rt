@@ -43,7 +43,7 @@ impl<M: Method> Joined<M> {
             mut front,
             mut back,
         } = self;
-        end_round(&mut front, &mut back);
+        finish_round(&mut front, &mut back);
         (front, back)
     }
 }
@@ -92,7 +92,7 @@ impl<M: Method> Capture for Joined<M> {
     }
 
     fn mark(&mut self) {
-        end_round(&mut self.front, &mut self.back);
+        finish_round(&mut self.front, &mut self.back);
         begin_round(&mut self.front, &mut self.back);
     }
 
@@ -102,7 +102,7 @@ impl<M: Method> Capture for Joined<M> {
 }
 
 // Ends the round in work, all of whose cells were taken.
-fn end_round<M: Method>(front: &mut Front<M>, back: &mut Back<M>)
+fn finish_round<M: Method>(front: &mut Front<M>, back: &mut Back<M>)
     requires joined { IsJoined front.old back.old }
     requires taken { HasNoneLeft back.old }
     ensures joined { IsJoined front.new back.new }

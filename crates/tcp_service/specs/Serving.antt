@@ -6,7 +6,7 @@ use Rattle.world_start.specs.Opening.{AreSynced, AreSound}
 use Rattle.workers.specs.Mutating.{Playing}
 use Rattle.workers.specs.Imaging.{Imaging}
 use Rattle.workers.specs.Logging.{Logging}
-use Rattle.worker_steps.specs.Ends.{LeaveSound}
+use Rattle.worker_steps.specs.Stopped.{LeaveSound}
 use Rattle.worker_threads.specs.Opening.{IsRecovered}
 
 -- A server recovers the world of these files at some tick. If the files were sound for some ticks, it leaves them sound for

@@ -94,11 +94,11 @@ pub fn accept_sessions<
     let connections = incoming.close();
     shared.door.closed();
     let Shared { door, .. } = shared;
-    ended(rt, sessions, connections, closed, &door)
+    finish(rt, sessions, connections, closed, &door)
 }
 
-// How accepting ended, once each session has been joined.
-fn ended<R: Threads + Wait + Clock, W: Door>(
+// Joins each session, and returns how accepting ended.
+fn finish<R: Threads + Wait + Clock, W: Door>(
     rt: &R,
     sessions: Sessions,
     connections: u32,

@@ -1,6 +1,6 @@
 ghost use Rattle.std.specs.Prelude.{◌≡◌, ◌≢◌, ◌+◌, ◌≤◌, IsTrue, IfOk};
 ghost use Rattle.workers.specs.Meeting.{HeardOnlyOfDown};
-ghost use Rattle.worker_steps.specs.Ends.{StaysSound};
+ghost use Rattle.worker_steps.specs.Stopped.{StaysSound};
 ghost use Rattle.worker_steps.specs.Begun.{IsWhole};
 ghost use Rattle.tcp_service.specs.Serving.{GoesOnFrom};
 
@@ -14,14 +14,16 @@ use std::thread::Threads;
 use std::time::Clock;
 use transports::Listener;
 use worker_steps::{Gates, Opened};
-use worker_threads::{Ends, NotStarted, Seats, Watch, ends_meet, open_world, start, stop};
+use worker_threads::{
+    NotStarted, Seats, StoppedWorkers, Watch, meet_stopped, open_world, start, stop,
+};
 use workers::{Gate, Looks};
 use world_actions::Refusal;
 
 /// The workers and the listener of a server that has stopped.
 #[derive(Drop)]
 pub struct Stopped<M: Method, D: Disk + Drop, A: Gate + Drop, B: Gate + Drop, C: Gate + Drop> {
-    pub ends: Ends<M, D, A, B, C>,
+    pub workers: StoppedWorkers<M, D, A, B, C>,
     pub accepted: Accepted,
 }
 
@@ -89,14 +91,14 @@ pub fn serve_tcp<
     ensures stays { IfOk result (λ stopped. stopped.accepted.closed ≢ Closed.Left) }
     ensures joined { IfOk result (λ stopped. stopped.accepted.connections
         ≡ stopped.accepted.sessions.count + stopped.accepted.unserved) }
-    ensures began { IfOk result (λ stopped. (stopped.ends.mutator.opening ≡ opened.front.live)
-        × (stopped.ends.checkpointer.opening ≡ opened.images) × (stopped.ends.log_writer.opening ≡ opened.log)) }
+    ensures began { IfOk result (λ stopped. (stopped.workers.mutator.opening ≡ opened.front.live)
+        × (stopped.workers.checkpointer.opening ≡ opened.images) × (stopped.workers.log_writer.opening ≡ opened.log)) }
     ensures sound { IsTrue D.honest → IfOk result (λ stopped.
         StaysSound D.content D.may_leave opened.front.live opened.images opened.log opened.ended
-        stopped.ends.mutator stopped.ends.checkpointer stopped.ends.log_writer) }
-    ensures every { IfOk result (λ stopped. stopped.ends.mutator.every ≡ every) }
+        stopped.workers.mutator stopped.workers.checkpointer stopped.workers.log_writer) }
+    ensures every { IfOk result (λ stopped. stopped.workers.mutator.every ≡ every) }
     ensures heard { IfOk result (λ stopped.
-        HeardOnlyOfDown stopped.ends.mutator.heard.ticks stopped.ends.log_writer.down) }
+        HeardOnlyOfDown stopped.workers.mutator.heard.ticks stopped.workers.log_writer.down) }
 {
     let door = watch.clone()?;
     let looks = Looks::on_this_machine(rt, alloc)?;
@@ -106,9 +108,12 @@ pub fn serve_tcp<
     if let Closed::Left = accepted.closed {
         return Err(NotServed::Left);
     }
-    let mut ends = stop(rt, workers);
-    ends_meet(&mut ends);
-    Ok(Stopped { ends, accepted })
+    let mut stopped = stop(rt, workers);
+    meet_stopped(&mut stopped);
+    Ok(Stopped {
+        workers: stopped,
+        accepted,
+    })
 }
 
 /// Why the world in some files isn't served to the end.
@@ -140,8 +145,8 @@ pub fn serve_files<
     admission: Admission,
 ) -> Result<Stopped<M, D, A, B, C>, FilesNotServed<D>>
     ensures sound { IsTrue D.honest → IfOk result (λ stopped. GoesOnFrom D.content D.may_leave files
-        stopped.ends.mutator stopped.ends.checkpointer stopped.ends.log_writer) }
-    ensures every { IfOk result (λ stopped. stopped.ends.mutator.every ≡ every) }
+        stopped.workers.mutator stopped.workers.checkpointer stopped.workers.log_writer) }
+    ensures every { IfOk result (λ stopped. stopped.workers.mutator.every ≡ every) }
 {
     let opened = match open_world::<M, D>(alloc, files) {
         Ok((opened, _)) => opened,

@@ -12,7 +12,7 @@ use std::sync::Wait;
 use std::thread::Threads;
 use tcp_service::{Remote, serve_batches};
 use worker_steps::Gates;
-use worker_threads::{Ends, Seats};
+use worker_threads::{Seats, StoppedWorkers};
 use workers::{Ask, Open};
 use world_actions::Refusal;
 
@@ -69,14 +69,14 @@ fn answered(taken: &[u8]) -> u64 {
 fn check<M: Seats>(
     rt: &impl Abort,
     alloc: Global,
-    ends: &Ends<M, ModelFile, Open, Open, Open>,
+    stopped: &StoppedWorkers<M, ModelFile, Open, Open, Open>,
     taken: &[u8],
     room: usize,
 ) {
     same(rt, "what is taken", Some(taken), ANSWERS.get(..room));
-    let (images, log) = (ends.checkpointer.images(), ends.log_writer.log());
+    let (images, log) = (stopped.checkpointer.images(), stopped.log_writer.log());
     let (tick, _, word) = stands_in(rt, alloc, images, log);
-    same(rt, "what stands", tick, ends.mutator.ended());
+    same(rt, "what stands", tick, stopped.mutator.ended());
     same(rt, "the word that stands", word, tick);
     assert!(rt; tick >= answered(taken), "tick {tick} stands");
 }
@@ -100,9 +100,9 @@ fn cut_at<M: Seats + Send + 'static, R: Threads + Wait + Abort + Copy + Send + '
     let whole = room == ANSWERS.len();
     let wanted = if whole { Ok(()) } else { Err(Refusal::Device) };
     same(rt, "how the session ends", served, wanted);
-    let ends = end(rt, workers);
-    check(rt, alloc, &ends, &taken, room);
-    drop(ends);
+    let stopped = end(rt, workers);
+    check(rt, alloc, &stopped, &taken, room);
+    drop(stopped);
 }
 
 fn cut_everywhere<M: Seats + Send + 'static, R: Threads + Wait + Abort + Copy + Send + 'static>(

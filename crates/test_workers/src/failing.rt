@@ -12,7 +12,7 @@ use std::process::Abort;
 use std::sync::Wait;
 use std::thread::Threads;
 use worker_steps::Gates;
-use worker_threads::{Ends, Seats, open_world};
+use worker_threads::{Seats, StoppedWorkers, open_world};
 use workers::Open;
 
 const BATCHES: &[u8] =
@@ -71,7 +71,7 @@ fn first_call<M: Seats>(rt: &impl Abort, alloc: Global, broken: Broken) -> u64 {
 // The results of a run over files one of which fails.
 #[derive(Drop)]
 struct Left<M: Method> {
-    ends: Ends<M, BrokenFile, Open, Open, Open>,
+    stopped: StoppedWorkers<M, BrokenFile, Open, Open, Open>,
     page: Page,
     heard: Receiver<Told>,
 }
@@ -96,7 +96,7 @@ fn play_broken<M: Seats + Send + 'static, R: Threads + Wait + Abort + Copy + Sen
     let (workers, requests) = begin(rt, alloc, files, gates, to, every);
     let page = play(rt, alloc, requests, BATCHES);
     Left {
-        ends: end(rt, workers),
+        stopped: end(rt, workers),
         page,
         heard,
     }
@@ -127,13 +127,13 @@ fn is_told(rt: &(impl Wait + Abort), heard: &Receiver<Told>, told: Told) {
 
 fn are_ends<M: Method>(
     rt: &impl Abort,
-    ends: &Ends<M, BrokenFile, Open, Open, Open>,
+    stopped: &StoppedWorkers<M, BrokenFile, Open, Open, Open>,
     outcome: Outcome,
 ) {
-    let (mutator, log_writer) = (&ends.mutator, &ends.log_writer);
+    let (mutator, log_writer) = (&stopped.mutator, &stopped.log_writer);
     same(rt, "ticks ended", mutator.ended(), outcome.ended);
     same(rt, "ticks acknowledged", log_writer.acked(), outcome.acked);
-    let are_down = (log_writer.is_down(), ends.checkpointer.is_down());
+    let are_down = (log_writer.is_down(), stopped.checkpointer.is_down());
     let is_down = outcome.is_log_down;
     same(rt, "log and images down", are_down, (is_down, !is_down));
 }
@@ -142,10 +142,15 @@ fn are_ends<M: Method>(
 fn is_left<M: Method>(rt: &(impl Wait + Abort), alloc: Global, left: &Left<M>, outcome: Outcome) {
     let acked = outcome.acked;
     is_page(rt, &left.page, answered(acked));
-    are_ends(rt, &left.ends, outcome);
+    are_ends(rt, &left.stopped, outcome);
     is_told(rt, &left.heard, outcome.told);
-    let ends = &left.ends;
-    let found = stands_in_fused(rt, alloc, ends.checkpointer.images(), ends.log_writer.log());
+    let stopped = &left.stopped;
+    let found = stands_in_fused(
+        rt,
+        alloc,
+        stopped.checkpointer.images(),
+        stopped.log_writer.log(),
+    );
     same(rt, "what stands", found, (acked, 0, acked));
 }
 

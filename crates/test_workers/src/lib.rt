@@ -12,8 +12,6 @@ mod covers;
 #[cfg(test)]
 mod cut_off;
 #[cfg(test)]
-mod ends;
-#[cfg(test)]
 mod failing;
 #[cfg(test)]
 mod held;
@@ -31,6 +29,8 @@ mod running;
 mod same;
 #[cfg(test)]
 mod serial;
+#[cfg(test)]
+mod stopped;
 #[cfg(test)]
 mod tcp;
 #[cfg(test)]

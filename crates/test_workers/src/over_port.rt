@@ -44,7 +44,7 @@ fn serve_one<M: Seats + Send + 'static, R: Threads + Wait + Clock + Abort + Copy
         rt, alloc, gates, watch, files, 1, listener, ONE,
     );
     match served {
-        Ok(stopped) => (stopped.ends.mutator.ended(), stopped.ends.acked()),
+        Ok(stopped) => (stopped.workers.mutator.ended(), stopped.workers.acked()),
         Err(_) => panic!(rt; "not served"),
     }
 }

@@ -13,7 +13,7 @@ use std::sync::{Arc, Wait};
 use std::thread::Threads;
 use tcp_service::{Remote, serve_batches};
 use worker_steps::Gates;
-use worker_threads::{Ends, Seats, stop};
+use worker_threads::{Seats, StoppedWorkers, stop};
 use workers::Ask;
 use world_actions::Refusal;
 
@@ -64,7 +64,7 @@ fn play_held(
 // The workers, the reports and the answers once the rounds are over.
 #[derive(Drop)]
 struct Left<M: Method> {
-    ends: Ends<M, ModelFile, Held, Held, Held>,
+    stopped: StoppedWorkers<M, ModelFile, Held, Held, Held>,
     heard: Receiver<Told>,
     page: Page,
 }
@@ -90,7 +90,7 @@ fn play_round<M: Seats + Send + 'static, R: Threads + Wait + Abort + Copy + Send
     let (workers, requests) = begin(rt, alloc, files, gates, to, 1);
     let page = play_held(rt, alloc, requests, &answered, &heard);
     Left {
-        ends: stop(rt, workers),
+        stopped: stop(rt, workers),
         heard,
         page,
     }
@@ -100,10 +100,10 @@ fn play_round<M: Seats + Send + 'static, R: Threads + Wait + Abort + Copy + Send
 fn check_ends<M: Method>(
     rt: &impl Abort,
     alloc: Global,
-    ends: &Ends<M, ModelFile, Held, Held, Held>,
+    stopped: &StoppedWorkers<M, ModelFile, Held, Held, Held>,
 ) {
-    let (mutator, log_writer) = (&ends.mutator, &ends.log_writer);
-    let checkpointer = &ends.checkpointer;
+    let (mutator, log_writer) = (&stopped.mutator, &stopped.log_writer);
+    let checkpointer = &stopped.checkpointer;
     let ticks = (mutator.ended(), log_writer.acked());
     same(rt, "ticks ended and acknowledged", ticks, (4, 4));
     let are_down = (log_writer.is_down(), checkpointer.is_down());
@@ -123,7 +123,7 @@ fn check_heard(rt: &(impl Wait + Abort), heard: &Receiver<Told>) {
 }
 
 fn check_left<M: Method>(rt: &(impl Wait + Abort), alloc: Global, left: &Left<M>) {
-    check_ends(rt, alloc, &left.ends);
+    check_ends(rt, alloc, &left.stopped);
     check_heard(rt, &left.heard);
     is_page(rt, &left.page, ANSWERS);
 }

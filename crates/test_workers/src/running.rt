@@ -10,7 +10,7 @@ use std::sync::Wait;
 use std::thread::Threads;
 use tcp_service::{Remote, serve_batches};
 use worker_steps::Gates;
-use worker_threads::{Ends, Seats, Workers, ends_meet, start, stop};
+use worker_threads::{Seats, StoppedWorkers, Workers, meet_stopped, start, stop};
 use workers::{Ask, Gate, Looks};
 use world_actions::Refusal;
 
@@ -40,10 +40,10 @@ pub fn begin<
 pub fn end<R: Threads, M: Method, D: Disk + Drop, A: Gate + Drop, B: Gate + Drop, C: Gate + Drop>(
     rt: &R,
     workers: Workers<M, D, A, B, C>,
-) -> Ends<M, D, A, B, C> {
-    let mut ends = stop(rt, workers);
-    ends_meet(&mut ends);
-    ends
+) -> StoppedWorkers<M, D, A, B, C> {
+    let mut stopped = stop(rt, workers);
+    meet_stopped(&mut stopped);
+    stopped
 }
 
 /// The end of a session, and its text.

@@ -18,7 +18,7 @@ use ping_pong::PingPong;
 use std::io;
 use std::process::ExitCode;
 use tally::Tally;
-use trial_kit::ended;
+use trial_kit::exit_code_of;
 use world_actions::Refusal;
 use zigzag::Zigzag;
 
@@ -26,7 +26,7 @@ use zigzag::Zigzag;
 const SIZES: [u32; 4] = [1, 64, 65, 130];
 
 fn main(rt: HostRuntime) -> ExitCode {
-    ended(&rt, run(&rt))
+    exit_code_of(&rt, run(&rt))
 }
 
 // Tries all, and returns true if nothing was wrong.

@@ -20,7 +20,7 @@ use std::alloc::Global;
 use std::io;
 use std::process::ExitCode;
 use tally::{NAMES, Tally};
-use trial_kit::ended;
+use trial_kit::exit_code_of;
 use wanted::Wanted;
 use world_actions::Refusal;
 
@@ -28,7 +28,7 @@ use world_actions::Refusal;
 const COPIES: u32 = 20_000;
 
 fn main(rt: HostRuntime) -> ExitCode {
-    ended(&rt, run(&rt))
+    exit_code_of(&rt, run(&rt))
 }
 
 // Tries all copies. Returns true if all answers were right, and each kind came.

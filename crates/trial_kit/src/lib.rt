@@ -5,7 +5,7 @@
 
 mod counts;
 mod cut_tally;
-mod ending;
+mod exit_code;
 mod failure_tally;
 mod latencies;
 mod nanoseconds;
@@ -17,7 +17,7 @@ mod stretch;
 
 pub use counts::Counts;
 pub use cut_tally::CutTally;
-pub use ending::ended;
+pub use exit_code::exit_code_of;
 pub use failure_tally::{FAILING_FILES, FailureTally};
 pub use latencies::Latencies;
 pub use nanoseconds::nanoseconds_of;

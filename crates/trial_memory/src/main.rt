@@ -26,12 +26,12 @@ use shared_capture::{Joined, Pong, Zig};
 use std::io;
 use std::process::ExitCode;
 use stores::Build;
-use trial_kit::ended;
+use trial_kit::exit_code_of;
 use worlds::{Ample, NewWorld, Open, Scarce, Serve};
 use zigzag::Zigzag;
 
 fn main(rt: HostRuntime) -> ExitCode {
-    ended(&rt, try_all(&rt))
+    exit_code_of(&rt, try_all(&rt))
 }
 
 // Makes all calls, and returns true if all went right.

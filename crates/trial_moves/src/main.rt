@@ -30,7 +30,7 @@ use std::process::ExitCode;
 use stretches::{try_limits, try_segment};
 use tally::Tally;
 use trial::{Stop, Trial};
-use trial_kit::{Random, ended};
+use trial_kit::{Random, exit_code_of};
 use zigzag::Zigzag;
 
 /// The sizes of the worlds that are tried.
@@ -43,7 +43,7 @@ const MOVES: u32 = 6700;
 const SEED: u64 = 0x9e37_79b9_7f4a_7c15;
 
 fn main(rt: HostRuntime) -> ExitCode {
-    ended(&rt, run(&rt))
+    exit_code_of(&rt, run(&rt))
 }
 
 // Tries all. Returns true if all answers were right, and each came.

@@ -11,7 +11,7 @@ use std::sync::Wait;
 use std::thread::Threads;
 use tcp_service::Remote;
 use trial_kit::{FAILING_FILES, FailureTally};
-use worker_threads::{Ends, Seats, Workers, ends_meet, open_world, stop};
+use worker_threads::{Seats, StoppedWorkers, Workers, meet_stopped, open_world, stop};
 use workers::{Ask, Open};
 use world_actions::Refusal;
 use world_start::fresh_files;
@@ -76,9 +76,9 @@ fn play<R: Threads + Wait + Copy, M: Seats>(
     failures: &mut FailureTally,
 ) -> Result<bool, Refusal> {
     let answered = run_batches(rt, alloc, requests);
-    let mut ends = stop(rt, workers);
-    ends_meet(&mut ends);
-    judge_end(alloc, &ends, answered, failures)
+    let mut stopped = stop(rt, workers);
+    meet_stopped(&mut stopped);
+    judge_end(alloc, &stopped, answered, failures)
 }
 
 // Judges the files after a call of the start failed.
@@ -94,15 +94,15 @@ fn judge_opening(alloc: Global, files: FourFiles<File>, failures: &mut FailureTa
 // Judges the files that the workers left. Returns true if a call had failed.
 fn judge_end<M: Seats>(
     alloc: Global,
-    ends: &Ends<M, File, Open, Open, Open>,
+    stopped: &StoppedWorkers<M, File, Open, Open, Open>,
     answered: Result<u64, Refusal>,
     failures: &mut FailureTally,
 ) -> Result<bool, Refusal> {
     let answered = answered?;
-    let (images, log) = (ends.checkpointer.images(), ends.log_writer.log());
+    let (images, log) = (stopped.checkpointer.images(), stopped.log_writer.log());
     let stands = stands_in(alloc, [&images.image_a, &images.image_b, &log.a, &log.b]);
-    judge(stands, answered, ends.mutator.ended(), failures);
-    let (images_down, log_down) = (ends.checkpointer.is_down(), ends.log_writer.is_down());
+    judge(stands, answered, stopped.mutator.ended(), failures);
+    let (images_down, log_down) = (stopped.checkpointer.is_down(), stopped.log_writer.is_down());
     failures.images = failures.images.saturating_add(u32::from(images_down));
     failures.log = failures.log.saturating_add(u32::from(log_down));
     Ok(images_down || log_down)

@@ -23,7 +23,7 @@ use std::fs::{File, Files};
 use std::process::ExitCode;
 use std::sync::Wait;
 use std::thread::Threads;
-use trial_kit::{CutTally, FailureTally, ended};
+use trial_kit::{CutTally, FailureTally, exit_code_of};
 use worker_threads::Seats;
 use world_actions::Refusal;
 use world_folder::create;
@@ -35,7 +35,7 @@ const FOLDER: &str = ".";
 const CELLS: u32 = 70;
 
 fn main(rt: HostRuntime) -> ExitCode {
-    ended(&rt, try_all(&rt))
+    exit_code_of(&rt, try_all(&rt))
 }
 
 // Tries one method, and then the other one in the same files. Returns true if nothing was lost.

@@ -118,8 +118,8 @@ fn look_at<M: Seats>(
 
 // The calls of the files of a run, if there was memory for all.
 fn calls_of<M: Seats>(served: &Served<M>) -> Option<Calls<'_>> {
-    let images = served.ends.checkpointer.images();
-    let log = served.ends.log_writer.log();
+    let images = served.stopped.checkpointer.images();
+    let log = served.stopped.log_writer.log();
     Some(Calls {
         image_a: images.image_a.calls()?,
         image_b: images.image_b.calls()?,
@@ -130,7 +130,7 @@ fn calls_of<M: Seats>(served: &Served<M>) -> Option<Calls<'_>> {
 
 // True if no file failed.
 fn is_up<M: Seats>(served: &Served<M>) -> bool {
-    !served.ends.checkpointer.is_down() && !served.ends.log_writer.is_down()
+    !served.stopped.checkpointer.is_down() && !served.stopped.log_writer.is_down()
 }
 
 // Collects the ticks of all players. Each of their batches was answered by a tick of its own, else it is an error.

@@ -6,7 +6,7 @@ use disk_model::FourFiles;
 use std::alloc::Global;
 use std::sync::Wait;
 use std::thread::{self, JoinHandle, Threads};
-use worker_threads::{Ends, Seats, Workers, ends_meet, open_world, stop};
+use worker_threads::{Seats, StoppedWorkers, Workers, meet_stopped, open_world, stop};
 use workers::{Ask, Open};
 use world_actions::Refusal;
 
@@ -24,7 +24,7 @@ type Answers = Result<Vec<Answered>, Refusal>;
 /// The results of a run: the workers, and the answers of each player.
 #[derive(Drop)]
 pub struct Served<M: Seats> {
-    pub ends: Ends<M, Recorded, Open, Open, Open>,
+    pub stopped: StoppedWorkers<M, Recorded, Open, Open, Open>,
     pub answers: Vec<Vec<Answered>>,
 }
 
@@ -54,10 +54,10 @@ fn let_play<R: Threads + Wait + Copy + Send + 'static, M: Seats>(
 ) -> Result<Served<M>, Refusal> {
     let players = start_players(rt, alloc, requests, clock);
     let answers = join_players(rt, alloc, players);
-    let mut ends = stop(rt, workers);
-    ends_meet(&mut ends);
+    let mut stopped = stop(rt, workers);
+    meet_stopped(&mut stopped);
     Ok(Served {
-        ends,
+        stopped,
         answers: answers?,
     })
 }

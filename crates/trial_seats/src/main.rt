@@ -23,7 +23,7 @@ use std::process::ExitCode;
 use std::thread::Threads;
 use threads::{try_ping_pong, try_zigzag};
 use trial::try_store;
-use trial_kit::{Counts, ended};
+use trial_kit::{Counts, exit_code_of};
 use wrong::Wrong;
 use zigzag::Zigzag;
 
@@ -37,7 +37,7 @@ const THREAD_SIZES: [usize; 2] = [65, 65_536];
 const ROUNDS: u32 = 1000;
 
 fn main(rt: HostRuntime) -> ExitCode {
-    ended(&rt, run(&rt))
+    exit_code_of(&rt, run(&rt))
 }
 
 // Tries all stores. Returns true if all words are the same, and each thing came.

@@ -9,7 +9,7 @@ use shared_capture::Method;
 use std::sync::Wait;
 use std::thread::Threads;
 use worker_steps::Gates;
-use worker_threads::{Ends, Seats, open_world, stop_after};
+use worker_threads::{Seats, StoppedWorkers, open_world, stop_after};
 use workers::{Ask, Cut};
 use world_actions::Refusal;
 
@@ -32,7 +32,7 @@ const TAKES: u64 = 400;
 
 const LOGS: u64 = 200;
 
-type Workers<M> = Ends<M, Flaky, Cut, Cut, Cut>;
+type Workers<M> = StoppedWorkers<M, Flaky, Cut, Cut, Cut>;
 
 /// The sessions of a run.
 #[derive(Drop)]
@@ -68,7 +68,7 @@ fn cut_once<R: Threads + Wait + Copy + Send + 'static, M: Seats + Send + 'static
         Ok((opened, _)) => {
             let play = |asks: Sender<Ask>| played.play(rt, trial, &asks);
             match stop_after(rt, alloc, cuts, Quiet, opened, every, play) {
-                Ok(ends) => judge(rt, trial, played, ends),
+                Ok(stopped) => judge(rt, trial, played, stopped),
                 Err(_) => Err(Refusal::NoMemory),
             }
         }
@@ -80,9 +80,9 @@ fn judge<R: Wait, M: Method>(
     rt: &R,
     trial: &mut Trial,
     played: &mut Played,
-    ends: Workers<M>,
+    stopped: Workers<M>,
 ) -> Result<(), Refusal> {
-    played.judge(rt, trial, &ends)
+    played.judge(rt, trial, &stopped)
 }
 
 // Gates that hold each worker after a random number of steps.
@@ -146,7 +146,7 @@ impl Played {
         &mut self,
         rt: &R,
         trial: &mut Trial,
-        ends: &Workers<M>,
+        stopped: &Workers<M>,
     ) -> Result<(), Refusal> {
         self.stopped?;
         for session in &mut self.sessions {
@@ -155,20 +155,20 @@ impl Played {
             }
             trial.tally.hold(session.is_idle(), Rule::AnswersAsk);
         }
-        let ended = ends.mutator.ended();
-        let stand = Stand::of(&ends.checkpointer, &ends.log_writer, ended);
+        let ended = stopped.mutator.ended();
+        let stand = Stand::of(&stopped.checkpointer, &stopped.log_writer, ended);
         trial
             .tally
             .hold(self.posted <= stand.acked, Rule::PostsAcknowledged);
-        self.count_held(trial, ends);
+        self.count_held(trial, stopped);
         stand.judge(trial)?;
         stand.crash(trial)
     }
 
     // Counts the workers that were held before their end.
-    fn count_held<M: Method>(&self, trial: &mut Trial, ends: &Workers<M>) {
-        let (checkpointer, log_writer) = (&ends.checkpointer, &ends.log_writer);
-        let (ended, sent) = (ends.mutator.ended(), trial.model.last());
+    fn count_held<M: Method>(&self, trial: &mut Trial, stopped: &Workers<M>) {
+        let (checkpointer, log_writer) = (&stopped.checkpointer, &stopped.log_writer);
+        let (ended, sent) = (stopped.mutator.ended(), trial.model.last());
         let tally = &mut trial.tally;
         tally.hold(ended <= sent, Rule::Counts);
         tally.count_if(ended < sent && !log_writer.is_down(), Kind::MutatorCut);

@@ -30,12 +30,12 @@ use std::process::ExitCode;
 use std::sync::Wait;
 use std::thread::Threads;
 use trial::Trial;
-use trial_kit::ended;
+use trial_kit::exit_code_of;
 use worker_threads::Seats;
 use world_actions::Refusal;
 
 fn main(rt: HostRuntime) -> ExitCode {
-    ended(&rt, try_all(&rt))
+    exit_code_of(&rt, try_all(&rt))
 }
 
 // Tries both methods, and returns whether all was right.

@@ -216,7 +216,7 @@ impl<M: Method> Run<M> {
     }
 
     fn end<R: Wait>(&mut self, rt: &R) {
-        self.world.step(rt, Next::End);
+        self.world.step(rt, Next::Stop);
         self.pushed = self.pushed.saturating_add(1);
     }
 

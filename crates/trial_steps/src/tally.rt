@@ -51,8 +51,8 @@ const NAMES: [&str; KINDS] = [
     "steps: what is owed is pushed",
     "steps: the play ends",
     "steps: an item is popped",
-    "steps: the log goes on",
-    "steps: the image goes on",
+    "steps: the log continues",
+    "steps: the image continues",
     "answers: posted",
     "answers: no such cell (1)",
     "answers: a bad value (2)",
@@ -113,7 +113,7 @@ const RULE_NAMES: [&str; RULES] = [
     "a world is opened at another tick",
     "a post answers something else",
     "a post is of a tick that isn't acknowledged",
-    "a refusal isn't told, or has no cause",
+    "a refusal isn't reported, or has no cause",
     "another number of ticks has ended",
 ];
 

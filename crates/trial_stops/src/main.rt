@@ -19,7 +19,7 @@ use std::alloc::Global;
 use std::io;
 use std::process::ExitCode;
 use stops::try_stops;
-use trial_kit::{StopTally, ended};
+use trial_kit::{StopTally, exit_code_of};
 use world_actions::Refusal;
 use zigzag::Zigzag;
 
@@ -36,7 +36,7 @@ const SECOND_BY_PING_PONG: (u32, u32) = (10, 10);
 const BEFORE_THE_LOG: usize = 15;
 
 fn main(rt: HostRuntime) -> ExitCode {
-    ended(&rt, try_all(&rt))
+    exit_code_of(&rt, try_all(&rt))
 }
 
 // Tries all stores. Returns true if all was right, and each tick was recovered.

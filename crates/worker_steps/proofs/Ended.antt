@@ -15,7 +15,7 @@ use Rattle.workers.specs.Logging.{Logging, IsLogging, LogStands}
 use Rattle.image_files.specs.Progress.{newest_tick}
 use Rattle.workers.specs.Imaging.{Imaging, IsCheckpointer, ImagesStand}
 use Rattle.workers.specs.Meeting.{HaveMet}
-use Rattle.worker_steps.specs.Ends.{acknowledged_by, AreSound}
+use Rattle.worker_steps.specs.Stopped.{acknowledged_by, AreSound}
 use Rattle.worker_steps.proofs.Below.{Laws}
 use Rattle.worker_steps.proofs.Meeting.{sound}
 use Rattle.worker_steps.proofs.Joined.{now_in, all_counted, was_played, was_taken, images_end, covered_at_most, was_logged, was_acknowledged, popped_first}

@@ -20,7 +20,7 @@ use Rattle.shared_capture.specs.declared.view.Snapshot.{Snapshot}
 use Rattle.shared_capture.specs.Rounds.{Agree, snapshots_as}
 use Rattle.shared_capture.specs.States.{FrontState, BackState, KnowsOpen}
 use Rattle.workers.specs.declared.item.Item.{Item}
-use Rattle.workers.specs.declared.item.Item.TheVariants.{Start, Tick, Switch, End}
+use Rattle.workers.specs.declared.item.Item.TheVariants.{Start, Tick, Switch, Stop}
 use Rattle.workers.specs.declared.checkpointer.round.ImageWriter.{ImageWriter}
 use Rattle.workers.specs.declared.log_writer.Log.{Log}
 use Rattle.workers.specs.Items.{records_of, end_after, end_all, items_end, GoAll, AreNumbered}
@@ -33,7 +33,7 @@ use Rattle.workers.specs.Imaging.{images_after, AreInStep, ImagesStand, StandAft
 use Rattle.image_files.specs.Progress.{newest_tick}
 use Rattle.workers.proofs.Numbers.{go_snoc}
 use Rattle.workers.proofs.Loggings.{records_append}
-use Rattle.worker_steps.specs.Ends.{BeginAt}
+use Rattle.worker_steps.specs.Stopped.{BeginAt}
 use Rattle.worker_steps.proofs.Parts.{one_or_none, images_with, IsPlayed, IsTaken, IsLogged}
 use Rattle.worker_steps.proofs.Playing.{opened_by, begun_by}
 
@@ -76,7 +76,7 @@ ticks_counted end [] go = omega arith
 ticks_counted end (Start number ∷ items) go = absurd go.0
 ticks_counted end (Tick ended ∷ items) go = let rest = ticks_counted (end_after end (Tick ended)) items go.1 in omega (arith, rest)
 ticks_counted end (Switch number ∷ items) go = let rest = ticks_counted (end_after end (Switch number)) items go.1 in let is = go.0.0 in omega (arith, rest, is)
-ticks_counted end (End ∷ items) go = ticks_counted end items go.1
+ticks_counted end (Stop ∷ items) go = ticks_counted end items go.1
 
 pub all_counted : (m : Playing) (ticks : List (List Action)) (b : BeginAt (length ticks) m.to.items) → IsMutator m → AreNumbered m.to.items → m.ended ≡ length (ticks ++ ticks_in (records_of m.to.items))
 all_counted m ticks b is numbered =

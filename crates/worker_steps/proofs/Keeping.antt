@@ -3,10 +3,10 @@ use Rattle.std.proofs.Common.{◌≡◌, ap, ◌∙◌, sym, ◌⊎◌, inl, inr
 use Rattle.std.proofs.lemmas.List.{append-nil}
 use Rattle.world_actions.specs.declared.refusal.Refusal.{Refusal}
 use Rattle.workers.specs.declared.item.Item.{Item}
-use Rattle.workers.specs.declared.item.Item.TheVariants.{Start, Tick, Switch, End}
+use Rattle.workers.specs.declared.item.Item.TheVariants.{Start, Tick, Switch, Stop}
 use Rattle.workers.specs.Posts.{AskedBatch}
 use Rattle.workers.specs.Channel.{Pushing}
-use Rattle.workers.specs.Mutating.{Playing, MarksIfDue, OpensNone, OwesSwitch, AnswersBatch, RefusesBatch, RunsBatch, OwesTick, PushesTick, LosesTick, PaysItem, Pays, EndsPlay}
+use Rattle.workers.specs.Mutating.{Playing, MarksIfDue, OpensNone, OwesSwitch, AnswersBatch, RefusesBatch, RunsBatch, OwesTick, PushesTick, LosesTick, PaysItem, Pays, StopsPlay}
 use Rattle.worker_steps.specs.Kept.{KeepsFront}
 use Rattle.worker_steps.specs.Running.{MayOpen}
 
@@ -78,7 +78,7 @@ item_keeps old (Tick ended) new (inr lost) = keeps_all old new lost refl refl re
 item_keeps old (Switch number) new (inl paid) = keeps_as old new (Switch number ∷ []) paid refl refl refl refl refl refl
 item_keeps old (Switch number) new (inr lost) = keeps_all old new lost refl refl refl refl refl refl
 item_keeps old (Start number) new is = keeps_all old new is refl refl refl refl refl refl
-item_keeps old End new is = keeps_all old new is refl refl refl refl refl refl
+item_keeps old Stop new is = keeps_all old new is refl refl refl refl refl refl
 
 pub pays_keeps : (old new : Playing) → Pays old new → KeepsFront old new
 pays_keeps old new pays = by_owed old.owed pays
@@ -87,6 +87,6 @@ pays_keeps old new pays = by_owed old.owed pays
     by_owed None is = same old new is
     by_owed (Some item) paid = item_keeps old item new paid
 
-pub end_keeps : (old new : Playing) → EndsPlay old new → KeepsFront old new
-end_keeps old new (inl pushed) = keeps_as old new (End ∷ []) pushed refl refl refl refl refl refl
-end_keeps old new (inr lost) = keeps_all old new lost refl refl refl refl refl refl
+pub stop_keeps : (old new : Playing) → StopsPlay old new → KeepsFront old new
+stop_keeps old new (inl pushed) = keeps_as old new (Stop ∷ []) pushed refl refl refl refl refl refl
+stop_keeps old new (inr lost) = keeps_all old new lost refl refl refl refl refl refl

@@ -26,7 +26,7 @@ use Rattle.shared_capture.specs.declared.view.Snapshot.{Snapshot}
 use Rattle.shared_capture.specs.Rounds.{round, IsTakenOf, Agree}
 use Rattle.workers.specs.declared.item.Item.{Item}
 use Rattle.workers.specs.declared.item.Ended.{Ended}
-use Rattle.workers.specs.declared.item.Item.TheVariants.{Start, Tick, Switch, End}
+use Rattle.workers.specs.declared.item.Item.TheVariants.{Start, Tick, Switch, Stop}
 use Rattle.workers.specs.Items.{records_of, end_after, GoAll}
 use Rattle.workers.specs.Worlds.{World, RanBatch, Leads, IsUnchanged, AreUnchanged}
 use Rattle.worker_steps.proofs.Below.{Laws}
@@ -39,7 +39,7 @@ marked w [] v leads = []
 marked w (Start number ∷ items) v leads = marked leads.0 items v leads.2
 marked w (Tick ended ∷ items) v leads = marked leads.0 items v leads.2
 marked w (Switch number ∷ items) v leads = round number w.words leads.1.1.0 ∷ marked leads.0 items v leads.2
-marked w (End ∷ items) v leads = marked leads.0 items v leads.2
+marked w (Stop ∷ items) v leads = marked leads.0 items v leads.2
 
 pub marked_rounds : (w : World) (items : List Item) (v : World) (leads : Leads w items v) → v.rounds ≡ w.rounds ++ marked w items v leads
 marked_rounds w [] v leads = ap (λ (u : World). u.rounds) leads ∙ sym (append-nil w.rounds)
@@ -48,7 +48,7 @@ marked_rounds w (Tick ended ∷ items) v leads = marked_rounds leads.0 items v l
 marked_rounds w (Switch number ∷ items) v leads =
     let rest = marked leads.0 items v leads.2 in
     marked_rounds leads.0 items v leads.2 ∙ ap (λ r. r ++ rest) leads.1.1.1 ∙ append_assoc w.rounds (round number w.words leads.1.1.0 ∷ []) rest
-marked_rounds w (End ∷ items) v leads = marked_rounds leads.0 items v leads.2 ∙ ap (λ (u : World). u.rounds ++ marked leads.0 items v leads.2) leads.1
+marked_rounds w (Stop ∷ items) v leads = marked_rounds leads.0 items v leads.2 ∙ ap (λ (u : World). u.rounds ++ marked leads.0 items v leads.2) leads.1
 
 pub length_filled : (taken : List Taken) (old : List ℕ) → length (filled_words taken old) ≡ length taken
 length_filled [] old = refl
@@ -131,7 +131,7 @@ module _ (laws : Laws) (cells : ℕ) (logs : Logs) where
       tick_moved ticks (ticks_in (records_of items)) ended.tick.list queue (records_of items) (records.Tick ended.tick) v.words images
       (plays_on items (end_after end (Tick ended)) (ticks ++ ended.tick.list ∷ []) (queue ++ records.Tick ended.tick ∷ []) images leads.0 v next go.1 leads.2 none)
   plays_on (Switch number ∷ items) end ticks queue images w v k go leads none = absurd (omega (arith, ap length none))
-  plays_on (End ∷ items) end ticks queue images w v k go leads none =
+  plays_on (Stop ∷ items) end ticks queue images w v k go leads none =
       plays_on items end ticks queue images leads.0 v (subst (λ (u : World). Keeps ticks u.words images queue) (sym leads.1) k) go.1 leads.2 none
 
   -- with no round in work, all ticks up to the last mark are in the newest image, whose words were the world then
@@ -225,5 +225,5 @@ module _ (laws : Laws) (cells : ℕ) (logs : Logs) where
       let more = plays items (end_after end (Switch number)) ticks w.words (queue ++ records.Switch number ∷ []) (opened_by s images) done now leads.0 v next still go.1 leads.2 unchanged.1
       (agree_rest r others s (done ++ one_or_none now) agree) (omega (arith, long)) (All-tail P s done whole) in
       (more.0, more.1, switch_moved (ticks ++ ticks_in (records_of items)) queue (records_of items) (records.Switch number) v.words more.0 more.2)
-  plays (End ∷ items) end ticks before queue images done now w v k rest go leads unchanged agree long whole =
+  plays (Stop ∷ items) end ticks before queue images done now w v k rest go leads unchanged agree long whole =
       plays items end ticks before queue images done now leads.0 v (subst (λ (u : World). Keeps ticks u.words images queue) (sym leads.1) k) rest go.1 leads.2 unchanged agree long whole

@@ -7,7 +7,7 @@ use Rattle.workers.specs.declared.log_writer.Log.{Log}
 use Rattle.workers.specs.Mutating.{Playing}
 use Rattle.workers.specs.Imaging.{Imaging}
 use Rattle.workers.specs.Logging.{Logging}
-use Rattle.worker_steps.specs.Ends.{WorldStands, BeginAt, AreSound, StaysSound}
+use Rattle.worker_steps.specs.Stopped.{WorldStands, BeginAt, AreSound, StaysSound}
 
 pub stays_sound : {D : Type 0} (file : D → List ℕ) (leaves : D → List ℕ → Type 0) (words : List ℕ) (writer : ImageWriter D) (log : Log D) (ended : ℕ) (m : Playing) (c : Imaging D) (w : Logging D)
     → m.opening ≡ words → c.opening ≡ writer → w.opening ≡ log → BeginAt ended m.to.items → AreSound file leaves m c w → StaysSound file leaves words writer log ended m c w

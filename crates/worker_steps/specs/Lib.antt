@@ -1,4 +1,4 @@
-pub mod Ends
+pub mod Stopped
 pub mod Begun
 pub mod Kept
 pub mod Running

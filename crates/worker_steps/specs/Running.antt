@@ -15,12 +15,12 @@ use Rattle.workers.specs.declared.item.Item.{Item}
 use Rattle.workers.specs.Answering.{AreLater}
 use Rattle.workers.specs.Covering.{loaded, LoadsOn}
 use Rattle.workers.specs.Gates.{MayGo, MayStick}
-use Rattle.workers.specs.Mutating.{Playing, OpensNone, OwesSwitch, RunsBatch, Pays, EndsPlay}
+use Rattle.workers.specs.Mutating.{Playing, OpensNone, OwesSwitch, RunsBatch, Pays, StopsPlay}
 use Rattle.workers.specs.Imaging.{Imaging, place_of, HasRound, FindsNone, FindsRound, GoesOn}
 use Rattle.workers.specs.Logging.{Logging, Pops, Settles, LogTellsFaults}
 use Rattle.worker_steps.specs.Begun.{Started}
 use Rattle.worker_steps.specs.declared.next.Next.{Next}
-use Rattle.worker_steps.specs.declared.next.Next.TheVariants.{Play, Mark, Push, End, Pop, Log as Write, Image}
+use Rattle.worker_steps.specs.declared.next.Next.TheVariants.{Play, Mark, Push, Stop, Pop, Log as Write, Image}
 
 -- ---- the mutator
 
@@ -85,7 +85,7 @@ Makes of_play of_images of_log called faults (Play ask) old new =
     × ((given : Result (Unit {0}) Refusal) × RunsBatch (MayGo of_play Tick) (MayStick of_play Tick) old.mutator ask given new.mutator)
 Makes of_play of_images of_log called faults Mark old new = (new ≡ record old { mutator = new.mutator }) × MayOpen old.mutator new.mutator
 Makes of_play of_images of_log called faults Push old new = (new ≡ record old { mutator = new.mutator }) × Pays old.mutator new.mutator
-Makes of_play of_images of_log called faults End old new = (new ≡ record old { mutator = new.mutator }) × EndsPlay old.mutator new.mutator
+Makes of_play of_images of_log called faults Stop old new = (new ≡ record old { mutator = new.mutator }) × StopsPlay old.mutator new.mutator
 Makes of_play of_images of_log called faults Pop old new = (new ≡ record old { log_writer = new.log_writer }) × MayPop old.log_writer new.log_writer
 Makes of_play of_images of_log called faults Write old new =
     (new ≡ record old { log_writer = new.log_writer }) × LogGoes of_log called faults old.log_writer new.log_writer

@@ -1,4 +1,4 @@
-ghost use Rattle.worker_steps.specs.Ends.{StopsAreSound};
+ghost use Rattle.worker_steps.specs.Stopped.{StopsAreSound};
 
 use action_log::log_outcomes;
 use batches::answers_are_ticks;

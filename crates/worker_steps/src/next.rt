@@ -10,7 +10,7 @@ pub enum Next {
     /// The mutator pushes the item that it owes. A server's mutator does this before it does anything else.
     Push,
     /// The mutator reports that no more comes.
-    End,
+    Stop,
     /// The log writer pops an item, if there is one and room for it.
     Pop,
     /// The log writer makes a step of the log. If none is left to make, it refuses the answers that can't be posted.

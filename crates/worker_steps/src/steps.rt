@@ -4,7 +4,7 @@ ghost use Rattle.world_actions.specs.declared.refusal.Refusal.{Refusal};
 ghost use Rattle.workers.specs.declared.gate.Place.TheVariants.{Tick};
 ghost use Rattle.workers.specs.Gates.{MayGo, MayStick};
 ghost use Rattle.workers.specs.Imaging.{KeepsBack};
-ghost use Rattle.workers.specs.Mutating.{RunsBatch, Pays, EndsPlay};
+ghost use Rattle.workers.specs.Mutating.{RunsBatch, Pays, StopsPlay};
 ghost use Rattle.worker_steps.specs.Kept.{KeepsFront, KeepsLog};
 ghost use Rattle.worker_steps.specs.Running.{MayOpen, MayPop, LogGoes, ImageGoes};
 
@@ -39,11 +39,11 @@ pub fn push<R: Wait, M: Method, G: Gate + Drop>(rt: &R, mutator: &mut Mutator<M,
 }
 
 /// Reports that no more comes.
-pub fn end<R: Wait, M: Method, G: Gate + Drop>(rt: &R, mutator: &mut Mutator<M, G>)
+pub fn stop<R: Wait, M: Method, G: Gate + Drop>(rt: &R, mutator: &mut Mutator<M, G>)
     ensures keeps { KeepsFront mutator.old mutator.new }
-    ensures made { EndsPlay mutator.old mutator.new }
+    ensures made { StopsPlay mutator.old mutator.new }
 {
-    mutator.end(rt);
+    mutator.stop(rt);
 }
 
 /// Pops an item, unless the last one was popped.

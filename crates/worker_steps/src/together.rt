@@ -3,7 +3,7 @@ ghost use Rattle.std.specs.Prelude.{◌≡◌, ◌≤◌, IsTrue, IfOk};
 ghost use Rattle.workers.specs.Channel.{AreOneChannel};
 ghost use Rattle.workers.specs.Imaging.{KeepsBack, IsAtRest as IsResting};
 ghost use Rattle.workers.specs.Logging.{IsAtRest};
-ghost use Rattle.worker_steps.specs.Ends.{AreSound, StaysSound, acknowledged_by};
+ghost use Rattle.worker_steps.specs.Stopped.{AreSound, StaysSound, acknowledged_by};
 ghost use Rattle.worker_steps.specs.Begun.{Started, IsWhole, IsBegun};
 ghost use Rattle.worker_steps.specs.Kept.{KeepsFront, KeepsLog};
 ghost use Rattle.worker_steps.specs.Running.{Makes, Meets};
@@ -12,7 +12,7 @@ use crate::laws::stops_are_sound;
 use crate::next::Next;
 use crate::opened::{Gates, Opened};
 use crate::signals::Signals;
-use crate::steps::{end, mark, play, pop, push, write_image, write_log};
+use crate::steps::{mark, play, pop, push, stop, write_image, write_log};
 use disk_model::Disk;
 use shared_capture::Method;
 use std::alloc::{AllocError, Global};
@@ -124,7 +124,7 @@ impl<M: Method, D: Disk + Drop, A: Gate + Drop, B: Gate + Drop, C: Gate + Drop> 
             Next::Play(ask) => play(rt, &mut self.mutator, ask),
             Next::Mark => mark(&mut self.mutator),
             Next::Push => push(rt, &mut self.mutator),
-            Next::End => end(rt, &mut self.mutator),
+            Next::Stop => stop(rt, &mut self.mutator),
             Next::Pop => pop(rt, &mut self.log_writer),
             Next::Log => write_log(rt, &mut self.log_writer),
             Next::Image => write_image(rt, &mut self.checkpointer),

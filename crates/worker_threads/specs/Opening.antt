@@ -6,7 +6,7 @@ use Rattle.recovery.specs.Recovery.{Recovery}
 use Rattle.world_start.specs.Opening.{AreSynced, AreSound, RecoversFiles}
 use Rattle.workers.specs.declared.checkpointer.round.ImageWriter.{ImageWriter}
 use Rattle.workers.specs.declared.log_writer.Log.{Log}
-use Rattle.worker_steps.specs.Ends.{WorldStands}
+use Rattle.worker_steps.specs.Stopped.{WorldStands}
 
 -- recovery of the files gives these words, the tick `ended`, and an image of the tick `from`
 pub record IsRecovered {D : Type 0} (file : D → List ℕ) (files : FourFiles D) (live : List ℕ) (ended from : ℕ) : Type 0 where

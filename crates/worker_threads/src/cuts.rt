@@ -1,10 +1,10 @@
 //! Workers that are held for good, each after so many of its steps.
 ghost use Rattle.std.specs.Prelude.{IsTrue, IfOk};
-ghost use Rattle.worker_steps.specs.Ends.{StaysSound};
+ghost use Rattle.worker_steps.specs.Stopped.{StaysSound};
 ghost use Rattle.worker_steps.specs.Begun.{IsWhole};
 
-use crate::meeting::ends_meet;
-use crate::threads::{Ends, NotStarted, start, stop};
+use crate::meeting::meet_stopped;
+use crate::threads::{NotStarted, StoppedWorkers, start, stop};
 use crate::watch::Watch;
 use crossbeam_channel::Sender;
 use disk_model::Disk;
@@ -33,17 +33,17 @@ pub fn stop_after<
     opened: Opened<M, D>,
     every: u32,
     play: F,
-) -> Result<Ends<M, D, Cut, Cut, Cut>, NotStarted>
+) -> Result<StoppedWorkers<M, D, Cut, Cut, Cut>, NotStarted>
     requires whole { IsWhole D.honest D.content opened.front opened.back opened.images opened.log opened.ended }
     requires plays { F.IsAlwaysCallable play }
-    ensures sound { IsTrue D.honest → IfOk result (λ ends.
+    ensures sound { IsTrue D.honest → IfOk result (λ stopped.
         StaysSound D.content D.may_leave opened.front.live opened.images opened.log opened.ended
-        ends.mutator ends.checkpointer ends.log_writer) }
+        stopped.mutator stopped.checkpointer stopped.log_writer) }
 {
     let looks = Looks::on_this_machine(rt, alloc)?;
     let (workers, asks) = start(rt, alloc, cuts, watch, opened, every, looks)?;
     play(asks);
-    let mut ends = stop(rt, workers);
-    ends_meet(&mut ends);
-    Ok(ends)
+    let mut stopped = stop(rt, workers);
+    meet_stopped(&mut stopped);
+    Ok(stopped)
 }

@@ -13,7 +13,7 @@ mod work;
 mod world_opening;
 
 pub use cuts::stop_after;
-pub use meeting::ends_meet;
-pub use threads::{Ends, NotStarted, Workers, start, stop};
+pub use meeting::meet_stopped;
+pub use threads::{NotStarted, StoppedWorkers, Workers, start, stop};
 pub use watch::{TickWatch, Watch};
 pub use world_opening::{Seats, open_world, start_world};

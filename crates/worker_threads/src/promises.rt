@@ -10,9 +10,9 @@ use workers::{Checkpointer, Gate, LogWriter, Mutator};
 pub(crate) struct SameMutator<M: Method, G: Gate + Drop>(pub(crate) Snapshot<Mutator<M, G>>);
 
 impl<M: Method, G: Gate + Drop> Promise<Mutator<M, G>> for SameMutator<M, G> {
-    ghost use Rattle.worker_threads.specs.Kept.{EndsFront};
+    ghost use Rattle.worker_threads.specs.Kept.{StopsFront};
 
-    ghost kept_by = { λ p m. EndsFront p.0.value m };
+    ghost kept_by = { λ p m. StopsFront p.0.value m };
 }
 
 /// The checkpointer that ends is the one that began.
@@ -23,9 +23,9 @@ pub(crate) struct SameCheckpointer<M: Method, D: Disk + Drop, G: Gate + Drop>(
 
 impl<M: Method, D: Disk + Drop, G: Gate + Drop> Promise<Checkpointer<M, D, G>>
     for SameCheckpointer<M, D, G> {
-    ghost use Rattle.worker_threads.specs.Kept.{EndsBack};
+    ghost use Rattle.worker_threads.specs.Kept.{StopsBack};
 
-    ghost kept_by = { λ p c. EndsBack p.0.value c };
+    ghost kept_by = { λ p c. StopsBack p.0.value c };
 }
 
 /// The log writer that ends is the one that began.
@@ -35,7 +35,7 @@ pub(crate) struct SameLogWriter<D: Disk + Drop, G: Gate + Drop>(
 );
 
 impl<D: Disk + Drop, G: Gate + Drop> Promise<LogWriter<D, G>> for SameLogWriter<D, G> {
-    ghost use Rattle.worker_threads.specs.Kept.{EndsLog};
+    ghost use Rattle.worker_threads.specs.Kept.{StopsLog};
 
-    ghost kept_by = { λ p w. EndsLog p.0.value w };
+    ghost kept_by = { λ p w. StopsLog p.0.value w };
 }

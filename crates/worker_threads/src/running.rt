@@ -1,6 +1,6 @@
 //! The work of each worker in its thread until it ends.
 ghost use Rattle.std.specs.Prelude.{◌≡◌, false};
-ghost use Rattle.worker_threads.specs.Kept.{EndsFront, MayTake, EndsBack, MayWrite, EndsLog};
+ghost use Rattle.worker_threads.specs.Kept.{StopsFront, MayTake, StopsBack, MayWrite, StopsLog};
 
 use crate::asked::Asked;
 use crate::watch::{TickWatch, Watch};
@@ -18,7 +18,7 @@ fn play_batches<R: Wait, M: Method, G: Gate + Drop, W: TickWatch>(
     asked: Asked,
     mut mutator: Mutator<M, G>,
 ) -> Mutator<M, G>
-    ensures { EndsFront mutator result }
+    ensures { StopsFront mutator result }
 {
     for _ in rt.forever() {
         match asked.next(rt) {
@@ -27,7 +27,7 @@ fn play_batches<R: Wait, M: Method, G: Gate + Drop, W: TickWatch>(
                 watch.ticks_ended(mutator.ended());
             }
             None => {
-                mutator.end(rt);
+                mutator.stop(rt);
                 return mutator;
             }
         }
@@ -42,7 +42,7 @@ fn write_images<R: Wait, M: Method, D: Disk + Drop, G: Gate + Drop, W: Watch<D>>
     mut checkpointer: Checkpointer<M, D, G>,
 ) -> Checkpointer<M, D, G>
     requires { MayTake checkpointer }
-    ensures { EndsBack checkpointer result }
+    ensures { StopsBack checkpointer result }
 {
     for _ in rt.forever() {
         if checkpointer.is_over() {
@@ -65,7 +65,7 @@ fn write_log<R: Wait, D: Disk + Drop, G: Gate + Drop, W: Watch<D>>(
     mut log_writer: LogWriter<D, G>,
 ) -> LogWriter<D, G>
     requires { MayWrite log_writer }
-    ensures { EndsLog log_writer result }
+    ensures { StopsLog log_writer result }
 {
     for _ in rt.forever() {
         if log_writer.is_over() {
@@ -82,11 +82,11 @@ fn write_log<R: Wait, D: Disk + Drop, G: Gate + Drop, W: Watch<D>>(
 
 impl<M: Method, G: Gate + Drop, W: TickWatch + Drop> Work<(Asked, W)> for Mutator<M, G> {
     ghost use Rattle.std.specs.Prelude.{⊤};
-    ghost use Rattle.worker_threads.specs.Kept.{EndsFront};
+    ghost use Rattle.worker_threads.specs.Kept.{StopsFront};
 
     ghost ready = { λ mutator. ⊤ };
 
-    ghost ended = { EndsFront };
+    ghost ended = { StopsFront };
 
     fn work<R: Wait>(self, rt: &R, with: (Asked, W)) -> Self {
         let (asked, mut watch) = with;
@@ -96,11 +96,11 @@ impl<M: Method, G: Gate + Drop, W: TickWatch + Drop> Work<(Asked, W)> for Mutato
 
 impl<M: Method, D: Disk + Drop, G: Gate + Drop, W: Watch<D> + Drop> Work<W>
     for Checkpointer<M, D, G> {
-    ghost use Rattle.worker_threads.specs.Kept.{MayTake, EndsBack};
+    ghost use Rattle.worker_threads.specs.Kept.{MayTake, StopsBack};
 
     ghost ready = { MayTake };
 
-    ghost ended = { EndsBack };
+    ghost ended = { StopsBack };
 
     fn work<R: Wait>(self, rt: &R, mut watch: W) -> Self {
         write_images(rt, &mut watch, self)
@@ -108,11 +108,11 @@ impl<M: Method, D: Disk + Drop, G: Gate + Drop, W: Watch<D> + Drop> Work<W>
 }
 
 impl<D: Disk + Drop, G: Gate + Drop, W: Watch<D> + Drop> Work<W> for LogWriter<D, G> {
-    ghost use Rattle.worker_threads.specs.Kept.{MayWrite, EndsLog};
+    ghost use Rattle.worker_threads.specs.Kept.{MayWrite, StopsLog};
 
     ghost ready = { MayWrite };
 
-    ghost ended = { EndsLog };
+    ghost ended = { StopsLog };
 
     fn work<R: Wait>(self, rt: &R, mut watch: W) -> Self {
         write_log(rt, &mut watch, self)

@@ -2,9 +2,9 @@
 ghost use Rattle.std.specs.Prelude.{◌≡◌, true, IfOk};
 ghost use Rattle.std.specs.Thread.{IsSend};
 ghost use Rattle.workers.specs.Channel.{AreOneChannel};
-ghost use Rattle.worker_steps.specs.Ends.{acknowledged_by};
+ghost use Rattle.worker_steps.specs.Stopped.{acknowledged_by};
 ghost use Rattle.worker_steps.specs.Begun.{IsWhole, IsBegun};
-ghost use Rattle.worker_threads.specs.Kept.{MayTake, MayWrite, EndsFront, EndsBack, EndsLog};
+ghost use Rattle.worker_threads.specs.Kept.{MayTake, MayWrite, StopsFront, StopsBack, StopsLog};
 
 use crate::asked::Asked;
 use crate::promises::{SameCheckpointer, SameLogWriter, SameMutator};
@@ -70,7 +70,13 @@ impl<M: Method, D: Disk + Drop, A: Gate + Drop, B: Gate + Drop, C: Gate + Drop> 
 
 /// The workers of a world once they have ended.
 #[derive(Drop)]
-pub struct Ends<M: Method, D: Disk + Drop, A: Gate + Drop, B: Gate + Drop, C: Gate + Drop> {
+pub struct StoppedWorkers<
+    M: Method,
+    D: Disk + Drop,
+    A: Gate + Drop,
+    B: Gate + Drop,
+    C: Gate + Drop,
+> {
     pub mutator: Mutator<M, A>,
     pub checkpointer: Checkpointer<M, D, B>,
     pub log_writer: LogWriter<D, C>,
@@ -81,7 +87,7 @@ pub struct Ends<M: Method, D: Disk + Drop, A: Gate + Drop, B: Gate + Drop, C: Ga
     ghost over: { checkpointer.over ≡ true },
 }
 
-impl<M: Method, D: Disk + Drop, A: Gate + Drop, B: Gate + Drop, C: Gate + Drop> Ends<
+impl<M: Method, D: Disk + Drop, A: Gate + Drop, B: Gate + Drop, C: Gate + Drop> StoppedWorkers<
     M,
     D,
     A,
@@ -283,10 +289,10 @@ fn start_log_writer<
 pub fn stop<R: Threads, M: Method, D: Disk + Drop, A: Gate + Drop, B: Gate + Drop, C: Gate + Drop>(
     rt: &R,
     workers: Workers<M, D, A, B, C>,
-) -> Ends<M, D, A, B, C>
-    ensures mutator { EndsFront workers.mutator result.mutator }
-    ensures checkpointer { EndsBack workers.checkpointer result.checkpointer }
-    ensures log_writer { EndsLog workers.log_writer result.log_writer }
+) -> StoppedWorkers<M, D, A, B, C>
+    ensures mutator { StopsFront workers.mutator result.mutator }
+    ensures checkpointer { StopsBack workers.checkpointer result.checkpointer }
+    ensures log_writer { StopsLog workers.log_writer result.log_writer }
 {
     let Workers {
         mutator,
@@ -296,7 +302,7 @@ pub fn stop<R: Threads, M: Method, D: Disk + Drop, A: Gate + Drop, B: Gate + Dro
     let mutator = mutator.join(rt);
     let checkpointer = checkpointer.join(rt);
     let log_writer = log_writer.join(rt);
-    Ends {
+    StoppedWorkers {
         mutator,
         checkpointer,
         log_writer,

@@ -9,7 +9,7 @@ ghost use Rattle.world_start.specs.Parts.{AreAtRest, AreSettled};
 ghost use Rattle.world_start.specs.Opening.{IsRefused, SomeGrew};
 ghost use Rattle.shared_capture.specs.States.{IsStart};
 ghost use Rattle.worker_steps.specs.Begun.{IsWhole};
-ghost use Rattle.worker_steps.specs.Ends.{WorldStands};
+ghost use Rattle.worker_steps.specs.Stopped.{WorldStands};
 ghost use Rattle.worker_threads.specs.Opening.{IsRecovered, StandsOpened};
 
 use capture_core::{Capture, PlainCopy};

@@ -13,7 +13,7 @@ use Rattle.shared_capture.specs.Rounds.{round}
 use Rattle.shared_capture.specs.States.{FrontState, HasFlags, KeepsUntouched, SameRounds, marked_rounds}
 use Rattle.workers.specs.declared.item.Item.{Item}
 use Rattle.workers.specs.declared.item.Ended.{Ended}
-use Rattle.workers.specs.declared.item.Item.TheVariants.{Start, Tick, Switch, End}
+use Rattle.workers.specs.declared.item.Item.TheVariants.{Start, Tick, Switch, Stop}
 use Rattle.workers.specs.Items.{Goes, items_end, end_after}
 use Rattle.workers.specs.Channel.{Pushing, with_refusal}
 use Rattle.workers.specs.Worlds.{World, after_item, Leads, begun, world_of, IsUnchanged, AreUnchanged, IsLate, History, Counts}
@@ -234,34 +234,34 @@ begins front to heard opening tick every none start words numbered flags = recor
 }
 
 -- the last item, whether the mutator has stopped or not
-leads_end : (w : World) (items late : List Item) (v : World) → Leads w (items ++ late) v → Leads w ((items ++ End ∷ []) ++ late) v
-leads_end w [] late v lead = (w, refl, lead)
-leads_end w (y ∷ items) late v lead = (lead.0, lead.1, leads_end lead.0 items late v lead.2)
+leads_stop : (w : World) (items late : List Item) (v : World) → Leads w (items ++ late) v → Leads w ((items ++ Stop ∷ []) ++ late) v
+leads_stop w [] late v lead = (w, refl, lead)
+leads_stop w (y ∷ items) late v lead = (lead.0, lead.1, leads_stop lead.0 items late v lead.2)
 
 late_end : (items more late : List Item) → items_end more ≡ items_end items → IsLate items late → IsLate more late
 late_end items more late same (inl none) = inl none
 late_end items more late same (inr one) = inr (one.0, one.1, subst (λ (e : QueueEnd). Goes e (Switch one.0)) (sym same) one.2)
 
-owes_end : (m : Playing) (to : Pushing) → to.items ≡ m.to.items ++ End ∷ [] → (owed : Option Item) → IfSome owed (Owes m) → IfSome owed (Owes (record m { to = to }))
-owes_end m to pushed None none = tt
-owes_end m to pushed (Some item) owes =
-    let last : items_end to.items ≡ items_end m.to.items = ap items_end pushed ∙ end_more m.to.items End in
+owes_stop : (m : Playing) (to : Pushing) → to.items ≡ m.to.items ++ Stop ∷ [] → (owed : Option Item) → IfSome owed (Owes m) → IfSome owed (Owes (record m { to = to }))
+owes_stop m to pushed None none = tt
+owes_stop m to pushed (Some item) owes =
+    let last : items_end to.items ≡ items_end m.to.items = ap items_end pushed ∙ end_more m.to.items Stop in
     record {
       stopped = owes.stopped;
       goes = subst (λ (e : QueueEnd). Goes e item) (sym last) owes.goes;
-      leads = subst (λ (l : List Item). Leads (begun m.opening) (l ++ item ∷ []) (world_of m.front)) (sym pushed) (leads_end (begun m.opening) m.to.items (item ∷ []) (world_of m.front) owes.leads);
+      leads = subst (λ (l : List Item). Leads (begun m.opening) (l ++ item ∷ []) (world_of m.front)) (sym pushed) (leads_stop (begun m.opening) m.to.items (item ∷ []) (world_of m.front) owes.leads);
       rising = subst (λ (e : QueueEnd). UpTo (end_after e item).base m.front.rounds) (sym last) owes.rising;
     }
 
-pub told_end : (m : Playing) (to : Pushing) → IsMutator m → to.items ≡ m.to.items ++ End ∷ [] → IsMutator (record m { to = to })
-told_end m to is pushed =
-    let last : items_end to.items ≡ items_end m.to.items = ap items_end pushed ∙ end_more m.to.items End in
+pub told_stop : (m : Playing) (to : Pushing) → IsMutator m → to.items ≡ m.to.items ++ Stop ∷ [] → IsMutator (record m { to = to })
+told_stop m to is pushed =
+    let last : items_end to.items ≡ items_end m.to.items = ap items_end pushed ∙ end_more m.to.items Stop in
     let h = is.history in record {
       history = record {
         late = h.late;
         is_late = late_end m.to.items to.items h.late last h.is_late;
         told = h.told;
-        leads = subst (λ (l : List Item). Leads (begun m.opening) (l ++ h.late) h.told) (sym pushed) (leads_end (begun m.opening) m.to.items h.late h.told h.leads);
+        leads = subst (λ (l : List Item). Leads (begun m.opening) (l ++ h.late) h.told) (sym pushed) (leads_stop (begun m.opening) m.to.items h.late h.told h.leads);
         rounds = h.rounds;
         all_told = h.all_told;
       };
@@ -270,5 +270,5 @@ told_end m to is pushed =
       most = is.most;
       flags = is.flags;
       unchanged = is.unchanged;
-      owes = owes_end m to pushed m.owed is.owes;
+      owes = owes_stop m to pushed m.owed is.owes;
     }

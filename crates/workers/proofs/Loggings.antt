@@ -15,14 +15,14 @@ use Rattle.action_log.specs.Files.{FitsFiles}
 use Rattle.recovery.specs.Events.{with_work}
 use Rattle.shared_capture.specs.CoverWord.{CoverState}
 use Rattle.workers.specs.declared.item.Item.{Item}
-use Rattle.workers.specs.declared.item.Item.TheVariants.{Start, Tick, Switch, End}
+use Rattle.workers.specs.declared.item.Item.TheVariants.{Start, Tick, Switch, Stop}
 use Rattle.workers.specs.Posts.{Unposted}
 use Rattle.workers.specs.declared.log_writer.Log.{Log}
 use Rattle.workers.specs.Items.{Goes, end_after, items_end, record_of, records_of}
 use Rattle.workers.specs.Channel.{Popping}
 use Rattle.workers.specs.Answering.{Answering, AreNext, answers_of, all_answers_of}
 use Rattle.workers.specs.Covering.{LeavesOut, loaded}
-use Rattle.workers.specs.Logging.{Logging, IsLogging, Writes, told_in, is_end, has_end, is_over, Took, HasAcked, LogStands, IsReady, writer_at}
+use Rattle.workers.specs.Logging.{Logging, IsLogging, Writes, told_in, is_stop, has_stop, is_over, Took, HasAcked, LogStands, IsReady, writer_at}
 use Rattle.workers.proofs.Numbers.{end_more}
 use Rattle.workers.proofs.Tellings.{LogAdvances, writes_on, writes_more, writes_lost}
 
@@ -34,20 +34,20 @@ numbers_after : (end : QueueEnd) (item : Item) (number : ℕ) (waiting : List Un
 numbers_after end (Start n) number waiting goes is = absurd goes
 numbers_after end (Tick ended) number waiting goes is = omega (arith, length-append waiting (ended.answer ∷ []), is)
 numbers_after end (Switch n) number waiting goes is = omega (arith, ap length (append-nil waiting), is, goes.0)
-numbers_after end End number waiting goes is = omega (arith, ap length (append-nil waiting), is)
+numbers_after end Stop number waiting goes is = omega (arith, ap length (append-nil waiting), is)
 
 most_after : (end : QueueEnd) (item : Item) → Goes end item → end.base + end.count ≤ TICK_MAX → (end_after end item).base + (end_after end item).count ≤ TICK_MAX
 most_after end (Start n) goes most = absurd goes
 most_after end (Tick ended) goes most = omega (arith, goes.1)
 most_after end (Switch n) goes most = omega (arith, goes.0, most)
-most_after end End goes most = most
+most_after end Stop goes most = most
 
 -- the answer of an item is the next one
 next_of : (end : QueueEnd) (item : Item) (number : ℕ) (waiting : List Unposted) → Goes end item → waiting ≡ [] → number + length waiting ≡ end.base + end.count → AreNext number (answers_of item)
 next_of end (Start n) number waiting goes none is = tt
 next_of end (Tick ended) number waiting goes none is = (omega (arith, goes.2, is, ap length none), tt)
 next_of end (Switch n) number waiting goes none is = tt
-next_of end End number waiting goes none is = tt
+next_of end Stop number waiting goes none is = tt
 
 module _ {D : Type 0} (file : D → List ℕ) (leaves : D → List ℕ → Type 0) (honest : Bool) (w : Logging D) (is : IsLogging file leaves honest w) where
   -- an item was popped
@@ -142,18 +142,18 @@ module _ {D : Type 0} (file : D → List ℕ) (leaves : D → List ℕ → Type 
 -- ---- the items that a turn pops
 
 -- an item that isn't the last one is queued
-pub queued_one : (end : QueueEnd) (item : Item) (ring : List Record) → Goes end item → is_end item ≡ false → length (ring ++ record_of item) ≡ length ring + 1
+pub queued_one : (end : QueueEnd) (item : Item) (ring : List Record) → Goes end item → is_stop item ≡ false → length (ring ++ record_of item) ≡ length ring + 1
 queued_one end (Start n) ring goes last = absurd goes
 queued_one end (Tick ended) ring goes last = length-append ring (records.Tick ended.tick ∷ [])
 queued_one end (Switch n) ring goes last = length-append ring (records.Switch n ∷ [])
-queued_one end End ring goes last = absurd (cc)
+queued_one end Stop ring goes last = absurd (cc)
 
 pub no_more_answers : (items : List Item) → length (all_answers_of items) ≤ length (records_of items)
 no_more_answers [] = omega arith
 no_more_answers (Start n ∷ items) = no_more_answers items
 no_more_answers (Tick ended ∷ items) = (let rest = no_more_answers items in omega (arith, rest))
 no_more_answers (Switch n ∷ items) = (let rest = no_more_answers items in omega (arith, rest))
-no_more_answers (End ∷ items) = no_more_answers items
+no_more_answers (Stop ∷ items) = no_more_answers items
 
 pub records_append : (xs ys : List Item) → records_of (xs ++ ys) ≡ records_of xs ++ records_of ys
 records_append [] ys = refl
@@ -163,22 +163,22 @@ pub answers_append : (xs ys : List Item) → all_answers_of (xs ++ ys) ≡ all_a
 answers_append [] ys = refl
 answers_append (x ∷ xs) ys = ap (λ (l : List Unposted). answers_of x ++ l) (answers_append xs ys) ∙ sym (append_assoc (answers_of x) (all_answers_of xs) (all_answers_of ys))
 
-pub end_append : (xs ys : List Item) → has_end xs ≡ false → has_end (xs ++ ys) ≡ has_end ys
+pub end_append : (xs ys : List Item) → has_stop xs ≡ false → has_stop (xs ++ ys) ≡ has_stop ys
 end_append [] ys none = refl
 end_append (Start n ∷ xs) ys none = end_append xs ys none
 end_append (Tick ended ∷ xs) ys none = end_append xs ys none
 end_append (Switch n ∷ xs) ys none = end_append xs ys none
-end_append (End ∷ xs) ys none = absurd (cc)
+end_append (Stop ∷ xs) ys none = absurd (cc)
 
-pub over_append : (xs ys : List Item) → is_over xs ≡ false → is_over (xs ++ ys) ≡ has_end ys
+pub over_append : (xs ys : List Item) → is_over xs ≡ false → is_over (xs ++ ys) ≡ has_stop ys
 over_append [] ys none = absurd (cc)
 over_append (x ∷ xs) ys none = end_append (x ∷ xs) ys none
 
-pub one_end : (x : Item) → has_end (x ∷ []) ≡ is_end x
-one_end (Start n) = refl
-one_end (Tick ended) = refl
-one_end (Switch n) = refl
-one_end End = refl
+pub one_stop : (x : Item) → has_stop (x ∷ []) ≡ is_stop x
+one_stop (Start n) = refl
+one_stop (Tick ended) = refl
+one_stop (Switch n) = refl
+one_stop Stop = refl
 
 module _ {D : Type 0} where
   pub took_none : (w : Logging D) → Took w w []

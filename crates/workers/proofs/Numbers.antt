@@ -3,7 +3,7 @@ use Rattle.std.proofs.Common.{arith, length, length-append, ◌≤◌, ◌≡◌
 use Rattle.action_log.specs.declared.record.Record.{Record}
 use Rattle.action_log.specs.Queue.{QueueEnd}
 use Rattle.workers.specs.declared.item.Item.{Item}
-use Rattle.workers.specs.declared.item.Item.TheVariants.{Start, Tick, Switch, End}
+use Rattle.workers.specs.declared.item.Item.TheVariants.{Start, Tick, Switch, Stop}
 use Rattle.workers.specs.declared.item.View.{View}
 use Rattle.workers.specs.declared.item.View.TheVariants.{Pushes, Pops}
 use Rattle.workers.specs.Order.{pushed_of, popped_of}
@@ -27,7 +27,7 @@ prefix_numbered [] ys all is numbered = tt
 prefix_numbered (Start n ∷ xs) ys all is numbered = go_prefix (record { base = n; count = 0 }) xs ys (subst AreNumbered (sym is) numbered)
 prefix_numbered (Tick t ∷ xs) ys all is numbered = subst AreNumbered (sym is) numbered
 prefix_numbered (Switch n ∷ xs) ys all is numbered = subst AreNumbered (sym is) numbered
-prefix_numbered (End ∷ xs) ys all is numbered = subst AreNumbered (sym is) numbered
+prefix_numbered (Stop ∷ xs) ys all is numbered = subst AreNumbered (sym is) numbered
 
 -- one more item, behind a start
 pub numbered_more : (items : List Item) (x : Item) → IsBegun items → AreNumbered items → Goes (items_end items) x → AreNumbered (items ++ x ∷ [])

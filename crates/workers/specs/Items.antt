@@ -6,7 +6,7 @@ use Rattle.action_log.specs.declared.record.Record.{Record}
 use Rattle.action_log.specs.declared.record.Record.TheVariants as records
 use Rattle.action_log.specs.Queue.{QueueEnd}
 use Rattle.workers.specs.declared.item.Item.{Item}
-use Rattle.workers.specs.declared.item.Item.TheVariants.{Start, Tick, Switch, End}
+use Rattle.workers.specs.declared.item.Item.TheVariants.{Start, Tick, Switch, Stop}
 
 -- the record of an item, if it has one
 abbrev pub record_of : Item → List Record
@@ -24,13 +24,13 @@ abbrev pub Goes : QueueEnd → Item → Type 0
 Goes end (Start number) = ⊥
 Goes end (Tick ended) = (end.count < SEGMENT_TICKS) × (end.base + end.count < TICK_MAX) × (ended.answer.number ≡ end.base + end.count + 1)
 Goes end (Switch number) = (number ≡ end.base + end.count) × (1 ≤ end.count)
-Goes end End = ⊤
+Goes end Stop = ⊤
 
 abbrev pub end_after : QueueEnd → Item → QueueEnd
 end_after end (Start number) = record { base = number; count = 0 }
 end_after end (Tick ended) = record { base = end.base; count = end.count + 1 }
 end_after end (Switch number) = record { base = number; count = 0 }
-end_after end End = end
+end_after end Stop = end
 
 abbrev pub GoAll : QueueEnd → List Item → Type 0
 GoAll end [] = ⊤

@@ -25,20 +25,20 @@ use Rattle.workers.specs.Covering.{LeavesOut, IsCovered}
 use Rattle.workers.specs.Publishing.{told as with_told}
 
 -- true if the item is the last one
-abbrev pub is_end : Item → Bool
-is_end items.End = true
-is_end item = false
+abbrev pub is_stop : Item → Bool
+is_stop items.Stop = true
+is_stop item = false
 
 -- true if the last one is among these
-abbrev pub has_end : List Item → Bool
-has_end [] = false
-has_end (items.End ∷ more) = true
-has_end (item ∷ more) = has_end more
+abbrev pub has_stop : List Item → Bool
+has_stop [] = false
+has_stop (items.Stop ∷ more) = true
+has_stop (item ∷ more) = has_stop more
 
 -- true if a turn that popped these was the last one: the last item is among them, or a pop was refused
 abbrev pub is_over : List Item → Bool
 is_over [] = true
-is_over more = has_end more
+is_over more = has_stop more
 
 -- ---- the content of the files
 
@@ -213,4 +213,4 @@ pub record Loses {D : Type 0} (old : Logging D) (item : Item) (new : Logging D) 
 -- this item was popped and is kept, or lost if the log is down
 abbrev pub Pops : {D : Type 0} → Logging D → Item → Logging D → Type 0
 Pops old item new =
-    (new.over ≡ is_end item) × (((old.down ≡ false) × Took old new (item ∷ [])) ⊎ ((old.down ≡ true) × Loses old item new))
+    (new.over ≡ is_stop item) × (((old.down ≡ false) × Took old new (item ∷ [])) ⊎ ((old.down ≡ true) × Loses old item new))

@@ -8,7 +8,7 @@ use Rattle.shared_capture.specs.CoverWord.{CoverState}
 use Rattle.shared_capture.specs.States.{FrontState, HasFlags, KeepsUntouched, SameWords, marked_rounds, IsRefused}
 use Rattle.workers.specs.declared.item.Ended.{Ended}
 use Rattle.workers.specs.declared.item.Item.{Item}
-use Rattle.workers.specs.declared.item.Item.TheVariants.{Tick, Switch, End}
+use Rattle.workers.specs.declared.item.Item.TheVariants.{Tick, Switch, Stop}
 use Rattle.workers.specs.Items.{Goes, end_after, items_end}
 use Rattle.workers.specs.Posts.{AskedBatch}
 use Rattle.workers.specs.Channel.{Pushing, with_item, with_refusal}
@@ -160,5 +160,5 @@ pub record Turns (go stuck : Type 0) (old : Playing) (asked : AskedBatch) (given
 -- ---- the end
 
 -- the last item was pushed, or its push was refused
-abbrev pub EndsPlay : Playing → Playing → Type 0
-EndsPlay old new = (new ≡ record old { to = with_item old.to End }) ⊎ (new ≡ record old { to = with_refusal old.to; down = true })
+abbrev pub StopsPlay : Playing → Playing → Type 0
+StopsPlay old new = (new ≡ record old { to = with_item old.to Stop }) ⊎ (new ≡ record old { to = with_refusal old.to; down = true })

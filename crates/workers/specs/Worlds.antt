@@ -11,7 +11,7 @@ use Rattle.shared_capture.specs.States.{FrontState}
 use Rattle.shared_capture.specs.Rounds.{flag_at, round}
 use Rattle.workers.specs.declared.item.Item.{Item}
 use Rattle.workers.specs.declared.item.Ended.{Ended}
-use Rattle.workers.specs.declared.item.Item.TheVariants.{Start, Tick, Switch, End}
+use Rattle.workers.specs.declared.item.Item.TheVariants.{Start, Tick, Switch, Stop}
 use Rattle.workers.specs.Items.{Goes, items_end}
 
 -- the words of the world, and the rounds opened so far
@@ -36,7 +36,7 @@ abbrev pub after_item : World → Item → World → Type 0
 after_item w (Start number) v = v ≡ w
 after_item w (Tick ended) v = (requests : List Request) × RanBatch requests w ended v
 after_item w (Switch number) v = (v.words ≡ w.words) × ((touched : List Bool) × (v.rounds ≡ w.rounds ++ round number w.words touched ∷ []))
-after_item w End v = v ≡ w
+after_item w Stop v = v ≡ w
 
 abbrev pub Leads : World → List Item → World → Type 0
 Leads w [] v = v ≡ w

@@ -18,7 +18,7 @@ pub enum Item {
     /// A round was opened at the end of the tick of this number.
     Switch(u64),
     /// There are no more.
-    End,
+    Stop,
 }
 
 /// The knowledge of an end of the channel. No value of this type is made, and a clause reads an array as a list of any

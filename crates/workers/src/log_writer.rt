@@ -19,7 +19,7 @@ ghost use Rattle.workers.specs.Answering.{AreLater};
 ghost use Rattle.workers.specs.Covering.{loaded, LoadsOn};
 ghost use Rattle.workers.specs.Gates.{MayGo, MayStick};
 ghost use Rattle.workers.specs.Publishing.{told as with_told};
-ghost use Rattle.workers.specs.Logging.{is_end, has_end, is_over, writer_at, Took, Loses, Pops, refused, Settles, IsReady, IsAtRest, LogTellsFaults, FallsBy, IsPosted, IsLogging};
+ghost use Rattle.workers.specs.Logging.{is_stop, has_stop, is_over, writer_at, Took, Loses, Pops, refused, Settles, IsReady, IsAtRest, LogTellsFaults, FallsBy, IsPosted, IsLogging};
 
 use crate::gate::{Gate, Place, passes};
 use crate::item_channel::ItemReceiver;
@@ -182,7 +182,7 @@ impl<D: Disk + Drop, G: Gate + Drop> LogWriter<D, G> {
         requires up { self.old.down ≡ false }
         requires goes_on { self.old.over ≡ false }
         requires room { (length self.old.ring.items < QUEUE_RECORDS) × (length self.old.answers.waiting < QUEUE_RECORDS) }
-        ensures took { result ≡ true → (item : Popped) × Took self.old self.new (item ∷ []) × (self.new.over ≡ is_end item) }
+        ensures took { result ≡ true → (item : Popped) × Took self.old self.new (item ∷ []) × (self.new.over ≡ is_stop item) }
         ensures none { result ≡ false → self.new ≡ self.old }
         ensures queued { result ≡ true → self.new.over ≡ false → length self.new.ring.items ≡ length self.old.ring.items + 1 }
     {
@@ -200,7 +200,7 @@ impl<D: Disk + Drop, G: Gate + Drop> LogWriter<D, G> {
         requires up { self.old.down ≡ false }
         requires goes_on { self.old.over ≡ false }
         requires few { length self.old.answers.waiting ≤ length self.old.ring.items }
-        ensures { (more : List Popped) × Took self.old self.new more × (self.new.over ≡ has_end more) }
+        ensures { (more : List Popped) × Took self.old self.new more × (self.new.over ≡ has_stop more) }
     {
         while !self.over && self.ring.len() < QUEUE_RECORDS {
             if !self.try_take(rt) {
@@ -329,7 +329,7 @@ impl<D: Disk + Drop, G: Gate + Drop> LogWriter<D, G> {
         requires down { self.old.down ≡ true }
         requires goes_on { self.old.over ≡ false }
         requires none { self.old.answers.waiting ≡ [] }
-        ensures lost { result ≡ true → (item : Popped) × Loses self.old item self.new × (self.new.over ≡ is_end item) }
+        ensures lost { result ≡ true → (item : Popped) × Loses self.old item self.new × (self.new.over ≡ is_stop item) }
         ensures none { result ≡ false → self.new ≡ self.old }
     {
         match self.from.try_pop(rt) {

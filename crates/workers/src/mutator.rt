@@ -6,7 +6,7 @@ ghost use Rattle.workers.specs.declared.gate.Place.TheVariants.{Tick};
 ghost use Rattle.workers.specs.declared.item.Item.TheVariants.{Start};
 ghost use Rattle.workers.specs.Covering.{loaded};
 ghost use Rattle.workers.specs.Gates.{MayGo, MayStick};
-ghost use Rattle.workers.specs.Mutating.{IsLastRound, OpensNone, OwesSwitch, MarksIfDue, RunsBatch, AnswersBatch, Pays, Turns, EndsPlay};
+ghost use Rattle.workers.specs.Mutating.{IsLastRound, OpensNone, OwesSwitch, MarksIfDue, RunsBatch, AnswersBatch, Pays, Turns, StopsPlay};
 
 use crate::batch_run::play;
 use crate::gate::{Gate, Place, passes};
@@ -205,16 +205,16 @@ impl<M: Method, G: Gate + Drop> Mutator<M, G> {
                     ring(rt, &self.bell, &self.front, number);
                 }
             }
-            Item::Start(_) | Item::End => {}
+            Item::Start(_) | Item::Stop => {}
         }
     }
 
     /// Reports to the log writer and the checkpointer that no more comes.
-    pub fn end<R: Wait>(&mut self, rt: &R)
-        ensures { EndsPlay self.old self.new }
+    pub fn stop<R: Wait>(&mut self, rt: &R)
+        ensures { StopsPlay self.old self.new }
     {
         self.bell = None;
-        if !self.to.push(rt, Item::End) {
+        if !self.to.push(rt, Item::Stop) {
             self.down = true;
         }
     }

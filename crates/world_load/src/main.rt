@@ -17,7 +17,9 @@ mod report;
 
 use address::Address;
 use arguments::{load_of, matches_of};
-use command_line::{NotRun, command_words, ended, refused, take_standard_streams, unreadable};
+use command_line::{
+    NotRun, command_words, exit_code_of, refused, take_standard_streams, unreadable,
+};
 use crowd::run_crowd;
 use failure::Failure;
 use load::Load;
@@ -32,7 +34,7 @@ fn main(rt: HostRuntime) -> ExitCode {
     // Before a connection: it must not get the descriptor of a standard stream that is closed.
     let _null = match take_standard_streams(&rt) {
         Ok(null) => null,
-        Err(error) => return ended(&rt, Err(error)),
+        Err(error) => return exit_code_of(&rt, Err(error)),
     };
     let words = match command_words(&rt) {
         Ok(words) => words,
@@ -40,7 +42,7 @@ fn main(rt: HostRuntime) -> ExitCode {
     };
     match matches_of(rt.alloc(), &words) {
         Ok(matches) => match load_of(&matches) {
-            Some((address, load)) => ended(&rt, run(&rt, address, load)),
+            Some((address, load)) => exit_code_of(&rt, run(&rt, address, load)),
             None => NotRun::Mistaken.report(&rt),
         },
         Err(error) => refused(&rt, &error).report(&rt),

@@ -2,7 +2,7 @@ ghost use Rattle.std.specs.Prelude.{IfSome, ◌≡◌, ◌≢◌, true, false, I
 ghost use Rattle.std.specs.declared.io.Error.{Error};
 ghost use Rattle.image_files.specs.declared.phase.Phase.TheVariants.{Down};
 ghost use Rattle.world_folder.specs.Ending.{IsFault};
-ghost use Rattle.worker_steps.specs.Ends.{StaysSound};
+ghost use Rattle.worker_steps.specs.Stopped.{StaysSound};
 ghost use Rattle.worker_steps.specs.Begun.{IsWhole};
 ghost use Rattle.world_start.specs.Steps.{IsAhead};
 ghost use Rattle.world_server.specs.Serving.{EndsServing};
@@ -187,19 +187,19 @@ pub fn serve_opened<
 ) -> Result<(Ending, Stopped<M, D, Open, Open, Open>), Ending>
     requires { IsWhole D.honest D.content opened.front opened.back opened.images opened.log opened.ended }
     ensures ends { MatchResult result (λ served. EndsServing served.0) EndsServing }
-    ensures log { IfOk result (λ served. served.1.ends.log_writer.down ≡ true
+    ensures log { IfOk result (λ served. served.1.workers.log_writer.down ≡ true
         → served.0 ≡ Ending.Server ServerEnding.LogDown) }
-    ensures images { IfOk result (λ served. served.1.ends.log_writer.down ≡ false
-        → served.1.ends.checkpointer.images.keeper.phase ≡ Down → served.0 ≡ Ending.Server ServerEnding.ImagesDown) }
-    ensures well { IfOk result (λ served. served.1.ends.log_writer.down ≡ false
-        → served.1.ends.checkpointer.images.keeper.phase ≢ Down → served.1.accepted.closed ≡ Closed.AllCame
+    ensures images { IfOk result (λ served. served.1.workers.log_writer.down ≡ false
+        → served.1.workers.checkpointer.images.keeper.phase ≡ Down → served.0 ≡ Ending.Server ServerEnding.ImagesDown) }
+    ensures well { IfOk result (λ served. served.1.workers.log_writer.down ≡ false
+        → served.1.workers.checkpointer.images.keeper.phase ≢ Down → served.1.accepted.closed ≡ Closed.AllCame
         → served.0 ≡ Ending.Ran) }
     ensures all { IfOk result (λ served. served.1.accepted.closed ≡ Closed.AllCame
         → served.1.accepted.connections ≡ admission.clients) }
-    ensures every { IfOk result (λ served. served.1.ends.mutator.every ≡ every.0) }
+    ensures every { IfOk result (λ served. served.1.workers.mutator.every ≡ every.0) }
     ensures sound { IsTrue D.honest → IfOk result (λ served.
         StaysSound D.content D.may_leave opened.front.live opened.images opened.log opened.ended
-        served.1.ends.mutator served.1.ends.checkpointer served.1.ends.log_writer) }
+        served.1.workers.mutator served.1.workers.checkpointer served.1.workers.log_writer) }
 {
     let gates = Gates {
         mutator: Open,
@@ -213,7 +213,7 @@ pub fn serve_opened<
         rt, alloc, gates, watch, opened, every.0, listener, admission,
     ) {
         Ok(stopped) => {
-            announce.stopped(stopped.ends.mutator.ended(), stopped.ends.acked());
+            announce.stopped(stopped.workers.mutator.ended(), stopped.workers.acked());
             let ending = ending_of(&stopped);
             Ok((ending, stopped))
         }
@@ -268,20 +268,20 @@ fn ending_of<M: Method, D: Disk + Drop, A: Gate + Drop, B: Gate + Drop, C: Gate 
     stopped: &Stopped<M, D, A, B, C>,
 ) -> Ending
     ensures ends { EndsServing result }
-    ensures log { stopped.now.ends.log_writer.down ≡ true → result ≡ Ending.Server ServerEnding.LogDown }
-    ensures images { stopped.now.ends.log_writer.down ≡ false → stopped.now.ends.checkpointer.images.keeper.phase ≡ Down
+    ensures log { stopped.now.workers.log_writer.down ≡ true → result ≡ Ending.Server ServerEnding.LogDown }
+    ensures images { stopped.now.workers.log_writer.down ≡ false → stopped.now.workers.checkpointer.images.keeper.phase ≡ Down
         → result ≡ Ending.Server ServerEnding.ImagesDown }
-    ensures listener { stopped.now.ends.log_writer.down ≡ false → stopped.now.ends.checkpointer.images.keeper.phase ≢ Down
+    ensures listener { stopped.now.workers.log_writer.down ≡ false → stopped.now.workers.checkpointer.images.keeper.phase ≢ Down
         → (error : Error) → stopped.now.accepted.closed ≡ Closed.Failed error → result ≡ Ending.Server ServerEnding.ListenerFailed }
-    ensures memory { stopped.now.ends.log_writer.down ≡ false → stopped.now.ends.checkpointer.images.keeper.phase ≢ Down
+    ensures memory { stopped.now.workers.log_writer.down ≡ false → stopped.now.workers.checkpointer.images.keeper.phase ≢ Down
         → stopped.now.accepted.closed ≡ Closed.NoMemory → result ≡ Ending.Fault Refusal.NoMemory }
-    ensures well { stopped.now.ends.log_writer.down ≡ false → stopped.now.ends.checkpointer.images.keeper.phase ≢ Down
+    ensures well { stopped.now.workers.log_writer.down ≡ false → stopped.now.workers.checkpointer.images.keeper.phase ≢ Down
         → stopped.now.accepted.closed ≡ Closed.AllCame → result ≡ Ending.Ran }
 {
-    if stopped.ends.log_writer.is_down() {
+    if stopped.workers.log_writer.is_down() {
         return Ending::Server(ServerEnding::LogDown);
     }
-    if stopped.ends.checkpointer.is_down() {
+    if stopped.workers.checkpointer.is_down() {
         return Ending::Server(ServerEnding::ImagesDown);
     }
     match stopped.accepted.closed {

@@ -104,9 +104,8 @@ pub fn folder_argument<'a>(alloc: Global) -> Arg<'a> {
 }
 
 fn cells_argument<'a>(alloc: Global) -> Arg<'a> {
-    value_argument(alloc, CELLS, "N", "The number of cells, all 0").value_parser(value_parser!(
-        u32
-    ).range(1..=i64::from(world_actions::CELLS)))
+    let cells = value_parser!(u32).range(1..=i64::from(world_actions::CELLS));
+    value_argument(alloc, CELLS, "N", "The number of cells, all 0").value_parser(cells)
 }
 
 fn list_argument<'a>(alloc: Global) -> Arg<'a> {

@@ -8,20 +8,20 @@ Each line of the script gets one line of answer:
   add CELL DIFFERENCE  adds a difference to a cell, less than 0 or not: `+`
   move FROM TO AMOUNT  takes an amount from a cell and adds it to another: `+`
   swap CELL CELL       exchanges the words of two cells: `+`
-  cap CELL VALUE       lowers a cell's word to a value where it is greater: `+`
+  cap CELL VALUE       lowers a cell's word to a value if it is greater: `+`
   get CELL             `= VALUE`
   end                  ends the running tick: `tick NUMBER`
   mark                 opens a round of the words as they are: `mark NUMBER`
   image                one step of the image keeper: `working`,
                        `image open NUMBER` at its last one, `idle` with no round,
                        `image down` once a call has failed
-  log                  one step of the log keeper: `working`, `acked NUMBER` where a
+  log                  one step of the log keeper: `working`, `acked NUMBER` if a
                        group of ticks is durable, `idle`, `log down`
   image*, log*         steps until the keeper is idle or down: `image down` or
                        `log down`, else the last `image open NUMBER` or
                        `acked NUMBER`, else `idle`
   cover                drops the ticks that wait for the log and that the newest
-                       image has: `acked NUMBER`, or `idle` where none waits so
+                       image has: `acked NUMBER`, or `idle` if none waits so
   fail image, fail log the same, and each call of a device fails
   crash lose           a crash that leaves the durable bytes of each file, and the
                        restart: `recovered NUMBER from NUMBER`, or `blank`

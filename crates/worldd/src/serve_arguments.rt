@@ -54,7 +54,7 @@ pub fn serve_command<'a>(alloc: Global) -> Result<Command<'a>, AllocError> {
 }
 
 fn method_argument<'a>(alloc: Global) -> Arg<'a> {
-    let help = "How the words of a tick are captured while play goes on";
+    let help = "How the words of a tick are captured while play continues";
     value_argument(alloc, METHOD, "METHOD", help)
         .required(true)
         .value_parser(["zigzag", "pingpong"].as_slice())

@@ -126,12 +126,12 @@ impl ImageKeeper {
             self.go_down();
             return Err(refusal);
         }
-        self.end_chunk();
+        self.finish_chunk();
         Ok(())
     }
 
     // Continues with the next chunk, or with the end of the body.
-    fn end_chunk(&mut self)
+    fn finish_chunk(&mut self)
         requires phase { self.old.phase ≡ Writing }
         ensures ended { self.new ≡ with_chunk_written self.old }
         ensures lowers { left_of self.new < left_of self.old }

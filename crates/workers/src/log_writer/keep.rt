@@ -4,7 +4,7 @@ ghost use Rattle.world_ticks.specs.declared.tick.TheConstants.{TICK_MAX};
 ghost use Rattle.action_log.specs.Progress.{QueueFollows, end_of};
 ghost use Rattle.workers.specs.Items.{Goes, end_after, record_of};
 ghost use Rattle.workers.specs.Answering.{AreNext, answers_of};
-ghost use Rattle.workers.specs.Logging.{is_end};
+ghost use Rattle.workers.specs.Logging.{is_stop};
 
 use super::answers::Answers;
 use crate::item::{Ended, Item};
@@ -30,7 +30,7 @@ pub(crate) fn keep(
     ensures end { end_of keeper.now ring.new.items ≡ end_after (end_of keeper.now ring.old.items) item }
     ensures records { ring.new ≡ record ring.old { items = ring.old.items ++ record_of item } }
     ensures answers { answers.new ≡ record answers.old { waiting = answers.old.waiting ++ answers_of item } }
-    ensures last { result ≡ is_end item }
+    ensures last { result ≡ is_stop item }
 {
     log_queues();
     match item {
@@ -45,7 +45,7 @@ pub(crate) fn keep(
             let _ = ring.try_push_back(Record::Switch(number));
             false
         }
-        Item::End => true,
+        Item::Stop => true,
     }
 }
 
@@ -54,7 +54,7 @@ pub(crate) fn lose<R: Wait>(rt: &R, answers: &mut Answers, item: Item) -> bool
     requires none { answers.old.waiting ≡ [] }
     requires next { AreNext answers.old.answered (answers_of item) }
     ensures answers { answers.new ≡ record answers.old { answered = answers.old.answered + length (answers_of item) } }
-    ensures last { result ≡ is_end item }
+    ensures last { result ≡ is_stop item }
 {
     match item {
         Item::Start(_) | Item::Switch(_) => false,
@@ -62,6 +62,6 @@ pub(crate) fn lose<R: Wait>(rt: &R, answers: &mut Answers, item: Item) -> bool
             answers.refuse(rt, ended.answer);
             false
         }
-        Item::End => true,
+        Item::Stop => true,
     }
 }

@@ -12,11 +12,11 @@ returns g c = record {
       let D = g.D.Disk in
       let opened = c.args.opened in
       let begun = c.in_ok-workers.ensures in
-      let ended = c.stop-ends.ensures in
-      let met = c.ends_meet.ensures in
-      let ends = c.ends_meet.new.ends in
+      let ended = c.stop-stopped.ensures in
+      let met = c.meet_stopped.ensures in
+      let stopped = c.meet_stopped.new.stopped in
       let more : List Item = ended.mutator.keeps.items.0 in
-      stays_sound D.content D.may_leave opened.front.live opened.images opened.log opened.ended ends.mutator ends.checkpointer ends.log_writer
+      stays_sound D.content D.may_leave opened.front.live opened.images opened.log opened.ended stopped.mutator stopped.checkpointer stopped.log_writer
       (ap (λ (m : Playing). m.opening) met.mutator ∙ ended.mutator.keeps.opening ∙ begun.words)
       (ap (λ (p : Imaging g.row.D.Denot). p.opening) met.checkpointer ∙ ended.checkpointer.keeps.opening ∙ ap (λ (p : Imaging g.row.D.Denot). p.opening) begun.checkpointer)
       (ap (λ (w : Logging g.row.D.Denot). w.opening) met.log_writer ∙ ended.log_writer.keeps.opening ∙ ap (λ (w : Logging g.row.D.Denot). w.opening) begun.log_writer)

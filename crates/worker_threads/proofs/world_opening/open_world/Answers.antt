@@ -1,5 +1,5 @@
 use Rattle.std.proofs.Common.{◌≡◌, ℕ, take, length, sym, ap, ◌∙◌, subst}
-use Rattle.worker_steps.specs.Ends.{WorldStands}
+use Rattle.worker_steps.specs.Stopped.{WorldStands}
 use Rattle.worker_threads.proofs.world_opening.open_world.Goals as goal
 
 pub returns-in_ok-opened-in-Ok-clause-stands : goal.returns-in_ok-opened-in-Ok-clause-stands

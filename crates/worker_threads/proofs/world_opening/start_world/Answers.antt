@@ -2,7 +2,7 @@ use Rattle.std.proofs.Common.{◌≡◌, sym, ap, ◌∙◌, subst}
 use Rattle.std.proofs.lemmas.Result.{IfOk-weaker}
 use Rattle.image_files.specs.Progress.{Progress as ImageProgress}
 use Rattle.action_log.specs.declared.progress.Progress.{Progress as LogProgress}
-use Rattle.worker_steps.specs.Ends.{WorldStands}
+use Rattle.worker_steps.specs.Stopped.{WorldStands}
 use Rattle.worker_threads.proofs.world_opening.start_world.Goals as goal
 
 pub into_parts-requires-clause-words : goal.into_parts-requires-clause-words

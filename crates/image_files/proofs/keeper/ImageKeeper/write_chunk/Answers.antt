@@ -23,10 +23,10 @@ returns-clause-goes_on g c =
     let written : (honest : IsTrue g.D.Disk.honest) → new ≡ overwritten file (17 + 8 * k.written) (flat_map (number_bytes 8) (filled_words k.chunk [])) =
     λ honest. c.in_default.ensures.written honest ∙ ap (λ (m : ℕ). overwritten file (17 + 8 * k.written) (take (8 * m) c.deref-2.result.now)) count ∙ ap (overwritten file (17 + 8 * k.written)) bytes in
     rw (← c.self.view_is) (record {
-      fits = λ honest newest fits. rw (c.end_chunk.ensures.ended, written honest) (chunk_fits k file newest phase fits);
-      done = λ honest newest fits. rw (c.end_chunk.ensures.ended, written honest) (chunk_done k file newest phase fits);
+      fits = λ honest newest fits. rw (c.finish_chunk.ensures.ended, written honest) (chunk_fits k file newest phase fits);
+      done = λ honest newest fits. rw (c.finish_chunk.ensures.ended, written honest) (chunk_done k file newest phase fits);
       endures = λ honest read newest fits stood.
-          rw c.end_chunk.ensures.ended (chunk_endures k file newest phase fits new _ (g.D.Disk.may_leave c.args.target.now) (g.D.Disk.may_leave c.write_at.new.self) (c.in_default.ensures.crash honest) read stood);
+          rw c.finish_chunk.ensures.ended (chunk_endures k file newest phase fits new _ (g.D.Disk.may_leave c.args.target.now) (g.D.Disk.may_leave c.write_at.new.self) (c.in_default.ensures.crash honest) read stood);
     })
 
 pub returns-in-Err-clause-goes_on : goal.returns-in-Err-clause-goes_on

@@ -1,6 +1,6 @@
 use Rattle.std.proofs.Common.{◌≤◌, IsTrue}
 use Rattle.workers.specs.Imaging.{KeepsBack}
-use Rattle.worker_steps.specs.Ends.{AreSound, acknowledged_by}
+use Rattle.worker_steps.specs.Stopped.{AreSound, acknowledged_by}
 use Rattle.worker_steps.specs.Kept.{KeepsFront, KeepsLog}
 use Rattle.worker_steps.proofs.together.Together.run.Given as goal
 

@@ -13,7 +13,7 @@ use std::sync::Wait;
 use std::thread::{self, JoinHandle, Threads};
 use tcp_service::Remote;
 use worker_steps::Gates;
-use worker_threads::{Ends, Seats};
+use worker_threads::{Seats, StoppedWorkers};
 use workers::{Ask, Cut};
 use world_actions::{Action, Refusal};
 
@@ -164,7 +164,7 @@ fn run<M: Seats + Send + 'static, R: Threads + Wait + Abort + Copy + Send + 'sta
     rt: &R,
     alloc: Global,
     limits: Limits,
-) -> (Ends<M, ModelFile, Cut, Cut, Cut>, u64) {
+) -> (StoppedWorkers<M, ModelFile, Cut, Cut, Cut>, u64) {
     let (to, _heard) = unbounded(alloc).expect(rt, "a channel");
     let files = new_files(rt, alloc, 2);
     let (workers, requests) = begin(rt, alloc, files, limits.cuts(), to, EVERY);
@@ -173,17 +173,17 @@ fn run<M: Seats + Send + 'static, R: Threads + Wait + Abort + Copy + Send + 'sta
 }
 
 // Each tick was answered. Whatever a crash leaves, recovery finds the last tick.
-fn check_ends<M: Method>(
+fn check_stopped<M: Method>(
     rt: &impl Abort,
     alloc: Global,
-    ends: &Ends<M, ModelFile, Cut, Cut, Cut>,
+    stopped: &StoppedWorkers<M, ModelFile, Cut, Cut, Cut>,
     answered: u64,
 ) {
-    let ticks = (answered, ends.mutator.ended(), ends.acked());
+    let ticks = (answered, stopped.mutator.ended(), stopped.acked());
     let all = (TICKS, TICKS, TICKS);
     same(rt, "ticks answered, ended and acknowledged", ticks, all);
     for leaving in [Leaving::Lose, Leaving::Keep, Leaving::Fill(1)] {
-        let found = found_after(rt, alloc, ends, leaving);
+        let found = found_after(rt, alloc, stopped, leaving);
         same(rt, "what stands after a crash", found, (TICKS, TICKS));
     }
 }
@@ -192,10 +192,10 @@ fn check_ends<M: Method>(
 fn found_after<M: Method>(
     rt: &impl Abort,
     alloc: Global,
-    ends: &Ends<M, ModelFile, Cut, Cut, Cut>,
+    stopped: &StoppedWorkers<M, ModelFile, Cut, Cut, Cut>,
     leaving: Leaving,
 ) -> (u64, u64) {
-    let (images, log) = (ends.checkpointer.images(), ends.log_writer.log());
+    let (images, log) = (stopped.checkpointer.images(), stopped.log_writer.log());
     let image_a = left_of(rt, alloc, &images.image_a, leaving);
     let image_b = left_of(rt, alloc, &images.image_b, leaving);
     let log_a = left_of(rt, alloc, &log.a, leaving);
@@ -210,8 +210,8 @@ fn left_of(rt: &impl Abort, alloc: Global, file: &ModelFile, leaving: Leaving) -
 }
 
 // True if the newest image is that of the new world.
-fn has_first_image<M: Method>(ends: &Ends<M, ModelFile, Cut, Cut, Cut>) -> bool {
-    match ends.checkpointer.images().keeper.newest() {
+fn has_first_image<M: Method>(stopped: &StoppedWorkers<M, ModelFile, Cut, Cut, Cut>) -> bool {
+    match stopped.checkpointer.images().keeper.newest() {
         Some((_, tick)) => tick == 0,
         None => false,
     }
@@ -228,10 +228,10 @@ fn try_steps<M: Seats + Send + 'static, R: Threads + Wait + Abort + Copy + Send 
         checkpointer: steps,
         log_writer: None,
     };
-    let (ends, answered) = run::<M, R>(rt, alloc, limits);
-    check_ends(rt, alloc, &ends, answered);
-    let has_first_image = has_first_image(&ends);
-    drop(ends);
+    let (stopped, answered) = run::<M, R>(rt, alloc, limits);
+    check_stopped(rt, alloc, &stopped, answered);
+    let has_first_image = has_first_image(&stopped);
+    drop(stopped);
     has_first_image
 }
 
@@ -280,13 +280,13 @@ fn are_between(rt: &impl Abort, answered: u64, acked: u64, stands: u64, ended: u
 fn check_held<M: Method>(
     rt: &impl Abort,
     alloc: Global,
-    ends: &Ends<M, ModelFile, Cut, Cut, Cut>,
+    stopped: &StoppedWorkers<M, ModelFile, Cut, Cut, Cut>,
     answered: u64,
 ) {
     for leaving in [Leaving::Lose, Leaving::Keep, Leaving::Fill(1)] {
-        let (tick, word) = found_after(rt, alloc, ends, leaving);
+        let (tick, word) = found_after(rt, alloc, stopped, leaving);
         same(rt, "the word after the ticks", word, tick);
-        are_between(rt, answered, ends.acked(), tick, ends.mutator.ended());
+        are_between(rt, answered, stopped.acked(), tick, stopped.mutator.ended());
     }
 }
 
@@ -296,9 +296,9 @@ fn try_limits<M: Seats + Send + 'static, R: Threads + Wait + Abort + Copy + Send
     alloc: Global,
     limits: Limits,
 ) -> u64 {
-    let (ends, answered) = run::<M, R>(rt, alloc, limits);
-    check_held(rt, alloc, &ends, answered);
-    drop(ends);
+    let (stopped, answered) = run::<M, R>(rt, alloc, limits);
+    check_held(rt, alloc, &stopped, answered);
+    drop(stopped);
     answered
 }
 

@@ -1,5 +1,5 @@
 use Rattle.worker_threads.proofs.Hearing.{heard_of_down}
-use Rattle.worker_threads.proofs.meeting.ends_meet.Goals as goal
+use Rattle.worker_threads.proofs.meeting.meet_stopped.Goals as goal
 
 pub returns-clause-sound : goal.returns-clause-sound
 returns-clause-sound g c = λ honest.

@@ -5,7 +5,7 @@ use std::fmt::Display;
 use std::process::ExitCode;
 
 /// Returns the exit status of a trial: 0 if all was right, else 1. Prints an error.
-pub fn ended<R: Eprint, E: Display + Drop>(rt: &R, run: Result<bool, E>) -> ExitCode
+pub fn exit_code_of<R: Eprint, E: Display + Drop>(rt: &R, run: Result<bool, E>) -> ExitCode
     ensures right { run ≡ Ok true → exit_status result ≡ 0 }
     ensures wrong { run ≢ Ok true → exit_status result ≡ 1 }
 {
