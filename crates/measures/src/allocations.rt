@@ -55,10 +55,9 @@ fn take_rounds<R: Print + AllocGlobal>(rt: &R) -> Result<(), Error> {
 }
 
 fn take_shared_rounds<R: Print + AllocGlobal>(rt: &R) -> Result<(), Error> {
-    let words = zeros(rt.alloc(), CELLS)?;
-    let (front, back) = zigzag_pair(rt.alloc(), &words)?;
+    let (front, back) = zigzag_pair(rt.alloc(), zeros(rt.alloc(), CELLS)?)?;
     take_round(rt, "shared zigzag", Seats::new(front, back))?;
-    let (front, back) = ping_pong_pair(rt.alloc(), &words)?;
+    let (front, back) = ping_pong_pair(rt.alloc(), zeros(rt.alloc(), CELLS)?)?;
     take_round(rt, "shared pingpong", Seats::new(front, back))
 }
 

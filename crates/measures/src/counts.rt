@@ -42,10 +42,9 @@ fn tell_owned<R: Print + AllocGlobal>(rt: &R) -> Result<(), Error> {
 }
 
 fn tell_shared<R: Print + AllocGlobal>(rt: &R) -> Result<(), Error> {
-    let words = zeros(rt.alloc(), CELLS)?;
-    let (front, back) = zigzag_pair(rt.alloc(), &words)?;
+    let (front, back) = zigzag_pair(rt.alloc(), zeros(rt.alloc(), CELLS)?)?;
     tell_store(rt, "shared zigzag", Seats::new(front, back), 3, 5)?;
-    let (front, back) = ping_pong_pair(rt.alloc(), &words)?;
+    let (front, back) = ping_pong_pair(rt.alloc(), zeros(rt.alloc(), CELLS)?)?;
     tell_store(rt, "shared pingpong", Seats::new(front, back), 3, 3)
 }
 

@@ -88,10 +88,9 @@ impl AllFigures {
     }
 
     fn measure_shared<R: Clock>(&mut self, rt: &R, alloc: Global, clock: u64) -> Result<(), Error> {
-        let words = zeros(alloc, CELLS)?;
-        let (front, back) = zigzag_pair(alloc, &words)?;
+        let (front, back) = zigzag_pair(alloc, zeros(alloc, CELLS)?)?;
         measure(rt, clock, &mut self.shared_zigzag, Seats::new(front, back))?;
-        let (front, back) = ping_pong_pair(alloc, &words)?;
+        let (front, back) = ping_pong_pair(alloc, zeros(alloc, CELLS)?)?;
         measure(
             rt,
             clock,
@@ -116,8 +115,7 @@ pub fn measure_zigzag_pair<R: Threads + Clock + Sync>(
     rt: &R,
     alloc: Global,
 ) -> Result<PairSpeed, Error> {
-    let words = zeros(alloc, CELLS)?;
-    let (front, back) = zigzag_pair(alloc, &words)?;
+    let (front, back) = zigzag_pair(alloc, zeros(alloc, CELLS)?)?;
     Ok(time_pair(rt, CELLS, front, back)?)
 }
 
@@ -126,7 +124,6 @@ pub fn measure_ping_pong_pair<R: Threads + Clock + Sync>(
     rt: &R,
     alloc: Global,
 ) -> Result<PairSpeed, Error> {
-    let words = zeros(alloc, CELLS)?;
-    let (front, back) = ping_pong_pair(alloc, &words)?;
+    let (front, back) = ping_pong_pair(alloc, zeros(alloc, CELLS)?)?;
     Ok(time_pair(rt, CELLS, front, back)?)
 }

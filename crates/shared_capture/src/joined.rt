@@ -86,7 +86,7 @@ impl<M: Method> Capture for Joined<M> {
     ghost after_take = { λ old new answer takes. takes };
 
     fn build(alloc: Global, words: &[u64]) -> Result<Self, Refusal> {
-        let (mut front, mut back) = pair(alloc, words)?;
+        let (mut front, mut back) = pair(alloc, Vec::from_slice(alloc, words)?)?;
         meet(&mut front, &mut back);
         Ok(Joined { front, back })
     }

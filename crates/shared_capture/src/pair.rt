@@ -21,41 +21,43 @@ use std::alloc::{AllocError, Global};
 use std::sync::Arc;
 use world_actions::Refusal;
 
-/// Makes two seats of the method Zigzag at a new table with these words.
-pub fn zigzag_pair(alloc: Global, words: &[u64]) -> Result<(Front<Zig>, Back<Zig>), Refusal>
-    requires { All IsWord words.now }
-    ensures ok { IfOk result (λ pair. IsStart words.now pair.0 pair.1) }
+/// Makes two seats of the method Zigzag at a new table with these words. The front keeps their list.
+pub fn zigzag_pair(alloc: Global, words: Vec<u64>) -> Result<(Front<Zig>, Back<Zig>), Refusal>
+    requires { All IsWord words.items }
+    ensures ok { IfOk result (λ pair. IsStart words.items pair.0 pair.1) }
     ensures err { IfErr result (λ refusal. refusal ≡ Refusal.NoMemory) }
 {
     pair(alloc, words)
 }
 
-/// Makes two seats of the method Ping-Pong at a new table with these words.
-pub fn ping_pong_pair(alloc: Global, words: &[u64]) -> Result<(Front<Pong>, Back<Pong>), Refusal>
-    requires { All IsWord words.now }
-    ensures ok { IfOk result (λ pair. IsStart words.now pair.0 pair.1) }
+/// Makes two seats of the method Ping-Pong at a new table with these words. The front keeps their list.
+pub fn ping_pong_pair(alloc: Global, words: Vec<u64>) -> Result<(Front<Pong>, Back<Pong>), Refusal>
+    requires { All IsWord words.items }
+    ensures ok { IfOk result (λ pair. IsStart words.items pair.0 pair.1) }
     ensures err { IfErr result (λ refusal. refusal ≡ Refusal.NoMemory) }
 {
     pair(alloc, words)
 }
 
 /// Makes two seats of a method at a new table with these words.
-pub(crate) fn pair<M: Method>(alloc: Global, words: &[u64]) -> Result<(Front<M>, Back<M>), Refusal>
-    requires { All IsWord words.now }
-    ensures ok { IfOk result (λ pair. IsStart words.now pair.0 pair.1) }
+pub(crate) fn pair<M: Method>(
+    alloc: Global,
+    words: Vec<u64>,
+) -> Result<(Front<M>, Back<M>), Refusal>
+    requires { All IsWord words.items }
+    ensures ok { IfOk result (λ pair. IsStart words.items pair.0 pair.1) }
     ensures err { IfErr result (λ refusal. refusal ≡ Refusal.NoMemory) }
 {
     Ok(seats(alloc, words)?)
 }
 
-fn seats<M: Method>(alloc: Global, words: &[u64]) -> Result<(Front<M>, Back<M>), AllocError>
-    requires { All IsWord words.now }
-    ensures { IfOk result (λ pair. IsStart words.now pair.0 pair.1) }
+fn seats<M: Method>(alloc: Global, words: Vec<u64>) -> Result<(Front<M>, Back<M>), AllocError>
+    requires { All IsWord words.items }
+    ensures { IfOk result (λ pair. IsStart words.items pair.0 pair.1) }
 {
-    let key = Opening {
-        live: Vec::from_slice(alloc, words)?,
-        marks: full_marks(alloc, words.len())?,
-    };
+    let cells = words.len();
+    let marks = full_marks(alloc, cells)?;
+    let key = Opening { live: words, marks };
     let away = away_marks::<M>(alloc, &key.marks)?;
     let changed = Vec::with_capacity(alloc, away.len())?;
     let (table, shared, seat, other) = shared_table::<M>(alloc, &key)?;
@@ -73,7 +75,7 @@ fn seats<M: Method>(alloc: Global, words: &[u64]) -> Result<(Front<M>, Back<M>),
         Back {
             table: shared,
             seat: other,
-            cells: words.len(),
+            cells,
             tick: 0,
             at: 0,
             mark: 0,

@@ -84,7 +84,7 @@ impl Case for ZigzagPair {
     }
 
     fn call(&mut self) -> Result<u64, Refusal> {
-        let (mut front, _) = zigzag_pair(self.alloc, &[3, 4])?;
+        let (mut front, _) = zigzag_pair(self.alloc, vec![in self.alloc; 3, 4]?)?;
         if front.len() != 2 {
             return Ok(0);
         }
@@ -116,7 +116,7 @@ impl Case for PingPongPair {
     }
 
     fn call(&mut self) -> Result<u64, Refusal> {
-        let (mut front, _) = ping_pong_pair(self.alloc, &[3, 4])?;
+        let (mut front, _) = ping_pong_pair(self.alloc, vec![in self.alloc; 3, 4]?)?;
         if front.len() != 2 {
             return Ok(0);
         }

@@ -165,7 +165,7 @@ impl Case for Play {
     }
 
     fn set_up(alloc: Global) -> Result<Self, Refusal> {
-        let (front, _) = zigzag_pair(alloc, &[3, 4])?;
+        let (front, _) = zigzag_pair(alloc, vec![in alloc; 3, 4]?)?;
         Ok(Play {
             alloc,
             front,

@@ -16,7 +16,7 @@ pub fn try_zigzag<R: Threads + Sync>(
     rounds: u32,
 ) -> Result<usize, Wrong> {
     let zeros = vec![in alloc; 0; cells]?;
-    let (front, back) = zigzag_pair(alloc, &zeros)?;
+    let (front, back) = zigzag_pair(alloc, zeros.clone()?)?;
     try_pair(rt, alloc, front, back, &zeros, rounds)
 }
 
@@ -28,7 +28,7 @@ pub fn try_ping_pong<R: Threads + Sync>(
     rounds: u32,
 ) -> Result<usize, Wrong> {
     let zeros = vec![in alloc; 0; cells]?;
-    let (front, back) = ping_pong_pair(alloc, &zeros)?;
+    let (front, back) = ping_pong_pair(alloc, zeros.clone()?)?;
     try_pair(rt, alloc, front, back, &zeros, rounds)
 }
 

@@ -24,20 +24,20 @@ use world_start::{Parts, Start, recover_world};
 /// A method whose two seats can be made.
 pub trait Seats: Method {
     /// Two seats at a new table, which has these words.
-    fn seats(alloc: Global, words: &[u64]) -> Result<(Front<Self>, Back<Self>), Refusal>
-        requires { All IsWord words.now }
-        ensures ok { IfOk result (λ pair. IsStart words.now pair.0 pair.1) }
+    fn seats(alloc: Global, words: Vec<u64>) -> Result<(Front<Self>, Back<Self>), Refusal>
+        requires { All IsWord words.items }
+        ensures ok { IfOk result (λ pair. IsStart words.items pair.0 pair.1) }
         ensures err { IfErr result (λ refusal. refusal ≡ Refusal.NoMemory) };
 }
 
 impl Seats for Zig {
-    fn seats(alloc: Global, words: &[u64]) -> Result<(Front<Zig>, Back<Zig>), Refusal> {
+    fn seats(alloc: Global, words: Vec<u64>) -> Result<(Front<Zig>, Back<Zig>), Refusal> {
         zigzag_pair(alloc, words)
     }
 }
 
 impl Seats for Pong {
-    fn seats(alloc: Global, words: &[u64]) -> Result<(Front<Pong>, Back<Pong>), Refusal> {
+    fn seats(alloc: Global, words: Vec<u64>) -> Result<(Front<Pong>, Back<Pong>), Refusal> {
         ping_pong_pair(alloc, words)
     }
 }
@@ -69,8 +69,8 @@ pub fn open_world<M: Seats, D: Disk + Drop>(
     }
 }
 
-/// Opens a world for its workers that was recovered from these files, and runs its start to the end. It copies the words
-/// once, to the seats. If it is refused, it gives the files back.
+/// Opens a world for its workers that was recovered from these files, and runs its start to the end. The front keeps the
+/// list of the recovered words. If it is refused, it gives the files back.
 pub fn start_world<M: Seats, C: Capture, D: Disk + Drop>(
     alloc: Global,
     begun: Start<C>,
@@ -127,7 +127,7 @@ fn seated<M: Seats, D: Disk + Drop>(
         ended,
         since: _,
     } = parts;
-    let (front, back) = match M::seats(alloc, &words) {
+    let (front, back) = match M::seats(alloc, words) {
         Ok(seats) => seats,
         Err(refusal) => return Err((files, refusal)),
     };

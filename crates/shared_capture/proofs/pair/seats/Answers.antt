@@ -1,10 +1,7 @@
-use Rattle.std.proofs.Common.{rules, arith, ◌≡◌, ℕ, get_or, ◌∙◌, ap, sym, length, subst, All, List}
-use Rattle.world_actions.specs.World.{IsWord}
+use Rattle.std.proofs.Common.{rules, arith, ◌≡◌, ℕ, get_or, ◌∙◌, ap, sym, length, subst, List}
 use Rattle.packed_marks.specs.Bits.{IsFull}
 use Rattle.shared_capture.specs.declared.method.Kind.TheVariants.{Zigzag}
-use Rattle.shared_capture.specs.Steps.{front_of, back_of}
 use Rattle.shared_capture.specs.Seats.{ListsChanges}
-use Rattle.shared_capture.specs.States.{IsStart, front_state, back_state}
 use Rattle.shared_capture.proofs.Fronts.{front_made, start_seen}
 use Rattle.shared_capture.proofs.Backs.{back_made}
 use Rattle.shared_capture.proofs.Changes.{lists_none}
@@ -12,11 +9,9 @@ use Rattle.shared_capture.proofs.pair.seats.Goals as goal
 
 pub invariant_of-result : goal.invariant_of-result
 invariant_of-result g c =
-    let words = c.in_ok-from_slice.ensures in
-    let marks = c.in_ok-full_marks.field-0.items in
+    let marks = c.in_ok-marks.marks.items in
     let same : g.M.Method.KIND ≡ Zigzag → c.in_ok-away.away.items ≡ marks = λ e. c.in_ok-away.ensures e ∙ search rules in (
-      front_made _ _ _ _ _ _ _ _ _ c.in_ok-table.ensures.1 (subst (λ (z : ℕ). IsFull z marks) (sym words.len) c.in_ok-full_marks.ensures) (ap length words.items ∙ sym words.len)
-          (subst (All IsWord) (sym words.items) c.requires) same,
+      front_made _ _ _ _ _ _ _ _ _ c.in_ok-table.ensures.1 (subst (λ (z : ℕ). IsFull z marks) c.len-cells.ensures c.in_ok-marks.ensures) (search rules) c.requires same,
       λ e. (
         subst (ListsChanges marks c.in_ok-away.away.items) (sym c.in_ok-changed.ensures.items) (lists_none marks c.in_ok-away.away.items (λ k l. ap (λ (z : List ℕ). get_or z k 0) (sym (same e)))),
         omega (arith, c.in_ok-changed.ensures.capacity, c.len.ensures, ap length (same e)),
@@ -24,9 +19,7 @@ invariant_of-result g c =
     )
 
 pub invariant_of-result-2 : goal.invariant_of-result-2
-invariant_of-result-2 g c = back_made _ _ _ _ _ _ _ _ _ _ _ c.in_ok-table.ensures.1 (ap (λ z. z.shared.table_id) c.in_ok-table.ensures.0) (search rules) (sym c.in_ok-from_slice.ensures.len)
+invariant_of-result-2 g c = back_made _ _ _ _ _ _ _ _ _ _ _ c.in_ok-table.ensures.1 (ap (λ z. z.shared.table_id) c.in_ok-table.ensures.0) (search rules) c.len-cells.ensures
 
 pub returns : goal.returns
-returns g c = let words = c.in_ok-from_slice.ensures in
-    subst (λ (z : List ℕ). IsStart z (front_state g.M.Method.KIND c.in_ok-table.seat.table_id (front_of c.in_ok-table.seat.me.0)) (back_state c.in_ok-table.other.table_id 0 (back_of c.in_ok-table.other.me.0))) words.items
-    (start_seen g.M.Method.KIND _ _ _ _ _ _ _ c.in_ok-table.ensures.1 (subst (λ (z : ℕ). IsFull z c.in_ok-full_marks.field-0.items) (sym words.len) c.in_ok-full_marks.ensures) (ap length words.items ∙ sym words.len))
+returns g c = start_seen g.M.Method.KIND _ _ _ _ _ _ _ c.in_ok-table.ensures.1 (subst (λ (z : ℕ). IsFull z c.in_ok-marks.marks.items) c.len-cells.ensures c.in_ok-marks.ensures) (search rules)

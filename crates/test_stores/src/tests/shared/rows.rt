@@ -65,12 +65,14 @@ fn check_row<M: Method>(rt: &impl Abort, front: &mut Front<M>, back: &mut Back<M
 
 #[test]
 fn zigzag_row(rt: HostRuntime) {
-    let (mut front, mut back) = zigzag_pair(rt.alloc(), &[5, 7]).expect(&rt, "memory");
+    let words = vec![in rt.alloc(); 5, 7].expect(&rt, "memory");
+    let (mut front, mut back) = zigzag_pair(rt.alloc(), words).expect(&rt, "memory");
     check_row(&rt, &mut front, &mut back, Taken::Word(7));
 }
 
 #[test]
 fn ping_pong_row(rt: HostRuntime) {
-    let (mut front, mut back) = ping_pong_pair(rt.alloc(), &[5, 7]).expect(&rt, "memory");
+    let words = vec![in rt.alloc(); 5, 7].expect(&rt, "memory");
+    let (mut front, mut back) = ping_pong_pair(rt.alloc(), words).expect(&rt, "memory");
     check_row(&rt, &mut front, &mut back, Taken::Same);
 }

@@ -121,12 +121,14 @@ fn check_pair<M: Method + Send + 'static, R: Threads + Sync + Abort>(
 
 #[test]
 fn two_threads_of_zigzag(rt: HostRuntime) {
-    let (front, back) = zigzag_pair(rt.alloc(), &[7; 65]).expect(&rt, "memory");
+    let words = vec![in rt.alloc(); 7; 65].expect(&rt, "memory");
+    let (front, back) = zigzag_pair(rt.alloc(), words).expect(&rt, "memory");
     check_pair(&rt, front, back);
 }
 
 #[test]
 fn two_threads_of_ping_pong(rt: HostRuntime) {
-    let (front, back) = ping_pong_pair(rt.alloc(), &[7; 65]).expect(&rt, "memory");
+    let words = vec![in rt.alloc(); 7; 65].expect(&rt, "memory");
+    let (front, back) = ping_pong_pair(rt.alloc(), words).expect(&rt, "memory");
     check_pair(&rt, front, back);
 }
