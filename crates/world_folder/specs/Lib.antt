@@ -9,3 +9,4 @@ pub mod WordsImage
 pub mod Look
 pub mod Figures
 pub mod Forward
+pub mod Texts

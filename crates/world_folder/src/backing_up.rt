@@ -5,6 +5,7 @@ use crate::copying::copy_world;
 use crate::ending::{Ending, Filled};
 use crate::fault::stands_in;
 use crate::folder::{opened, path_of, read_folder, sync_names};
+use crate::found::WorldTold;
 use crate::own_file::make_file;
 use crate::recovering::found_in;
 use crate::world_file::WorldFile;
@@ -36,7 +37,7 @@ pub fn back_up<R: Files<File = File> + Clock + Print + Eprint + AllocGlobal + Cl
     if copied.tries > 1 {
         let _ = eprintln!(rt; "worldd: it was begun {} times", copied.tries);
     }
-    println!(rt; "backed up {} from {}", found.tick, found.from)?;
+    println!(rt; "backed up {}", WorldTold::of(&found))?;
     Ok(())
 }
 

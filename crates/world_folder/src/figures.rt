@@ -1,13 +1,15 @@
 //! Figures of a world, from its files alone.
-ghost use Rattle.std.specs.Prelude.{◌≡◌, IfOk, IfErr};
+ghost use Rattle.std.specs.Prelude.{◌≡◌, IfOk, IfErr, Some};
 ghost use Rattle.world_folder.specs.Ending.{IsFault};
 ghost use Rattle.world_folder.specs.Told.{IsLogTold};
 ghost use Rattle.world_folder.specs.Figures.{AreFigures, current_segment, told_segment};
+ghost use Rattle.world_folder.specs.Texts.{figures_text, segment_text};
 
 use crate::copying::copy_world;
 use crate::counted::Counted;
 use crate::ending::Ending;
 use crate::fault::{Fault, stands_in};
+use crate::found::{FoundTold, WorldTold};
 use crate::told::{LogTold, tell_log};
 use crate::world_file::{IMAGE_A, IMAGE_B, LOG_A, LOG_B};
 use action_log::SEGMENT_TICKS;
@@ -90,18 +92,34 @@ pub fn status<R: Files<File = File> + Clock + Print + AllocGlobal>(
 }
 
 impl fmt::Display for Figures {
+    ghost output = { λ figures. Some (figures_text figures) };
+
     fn fmt<W: fmt::Write>(&self, f: &mut fmt::Formatter<W>) -> fmt::Result {
-        let image = match self.slot {
-            Slot::A => IMAGE_A,
-            Slot::B => IMAGE_B,
+        let found = FoundTold {
+            world: WorldTold {
+                tick: self.tick,
+                from: self.image,
+            },
+            slot: self.slot,
         };
         let behind = Counted {
             count: self.tick.saturating_sub(self.image) as usize,
             noun: "tick",
         };
-        writeln!(f, "recovered {} from {} in {image}", self.tick, self.image)?;
-        write!(f, "log: {behind} behind the image, ")?;
-        match self.segment {
+        let segment = SegmentTold(self.segment);
+        write!(f, "{found}\nlog: {behind} behind the image, {segment}")
+    }
+}
+
+// The segment that the log continues in, and how many ticks it has.
+#[derive(Clone, Copy)]
+struct SegmentTold(Option<(Slot, usize)>);
+
+impl fmt::Display for SegmentTold {
+    ghost output = { λ segment. Some (segment_text segment.0) };
+
+    fn fmt<W: fmt::Write>(&self, f: &mut fmt::Formatter<W>) -> fmt::Result {
+        match self.0 {
             Some((Slot::A, ticks)) => write!(f, "{LOG_A} has {ticks} of {SEGMENT_TICKS}"),
             Some((Slot::B, ticks)) => write!(f, "{LOG_B} has {ticks} of {SEGMENT_TICKS}"),
             None => f.write_str("no segment is open"),

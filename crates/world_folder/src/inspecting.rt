@@ -4,10 +4,10 @@ ghost use Rattle.world_folder.specs.Ending.{IsFault};
 use crate::counted::Counted;
 use crate::ending::Ending;
 use crate::folder::read_folder;
-use crate::recovering::{found_in, print_recovered};
+use crate::found::FoundTold;
+use crate::recovering::found_in;
 use crate::told::{tell_image, tell_log};
-use crate::world_file::{IMAGE_A, IMAGE_B, Named};
-use recovery::Slot;
+use crate::world_file::Named;
 use std::alloc::{AllocError, Global};
 use std::fmt::Display;
 use std::fs::{File, Files};
@@ -29,8 +29,7 @@ pub fn inspect<R: Files<File = File> + Print + AllocGlobal>(
     print_file(rt, &files.log_a, tell_log)?;
     print_file(rt, &files.log_b, tell_log)?;
     let found = found_in(rt.alloc(), folder, files)?;
-    print_recovered(rt, &found)?;
-    println!(rt; " in {}", name_of(found.slot))?;
+    println!(rt; "{}", FoundTold::of(&found))?;
     if with_words {
         rt.println(line_of(rt.alloc(), &found.words).map_err(io::Error::from)?)?;
     }
@@ -72,17 +71,6 @@ fn print_told<R: Print, T: Display + Drop>(
 
 fn print_unreadable<R: Print>(rt: &R, name: &str, error: &io::Error) -> io::Result<()> {
     println!(rt; "{name}: unreadable: {error}")
-}
-
-// The name of the image file in a slot.
-fn name_of(slot: Slot) -> &'static str
-    ensures a { slot ≡ Slot.A → result.now ≡ IMAGE_A.now }
-    ensures b { slot ≡ Slot.B → result.now ≡ IMAGE_B.now }
-{
-    match slot {
-        Slot::A => IMAGE_A,
-        Slot::B => IMAGE_B,
-    }
 }
 
 // All words, one space between.

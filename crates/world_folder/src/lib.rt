@@ -15,6 +15,7 @@ mod fault;
 mod figures;
 mod folder;
 mod forward;
+mod found;
 mod inspecting;
 mod laws;
 mod look;
@@ -33,6 +34,7 @@ pub use ending::{Ending, Filled, NoPort, Occupied, ServerEnding, Stream, StreamF
 pub use fault::{Damaged, Fault, stands_in};
 pub use figures::{Figures, figures_of, status};
 pub use folder::{Unreadable, failure_of, open_existing, opened, path_of};
+pub use found::WorldTold;
 pub use inspecting::inspect;
 pub use laws::copies_are_of_a_moment;
 pub use look::{Look, look_at};

@@ -5,6 +5,7 @@ ghost use Rattle.world_folder.specs.Fault.{Files, AreRead, Stands};
 use crate::ending::Ending;
 use crate::fault::stands_in;
 use crate::folder::{all_read, read_folder};
+use crate::found::WorldTold;
 use crate::world_file::Named;
 use disk_model::FourFiles;
 use recovery::Recovered;
@@ -20,8 +21,7 @@ pub fn recover<R: fs::Files<File = File> + Print + AllocGlobal>(
     ensures { IfErr result IsFault }
 {
     let found = found_in(rt.alloc(), folder, read_folder(rt, folder))?;
-    print_recovered(rt, &found)?;
-    println!(rt)?;
+    println!(rt; "recovered {}", WorldTold::of(&found))?;
     Ok(())
 }
 
@@ -40,9 +40,4 @@ pub fn found_in(
         Ok(found) => Ok(found),
         Err(fault) => Err(Ending::NoWorld(fault)),
     }
-}
-
-/// Prints the tick of a world and the one of its image, and doesn't end the line.
-pub fn print_recovered<R: Print>(rt: &R, found: &Recovered) -> io::Result<()> {
-    print!(rt; "recovered {} from {}", found.tick, found.from)
 }

@@ -1,8 +1,9 @@
-ghost use Rattle.std.specs.Prelude.{◌≡◌, Err, IfOk, IfErr};
+ghost use Rattle.std.specs.Prelude.{◌≡◌, Err, IfOk, IfErr, Some};
 ghost use Rattle.image_files.specs.Image.{image_of};
 ghost use Rattle.image_files.specs.Reading.{IsOpenImage};
 ghost use Rattle.action_log.specs.Segment.{HasTicks};
 ghost use Rattle.world_folder.specs.Told.{IsImageTold, IsLogTold, format_number};
+ghost use Rattle.world_folder.specs.Texts.{image_told_text, log_told_text};
 
 use crate::counted::Counted;
 use action_log::{LogState, count_groups, read_log};
@@ -90,6 +91,8 @@ fn number_of(format: Format) -> u8
 }
 
 impl fmt::Display for ImageTold {
+    ghost output = { λ told. Some (image_told_text told) };
+
     fn fmt<W: fmt::Write>(&self, f: &mut fmt::Formatter<W>) -> fmt::Result {
         match self {
             ImageTold::Closed => f.write_str("closed"),
@@ -111,6 +114,8 @@ impl fmt::Display for ImageTold {
 }
 
 impl fmt::Display for LogTold {
+    ghost output = { λ told. Some (log_told_text told) };
+
     fn fmt<W: fmt::Write>(&self, f: &mut fmt::Formatter<W>) -> fmt::Result {
         match self {
             LogTold::Closed => f.write_str("closed"),

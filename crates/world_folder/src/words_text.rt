@@ -1,7 +1,8 @@
 //! A text that lists the words of a world.
-ghost use Rattle.std.specs.Prelude.{◌≡◌, ◌≢◌, ◌↔◌, ◌≤◌, ◌<◌, ◌+◌, ◌∷◌, ℕ, [], Err, decimal, length, slice_index, take, drop, IsTrue, IfOk, OnOk, IfSome, IfNone};
+ghost use Rattle.std.specs.Prelude.{◌≡◌, ◌≢◌, ◌↔◌, ◌≤◌, ◌<◌, ◌+◌, ◌∷◌, ℕ, [], Err, decimal, length, slice_index, take, drop, IsTrue, IfOk, OnOk, IfSome, IfNone, Some};
 ghost use Rattle.world_actions.specs.World.{IsWord, IsWorld};
 ghost use Rattle.world_folder.specs.WordsText.{IsSeparator, HasNoSeparator, EndsPart, newlines, Lists, IsUnreadAt, HasTooMany};
+ghost use Rattle.world_folder.specs.Texts.{bad_words_text, bad_line_text};
 
 use line_grammar::read_number;
 use std::alloc::Global;
@@ -40,16 +41,31 @@ impl BadWords {
 }
 
 impl fmt::Display for BadWords {
+    ghost output = { λ bad. Some (bad_words_text bad) };
+
     fn fmt<W: fmt::Write>(&self, f: &mut fmt::Formatter<W>) -> fmt::Result {
-        match self {
+        match *self {
             BadWords::NoMemory => f.write_str("there is no memory for its words"),
             BadWords::Empty => f.write_str("it has no word"),
             BadWords::TooMany => write!(f, "it has more than {CELLS} words"),
-            BadWords::Line(line) => write!(
-                f,
-                "line {line} has something other than numbers from 0 to {LIMIT} with one space between them"
-            ),
+            BadWords::Line(line) => write!(f, "{}", BadLine(line)),
         }
+    }
+}
+
+// A line that has something else, counted from 1.
+#[derive(Clone, Copy)]
+struct BadLine(u64);
+
+impl fmt::Display for BadLine {
+    ghost output = { λ bad. Some (bad_line_text bad.0) };
+
+    fn fmt<W: fmt::Write>(&self, f: &mut fmt::Formatter<W>) -> fmt::Result {
+        write!(
+            f,
+            "line {} has something other than numbers from 0 to {LIMIT} with one space between them",
+            self.0
+        )
     }
 }
 

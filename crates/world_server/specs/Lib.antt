@@ -1,2 +1,4 @@
 pub mod Serving
 pub mod Socket
+pub mod Lines
+pub mod Methods

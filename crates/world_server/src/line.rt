@@ -1,10 +1,13 @@
 //! The lines that a server prints.
+ghost use Rattle.std.specs.Prelude.{◌≡◌};
+ghost use Rattle.std.specs.Path.{path_buf_bytes};
+ghost use Rattle.world_server.specs.Lines.{line_text};
 
 use crate::reporter::Report;
 use disk_model::FourFiles;
 use std::path::PathBuf;
 use std::{fmt, io};
-use tcp_service::{Counts, Unserved};
+use tcp_service::Unserved;
 use world_folder::{Reason, WorldFile};
 
 /// A file whose call failed, and why.
@@ -63,6 +66,8 @@ pub struct Printed<'a> {
 }
 
 impl fmt::Display for Printed<'_> {
+    ghost output = { λ printed. line_text (path_buf_bytes printed.paths.now.socket) printed.line };
+
     fn fmt<W: fmt::Write>(&self, f: &mut fmt::Formatter<W>) -> fmt::Result {
         match self.line {
             Line::Recovered { ended, from } => write!(f, "recovered {ended} from {from}"),
@@ -90,28 +95,11 @@ impl fmt::Display for Printed<'_> {
             Line::PortClosed => f.write_str("the port is closed: no more clients can come"),
             Line::SocketClosed => f.write_str("the socket is closed: no more clients can come"),
             Line::OutputFailed(error) => write!(f, "standard output: {error}"),
-            Line::Report(report) => write_report(f, report),
+            Line::Report(report) => write!(f, "{report}"),
             Line::Dropped(count) => write!(f, "lines dropped: {count}"),
             Line::Last => Ok(()),
         }
     }
-}
-
-// The figures of a server.
-fn write_report<W: fmt::Write>(f: &mut fmt::Formatter<W>, report: Report) -> fmt::Result {
-    let Counts {
-        sessions,
-        waiting,
-        tick,
-        acked,
-        image,
-        ..
-    } = report.counts;
-    let rate = report.rate;
-    write!(
-        f,
-        "tick {tick} acked {acked} image {image} sessions {sessions} batches/s {rate} waiting {waiting}"
-    )
 }
 
 // Adds the file that failed, and why.
@@ -126,7 +114,12 @@ fn write_failure<W: fmt::Write>(
     write!(f, ": {}: {}", path_of(paths, file).as_str(), Reason(error))
 }
 
-fn path_of(paths: &FourFiles<PathBuf>, file: WorldFile) -> &PathBuf {
+fn path_of(paths: &FourFiles<PathBuf>, file: WorldFile) -> &PathBuf
+    ensures image_a { file ≡ WorldFile.ImageA → result.now ≡ paths.now.image_a }
+    ensures image_b { file ≡ WorldFile.ImageB → result.now ≡ paths.now.image_b }
+    ensures log_a { file ≡ WorldFile.LogA → result.now ≡ paths.now.log_a }
+    ensures log_b { file ≡ WorldFile.LogB → result.now ≡ paths.now.log_b }
+{
     match file {
         WorldFile::ImageA => &paths.image_a,
         WorldFile::ImageB => &paths.image_b,

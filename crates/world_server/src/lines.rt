@@ -1,4 +1,5 @@
 //! The lines of a running server.
+ghost use Rattle.std.specs.Prelude.{◌≡◌, None, Some, IfSome};
 
 use crate::line::{Failure, Line};
 use crate::place::Place;
@@ -145,7 +146,12 @@ impl<R: Wait + Net + Copy> Door for Lines<R> {
 fn first_failure(
     a: (WorldFile, Option<&io::Error>),
     b: (WorldFile, Option<&io::Error>),
-) -> Option<Failure> {
+) -> Option<Failure>
+    ensures none { a.entry.1 ≡ None → b.entry.1 ≡ None → result ≡ None }
+    ensures first { IfSome a.entry.1 (λ error. result ≡ Some (record { file = a.entry.0; error = error.now })) }
+    ensures second { a.entry.1 ≡ None
+        → IfSome b.entry.1 (λ error. result ≡ Some (record { file = b.entry.0; error = error.now })) }
+{
     match (a, b) {
         ((file, Some(error)), _) | (_, (file, Some(error))) => Some(Failure {
             file,

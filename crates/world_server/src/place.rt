@@ -1,4 +1,6 @@
 //! The place where a server listens, as its threads know it.
+ghost use Rattle.std.specs.Prelude.{◌≡◌};
+ghost use Rattle.world_server.specs.Lines.{listening_line, closed_line};
 
 use crate::line::Line;
 use crate::socket::SocketFile;
@@ -19,7 +21,9 @@ pub enum Place {
 
 impl Place {
     /// Says that clients may come.
-    pub fn listening(&self) -> Line {
+    pub fn listening(&self) -> Line
+        ensures { result ≡ listening_line self.now }
+    {
         match self {
             Place::Port(address) => Line::Listening(address.port()),
             Place::Socket(_) => Line::ListeningAtSocket,
@@ -27,7 +31,9 @@ impl Place {
     }
 
     /// Says that no more can come.
-    pub fn closed(&self) -> Line {
+    pub fn closed(&self) -> Line
+        ensures { result ≡ closed_line self.now }
+    {
         match self {
             Place::Port(_) => Line::PortClosed,
             Place::Socket(_) => Line::SocketClosed,

@@ -1,9 +1,11 @@
 //! The figures of a running server, printed again and again.
-ghost use Rattle.std.specs.Prelude.{◌≡◌, ◌≤◌, ◌<◌, ◌-◌, ◌/◌};
+ghost use Rattle.std.specs.Prelude.{◌≡◌, ◌≤◌, ◌<◌, ◌-◌, ◌/◌, Some};
+ghost use Rattle.world_server.specs.Lines.{report_text};
 
 use crate::line::Line;
 use crate::printer::Printer;
 use std::alloc::Global;
+use std::fmt;
 use std::sync::{Arc, Wait};
 use std::thread::{self, Threads};
 use std::time::{Clock, Duration};
@@ -16,6 +18,18 @@ pub struct Report {
     pub counts: Counts,
     /// How many batches were answered by a tick each second.
     pub rate: u64,
+}
+
+impl fmt::Display for Report {
+    ghost output = { λ report. Some (report_text report) };
+
+    fn fmt<W: fmt::Write>(&self, f: &mut fmt::Formatter<W>) -> fmt::Result {
+        let Report { counts, rate } = self;
+        let (tick, acked, image) = (counts.tick, counts.acked, counts.image);
+        let (sessions, waiting) = (counts.sessions, counts.waiting);
+        write!(f, "tick {tick} acked {acked} image {image}")?;
+        write!(f, " sessions {sessions} batches/s {rate} waiting {waiting}")
+    }
 }
 
 /// Starts a thread that prints the figures each time so many seconds have passed. It runs on up to the program's end.

@@ -1,6 +1,8 @@
 ghost use Rattle.std.specs.Prelude.{◌≡◌, ◌≢◌, IfSome, IfNone};
 ghost use Rattle.world_server.specs.declared.socket.SocketMode.{SocketMode as Mode};
 ghost use Rattle.world_server.specs.Socket.{mode_word};
+ghost use Rattle.shared_capture.specs.declared.method.Kind.{Kind as MethodKind};
+ghost use Rattle.world_server.specs.Methods.{method_word};
 
 use crate::arguments::{FOLDER, folder_argument, value_argument};
 use crate::help::SERVE_HELP;
@@ -164,7 +166,10 @@ pub fn service_of<'a>(matches: &ArgMatches<'a>) -> Option<Service<'a>> {
     })
 }
 
-fn method_of(name: &str) -> Option<Kind> {
+fn method_of(name: &str) -> Option<Kind>
+    ensures some { IfSome result (λ kind. name.now ≡ method_word kind) }
+    ensures none { IfNone result ((kind : MethodKind) → name.now ≢ method_word kind) }
+{
     match name {
         "zigzag" => Some(Kind::Zigzag),
         "pingpong" => Some(Kind::PingPong),

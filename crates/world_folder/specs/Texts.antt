@@ -1,0 +1,75 @@
+-- The texts of reports and figures, as people read them.
+use Rattle.std.specs.Prelude.{ℕ, ◌-◌, List, [], ◌++◌, ◌==◌, if◌then◌else◌, codes, decimal, Option, Some, None}
+use Rattle.world_actions.specs.declared.world.TheConstants.{CELLS, LIMIT}
+use Rattle.file_format.specs.declared.slot.Slot.{Slot}
+use Rattle.file_format.specs.declared.slot.Slot.TheVariants.{A, B}
+use Rattle.action_log.specs.declared.format.TheConstants.{SEGMENT_TICKS}
+use Rattle.world_folder.specs.declared.told.ImageTold.{ImageTold}
+use Rattle.world_folder.specs.declared.told.ImageTold.TheVariants as image
+use Rattle.world_folder.specs.declared.told.LogTold.{LogTold}
+use Rattle.world_folder.specs.declared.told.LogTold.TheVariants as log
+use Rattle.world_folder.specs.declared.figures.Figures.{Figures as FiguresValue}
+use Rattle.world_folder.specs.declared.words_text.BadWords.{BadWords}
+use Rattle.world_folder.specs.declared.words_text.BadWords.TheVariants as bad
+use Rattle.world_folder.specs.declared.world_file.TheConstants.{IMAGE_A, IMAGE_B, LOG_A, LOG_B}
+use Rattle.world_folder.specs.Told.{format_number}
+
+-- a count and its noun, which is in the plural unless the count is 1
+abbrev pub counted_text : (count : ℕ) → (noun : List ℕ) → List ℕ
+counted_text count noun = decimal count ++ codes " " ++ noun ++ (if count == 1 then [] else codes "s")
+
+-- ---- a world
+
+-- the tick of a world, and that of the image from which it was built
+abbrev pub world_text : (tick from : ℕ) → List ℕ
+world_text tick from = decimal tick ++ codes " from " ++ decimal from
+
+abbrev pub image_name : Slot → List ℕ
+image_name A = IMAGE_A.now
+image_name B = IMAGE_B.now
+
+-- a recovered world, and the file of its image
+abbrev pub recovered_text : (tick from : ℕ) → Slot → List ℕ
+recovered_text tick from slot = codes "recovered " ++ world_text tick from ++ codes " in " ++ image_name slot
+
+-- ---- files
+
+abbrev pub image_told_text : ImageTold → List ℕ
+image_told_text image.Closed = codes "closed"
+image_told_text image.Damaged = codes "damaged"
+image_told_text (image.Open format cells tick) =
+    codes "open, format " ++ decimal (format_number format) ++ codes ", " ++ counted_text cells (codes "cell") ++ codes ", tick " ++ decimal tick
+
+abbrev pub log_told_text : LogTold → List ℕ
+log_told_text log.Closed = codes "closed"
+log_told_text log.Damaged = codes "damaged"
+log_told_text (log.Open format base groups ticks) =
+    codes "open, format " ++ decimal (format_number format) ++ codes ", base " ++ decimal base
+    ++ codes ", " ++ counted_text groups (codes "group") ++ codes ", " ++ counted_text ticks (codes "tick")
+
+-- ---- figures
+
+abbrev pub log_name : Slot → List ℕ
+log_name A = LOG_A.now
+log_name B = LOG_B.now
+
+-- the segment that the log continues in, and how many ticks it has
+abbrev pub segment_text : Option (Slot × ℕ) → List ℕ
+segment_text (Some (slot, ticks)) = log_name slot ++ codes " has " ++ decimal ticks ++ codes " of " ++ decimal SEGMENT_TICKS
+segment_text None = codes "no segment is open"
+
+abbrev pub figures_text : FiguresValue → List ℕ
+figures_text figures = recovered_text figures.tick figures.image figures.slot
+    ++ codes "\nlog: " ++ counted_text (figures.tick - figures.image) (codes "tick") ++ codes " behind the image, " ++ segment_text figures.segment
+
+-- ---- a text that lists no words
+
+abbrev pub bad_line_text : (line : ℕ) → List ℕ
+bad_line_text line =
+    codes "line " ++ decimal line ++ codes " has something other than numbers from 0 to " ++ decimal LIMIT ++ codes " with one space between them"
+
+abbrev pub bad_words_text : BadWords → List ℕ
+bad_words_text bad.NoMemory = codes "there is no memory for its words"
+bad_words_text bad.Empty = codes "it has no word"
+bad_words_text bad.TooMany = codes "it has more than " ++ decimal CELLS ++ codes " words"
+bad_words_text (bad.Line line) = bad_line_text line
