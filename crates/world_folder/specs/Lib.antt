@@ -2,6 +2,7 @@ pub mod WorldFile
 pub mod Fault
 pub mod OwnFile
 pub mod Told
+pub mod Copying
 pub mod Ending
 pub mod Making
 pub mod WordsText

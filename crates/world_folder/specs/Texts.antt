@@ -1,9 +1,11 @@
 -- The texts of reports and figures, as people read them.
-use Rattle.std.specs.Prelude.{ℕ, ◌-◌, List, [], ◌++◌, ◌==◌, if◌then◌else◌, codes, decimal, Option, Some, None}
+use Rattle.std.specs.Prelude.{ℕ, ◌+◌, ◌-◌, ◌^◌, min, List, [], ◌++◌, ◌==◌, if◌then◌else◌, codes, decimal, Option, Some, None}
 use Rattle.world_actions.specs.declared.world.TheConstants.{CELLS, LIMIT}
+use Rattle.disk_model.specs.declared.four_files.FourFiles.{FourFiles}
 use Rattle.file_format.specs.declared.slot.Slot.{Slot}
 use Rattle.file_format.specs.declared.slot.Slot.TheVariants.{A, B}
 use Rattle.action_log.specs.declared.format.TheConstants.{SEGMENT_TICKS}
+use Rattle.world_folder.specs.declared.fault.Damaged.{Damaged}
 use Rattle.world_folder.specs.declared.told.ImageTold.{ImageTold}
 use Rattle.world_folder.specs.declared.told.ImageTold.TheVariants as image
 use Rattle.world_folder.specs.declared.told.LogTold.{LogTold}
@@ -47,6 +49,10 @@ log_told_text (log.Open format base groups ticks) =
     codes "open, format " ++ decimal (format_number format) ++ codes ", base " ++ decimal base
     ++ codes ", " ++ counted_text groups (codes "group") ++ codes ", " ++ counted_text ticks (codes "tick")
 
+-- the names of the damaged files of two
+abbrev pub damaged_names : Damaged → (a b : List ℕ) → List ℕ
+damaged_names damaged a b = if damaged.a then (if damaged.b then a ++ codes " and " ++ b else a) else b
+
 -- ---- figures
 
 abbrev pub log_name : Slot → List ℕ
@@ -61,6 +67,18 @@ segment_text None = codes "no segment is open"
 abbrev pub figures_text : FiguresValue → List ℕ
 figures_text figures = recovered_text figures.tick figures.image figures.slot
     ++ codes "\nlog: " ++ counted_text (figures.tick - figures.image) (codes "tick") ++ codes " behind the image, " ++ segment_text figures.segment
+
+-- how many bytes four files have together, as far as a number of 64 bits goes
+abbrev pub total_of : FourFiles ℕ → ℕ
+total_of lengths = min (lengths.image_a + lengths.image_b + lengths.log_a + lengths.log_b) (2 ^ 64 - 1)
+
+-- how many bytes each of two files has
+abbrev pub pair_text : (a : List ℕ) → (bytes_of_a : ℕ) → (b : List ℕ) → (bytes_of_b : ℕ) → List ℕ
+pair_text a bytes_of_a b bytes_of_b = a ++ codes " " ++ decimal bytes_of_a ++ codes ", " ++ b ++ codes " " ++ decimal bytes_of_b
+
+abbrev pub lengths_text : FourFiles ℕ → List ℕ
+lengths_text lengths = codes "bytes: " ++ pair_text IMAGE_A.now lengths.image_a IMAGE_B.now lengths.image_b
+    ++ codes ", " ++ pair_text LOG_A.now lengths.log_a LOG_B.now lengths.log_b ++ codes ", together " ++ decimal (total_of lengths)
 
 -- ---- a text that lists no words
 

@@ -1,5 +1,6 @@
 //! A copy of a world's files that is taken while a server writes them.
 ghost use Rattle.std.specs.Prelude.{◌≡◌, true, [], IfErr};
+ghost use Rattle.world_folder.specs.Copying.{copied_bytes};
 ghost use Rattle.world_folder.specs.Ending.{IsFault};
 
 use crate::ending::Ending;
@@ -155,7 +156,9 @@ fn are_alike(before: Look, within: Look, after: Look) -> bool
 }
 
 // How many bytes of each file are copied: all, and of the older image its head.
-fn copied_bytes(newest: Slot) -> FourFiles<usize> {
+fn copied_bytes(newest: Slot) -> FourFiles<usize>
+    ensures { result ≡ copied_bytes newest }
+{
     let (image_a, image_b) = match newest {
         Slot::A => (usize::MAX, IMAGE_HEAD),
         Slot::B => (IMAGE_HEAD, usize::MAX),

@@ -1,8 +1,9 @@
-ghost use Rattle.std.specs.Prelude.{◌≡◌, ◌⊎◌, ◌↔◌, IsTrue, Err, IfOk, IfErr};
+ghost use Rattle.std.specs.Prelude.{◌≡◌, ◌⊎◌, ◌↔◌, ◌++◌, IsTrue, Err, IfOk, IfErr};
 ghost use Rattle.image_files.specs.Image.{image_of};
 ghost use Rattle.action_log.specs.Segment.{MalformedSegment, IsSegment};
 ghost use Rattle.recovery.specs.Recovery.{Recovers, is_bad_image};
 ghost use Rattle.world_folder.specs.Fault.{Stands, Explains};
+ghost use Rattle.world_folder.specs.Texts.{damaged_names};
 
 use crate::world_file::{IMAGE_A, IMAGE_B, LOG_A, LOG_B};
 use action_log::read_log;
@@ -75,7 +76,9 @@ fn names_of(
     damaged: Damaged,
     a: &'static str,
     b: &'static str,
-) -> (&'static str, &'static str, &'static str) {
+) -> (&'static str, &'static str, &'static str)
+    ensures { result.0.now ++ result.1.now ++ result.2.now ≡ damaged_names damaged a.entry.now b.entry.now }
+{
     match (damaged.a, damaged.b) {
         (true, true) => (a, " and ", b),
         (true, false) => (a, "", ""),

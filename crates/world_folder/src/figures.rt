@@ -3,7 +3,7 @@ ghost use Rattle.std.specs.Prelude.{◌≡◌, IfOk, IfErr, Some};
 ghost use Rattle.world_folder.specs.Ending.{IsFault};
 ghost use Rattle.world_folder.specs.Told.{IsLogTold};
 ghost use Rattle.world_folder.specs.Figures.{AreFigures, current_segment, told_segment};
-ghost use Rattle.world_folder.specs.Texts.{figures_text, segment_text};
+ghost use Rattle.world_folder.specs.Texts.{figures_text, lengths_text, pair_text, segment_text, total_of};
 
 use crate::copying::copy_world;
 use crate::counted::Counted;
@@ -131,21 +131,47 @@ impl fmt::Display for SegmentTold {
 #[derive(Drop)]
 struct Lengths(FourFiles<u64>);
 
+impl Lengths {
+    fn total(&self) -> u64
+        ensures { result ≡ total_of self.now.0 }
+    {
+        let lengths = &self.0;
+        lengths
+            .image_a
+            .saturating_add(lengths.image_b)
+            .saturating_add(lengths.log_a)
+            .saturating_add(lengths.log_b)
+    }
+}
+
 impl fmt::Display for Lengths {
+    ghost output = { λ lengths. Some (lengths_text lengths.0) };
+
     fn fmt<W: fmt::Write>(&self, f: &mut fmt::Formatter<W>) -> fmt::Result {
-        let FourFiles {
-            image_a,
-            image_b,
-            log_a,
-            log_b,
-        } = &self.0;
-        let sum = image_a
-            .saturating_add(*image_b)
-            .saturating_add(*log_a)
-            .saturating_add(*log_b);
-        write!(
-            f,
-            "bytes: {IMAGE_A} {image_a}, {IMAGE_B} {image_b}, {LOG_A} {log_a}, {LOG_B} {log_b}, together {sum}"
-        )
+        let images = PairLengths {
+            a: (IMAGE_A, self.0.image_a),
+            b: (IMAGE_B, self.0.image_b),
+        };
+        let logs = PairLengths {
+            a: (LOG_A, self.0.log_a),
+            b: (LOG_B, self.0.log_b),
+        };
+        let total = self.total();
+        write!(f, "bytes: {images}, {logs}, together {total}")
+    }
+}
+
+// How many bytes each of two files has, with their names.
+#[derive(Clone, Copy)]
+struct PairLengths {
+    a: (&'static str, u64),
+    b: (&'static str, u64),
+}
+
+impl fmt::Display for PairLengths {
+    ghost output = { λ pair. Some (pair_text pair.a.0.now pair.a.1 pair.b.0.now pair.b.1) };
+
+    fn fmt<W: fmt::Write>(&self, f: &mut fmt::Formatter<W>) -> fmt::Result {
+        write!(f, "{} {}, {} {}", self.a.0, self.a.1, self.b.0, self.b.1)
     }
 }

@@ -2,3 +2,4 @@ pub mod Serving
 pub mod Socket
 pub mod Lines
 pub mod Methods
+pub mod Paths

@@ -1,6 +1,7 @@
 //! The socket of a server. It has a file, whose permissions say who may connect.
-ghost use Rattle.std.specs.Prelude.{◌≡◌, ◌≢◌, Err, IsSome, IsOk, IsErr, IfErr};
+ghost use Rattle.std.specs.Prelude.{◌≡◌, ◌≢◌, ◌<◌, length, Err, IsSome, IsOk, IsErr, IfOk, IfErr};
 ghost use Rattle.std.specs.IoError.{error_kind};
+ghost use Rattle.std.specs.Path.{path_buf_bytes};
 ghost use Rattle.std.specs.Fs.{file_type, IsDir, IsFile, IsSymlink};
 
 use std::fs::{self, DirBuilder, Files, Metadata, Permissions};
@@ -75,7 +76,10 @@ pub fn listen_at<R: Files + Net + AllocGlobal>(
     rt: &R,
     path: &str,
     mode: SocketMode,
-) -> io::Result<(Listener, SocketFile)> {
+) -> io::Result<(Listener, SocketFile)>
+    ensures path { IfOk result (λ made. path_buf_bytes made.1.path ≡ path.now) }
+    ensures long { 101 < length path.now → IsErr result }
+{
     if path.len() > LONGEST_PATH {
         return Err(io::Error::other("a socket's path has at most 101 bytes"));
     }

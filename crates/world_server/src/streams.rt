@@ -1,6 +1,7 @@
 //! The two standard streams of a server.
-ghost use Rattle.std.specs.Prelude.{◌≡◌, ◌≢◌, Ok, Err, IfErr};
+ghost use Rattle.std.specs.Prelude.{◌≡◌, ◌≢◌, Ok, Err, IfOk, IfErr};
 ghost use Rattle.world_folder.specs.Ending.{IsFault};
+ghost use Rattle.world_server.specs.Paths.{ArePathsIn, ArePathsOf};
 ghost use Rattle.world_server.specs.Serving.{EndsServing};
 
 use crate::line::Paths;
@@ -86,7 +87,9 @@ fn heard(ending: Ending, printed: io::Result<()>) -> Ending
 }
 
 // The paths that the lines of a server may name.
-fn paths_of(alloc: Global, service: &Service<'_>) -> Result<Paths, AllocError> {
+fn paths_of(alloc: Global, service: &Service<'_>) -> Result<Paths, AllocError>
+    ensures { IfOk result (ArePathsOf service.now) }
+{
     let socket = match service.address {
         Address::Port(_) => "",
         Address::Socket { path, .. } => path,
@@ -97,7 +100,9 @@ fn paths_of(alloc: Global, service: &Service<'_>) -> Result<Paths, AllocError> {
     })
 }
 
-fn files_of(alloc: Global, folder: &str) -> Result<FourFiles<PathBuf>, AllocError> {
+fn files_of(alloc: Global, folder: &str) -> Result<FourFiles<PathBuf>, AllocError>
+    ensures { IfOk result (ArePathsIn folder.now) }
+{
     Ok(FourFiles {
         image_a: path_of(alloc, folder, IMAGE_A)?,
         image_b: path_of(alloc, folder, IMAGE_B)?,

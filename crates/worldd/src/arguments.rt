@@ -1,3 +1,13 @@
+ghost use Rattle.std.specs.Prelude.{ℕ, IfOk, IfSome, IfNone, [], ◌∷◌, codes};
+ghost use Rattle.clap.specs.Words.{found_of, IsParsedFrom};
+ghost use Rattle.clap.specs.declared.builder.command.Command.{Command as WordsCommand};
+ghost use Rattle.world_actions.specs.declared.world.TheConstants.{CELLS as world_cells};
+ghost use Rattle.worldd.specs.Grammar.{value_rule, needed_rule, number_rule, flag_rule};
+ghost use Rattle.worldd.specs.Grammar.{folder_rule, inspect_rules, backup_rules};
+ghost use Rattle.worldd.specs.Grammar.{IsArgument, IsChoiceOf, IsCreate, HasArguments};
+ghost use Rattle.worldd.specs.Grammar.{HasCommands, HasGrammar};
+ghost use Rattle.worldd.specs.Values.{HasNumber};
+
 use crate::help::{BACKUP_HELP, CREATE_HELP, INSPECT_HELP, RECOVER_HELP, STATUS_HELP, STEPS_HELP};
 use crate::serve_arguments::serve_command;
 use clap::error::Error;
@@ -27,15 +37,16 @@ const RECOVER_ABOUT: &str = "Prints which world the files of a folder hold";
 const STATUS_ABOUT: &str = "Prints figures of the world in a folder, also while it is served";
 
 /// Reads the words by the command line's grammar. The error has clap's text.
-pub fn matches_of<'a>(alloc: Global, words: &'a [String]) -> Result<ArgMatches<'a>, Error> {
+pub fn matches_of<'a>(alloc: Global, words: &'a [String]) -> Result<ArgMatches<'a>, Error>
+    ensures { IfOk result (λ matches. (command : WordsCommand) × HasGrammar command × IsParsedFrom command matches) }
+{
     commands(alloc)?.try_get_matches_from(words)
 }
 
-fn commands<'a>(alloc: Global) -> Result<Command<'a>, AllocError> {
-    Command::new(alloc, "worldd")
-        .version(VERSION_WITH_FORMATS)
-        .about("A main-memory world server with asynchronous checkpoints")
-        .subcommand_required(true)
+fn commands<'a>(alloc: Global) -> Result<Command<'a>, AllocError>
+    ensures { IfOk result HasGrammar }
+{
+    no_command(alloc)
         .subcommand(steps_command(alloc))?
         .subcommand(create_command(alloc)?)?
         .subcommand(folder_command(alloc, "recover", RECOVER_ABOUT, RECOVER_HELP)?)?
@@ -45,26 +56,42 @@ fn commands<'a>(alloc: Global) -> Result<Command<'a>, AllocError> {
         .subcommand(serve_command(alloc)?)
 }
 
-fn steps_command<'a>(alloc: Global) -> Command<'a> {
+// The program's words, of no command yet.
+fn no_command<'a>(alloc: Global) -> Command<'a>
+    ensures { HasCommands [] result }
+{
+    Command::new(alloc, "worldd")
+        .version(VERSION_WITH_FORMATS)
+        .about("A main-memory world server with asynchronous checkpoints")
+        .subcommand_required(true)
+}
+
+fn steps_command<'a>(alloc: Global) -> Command<'a>
+    ensures { HasArguments (codes "steps") [] [] result }
+{
     Command::new(alloc, "steps")
         .about("Runs the script on standard input, over a world in memory")
         .after_help(STEPS_HELP)
 }
 
-// A command on the world in a folder.
-fn folder_command<'a>(
+/// A command on the world in a folder.
+pub fn folder_command<'a>(
     alloc: Global,
     name: &'a str,
     about: &'a str,
     after_help: &'a str,
-) -> Result<Command<'a>, AllocError> {
+) -> Result<Command<'a>, AllocError>
+    ensures { IfOk result (HasArguments name.entry.now (folder_rule ∷ []) []) }
+{
     Command::new(alloc, name)
         .about(about)
         .after_help(after_help)
         .arg(folder_argument(alloc))
 }
 
-fn create_command<'a>(alloc: Global) -> Result<Command<'a>, AllocError> {
+fn create_command<'a>(alloc: Global) -> Result<Command<'a>, AllocError>
+    ensures { IfOk result IsCreate }
+{
     let about = "Makes the files of a new world in a folder";
     folder_command(alloc, "create", about, CREATE_HELP)?
         .arg(cells_argument(alloc))?
@@ -73,23 +100,31 @@ fn create_command<'a>(alloc: Global) -> Result<Command<'a>, AllocError> {
 }
 
 // Exactly one of the number of cells and the words is wanted.
-fn content_group<'a>(alloc: Global) -> Result<ArgGroup<'a>, AllocError> {
+fn content_group<'a>(alloc: Global) -> Result<ArgGroup<'a>, AllocError>
+    ensures { IfOk result (IsChoiceOf (codes "content") (codes "cells" ∷ codes "words" ∷ [])) }
+{
     let group = ArgGroup::new(alloc, CONTENT).arg(CELLS)?.arg(WORDS)?;
     Ok(group.required(true))
 }
 
-fn inspect_command<'a>(alloc: Global) -> Result<Command<'a>, AllocError> {
+fn inspect_command<'a>(alloc: Global) -> Result<Command<'a>, AllocError>
+    ensures { IfOk result (HasArguments (codes "inspect") inspect_rules []) }
+{
     let about = "Prints what each file of a folder holds, and which world they hold together";
     folder_command(alloc, "inspect", about, INSPECT_HELP)?.arg(words_argument(alloc))
 }
 
-fn backup_command<'a>(alloc: Global) -> Result<Command<'a>, AllocError> {
+fn backup_command<'a>(alloc: Global) -> Result<Command<'a>, AllocError>
+    ensures { IfOk result (HasArguments (codes "backup") backup_rules []) }
+{
     let about = "Copies the world in a folder, also while it is served";
     folder_command(alloc, "backup", about, BACKUP_HELP)?.arg(to_argument(alloc))
 }
 
 /// An argument with a value, by its long name.
-pub fn value_argument<'a>(alloc: Global, name: &'a str, value: &'a str, help: &'a str) -> Arg<'a> {
+pub fn value_argument<'a>(alloc: Global, name: &'a str, value: &'a str, help: &'a str) -> Arg<'a>
+    ensures { IsArgument (value_rule name.entry.now) result }
+{
     Arg::new(alloc, name)
         .long(name)
         .value_name(value)
@@ -97,30 +132,48 @@ pub fn value_argument<'a>(alloc: Global, name: &'a str, value: &'a str, help: &'
         .help(help)
 }
 
-/// The argument that names a folder.
-pub fn folder_argument<'a>(alloc: Global) -> Arg<'a> {
+// The argument that names a folder.
+fn folder_argument<'a>(alloc: Global) -> Arg<'a>
+    ensures { IsArgument folder_rule result }
+{
     let help = "The folder of image.a, image.b, log.a and log.b";
     value_argument(alloc, FOLDER, "FOLDER", help).required(true)
 }
 
-fn cells_argument<'a>(alloc: Global) -> Arg<'a> {
+fn cells_argument<'a>(alloc: Global) -> Arg<'a>
+    ensures { IsArgument (number_rule (codes "cells") 1 world_cells []) result }
+{
     let cells = value_parser!(u32).range(1..=i64::from(world_actions::CELLS));
     value_argument(alloc, CELLS, "N", "The number of cells, all 0").value_parser(cells)
 }
 
-fn list_argument<'a>(alloc: Global) -> Arg<'a> {
+fn list_argument<'a>(alloc: Global) -> Arg<'a>
+    ensures { IsArgument (value_rule (codes "words")) result }
+{
     let help = "A file with the words of the cells, in the place of their number";
     value_argument(alloc, WORDS, "FILE", help)
 }
 
-fn to_argument<'a>(alloc: Global) -> Arg<'a> {
+fn to_argument<'a>(alloc: Global) -> Arg<'a>
+    ensures { IsArgument (needed_rule (codes "to")) result }
+{
     let help = "The folder of the copy, which has to be empty";
     value_argument(alloc, TO, "FOLDER", help).required(true)
 }
 
-fn words_argument<'a>(alloc: Global) -> Arg<'a> {
+fn words_argument<'a>(alloc: Global) -> Arg<'a>
+    ensures { IsArgument (flag_rule (codes "words")) result }
+{
     Arg::new(alloc, WORDS)
         .long(WORDS)
         .action(ArgAction::SetTrue)
         .help("Prints the words of the world too, on a line of their own")
+}
+
+/// The number of this name, if it has one.
+pub fn number_of(given: &ArgMatches<'_>, name: &str) -> Option<u32>
+    ensures some { IfSome result (HasNumber 32 (found_of given.now) name.now) }
+    ensures none { IfNone result ((number : ℕ) → HasNumber 32 (found_of given.now) name.now number → ⊥) }
+{
+    given.get_one(name)
 }

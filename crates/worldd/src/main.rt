@@ -9,17 +9,17 @@
 //! and with 10 if its listener failed.
 #![tactic(auto)]
 
-ghost use Rattle.std.specs.Prelude.{◌≡◌, ◌≤◌, IfSome};
-ghost use Rattle.world_actions.specs.declared.world.TheConstants.{CELLS as world_cells};
+ghost use Rattle.std.specs.Prelude.{◌≡◌, IfNone};
 
 mod arguments;
 mod help;
+mod invocation;
 mod serve_arguments;
 mod streams;
 
-use arguments::{CELLS, FOLDER, TO, WORDS, matches_of};
-use clap::ArgMatches;
+use arguments::matches_of;
 use command_line::{NotRun, command_words, refused, take_standard_streams, unreadable};
+use invocation::{Invocation, invocation_of};
 use serve_arguments::service_of;
 use std::fs::{File, Files};
 use std::io;
@@ -43,7 +43,7 @@ fn main(rt: HostRuntime) -> Ending {
     match matches_of(rt.alloc(), &words) {
         Ok(matches) => match service_of(&matches) {
             Some(service) => serve(&rt, &service),
-            None => run(&rt, &matches),
+            None => run(&rt, invocation_of(&matches)),
         },
         Err(error) => not_run(refused(&rt, &error)),
     }
@@ -52,48 +52,24 @@ fn main(rt: HostRuntime) -> Ending {
 // Does what the words ask for, except `serve`, which needs more of the system.
 fn run<R: Input + Print + Eprint + Clock + Files<File = File> + AllocGlobal + Clone + Drop>(
     rt: &R,
-    matches: &ArgMatches<'_>,
-) -> Ending {
-    let Some((name, given)) = matches.subcommand() else {
+    invocation: Option<Invocation<'_>>,
+) -> Ending
+    ensures { IfNone invocation (result ≡ Ending.Mistaken) }
+{
+    let Some(invocation) = invocation else {
         return Ending::Mistaken;
     };
-    match (name, given.get_str(FOLDER)) {
-        ("steps", _) => run_steps(rt.alloc(), rt.reader(), io::writer(rt)),
-        ("create", Some(folder)) => create_asked(rt, folder, given),
-        ("recover", Some(folder)) => Ending::of_command(recover(rt, folder)),
-        ("inspect", Some(folder)) => {
-            Ending::of_command(inspect(rt, folder, given.get_flag(WORDS)))
+    match invocation {
+        Invocation::Steps => run_steps(rt.alloc(), rt.reader(), io::writer(rt)),
+        Invocation::Create { folder, cells } => Ending::of_command(create(rt, folder, cells)),
+        Invocation::CreateOfWords { folder, words } => {
+            Ending::of_command(create_of_words(rt, folder, words))
         }
-        ("status", Some(folder)) => Ending::of_command(status(rt, folder)),
-        ("backup", Some(folder)) => match given.get_str(TO) {
-            Some(to) => Ending::of_command(back_up(rt, folder, to)),
-            None => Ending::Mistaken,
-        },
-        _ => Ending::Mistaken,
+        Invocation::Recover { folder } => Ending::of_command(recover(rt, folder)),
+        Invocation::Inspect { folder, words } => Ending::of_command(inspect(rt, folder, words)),
+        Invocation::Status { folder } => Ending::of_command(status(rt, folder)),
+        Invocation::BackUp { folder, to } => Ending::of_command(back_up(rt, folder, to)),
     }
-}
-
-// Makes the world that is asked for: of a file's words, or of so many cells.
-fn create_asked<R: Print + Files<File = File> + AllocGlobal>(
-    rt: &R,
-    folder: &str,
-    given: &ArgMatches<'_>,
-) -> Ending {
-    match (given.get_str(WORDS), cells_of(given)) {
-        (Some(list), _) => Ending::of_command(create_of_words(rt, folder, list)),
-        (None, Some(cells)) => Ending::of_command(create(rt, folder, cells)),
-        (None, None) => Ending::Mistaken,
-    }
-}
-
-// How many cells are asked for.
-fn cells_of(given: &ArgMatches<'_>) -> Option<u32>
-    ensures { IfSome result (λ cells. (1 ≤ cells) × (cells ≤ world_cells)) }
-{
-    let cells = given.get_one::<u32>(CELLS)?;
-    (1..=world_actions::CELLS as u32)
-        .contains(&cells)
-        .then_some(cells)
 }
 
 // How the program ends if it isn't run.

@@ -1,10 +1,20 @@
-ghost use Rattle.std.specs.Prelude.{◌≡◌, ◌≢◌, IfSome, IfNone};
+ghost use Rattle.std.specs.Prelude.{◌≡◌, ◌≢◌, ◌⊎◌, ℕ, [], ◌∷◌, Some, IfOk, IfSome, IfNone, codes};
+ghost use Rattle.clap.specs.declared.parser.matches.Found.{Found};
+ghost use Rattle.clap.specs.Words.{found_of, subcommand_name_of};
+ghost use Rattle.world_server.specs.declared.service.Address.{Address as AnAddress};
+ghost use Rattle.world_server.specs.declared.service.Service.{Service as AService};
 ghost use Rattle.world_server.specs.declared.socket.SocketMode.{SocketMode as Mode};
 ghost use Rattle.world_server.specs.Socket.{mode_word};
 ghost use Rattle.shared_capture.specs.declared.method.Kind.{Kind as MethodKind};
 ghost use Rattle.world_server.specs.Methods.{method_word};
+ghost use Rattle.worldd.specs.Grammar.{value_rule, number_rule, needed_number_rule, flag_rule};
+ghost use Rattle.worldd.specs.Grammar.{method_rule, method_words, mode_rule, mode_words};
+ghost use Rattle.worldd.specs.Grammar.{IsArgument, IsChoice, IsChoiceOf, Excludes, IsServe};
+ghost use Rattle.worldd.specs.Invocation.{IsCommand};
+ghost use Rattle.worldd.specs.Service.{AsksFor, AsksForAddress};
+ghost use Rattle.worldd.specs.Values.{HasNumber};
 
-use crate::arguments::{FOLDER, folder_argument, value_argument};
+use crate::arguments::{FOLDER, folder_command, number_of, value_argument};
 use crate::help::SERVE_HELP;
 use clap::error::Error;
 use clap::{Arg, ArgAction, ArgGroup, ArgMatches, Command, value_parser};
@@ -38,11 +48,11 @@ const EXIT_WHEN_LOG_DOWN: &str = "exit-when-log-down";
 const ADDRESS: &str = "address";
 
 /// The command `serve`, with its arguments.
-pub fn serve_command<'a>(alloc: Global) -> Result<Command<'a>, AllocError> {
-    Command::new(alloc, SERVE)
-        .about("Serves the world in the files of a folder to clients of a port or of a socket")
-        .after_help(SERVE_HELP)
-        .arg(folder_argument(alloc))?
+pub fn serve_command<'a>(alloc: Global) -> Result<Command<'a>, AllocError>
+    ensures { IfOk result IsServe }
+{
+    let about = "Serves the world in the files of a folder to clients of a port or of a socket";
+    folder_command(alloc, SERVE, about, SERVE_HELP)?
         .arg(method_argument(alloc))?
         .arg(every_argument(alloc))?
         .arg(port_argument(alloc))?
@@ -55,34 +65,41 @@ pub fn serve_command<'a>(alloc: Global) -> Result<Command<'a>, AllocError> {
         .group(address_group(alloc)?)
 }
 
-fn method_argument<'a>(alloc: Global) -> Arg<'a> {
+fn method_argument<'a>(alloc: Global) -> Arg<'a>
+    ensures { IsChoice method_rule method_words result }
+{
     let help = "How the words of a tick are captured while play continues";
     value_argument(alloc, METHOD, "METHOD", help)
         .required(true)
         .value_parser(["zigzag", "pingpong"].as_slice())
 }
 
-fn every_argument<'a>(alloc: Global) -> Arg<'a> {
+fn every_argument<'a>(alloc: Global) -> Arg<'a>
+    ensures { IsArgument (number_rule (codes "every") 1 65_536 (codes "64" ∷ [])) result }
+{
     value_argument(alloc, EVERY, "E", "After how many ticks an image is due")
         .default_value("64")
         .value_parser(value_parser!(u32).range(1..=65_536))
 }
 
-fn every_of(given: &ArgMatches<'_>) -> Option<Every> {
-    Some(Every(given.get_one(EVERY)?))
-}
-
-fn port_argument<'a>(alloc: Global) -> Arg<'a> {
+fn port_argument<'a>(alloc: Global) -> Arg<'a>
+    ensures { IsArgument (number_rule (codes "port") 0 65_535 []) result }
+{
     let help = "The port on 127.0.0.1, 0 for one that the system chooses";
     value_argument(alloc, PORT, "P", help).value_parser(value_parser!(u16))
 }
 
-fn socket_argument<'a>(alloc: Global) -> Arg<'a> {
+fn socket_argument<'a>(alloc: Global) -> Arg<'a>
+    ensures { IsArgument (value_rule (codes "socket")) result }
+{
     let help = "The path of a socket, in the place of a port";
     value_argument(alloc, SOCKET, "PATH", help)
 }
 
-fn socket_mode_argument<'a>(alloc: Global) -> Result<Arg<'a>, AllocError> {
+fn socket_mode_argument<'a>(alloc: Global) -> Result<Arg<'a>, AllocError>
+    ensures choice { IfOk result (IsChoice mode_rule mode_words) }
+    ensures excludes { IfOk result (Excludes (codes "port" ∷ [])) }
+{
     let help = "Who may connect to the socket: its owner, its group too, or everyone";
     value_argument(alloc, SOCKET_MODE, "MODE", help)
         .default_value("0600")
@@ -91,19 +108,31 @@ fn socket_mode_argument<'a>(alloc: Global) -> Result<Arg<'a>, AllocError> {
 }
 
 // Exactly one of the port and the socket is wanted.
-fn address_group<'a>(alloc: Global) -> Result<ArgGroup<'a>, AllocError> {
+fn address_group<'a>(alloc: Global) -> Result<ArgGroup<'a>, AllocError>
+    ensures { IfOk result (IsChoiceOf (codes "address") (codes "port" ∷ codes "socket" ∷ [])) }
+{
     let group = ArgGroup::new(alloc, ADDRESS).arg(PORT)?.arg(SOCKET)?;
     Ok(group.required(true))
 }
 
-fn address_of<'a>(given: &ArgMatches<'a>) -> Option<Address<'a>> {
+fn address_of<'a>(given: &ArgMatches<'a>) -> Option<Address<'a>>
+    ensures some { IfSome result (AsksForAddress (found_of given.now)) }
+    ensures none { IfNone result ((address : AnAddress) → AsksForAddress (found_of given.now) address → ⊥) }
+{
     match given.get_str(SOCKET) {
         Some(path) => Some(Address::Socket {
             path,
             mode: mode_of(given.get_str(SOCKET_MODE)?)?,
         }),
-        None => Some(Address::Port(given.get_one(PORT)?)),
+        None => Some(Address::Port(port_of(given)?)),
     }
+}
+
+fn port_of(given: &ArgMatches<'_>) -> Option<u16>
+    ensures some { IfSome result (HasNumber 16 (found_of given.now) (codes "port")) }
+    ensures none { IfNone result ((port : ℕ) → HasNumber 16 (found_of given.now) (codes "port") port → ⊥) }
+{
+    given.get_one(PORT)
 }
 
 fn mode_of(text: &str) -> Option<SocketMode>
@@ -118,50 +147,65 @@ fn mode_of(text: &str) -> Option<SocketMode>
     }
 }
 
-fn clients_argument<'a>(alloc: Global) -> Arg<'a> {
+fn clients_argument<'a>(alloc: Global) -> Arg<'a>
+    ensures { IsArgument (needed_number_rule (codes "clients") 1 100_000) result }
+{
     let help = "After how many connections it accepts no more";
     value_argument(alloc, CLIENTS, "K", help)
         .required(true)
         .value_parser(value_parser!(u32).range(1..=100_000))
 }
 
-fn clients_of(given: &ArgMatches<'_>) -> Option<Clients> {
-    Some(Clients(given.get_one(CLIENTS)?))
-}
-
-fn idle_argument<'a>(alloc: Global) -> Arg<'a> {
+fn idle_argument<'a>(alloc: Global) -> Arg<'a>
+    ensures { IsArgument (number_rule (codes "idle") 1 86_400 []) result }
+{
     let help = "After how many seconds of silence a client's session ends; never by default";
     value_argument(alloc, IDLE, "SECONDS", help).value_parser(value_parser!(u32).range(1..=86_400))
 }
 
-fn report_argument<'a>(alloc: Global) -> Arg<'a> {
+fn report_argument<'a>(alloc: Global) -> Arg<'a>
+    ensures { IsArgument (number_rule (codes "report") 0 86_400 (codes "0" ∷ [])) result }
+{
     let help = "After how many seconds figures are printed, again and again; 0 for never";
     value_argument(alloc, REPORT, "SECONDS", help)
         .default_value("0")
         .value_parser(value_parser!(u32).range(0..=86_400))
 }
 
-fn exit_argument<'a>(alloc: Global) -> Arg<'a> {
+fn exit_argument<'a>(alloc: Global) -> Arg<'a>
+    ensures { IsArgument (flag_rule (codes "exit-when-log-down")) result }
+{
     Arg::new(alloc, EXIT_WHEN_LOG_DOWN)
         .long(EXIT_WHEN_LOG_DOWN)
         .action(ArgAction::SetTrue)
         .help("Ends with status 12 as soon as the log is down")
 }
 
-/// The service that is asked for, if the command is `serve`.
-pub fn service_of<'a>(matches: &ArgMatches<'a>) -> Option<Service<'a>> {
-    let (name, given) = matches.subcommand()?;
-    if name != SERVE {
-        return None;
-    }
+/// The service that the words ask for, if the command is `serve`.
+pub fn service_of<'a>(matches: &ArgMatches<'a>) -> Option<Service<'a>>
+    ensures some { IfSome result (λ service. (found : Found)
+        × IsCommand matches.now (codes "serve") found × AsksFor found service) }
+    ensures none { IfNone result ((subcommand_name_of matches.now ≢ Some (codes "serve"))
+        ⊎ ((found : Found) × IsCommand matches.now (codes "serve") found
+        × ((service : AService) → AsksFor found service → ⊥))) }
+{
+    let given = matches.subcommand_matches(SERVE)?;
+    service_in(given)
+}
+
+// The service that these values of the command ask for.
+fn service_in<'a>(given: &ArgMatches<'a>) -> Option<Service<'a>>
+    ensures some { IfSome result (AsksFor (found_of given.now)) }
+    ensures none { IfNone result ((service : AService) → AsksFor (found_of given.now) service → ⊥) }
+{
     Some(Service {
         folder: given.get_str(FOLDER)?,
         method: method_of(given.get_str(METHOD)?)?,
-        every: every_of(given)?,
+        every: Every(number_of(given, EVERY)?),
         address: address_of(given)?,
-        clients: clients_of(given)?,
-        idle: given.get_one(IDLE),
-        report: given.get_one(REPORT)?,
+        clients: Clients(number_of(given, CLIENTS)?),
+        idle: number_of(given, IDLE),
+        report: number_of(given, REPORT)?,
         exits_when_log_down: given.get_flag(EXIT_WHEN_LOG_DOWN),
     })
 }

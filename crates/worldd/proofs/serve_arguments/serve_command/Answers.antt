@@ -1,0 +1,43 @@
+use Rattle.std.proofs.Common.{[], ◌∷◌, codes}
+use Rattle.std.proofs.lemmas.Result.{IfOk-weaker}
+use Rattle.clap.specs.Words.{AddsGroup}
+use Rattle.clap.specs.declared.builder.command.Command.{Command}
+use Rattle.worldd.specs.Grammar.{IsServe, flag_rule, method_rule, mode_rule, needed_number_rule, number_rule, serve_rules, value_rule}
+use Rattle.worldd.proofs.GrammarLemmas.{argument_added, group_added}
+use Rattle.worldd.proofs.serve_arguments.serve_command.Goals as goal
+
+pub returns : goal.returns
+returns c =
+    let methods = c.method_argument.result.value_parser in
+    let modes = c.in_ok-socket_mode_argument.field-0.value_parser in
+    let method = argument_added (codes "serve") _ [] (method_rule methods) c.in_ok-folder_command.field-0 c.in_ok-arg.field-0 c.method_argument.result
+    c.in_ok-folder_command.ensures c.method_argument.ensures.0 c.in_ok-arg.ensures in
+    let every = argument_added (codes "serve") _ [] (number_rule (codes "every") 1 65_536 (codes "64" ∷ [])) c.in_ok-arg.field-0 c.in_ok-arg-2.field-0 c.every_argument.result
+    method c.every_argument.ensures c.in_ok-arg-2.ensures in
+    let port = argument_added (codes "serve") _ [] (number_rule (codes "port") 0 65_535 []) c.in_ok-arg-2.field-0 c.in_ok-arg-3.field-0 c.port_argument.result
+    every c.port_argument.ensures c.in_ok-arg-3.ensures in
+    let socket = argument_added (codes "serve") _ [] (value_rule (codes "socket")) c.in_ok-arg-3.field-0 c.in_ok-arg-4.field-0 c.socket_argument.result
+    port c.socket_argument.ensures c.in_ok-arg-4.ensures in
+    let mode = argument_added (codes "serve") _ [] (mode_rule modes) c.in_ok-arg-4.field-0 c.in_ok-arg-5.field-0 c.in_ok-socket_mode_argument.field-0
+    socket c.in_ok-socket_mode_argument.ensures.choice.0 c.in_ok-arg-5.ensures in
+    let clients = argument_added (codes "serve") _ [] (needed_number_rule (codes "clients") 1 100_000) c.in_ok-arg-5.field-0 c.in_ok-arg-6.field-0 c.clients_argument.result
+    mode c.clients_argument.ensures c.in_ok-arg-6.ensures in
+    let idle = argument_added (codes "serve") _ [] (number_rule (codes "idle") 1 86_400 []) c.in_ok-arg-6.field-0 c.in_ok-arg-7.field-0 c.idle_argument.result
+    clients c.idle_argument.ensures c.in_ok-arg-7.ensures in
+    let report = argument_added (codes "serve") _ [] (number_rule (codes "report") 0 86_400 (codes "0" ∷ [])) c.in_ok-arg-7.field-0 c.in_ok-arg-8.field-0 c.report_argument.result
+    idle c.report_argument.ensures c.in_ok-arg-8.ensures in
+    let exit = argument_added (codes "serve") _ [] (flag_rule (codes "exit-when-log-down")) c.in_ok-arg-8.field-0 c.in_ok-arg-9.field-0 c.exit_argument.result
+    report c.exit_argument.ensures c.in_ok-arg-9.ensures in
+    let all : (command : Command) → AddsGroup c.in_ok-arg-9.field-0 c.in_ok-address_group.field-0 command → IsServe command =
+    λ command adds. (
+      methods,
+      modes,
+      c.method_argument.ensures.1,
+      c.in_ok-socket_mode_argument.ensures.choice.1,
+      (
+        c.in_ok-address_group.field-0,
+        c.in_ok-address_group.ensures,
+        group_added (codes "serve") (serve_rules methods modes) c.in_ok-arg-9.field-0 command c.in_ok-address_group.field-0 exit adds,
+      ),
+    ) in
+    IfOk-weaker _ _ _ all c.group.ensures

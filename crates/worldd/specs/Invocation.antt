@@ -1,0 +1,32 @@
+-- What a command line asks for.
+use Rattle.std.specs.Prelude.{◌≡◌, ◌≤◌, ℕ, List, Some, None, option_map, codes}
+use Rattle.clap.specs.declared.parser.matches.ArgMatches.{ArgMatches}
+use Rattle.clap.specs.declared.parser.matches.Found.{Found}
+use Rattle.clap.specs.Words.{first_value, rows_of, subcommand_name_of, subcommand_rows_of}
+use Rattle.world_actions.specs.declared.world.TheConstants.{CELLS}
+use Rattle.worldd.specs.declared.invocation.Invocation.{Invocation}
+use Rattle.worldd.specs.declared.invocation.Invocation.TheVariants.{Steps, Create, CreateOfWords, Recover, Inspect, Status, BackUp}
+use Rattle.worldd.specs.Values.{HasFlag, HasNumber}
+
+-- the words are of this command, and these are its values
+abbrev pub IsCommand : ArgMatches → (name : List ℕ) → Found → Type 0
+IsCommand matches name found = (subcommand_name_of matches ≡ Some name)
+    × (option_map (λ p. p.1) (subcommand_rows_of matches) ≡ Some (rows_of found))
+
+-- the values ask for so many cells, of which a world may have so many
+abbrev pub AsksForCells : Found → (cells : ℕ) → Type 0
+AsksForCells found cells = HasNumber 32 found (codes "cells") cells × (1 ≤ cells) × (cells ≤ CELLS)
+
+-- the command of this name with these values asks for this
+abbrev pub AsksTo : (name : List ℕ) → Found → Invocation → Type 0
+AsksTo name found Steps = name ≡ codes "steps"
+AsksTo name found (Create folder cells) = (name ≡ codes "create") × (first_value found (codes "dir") ≡ Some folder.now)
+    × (first_value found (codes "words") ≡ None) × AsksForCells found cells
+AsksTo name found (CreateOfWords folder words) = (name ≡ codes "create") × (first_value found (codes "dir") ≡ Some folder.now)
+    × (first_value found (codes "words") ≡ Some words.now)
+AsksTo name found (Recover folder) = (name ≡ codes "recover") × (first_value found (codes "dir") ≡ Some folder.now)
+AsksTo name found (Inspect folder words) = (name ≡ codes "inspect") × (first_value found (codes "dir") ≡ Some folder.now)
+    × HasFlag found (codes "words") words
+AsksTo name found (Status folder) = (name ≡ codes "status") × (first_value found (codes "dir") ≡ Some folder.now)
+AsksTo name found (BackUp folder to) = (name ≡ codes "backup") × (first_value found (codes "dir") ≡ Some folder.now)
+    × (first_value found (codes "to") ≡ Some to.now)

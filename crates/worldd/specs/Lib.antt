@@ -1,0 +1,4 @@
+pub mod Grammar
+pub mod Invocation
+pub mod Service
+pub mod Values

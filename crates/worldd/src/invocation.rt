@@ -1,0 +1,90 @@
+//! What the words of a command line ask for, except `serve`.
+ghost use Rattle.std.specs.Prelude.{◌≡◌, ◌⊎◌, ℕ, List, Some, None, IfSome, IfNone, codes};
+ghost use Rattle.clap.specs.declared.parser.matches.Found.{Found};
+ghost use Rattle.clap.specs.Words.{first_value, found_of, subcommand_name_of};
+ghost use Rattle.worldd.specs.declared.invocation.Invocation.{Invocation as AnInvocation};
+ghost use Rattle.worldd.specs.Invocation.{IsCommand, AsksForCells, AsksTo};
+
+use crate::arguments::{CELLS, FOLDER, TO, WORDS, number_of};
+use clap::ArgMatches;
+
+/// The work of a command, except of `serve`.
+#[derive(Clone, Copy, Debug)]
+pub enum Invocation<'a> {
+    /// Runs a script over a world in memory.
+    Steps,
+    /// Makes a world of so many cells.
+    Create { folder: &'a str, cells: u32 },
+    /// Makes a world of the words in a file.
+    CreateOfWords { folder: &'a str, words: &'a str },
+    Recover { folder: &'a str },
+    /// Its words are printed too if that is asked for.
+    Inspect { folder: &'a str, words: bool },
+    Status { folder: &'a str },
+    BackUp { folder: &'a str, to: &'a str },
+}
+
+/// What the words ask for, if the command isn't `serve`.
+pub fn invocation_of<'a>(matches: &ArgMatches<'a>) -> Option<Invocation<'a>>
+    ensures some { IfSome result (λ invocation. (name : List ℕ) × (found : Found)
+        × IsCommand matches.now name found × AsksTo name found invocation) }
+    ensures none { IfNone result ((subcommand_name_of matches.now ≡ None)
+        ⊎ ((name : List ℕ) × (found : Found) × IsCommand matches.now name found
+        × ((invocation : AnInvocation) → AsksTo name found invocation → ⊥))) }
+{
+    let (name, given) = matches.subcommand()?;
+    invocation_in(name, given)
+}
+
+// What the command of this name asks for, with these values.
+fn invocation_in<'a>(name: &str, given: &ArgMatches<'a>) -> Option<Invocation<'a>>
+    ensures some { IfSome result (AsksTo name.now (found_of given.now)) }
+    ensures none { IfNone result ((invocation : AnInvocation)
+        → AsksTo name.now (found_of given.now) invocation → ⊥) }
+{
+    if name == "steps" {
+        return Some(Invocation::Steps);
+    }
+    let folder = given.get_str(FOLDER)?;
+    match name {
+        "create" => creation_in(folder, given),
+        "recover" => Some(Invocation::Recover { folder }),
+        "inspect" => Some(Invocation::Inspect {
+            folder,
+            words: given.get_flag(WORDS),
+        }),
+        "status" => Some(Invocation::Status { folder }),
+        "backup" => Some(Invocation::BackUp {
+            folder,
+            to: given.get_str(TO)?,
+        }),
+        _ => None,
+    }
+}
+
+// The world that is to be made in this folder: of a file's words, or of so many cells.
+fn creation_in<'a>(folder: &'a str, given: &ArgMatches<'a>) -> Option<Invocation<'a>>
+    requires { first_value (found_of given.now) (codes "dir") ≡ Some folder.now }
+    ensures some { IfSome result (AsksTo (codes "create") (found_of given.now)) }
+    ensures none { IfNone result ((invocation : AnInvocation)
+        → AsksTo (codes "create") (found_of given.now) invocation → ⊥) }
+{
+    match given.get_str(WORDS) {
+        Some(words) => Some(Invocation::CreateOfWords { folder, words }),
+        None => Some(Invocation::Create {
+            folder,
+            cells: cells_of(given)?,
+        }),
+    }
+}
+
+// How many cells are asked for.
+fn cells_of(given: &ArgMatches<'_>) -> Option<u32>
+    ensures some { IfSome result (AsksForCells (found_of given.now)) }
+    ensures none { IfNone result ((cells : ℕ) → AsksForCells (found_of given.now) cells → ⊥) }
+{
+    let cells = number_of(given, CELLS)?;
+    (1..=world_actions::CELLS as u32)
+        .contains(&cells)
+        .then_some(cells)
+}
