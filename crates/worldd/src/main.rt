@@ -54,7 +54,7 @@ fn run<R: Input + Print + Eprint + Clock + Files<File = File> + AllocGlobal + Cl
     rt: &R,
     invocation: Option<Invocation<'_>>,
 ) -> Ending
-    ensures { IfNone invocation (result ≡ Ending.Mistaken) }
+    ensures { IfNone invocation.entry (result ≡ Ending.Mistaken) }
 {
     let Some(invocation) = invocation else {
         return Ending::Mistaken;
