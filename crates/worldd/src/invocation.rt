@@ -1,4 +1,4 @@
-//! What the words of a command line ask for, except `serve`.
+//! The work that a command line asks for, except `serve`.
 ghost use Rattle.std.specs.Prelude.{◌≡◌, ◌⊎◌, ℕ, List, Some, None, IfSome, IfNone, codes};
 ghost use Rattle.clap.specs.declared.parser.matches.Found.{Found};
 ghost use Rattle.clap.specs.Words.{first_value, found_of, subcommand_name_of};
@@ -24,7 +24,7 @@ pub enum Invocation<'a> {
     BackUp { folder: &'a str, to: &'a str },
 }
 
-/// What the words ask for, if the command isn't `serve`.
+/// The work that the words ask for, if the command isn't `serve`.
 pub fn invocation_of<'a>(matches: &ArgMatches<'a>) -> Option<Invocation<'a>>
     ensures some { IfSome result (λ invocation. (name : List ℕ) × (found : Found)
         × IsCommand matches.now name found × AsksTo name found invocation) }
@@ -36,7 +36,7 @@ pub fn invocation_of<'a>(matches: &ArgMatches<'a>) -> Option<Invocation<'a>>
     invocation_in(name, given)
 }
 
-// What the command of this name asks for, with these values.
+// The work that the command of this name asks for, with these values.
 fn invocation_in<'a>(name: &str, given: &ArgMatches<'a>) -> Option<Invocation<'a>>
     ensures some { IfSome result (AsksTo name.now (found_of given.now)) }
     ensures none { IfNone result ((invocation : AnInvocation)
