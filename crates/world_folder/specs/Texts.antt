@@ -91,3 +91,12 @@ bad_words_text bad.NoMemory = codes "there is no memory for its words"
 bad_words_text bad.Empty = codes "it has no word"
 bad_words_text bad.TooMany = codes "it has more than " ++ decimal CELLS ++ codes " words"
 bad_words_text (bad.Line line) = bad_line_text line
+
+-- a file that lists no words, and why
+abbrev pub unlisted_text : (path : List ℕ) → BadWords → List ℕ
+unlisted_text path why = path ++ codes ": " ++ bad_words_text why
+
+-- ---- a folder that isn't empty
+
+abbrev pub filled_text : (path : List ℕ) → List ℕ
+filled_text path = path ++ codes ": the folder isn't empty: choose an empty one"

@@ -1,6 +1,8 @@
-ghost use Rattle.std.specs.Prelude.{◌≡◌};
+ghost use Rattle.std.specs.Prelude.{◌≡◌, Some};
+ghost use Rattle.std.specs.Path.{path_buf_bytes};
 ghost use Rattle.std.specs.Process.{exit_status};
 ghost use Rattle.world_folder.specs.Ending.{status_of};
+ghost use Rattle.world_folder.specs.Texts.{filled_text, unlisted_text};
 
 use crate::fault::Fault;
 use crate::folder::Unreadable;
@@ -74,6 +76,8 @@ pub struct Filled {
 }
 
 impl fmt::Display for Filled {
+    ghost output = { λ filled. Some (filled_text (path_buf_bytes filled.path)) };
+
     fn fmt<W: fmt::Write>(&self, f: &mut fmt::Formatter<W>) -> fmt::Result {
         write!(
             f,
@@ -91,6 +95,8 @@ pub struct Unlisted {
 }
 
 impl fmt::Display for Unlisted {
+    ghost output = { λ unlisted. Some (unlisted_text (path_buf_bytes unlisted.path) unlisted.why) };
+
     fn fmt<W: fmt::Write>(&self, f: &mut fmt::Formatter<W>) -> fmt::Result {
         write!(f, "{}: {}", self.path.as_str(), self.why)
     }

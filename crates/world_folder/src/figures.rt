@@ -1,6 +1,7 @@
 //! Figures of a world, from its files alone.
 ghost use Rattle.std.specs.Prelude.{◌≡◌, IfOk, IfErr, Some};
 ghost use Rattle.world_folder.specs.Ending.{IsFault};
+ghost use Rattle.world_folder.specs.Fault.{Explains};
 ghost use Rattle.world_folder.specs.Told.{IsLogTold};
 ghost use Rattle.world_folder.specs.Figures.{AreFigures, current_segment, told_segment};
 ghost use Rattle.world_folder.specs.Texts.{figures_text, lengths_text, pair_text, segment_text, total_of};
@@ -35,7 +36,8 @@ pub struct Figures {
 
 /// The figures of a world whose files have these bytes.
 pub fn figures_of(alloc: Global, files: &FourFiles<Vec<u8>>) -> Result<Figures, Fault>
-    ensures { IfOk result (AreFigures files.now) }
+    ensures figures { IfOk result (AreFigures files.now) }
+    ensures fault { IfErr result (Explains files.now) }
 {
     let (Ok(log_a), Ok(log_b)) = (tell_log(alloc, &files.log_a), tell_log(alloc, &files.log_b))
     else {

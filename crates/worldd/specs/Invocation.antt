@@ -13,9 +13,18 @@ abbrev pub IsCommand : ArgMatches → (name : List ℕ) → Found → Type 0
 IsCommand matches name found = (subcommand_name_of matches ≡ Some name)
     × (option_map (λ p. p.1) (subcommand_rows_of matches) ≡ Some (rows_of found))
 
+-- a world may have so many cells
+abbrev pub IsWorldSize : (cells : ℕ) → Type 0
+IsWorldSize cells = (1 ≤ cells) × (cells ≤ CELLS)
+
+-- a world that is to be made may have its cells
+abbrev pub IsPossible : Invocation → Type 0
+IsPossible (Create folder cells) = IsWorldSize cells
+IsPossible invocation = Unit {0}
+
 -- the values ask for so many cells, of which a world may have so many
 abbrev pub AsksForCells : Found → (cells : ℕ) → Type 0
-AsksForCells found cells = HasNumber 32 found (codes "cells") cells × (1 ≤ cells) × (cells ≤ CELLS)
+AsksForCells found cells = HasNumber 32 found (codes "cells") cells × IsWorldSize cells
 
 -- the command of this name with these values asks for this
 abbrev pub AsksTo : (name : List ℕ) → Found → Invocation → Type 0

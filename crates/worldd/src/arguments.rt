@@ -1,5 +1,5 @@
-ghost use Rattle.std.specs.Prelude.{ℕ, IfOk, IfSome, IfNone, [], ◌∷◌, codes};
-ghost use Rattle.clap.specs.Words.{found_of, IsParsedFrom};
+ghost use Rattle.std.specs.Prelude.{ℕ, map, string_bytes, IfOk, IfSome, IfNone, [], ◌∷◌, codes};
+ghost use Rattle.clap.specs.Words.{app_of, found_of, HasMatchesOf, IsParsedFrom};
 ghost use Rattle.clap.specs.declared.builder.command.Command.{Command as WordsCommand};
 ghost use Rattle.world_actions.specs.declared.world.TheConstants.{CELLS as world_cells};
 ghost use Rattle.worldd.specs.Grammar.{value_rule, needed_rule, number_rule, flag_rule};
@@ -38,7 +38,8 @@ const STATUS_ABOUT: &str = "Prints figures of the world in a folder, also while 
 
 /// Reads the words by the command line's grammar. The error has clap's text.
 pub fn matches_of<'a>(alloc: Global, words: &'a [String]) -> Result<ArgMatches<'a>, Error>
-    ensures { IfOk result (λ matches. (command : WordsCommand) × HasGrammar command × IsParsedFrom command matches) }
+    ensures { IfOk result (λ matches. (command : WordsCommand) × HasGrammar command
+        × IsParsedFrom command matches × HasMatchesOf (app_of command) (map string_bytes words.entry.now) matches) }
 {
     commands(alloc)?.try_get_matches_from(words)
 }

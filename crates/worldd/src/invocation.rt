@@ -3,7 +3,7 @@ ghost use Rattle.std.specs.Prelude.{◌≡◌, ◌⊎◌, ℕ, List, Some, None,
 ghost use Rattle.clap.specs.declared.parser.matches.Found.{Found};
 ghost use Rattle.clap.specs.Words.{first_value, found_of, subcommand_name_of};
 ghost use Rattle.worldd.specs.declared.invocation.Invocation.{Invocation as AnInvocation};
-ghost use Rattle.worldd.specs.Invocation.{IsCommand, AsksForCells, AsksTo};
+ghost use Rattle.worldd.specs.Invocation.{IsCommand, IsPossible, AsksForCells, AsksTo};
 
 use crate::arguments::{CELLS, FOLDER, TO, WORDS, number_of};
 use clap::ArgMatches;
@@ -28,6 +28,7 @@ pub enum Invocation<'a> {
 pub fn invocation_of<'a>(matches: &ArgMatches<'a>) -> Option<Invocation<'a>>
     ensures some { IfSome result (λ invocation. (name : List ℕ) × (found : Found)
         × IsCommand matches.now name found × AsksTo name found invocation) }
+    ensures possible { IfSome result IsPossible }
     ensures none { IfNone result ((subcommand_name_of matches.now ≡ None)
         ⊎ ((name : List ℕ) × (found : Found) × IsCommand matches.now name found
         × ((invocation : AnInvocation) → AsksTo name found invocation → ⊥))) }
@@ -39,6 +40,7 @@ pub fn invocation_of<'a>(matches: &ArgMatches<'a>) -> Option<Invocation<'a>>
 // The work that the command of this name asks for, with these values.
 fn invocation_in<'a>(name: &str, given: &ArgMatches<'a>) -> Option<Invocation<'a>>
     ensures some { IfSome result (AsksTo name.now (found_of given.now)) }
+    ensures possible { IfSome result IsPossible }
     ensures none { IfNone result ((invocation : AnInvocation)
         → AsksTo name.now (found_of given.now) invocation → ⊥) }
 {
@@ -66,6 +68,7 @@ fn invocation_in<'a>(name: &str, given: &ArgMatches<'a>) -> Option<Invocation<'a
 fn creation_in<'a>(folder: &'a str, given: &ArgMatches<'a>) -> Option<Invocation<'a>>
     requires { first_value (found_of given.now) (codes "dir") ≡ Some folder.now }
     ensures some { IfSome result (AsksTo (codes "create") (found_of given.now)) }
+    ensures possible { IfSome result IsPossible }
     ensures none { IfNone result ((invocation : AnInvocation)
         → AsksTo (codes "create") (found_of given.now) invocation → ⊥) }
 {

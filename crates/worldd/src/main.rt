@@ -9,7 +9,8 @@
 //! and with 10 if its listener failed.
 #![tactic(auto)]
 
-ghost use Rattle.std.specs.Prelude.{◌≡◌, IfNone};
+ghost use Rattle.std.specs.Prelude.{◌≡◌, IfSome, IfNone};
+ghost use Rattle.worldd.specs.Invocation.{IsPossible};
 
 mod arguments;
 mod help;
@@ -54,6 +55,7 @@ fn run<R: Input + Print + Eprint + Clock + Files<File = File> + AllocGlobal + Cl
     rt: &R,
     invocation: Option<Invocation<'_>>,
 ) -> Ending
+    requires { IfSome invocation IsPossible }
     ensures { IfNone invocation.entry (result ≡ Ending.Mistaken) }
 {
     let Some(invocation) = invocation else {

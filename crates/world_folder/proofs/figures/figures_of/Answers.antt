@@ -2,8 +2,8 @@ use Rattle.std.proofs.Common.{List, ℕ, subst, refl}
 use Rattle.world_folder.specs.Told.{IsLogTold}
 use Rattle.world_folder.proofs.figures.figures_of.Goals as goal
 
-pub returns-in-Ok : goal.returns-in-Ok
-returns-in-Ok c = record {
+pub returns-in-Ok-clause-figures : goal.returns-in-Ok-clause-figures
+returns-in-Ok-clause-figures c = record {
   found = c.in-Ok.found;
   stands = c.in-Ok.ensures.recovered;
   tick = refl;
