@@ -1,7 +1,8 @@
 -- The meaning of `==` on requests.
-use Rattle.std.proofs.Common.{◌≡◌, true, ◌==◌, ◌&&◌, List, [], ◌∷◌, refl, ap, ap₂, eqb-true}
+use Rattle.std.proofs.Common.{◌≡◌, true, ◌==◌, ◌&&◌, ℕ, List, [], ◌∷◌, refl, ap, ap₂, arith, eqb-true, subst}
 use Rattle.std.proofs.lemmas.Bool.{and_parts}
-use Rattle.std.proofs.lemmas.Bool.Decides.{Decides-int_eq}
+use Rattle.std.proofs.lemmas.Bool.Decides.{Decides-int_eq, nat_tests}
+use Rattle.std.proofs.lemmas.Grind.{common_steps}
 use Rattle.std.specs.Ordering.{int_eq}
 use lib.Pointwise.{pointwise}
 use Rattle.world_actions.specs.declared.action.Action.{Action}
@@ -59,3 +60,25 @@ same_requests (x ∷ xs) [] is = absurd (cc)
 same_requests (x ∷ xs) (y ∷ ys) is =
     let parts = and_parts (request.ghosts.eq x y) (pointwise request.ghosts.eq xs ys) is in
     ap₂ ◌∷◌ (same_request x y parts.0) (same_requests xs ys parts.1)
+
+number_is_itself : (x : ℕ) → (x == x) ≡ true
+number_is_itself x = grind (arith, nat_tests, common_steps)
+
+action_is_itself : (a : Action) → action.ghosts.eq a a ≡ true
+action_is_itself (Set x0 x1) = ap₂ ◌&&◌ (number_is_itself x0) (number_is_itself x1)
+action_is_itself (Add x0 x1) = ap₂ ◌&&◌ (number_is_itself x0) ((Decides-int_eq x1 x1).1 refl)
+action_is_itself (Transfer x0 x1 x2) = ap₂ ◌&&◌ (number_is_itself x0) (ap₂ ◌&&◌ (number_is_itself x1) (number_is_itself x2))
+action_is_itself (Swap x0 x1) = ap₂ ◌&&◌ (number_is_itself x0) (number_is_itself x1)
+action_is_itself (Cap x0 x1) = ap₂ ◌&&◌ (number_is_itself x0) (number_is_itself x1)
+
+request_is_itself : (a : Request) → request.ghosts.eq a a ≡ true
+request_is_itself (Act x) = action_is_itself x
+request_is_itself (Get m) = number_is_itself m
+request_is_itself Bad = refl
+
+requests_are_themselves : (xs : List Request) → pointwise request.ghosts.eq xs xs ≡ true
+requests_are_themselves [] = refl
+requests_are_themselves (x ∷ xs) = ap₂ ◌&&◌ (request_is_itself x) (requests_are_themselves xs)
+
+pub equal_requests : (xs ys : List Request) → xs ≡ ys → pointwise request.ghosts.eq xs ys ≡ true
+equal_requests xs ys are = subst (λ (zs : List Request). pointwise request.ghosts.eq xs zs ≡ true) are (requests_are_themselves xs)

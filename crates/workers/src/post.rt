@@ -1,5 +1,5 @@
 //! A batch on its way: asked for, waiting for its tick to be durable, and posted.
-ghost use Rattle.std.specs.Prelude.{◌≡◌, ◌+◌, ◌≤◌, true, IsTrue, IfOk, IfErr, OnOk, OnErr};
+ghost use Rattle.std.specs.Prelude.{◌≡◌, ◌+◌, ◌≤◌, ◌^◌, ◌↔◌, true, IsTrue, IfOk, IfErr, OnOk, OnErr};
 ghost use Rattle.workers.specs.Posts.{IsAnswer};
 ghost use Rattle.workers.specs.Logging.{IsDurable};
 
@@ -39,8 +39,8 @@ impl SessionBatch {
 
     // True if it is the last ask of this session, for this batch.
     fn is_last_of(&self, asker: &Asker, batch: &Batch) -> bool
-        ensures { result ≡ true
-            → self.now ≡ record { session = asker.now.session; ask = asker.now.asked; requests = batch.now.list } }
+        ensures { IsTrue result
+            ↔ (self.now ≡ record { session = asker.now.session; ask = asker.now.asked; requests = batch.now.list }) }
     {
         if self.session != asker.session || self.ask != asker.asked {
             return false;
@@ -51,7 +51,7 @@ impl SessionBatch {
 
 // True if two batches ask for the same.
 fn are_same(xs: &[Request], ys: &[Request]) -> bool
-    ensures { result ≡ true → xs.now ≡ ys.now }
+    ensures { IsTrue result ↔ (xs.now ≡ ys.now) }
 {
     xs == ys
 }
@@ -79,6 +79,7 @@ impl Asker {
         ensures counts { OnOk result (self.new ≡ record self.old { asked = self.old.asked + 1 }) }
         ensures unchanged { OnErr result (self.new ≡ self.old) }
         ensures ended { IfErr result (λ refusal. refusal ≡ Refusal.TicksEnded) }
+        ensures last { OnErr result (self.old.asked + 1 ≡ 2 ^ 64) }
     {
         let Some(ask) = self.asked.checked_add(1) else {
             return Err(Refusal::TicksEnded);
@@ -174,7 +175,7 @@ impl Model for Post {
 }
 
 impl Post {
-    ghost use Rattle.std.specs.Prelude.{◌≡◌, ◌≤◌, true};
+    ghost use Rattle.std.specs.Prelude.{◌≡◌, ◌≤◌, ◌↔◌, IsTrue};
 
     /// The number of the tick.
     pub fn tick(&self) -> u64
@@ -186,8 +187,8 @@ impl Post {
 
     /// True if it answers the last ask of this session, which was for this batch.
     pub fn is_for(&self, asker: &Asker, batch: &Batch) -> bool
-        ensures { result ≡ true → self.now.asked
-            ≡ record { session = asker.now.session; ask = asker.now.asked; requests = batch.now.list } }
+        ensures { IsTrue result ↔ (self.now.asked
+            ≡ record { session = asker.now.session; ask = asker.now.asked; requests = batch.now.list }) }
     {
         self.asked.is_last_of(asker, batch)
     }
