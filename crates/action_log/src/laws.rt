@@ -1,15 +1,16 @@
-ghost use Rattle.std.specs.Prelude.{◌≡◌, ◌↔◌, ◌+◌, ◌<◌, ◌≤◌, ℕ, Bool, true, false, IsTrue, ◌++◌, ◌∷◌, [], List, None, length};
+ghost use Rattle.std.specs.Prelude.{◌≡◌, ◌↔◌, ◌+◌, ◌<◌, ◌≤◌, ℕ, Bool, true, false, IsTrue, ◌++◌, ◌∷◌, [], List, None, length, take};
 ghost use Rattle.world_ticks.specs.declared.tick.TheConstants.{TICK_MAX};
 ghost use Rattle.world_ticks.specs.Tick.{Actions};
 ghost use Rattle.file_format.specs.Gate.{HasShutGate, HasNoShutGate};
 ghost use Rattle.file_format.specs.Slot.{of_slot};
 ghost use Rattle.disk_model.specs.Disk.{Only};
-ghost use Rattle.action_log.specs.declared.format.TheConstants.{SEGMENT_TICKS};
+ghost use Rattle.action_log.specs.declared.format.TheConstants.{HEADER_BYTES, SEGMENT_BYTES_MAX, SEGMENT_TICKS};
 ghost use Rattle.action_log.specs.declared.phase.Phase.TheVariants.{Ready};
 ghost use Rattle.action_log.specs.declared.progress.Progress.{Progress};
 ghost use Rattle.action_log.specs.declared.record.Record.{Record};
 ghost use Rattle.action_log.specs.declared.record.Record.TheVariants as records;
-ghost use Rattle.action_log.specs.Segment.{Tick, Segment, OpenSegment, IsSegment};
+ghost use Rattle.action_log.specs.Segment.{Tick, Segment, OpenSegment, IsSegment, IsOpenSegment, EndsGroups, joined};
+ghost use Rattle.action_log.specs.Extent.{HasNoGroups, IsExtent, ReadsAlike};
 ghost use Rattle.action_log.specs.Spellings.{LawOfSpellings, ReadsOnce, EachReads};
 ghost use Rattle.action_log.specs.Progress.{begun, start_left, QueueFollows, end_of};
 ghost use Rattle.action_log.specs.Logs.{Logs, Writing, JournalIs, LogPlace, start_of, start_moves};
@@ -24,6 +25,26 @@ pub fn segments_read_once()
     ensures apart { LawOfSpellings }
     ensures once { ReadsOnce }
     ensures each { EachReads }
+{}
+
+/// Laws: the reading of a segment by its first bytes. No byte counts behind a gate that ends the groups, or behind a
+/// header that is malformed or closed. A segment is malformed if its groups go on past the greatest length. The groups of
+/// an open segment end where its extent does, within the greatest length. A segment that is cut there has the groups of
+/// the extent.
+pub fn segment_extents()
+    ensures ended { (bytes file : List ℕ) (groups_end ticks : ℕ) → IsExtent bytes groups_end ticks true
+        → take (groups_end + 1) file ≡ take (groups_end + 1) bytes → ReadsAlike bytes file }
+    ensures past { (bytes behind : List ℕ) (groups_end ticks : ℕ) → IsExtent bytes groups_end ticks false
+        → SEGMENT_BYTES_MAX ≤ length bytes → ReadsAlike bytes (bytes ++ behind) }
+    ensures headless { (bytes behind : List ℕ) → HasNoGroups bytes → HEADER_BYTES ≤ length bytes
+        → ReadsAlike bytes (bytes ++ behind) }
+    ensures whole { (bytes : List ℕ) (groups_end ticks : ℕ) (ended : Bool) (base : ℕ) (list : List Tick)
+        → IsExtent bytes groups_end ticks ended → (segment : IsOpenSegment bytes base list)
+        → (groups_end + length segment.rest ≡ length bytes) × (groups_end < SEGMENT_BYTES_MAX) }
+    ensures cut { (bytes : List ℕ) (groups_end ticks : ℕ) (ended : Bool)
+        → (extent : IsExtent bytes groups_end ticks ended) → (behind : List ℕ) → EndsGroups behind
+        → HEADER_BYTES ≤ groups_end + length behind
+        → IsSegment (take groups_end bytes ++ behind) (OpenSegment extent.base (joined extent.groups)) }
 {}
 
 /// Laws: the records that may be queued behind others, and the base and count after them.

@@ -4,8 +4,10 @@ ghost use Rattle.action_log.specs.Segment.{MalformedSegment, IsSegment, IsOpenSe
 ghost use Rattle.action_log.specs.Reading.{IsJudged};
 ghost use Rattle.action_log.specs.LogState.{segment_in};
 
+mod extent;
 mod ticks;
 
+pub use self::extent::{Extent, extent_of};
 use self::ticks::{Counts, count_all, read_ticks};
 use crate::format::{FIRST_GROUP, HEADER_BYTES, SEGMENT_TICKS};
 use crate::tick_list::TickList;

@@ -11,7 +11,7 @@ use Rattle.world_ticks.specs.After.{after_ticks}
 use Rattle.action_log.specs.Segment.{IsSegment, Segment, ClosedSegment, MalformedSegment, OpenSegment}
 use Rattle.image_files.specs.Image.{Image, Closed, Bad, Open, image_of}
 use Rattle.recovery.specs.Recovery.{BothRead, Newest, newest, has_base, recovery_from, recovery_with, replayed, is_bad_image, is_bad_segment}
-use Rattle.recovery.specs.Sound.{IsWorldAt, HoldsWorld, IsSoundReading, IsSound}
+use Rattle.recovery.specs.Sound.{IsWorldAt, HoldsWorld, BeginsUpTo, IsSoundReading, IsSound}
 use Rattle.file_format.specs.Slot.{in_slot, beside_slot}
 use Rattle.image_files.specs.Images.{Round, Images, IsTarget, ImagesAre}
 use Rattle.action_log.specs.Logs.{Logs, IsCurrent, IsOther, LogsAre}
@@ -44,6 +44,23 @@ other_behind ticks newest logs (Some t) now leads at (inl e) = subst (λ s. IsBe
 other_behind ticks newest logs (Some t) now leads at (inr (inl e)) = subst (λ s. IsBehind logs.base s) (sym e) (closed_behind logs.base)
 other_behind ticks newest logs (Some t) now leads at (inr (inr e)) = subst (λ s. IsBehind logs.base s) (sym e) (next_behind logs.base t at.0)
 
+-- the other segment begins no later than a tick that the current segment's acknowledged ticks and the newest image reach
+before_begins : (ticks : List (List Action)) (newest base n : ℕ) (before : Segment) → LeadsTo ticks newest base before → base ≤ n → BeginsUpTo n before
+before_begins ticks newest base n ClosedSegment h le = tt
+before_begins ticks newest base n MalformedSegment h le = absurd h
+before_begins ticks newest base n (OpenSegment earlier first) h le = omega (arith, h.0, le)
+
+reached_begin : (end tick newest n : ℕ) → Reaches end tick newest → end ≤ n → newest ≤ n → tick ≤ n
+reached_begin end tick newest n (inl e) le from = omega (arith, e, le)
+reached_begin end tick newest n (inr h) le from = omega (arith, h.1, from)
+
+other_begins : (ticks : List (List Action)) (newest n : ℕ) (logs : Logs) (switch : Option ℕ) (now : Segment) → LeadsTo ticks newest logs.base logs.before → IsSwitchOf newest logs switch → IsOther logs.before switch now
+    → logs.base + length logs.kept ≤ n → newest ≤ n → BeginsUpTo n now
+other_begins ticks newest n logs None now leads at e le from = subst (BeginsUpTo n) (sym e) (before_begins ticks newest logs.base n logs.before leads (omega (arith, le)))
+other_begins ticks newest n logs (Some t) now leads at (inl e) le from = subst (BeginsUpTo n) (sym e) (before_begins ticks newest logs.base n logs.before leads (omega (arith, le)))
+other_begins ticks newest n logs (Some t) now leads at (inr (inl e)) le from = subst (BeginsUpTo n) (sym e) tt
+other_begins ticks newest n logs (Some t) now leads at (inr (inr e)) le from = subst (BeginsUpTo n) (sym e) (reached_begin (logs.base + length logs.kept) t newest n at.2 le from)
+
 -- up to this tick, or to the newest image's, all acknowledged ones are there
 abbrev pub Reached : (acknowledged end newest : ℕ) → Type 0
 Reached acknowledged end newest = (acknowledged ≤ end) ⊎ (acknowledged ≤ newest)
@@ -70,12 +87,13 @@ record Has (ticks : List (List Action)) (acknowledged newest : ℕ) (logs : Logs
   is : now ≡ OpenSegment logs.base here
   follows : FollowsFrom ticks logs.base here
   reaches : Reached acknowledged (logs.base + length here) newest
+  keeps : length logs.kept ≤ length here
 
 current_has : (ticks : List (List Action)) (acknowledged newest : ℕ) (logs : Logs) (now : Segment) → LogsFollow ticks acknowledged newest logs → IsCurrent logs now → Has ticks acknowledged newest logs now
-current_has ticks acknowledged newest logs now f (inl e) = record { here = logs.kept; is = e; follows = follows_front ticks logs.base logs.kept logs.pending f.taken; reaches = f.acknowledges }
+current_has ticks acknowledged newest logs now f (inl e) = record { here = logs.kept; is = e; follows = follows_front ticks logs.base logs.kept logs.pending f.taken; reaches = f.acknowledges; keeps = omega arith }
 current_has ticks acknowledged newest logs now f (inr e) =
     let more : logs.base + length logs.kept ≤ logs.base + length (logs.kept ++ logs.pending) = omega (arith, length-append logs.kept logs.pending) in
-    record { here = logs.kept ++ logs.pending; is = e; follows = f.taken; reaches = reached_more acknowledged (logs.base + length logs.kept) (logs.base + length (logs.kept ++ logs.pending)) newest f.acknowledges more }
+    record { here = logs.kept ++ logs.pending; is = e; follows = f.taken; reaches = reached_more acknowledged (logs.base + length logs.kept) (logs.base + length (logs.kept ++ logs.pending)) newest f.acknowledges more; keeps = omega (arith, length-append logs.kept logs.pending) }
 
 -- to a base behind the newest image's tick the segment before leads with no tick between
 meets : (end base newest : ℕ) → Reaches end base newest → newest < base → end ≡ base
@@ -96,6 +114,8 @@ from_before ticks acknowledged newest t base here (OpenSegment earlier first) f 
       is = tail_before earlier base first here leads.0 meet ∙ follows_on ticks earlier base first here meet leads.1 f;
       ended = fits;
       reaches = more;
+      a_begins = omega (arith, meet);
+      b_begins = omega arith;
     } in
     subst (λ n. IsTail ticks acknowledged n (OpenSegment base here) (OpenSegment earlier first)) same tail
 
@@ -103,22 +123,26 @@ untouched : (before : Segment) (switch : Option ℕ) (now : Segment) → switch 
 untouched before None now none e = e
 untouched before (Some t) now none e = absurd (let h = none in cc)
 
-log_tail : (ticks : List (List Action)) (acknowledged newest t : ℕ) (logs : Logs) (here : List (List Action)) (other : Segment) → LogsFollow ticks acknowledged newest logs → FollowsFrom ticks logs.base here → Reached acknowledged (logs.base + length here) newest → IsOther logs.before logs.switch other → IsBehind logs.base other → newest ≤ t → t ≤ length ticks → LeadsOn ticks logs t → IsTail ticks acknowledged t (OpenSegment logs.base here) other
-log_tail ticks acknowledged newest t logs here other f follows reaches is behind from ended (inl e) =
+log_tail : (ticks : List (List Action)) (acknowledged newest t : ℕ) (logs : Logs) (here : List (List Action)) (other : Segment) → LogsFollow ticks acknowledged newest logs → FollowsFrom ticks logs.base here → Reached acknowledged (logs.base + length here) newest → length logs.kept ≤ length here → IsOther logs.before logs.switch other → IsBehind logs.base other → newest ≤ t → t ≤ length ticks → LeadsOn ticks logs t → IsTail ticks acknowledged t (OpenSegment logs.base here) other
+log_tail ticks acknowledged newest t logs here other f follows reaches keeps is behind from ended (inl e) =
     let tail : IsTail ticks acknowledged logs.base (OpenSegment logs.base here) other = record {
       more = length here;
       is = tail_here logs.base here other behind ∙ follows.are;
       ended = follows.ended;
       reaches = reached_at acknowledged (logs.base + length here) newest logs.base (length here) reaches (omega arith) (omega arith);
+      a_begins = omega arith;
+      b_begins = other_begins ticks newest (logs.base + length here) logs logs.switch other f.before f.switch is (omega (arith, keeps)) (omega (arith, from, e));
     } in
     subst (λ n. IsTail ticks acknowledged n (OpenSegment logs.base here) other) (sym e) tail
-log_tail ticks acknowledged newest t logs here other f follows reaches is behind from ended (inr (inl past)) = record {
+log_tail ticks acknowledged newest t logs here other f follows reaches keeps is behind from ended (inr (inl past)) = record {
   more = 0;
   is = tail_past logs.base t here other past.0 behind;
   ended = omega arith;
   reaches = reached_at acknowledged (logs.base + length logs.kept) newest t 0 f.acknowledges from (omega (arith, past.1, length-append logs.kept logs.pending));
+  a_begins = omega (arith, past.0);
+  b_begins = other_begins ticks newest (t + 0) logs logs.switch other f.before f.switch is (omega (arith, past.1, length-append logs.kept logs.pending)) (omega (arith, from));
 }
-log_tail ticks acknowledged newest t logs here other f follows reaches is behind from ended (inr (inr at)) =
+log_tail ticks acknowledged newest t logs here other f follows reaches keeps is behind from ended (inr (inr at)) =
     let same : other ≡ logs.before = untouched logs.before logs.switch other at.0 is in
     subst (λ s. IsTail ticks acknowledged t (OpenSegment logs.base here) s) (sym same) (from_before ticks acknowledged newest t logs.base here logs.before follows reaches from f.before at.1)
 
@@ -133,7 +157,7 @@ log_pair : (ticks : List (List Action)) (acknowledged newest t : ℕ) (logs : Lo
 log_pair ticks acknowledged newest t logs current other f is_current is_other from ended leads =
     let has = current_has ticks acknowledged newest logs current f is_current in
     let behind = other_behind ticks newest logs logs.switch other f.before f.switch is_other in
-    let first = log_tail ticks acknowledged newest t logs has.here other f has.follows has.reaches is_other behind from ended leads in
+    let first = log_tail ticks acknowledged newest t logs has.here other f has.follows has.reaches has.keeps is_other behind from ended leads in
     let pair : LogPair ticks acknowledged t (OpenSegment logs.base has.here) other = record {
       first = first;
       second = other_order ticks acknowledged t logs.base has.here other behind first;
@@ -253,8 +277,9 @@ still_holds cells ticks most more (Open s v) le h = (omega (arith, h.0), h.1)
 -- the replay on the picked image is a sound reading
 pub picked_reading : (cells : ℕ) (ticks : List (List Action)) (acknowledged t : ℕ) (image_a image_b : Image) (log_a log_b : Segment) (p : Picked cells ticks t image_a image_b) → is_bad_segment log_a ≡ false → is_bad_segment log_b ≡ false
     → (more : ℕ) (words : List ℕ) → recovery_from (Some p.image) log_a log_b ≡ Ok (record { tick = p.image.tick + more; from = p.image.tick; slot = p.image.slot; words = words })
-    → acknowledged ≤ p.image.tick + more → IsWorldAt cells ticks (p.image.tick + more) words → IsSoundReading image_a image_b log_a log_b cells ticks acknowledged
-picked_reading cells ticks acknowledged t image_a image_b log_a log_b p fa fb more words is reaches world =
+    → acknowledged ≤ p.image.tick + more → IsWorldAt cells ticks (p.image.tick + more) words → BeginsUpTo (p.image.tick + more) log_a → BeginsUpTo (p.image.tick + more) log_b
+    → IsSoundReading image_a image_b log_a log_b cells ticks acknowledged
+picked_reading cells ticks acknowledged t image_a image_b log_a log_b p fa fb more words is reaches world begins_a begins_b =
     let n = p.image in
     let images_formed : (is_bad_image image_a || is_bad_image image_b) ≡ false = or_false (is_bad_image image_a) (is_bad_image image_b) (well_formed cells ticks n.tick image_a p.a_holds) (well_formed cells ticks n.tick image_b p.b_holds) in
     let logs_formed : (is_bad_segment log_a || is_bad_segment log_b) ≡ false = or_false (is_bad_segment log_a) (is_bad_segment log_b) fa fb in
@@ -270,6 +295,8 @@ picked_reading cells ticks acknowledged t image_a image_b log_a log_b p fa fb mo
       world = world;
       image_a_holds = still_holds cells ticks n.tick (n.tick + more) image_a later p.a_holds;
       image_b_holds = still_holds cells ticks n.tick (n.tick + more) image_b later p.b_holds;
+      log_a_begins = begins_a;
+      log_b_begins = begins_b;
     }
 
 pub sound_reading : (cells : ℕ) (ticks : List (List Action)) (acknowledged t : ℕ) (last : List ℕ) (image_a image_b : Image) (log_a log_b : Segment) → after_ticks cells ticks ≡ Ok last → Picked cells ticks t image_a image_b → IsTail ticks acknowledged t log_a log_b → is_bad_segment log_a ≡ false → is_bad_segment log_b ≡ false → IsSoundReading image_a image_b log_a log_b cells ticks acknowledged
@@ -281,7 +308,7 @@ sound_reading cells ticks acknowledged t last image_a image_b log_a log_b all p 
     let len : length rest ≡ at.more = omega (arith, length-take at.more (drop n.tick ticks), length-drop n.tick ticks, at.ended) in
     picked_reading cells ticks acknowledged t image_a image_b log_a log_b p fa fb at.more on.later_words
     (ap (replayed n) at.is ∙ ap (recovery_with n rest) on.replays ∙ ap (λ m. Ok (record { tick = n.tick + m; from = n.tick; slot = n.slot; words = on.later_words })) len)
-    at.reaches on.world
+    at.reaches on.world at.a_begins at.b_begins
 
 -- ---- the bases
 

@@ -14,7 +14,7 @@ use Rattle.action_log.specs.LogSteps.{StartStep}
 use Rattle.action_log.specs.declared.answer.LogAnswer.{LogAnswer}
 use Rattle.action_log.specs.declared.answer.LogAnswer.TheVariants as log_answer
 use Rattle.recovery.specs.Recovery.{words_after, tail, is_bad_segment}
-use Rattle.recovery.specs.Sound.{IsWorldAt, IsSound}
+use Rattle.recovery.specs.Sound.{IsWorldAt, BeginsUpTo, IsSound}
 use Rattle.recovery.specs.Follow.{IsRoundOf, round_tick}
 use Rattle.recovery.specs.Start.{IsStarting, IsFirstRound, FirstFollows}
 use Rattle.recovery.specs.Events.{IsKept, acknowledged_opened}
@@ -37,7 +37,7 @@ start_round_begins cells ticks acknowledged images next from start some s below 
       last = s.last;
       accepted = s.accepted;
       images_follow = record { newest = s.images_follow.newest; before = s.images_follow.before; round = (below, λ full. absurd (omega (arith, full, some))) };
-      start_follows = record { whole = f.whole; ahead = f.ahead; ends = f.ends; replays = f.replays; a_formed = f.a_formed; b_formed = f.b_formed; acknowledges = f.acknowledges; image = f.image; round = refl };
+      start_follows = record { whole = f.whole; ahead = f.ahead; ends = f.ends; replays = f.replays; a_formed = f.a_formed; b_formed = f.b_formed; a_begins = f.a_begins; b_begins = f.b_begins; acknowledges = f.acknowledges; image = f.image; round = refl };
     } in
     subst (λ i. IsStarting cells ticks acknowledged i from start) same begun
 
@@ -52,7 +52,7 @@ start_words cells ticks acknowledged images from start round taken s some of =
       last = s.last;
       accepted = s.accepted;
       images_follow = record { newest = s.images_follow.newest; before = s.images_follow.before; round = of };
-      start_follows = record { whole = f.whole; ahead = f.ahead; ends = f.ends; replays = f.replays; a_formed = f.a_formed; b_formed = f.b_formed; acknowledges = f.acknowledges; image = f.image; round = at };
+      start_follows = record { whole = f.whole; ahead = f.ahead; ends = f.ends; replays = f.replays; a_formed = f.a_formed; b_formed = f.b_formed; a_begins = f.a_begins; b_begins = f.b_begins; acknowledges = f.acknowledges; image = f.image; round = at };
     }
 
 start_opened : (cells : ℕ) (ticks : List (List Action)) (acknowledged : ℕ) (images : Images) (from : ℕ) (start : Start) (round : Round)
@@ -66,7 +66,7 @@ start_opened cells ticks acknowledged images from start round s some whole =
       last = s.last;
       accepted = s.accepted;
       images_follow = opened_follows cells ticks images round s.images_follow of whole;
-      start_follows = record { whole = f.whole; ahead = f.ahead; ends = f.ends; replays = f.replays; a_formed = f.a_formed; b_formed = f.b_formed; acknowledges = omega (arith, f.acknowledges, at); image = inl at; round = tt };
+      start_follows = record { whole = f.whole; ahead = f.ahead; ends = f.ends; replays = f.replays; a_formed = f.a_formed; b_formed = f.b_formed; a_begins = f.a_begins; b_begins = f.b_begins; acknowledges = omega (arith, f.acknowledges, at); image = inl at; round = tt };
     }
 
 module _ {S : Type 0} (took : S → Option Taken → S → Type 0) where
@@ -94,7 +94,7 @@ start_log_begins cells ticks acknowledged images from start s at =
       last = s.last;
       accepted = s.accepted;
       images_follow = s.images_follow;
-      start_follows = record { whole = f.whole; ahead = f.ahead; ends = f.ends; replays = f.replays; a_formed = f.a_formed; b_formed = f.b_formed; acknowledges = f.acknowledges; image = inl at; round = f.round };
+      start_follows = record { whole = f.whole; ahead = f.ahead; ends = f.ends; replays = f.replays; a_formed = f.a_formed; b_formed = f.b_formed; a_begins = f.a_begins; b_begins = f.b_begins; acknowledges = f.acknowledges; image = inl at; round = f.round };
     }
 
 start_ends : (cells : ℕ) (ticks : List (List Action)) (acknowledged : ℕ) (images : Images) (from : ℕ) (start : Start)
@@ -154,6 +154,8 @@ first_starting cells images start round f some whole =
         replays = λ words at. (words, ap (words_after words) none, subst (λ t. IsWorldAt cells [] t words) (sym f.at_zero) at);
         a_formed = ap is_bad_segment f.a_closed;
         b_formed = ap is_bad_segment f.b_closed;
+        a_begins = subst (BeginsUpTo start.tick) (sym f.a_closed) tt;
+        b_begins = subst (BeginsUpTo start.tick) (sym f.b_closed) tt;
         acknowledges = omega arith;
         image = inl (first.0 ∙ sym f.at_zero);
         round = tt;

@@ -50,6 +50,8 @@ sound_of_more a b la lb cells ticks most acknowledged count fewer s x y z w hx h
         world = world_of_more cells ticks most k.recovery.tick k.recovery.words k.world;
         image_a_holds = holds_of_more cells ticks most k.recovery.tick (image_of x) k.image_a_holds;
         image_b_holds = holds_of_more cells ticks most k.recovery.tick (image_of y) k.image_b_holds;
+        log_a_begins = k.log_a_begins;
+        log_b_begins = k.log_b_begins;
       };
     }
 

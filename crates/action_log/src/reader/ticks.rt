@@ -93,8 +93,8 @@ fn read_fields(kind: u8, fields: &[u8]) -> Option<(Action, &[u8])>
     }
 }
 
-// Returns the bytes after an open gate, if there is one.
-fn behind_gate(bytes: &[u8]) -> Option<&[u8]>
+/// Returns the bytes after an open gate, if there is one.
+pub(super) fn behind_gate(bytes: &[u8]) -> Option<&[u8]>
     ensures gate { IfSome result (λ group. bytes.now ≡ OPEN_GATE ∷ group.now) }
     ensures ends { IfNone result (EndsGroups bytes.now) }
 {
@@ -159,8 +159,8 @@ pub(super) struct Counts {
     pub(super) actions: usize,
 }
 
-// Counts the ticks and the actions of a group behind its gate, and returns the bytes after it.
-fn count_group(format: Format, bytes: &[u8]) -> Option<(usize, usize, &[u8])>
+/// Counts the ticks and the actions of a group behind its gate, and returns the bytes after it.
+pub(super) fn count_group(format: Format, bytes: &[u8]) -> Option<(usize, usize, &[u8])>
     ensures some { IfSome result (λ found. (ticks : List (List Action))
         × (group_at format bytes.now ≡ Some (ticks, found.2.now)) × (length ticks ≡ found.0)
         × (length (actions_of ticks) ≡ found.1)) }
