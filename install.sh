@@ -22,8 +22,7 @@ case $prefix in
 *) prefix=$PWD/$prefix ;;
 esac
 case $prefix in
-*[\"\'\\\`\$%\&\|]* | *'
-'*) fail 2 "a unit can't have the path $prefix: choose one without quotes and \\ \` \$ % & |" ;;
+*[\"\'\\\`\$%\&\|[:cntrl:]]*) fail 2 "a unit can't have the path $prefix: choose one without quotes, control characters and \\ \` \$ % & |" ;;
 esac
 command -v rt >/dev/null || fail 1 "there is no rt: put the bin folder of the Rattle kit on the PATH"
 

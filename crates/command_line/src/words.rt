@@ -18,6 +18,11 @@ pub fn unreadable<R: Eprint>(rt: &R, error: &io::Error) -> NotRun
     if error.kind() == ErrorKind::OutOfMemory {
         return NotRun::NoMemory;
     }
-    let _ = eprintln!(rt; "error: the command line can't be read: {error}");
+    let _ = match error.kind() {
+        ErrorKind::InvalidData => eprintln!(rt; "error: {NOT_TEXT}"),
+        _ => eprintln!(rt; "error: the command line can't be read: {error}"),
+    };
     NotRun::Mistaken
 }
+
+const NOT_TEXT: &str = "a word of the command line isn't UTF-8: a path has to be";

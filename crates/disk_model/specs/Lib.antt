@@ -4,5 +4,4 @@ pub mod FileKept
 pub mod CrashOutcome
 pub mod Leaving
 pub mod Fused
-pub mod KnownFile
 pub mod FourFiles

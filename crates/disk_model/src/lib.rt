@@ -6,13 +6,9 @@
 //!
 //! `ModelFile` is a file in memory that is exactly such a file. It keeps the durable bytes beside the content, and takes
 //! any crash that may happen. `Fused` makes a call of any disk fail.
-//!
-//! `FileDisk` is a file of the operating system. No contract states its content, or that it keeps to the disk model: it
-//! is not `honest`.
 #![tactic(auto)]
 
 mod disk;
-mod file_disk;
 mod four_files;
 mod fused;
 mod leaving;
@@ -21,7 +17,6 @@ mod places;
 mod whole_file;
 
 pub use disk::Disk;
-pub use file_disk::FileDisk;
 pub use four_files::FourFiles;
 pub use fused::Fused;
 pub use leaving::Leaving;

@@ -1,4 +1,4 @@
-mod file_disk;
+mod counted_bytes;
 mod format;
 mod four_files;
 mod fused;
@@ -11,5 +11,7 @@ mod model_file;
 mod number;
 mod recovered;
 mod recovered_cases;
+mod salvaged;
 mod segments;
+mod system_file;
 mod whole_file;

@@ -2,7 +2,8 @@ ghost use Rattle.std.specs.Prelude.{◌≡◌, min, [], false, ⊤};
 ghost use Rattle.std.proofs.lemmas.Bool.{false≢true};
 ghost use Rattle.disk_model.specs.Disk.{last_count, min-last_count};
 
-use disk_model::{Disk, FileDisk, FourFiles};
+use disk_model::{Disk, FourFiles};
+use file_disk::FileDisk;
 use std::alloc::{AllocError, Global};
 use std::sync::Arc;
 use std::sync::atomic::{AtomicU64, Ordering};

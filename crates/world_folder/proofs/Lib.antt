@@ -4,3 +4,5 @@ pub mod WordsLemmas
 pub mod WordsImageLemmas
 pub mod LookLemmas
 pub mod ForwardLemmas
+pub mod LostLemmas
+pub mod EndingLemmas

@@ -1,31 +1,76 @@
 -- How the program ends.
-use Rattle.std.specs.Prelude.{◌≡◌, ℕ, List, Result, MatchResult, Vec}
+use Rattle.std.specs.Prelude.{◌≡◌, ◌≢◌, ◌⊎◌, ℕ, List, Option, Some, None, Result, MatchResult, Vec}
+use Rattle.std.specs.IoError.{error_kind}
 use Rattle.std.specs.Path.{path_buf_bytes, path_join}
 use Rattle.std.specs.declared.alloc.Global.{Global}
 use Rattle.std.specs.declared.io.Error.{Error}
+use Rattle.std.specs.declared.io.ErrorKind.TheVariants as kind
+use Rattle.world_actions.specs.declared.refusal.Refusal.{Refusal}
 use Rattle.world_actions.specs.declared.refusal.Refusal.TheVariants.{NoMemory}
 use Rattle.disk_model.specs.declared.four_files.FourFiles.{FourFiles}
 use Rattle.world_folder.specs.declared.ending.Ending.{Ending}
 use Rattle.world_folder.specs.declared.ending.ServerEnding.{ServerEnding}
-use Rattle.world_folder.specs.declared.ending.ServerEnding.TheVariants.{ListenerFailed, ImagesDown, LogDown}
-use Rattle.world_folder.specs.declared.ending.Ending.TheVariants.{Ran, Told, Mistaken, Fault, Unreadable, NoWorld, Server}
-use Rattle.world_folder.specs.Fault.{Files, AreRead, Explains}
+use Rattle.world_folder.specs.declared.ending.ServerEnding.TheVariants.{NoPort, NoThread, ListenerFailed, ImagesDown, LogDown}
+use Rattle.world_folder.specs.declared.ending.Ending.TheVariants.{Ran, Told, Mistaken, Fault, Unreadable, NoWorld, Unfinished, Unlisted, Server}
+use Rattle.world_folder.specs.Fault.{Files, AreRead, Explains, refusal_of}
+use Rattle.world_folder.specs.declared.words_text.BadWords.TheVariants as bad
+use Rattle.world_folder.specs.declared.unfinished.Why.{Why}
+use Rattle.world_folder.specs.declared.unfinished.Why.TheVariants as why
 use Rattle.world_folder.specs.declared.world_file.Named.{Named}
 use Rattle.world_folder.specs.WorldFile.{name_of}
 
--- the exit status for the end of a server
-abbrev pub status_of : ServerEnding → ℕ
-status_of ListenerFailed = 10
-status_of ImagesDown = 11
-status_of LogDown = 12
-status_of other = 1
+-- memory, or room on a disk, is wanting: it may be there at another try. A write that was cut short is of these.
+abbrev pub IsShortage : Error → Type 0
+IsShortage error = (error_kind error ≡ kind.OutOfMemory) ⊎ ((error_kind error ≡ kind.StorageFull) ⊎ ((error_kind error ≡ kind.QuotaExceeded)
+    ⊎ ((error_kind error ≡ kind.FileTooLarge) ⊎ (error_kind error ≡ kind.WriteZero))))
 
--- it is printed as a fault, with status 1
+-- the exit status of a fault by an error of the system
+abbrev pub IsStatusOfError : Error → (status : ℕ) → Type 0
+IsStatusOfError error status = (IsShortage error → status ≡ 13) × (¬ IsShortage error → status ≡ 1)
+
+-- the exit status of a fault by a refusal
+abbrev pub IsStatusOfRefusal : Refusal → (status : ℕ) → Type 0
+IsStatusOfRefusal refusal status = (refusal ≡ NoMemory → status ≡ 13) × (refusal ≢ NoMemory → status ≡ 1)
+
+-- the exit status for the end of a server
+abbrev pub IsStatusOfServer : ServerEnding → (status : ℕ) → Type 0
+IsStatusOfServer (NoPort port) status = IsStatusOfError port.error status
+IsStatusOfServer NoThread status = status ≡ 13
+IsStatusOfServer ListenerFailed status = status ≡ 10
+IsStatusOfServer ImagesDown status = status ≡ 11
+IsStatusOfServer LogDown status = status ≡ 12
+
+-- the error of the system for which a world wasn't made
+abbrev pub error_of_why : Why → Option Error
+error_of_why why.NoMemory = None
+error_of_why (why.File file) = Some file.error
+
+-- the exit status if a world wasn't made
+abbrev pub IsStatusOfUnfinished : Why → (status : ℕ) → Type 0
+IsStatusOfUnfinished why.NoMemory status = status ≡ 13
+IsStatusOfUnfinished (why.File file) status = IsStatusOfError file.error status
+
+-- the exit status of each way to end
+abbrev pub IsStatusOf : Ending → (status : ℕ) → Type 0
+IsStatusOf Ran status = status ≡ 0
+IsStatusOf Told status = status ≡ 0
+IsStatusOf Mistaken status = status ≡ 2
+IsStatusOf (Fault refusal) status = IsStatusOfRefusal refusal status
+IsStatusOf (Unreadable file) status = IsStatusOfError file.error status
+IsStatusOf (NoWorld fault) status = IsStatusOfRefusal (refusal_of fault) status
+IsStatusOf (Unfinished unfinished) status = IsStatusOfUnfinished unfinished.why status
+IsStatusOf (Unlisted file) status = (file.why ≡ bad.NoMemory → status ≡ 13) × (file.why ≢ bad.NoMemory → status ≡ 1)
+IsStatusOf (Server ending) status = IsStatusOfServer ending status
+IsStatusOf other status = status ≡ 1
+
+-- it is printed as a fault, with status 1 or 13
 abbrev pub IsFault : Ending → Type 0
 IsFault Ran = ⊥
 IsFault Told = ⊥
 IsFault Mistaken = ⊥
-IsFault (Server ending) = status_of ending ≡ 1
+IsFault (Server ListenerFailed) = ⊥
+IsFault (Server ImagesDown) = ⊥
+IsFault (Server LogDown) = ⊥
 IsFault other = Unit {0}
 
 -- the ending names this error and the file of this name in a folder, or there was no memory for its path

@@ -1,5 +1,5 @@
 -- The reasons why four files hold no world.
-use Rattle.std.specs.Prelude.{◌≡◌, ◌↔◌, ℕ, true, ◌||◌, IsTrue, Result, Ok, Err, Vec}
+use Rattle.std.specs.Prelude.{◌≡◌, ◌↔◌, ℕ, true, ◌||◌, IsTrue, Result, Ok, Err, Some, None, Vec}
 use Rattle.std.specs.declared.alloc.Global.{Global}
 use Rattle.world_actions.specs.declared.refusal.Refusal.{Refusal}
 use Rattle.world_actions.specs.declared.refusal.Refusal.TheVariants as refusal
@@ -12,7 +12,9 @@ use Rattle.disk_model.specs.declared.four_files.FourFiles.{FourFiles}
 use Rattle.disk_model.specs.FourFiles.{EachFile}
 use Rattle.world_folder.specs.declared.world_file.Named.{Named}
 use Rattle.world_folder.specs.declared.fault.Fault.{Fault}
-use Rattle.world_folder.specs.declared.fault.Fault.TheVariants.{NoMemory, NoImage, Images, Segments, Replay}
+use Rattle.world_folder.specs.declared.fault.Fault.TheVariants.{NoMemory, NoImage, Images, Segments, Replay, Lost}
+use Rattle.world_folder.specs.declared.lost.Lost.TheVariants.{Image, Log, Gap}
+use Rattle.world_folder.specs.Lost.{lost_of}
 
 -- the bytes of four files
 abbrev pub Files : Type 0
@@ -33,6 +35,13 @@ refusal_of NoImage = refusal.NoImage
 refusal_of (Images damaged) = refusal.BadImage
 refusal_of (Segments damaged) = refusal.BadLog
 refusal_of Replay = refusal.BadLog
+refusal_of (Lost (Image slot)) = refusal.BadImage
+refusal_of (Lost (Log slot)) = refusal.BadLog
+refusal_of (Lost (Gap slot)) = refusal.BadLog
+
+-- nothing was lost of four files in which recovery finds this
+abbrev pub IsWhole : Files → Recovered → Type 0
+IsWhole files found = lost_of found.tick found.from files.image_a.items files.image_b.items files.log_a.items files.log_b.items ≡ None
 
 -- recovery refuses the four files with this
 abbrev pub IsRefused : Files → Refusal → Type 0
@@ -55,3 +64,6 @@ Explains files Replay =
     IsRefused files refusal.BadLog
     × ¬ IsSegment files.log_a.items MalformedSegment
     × ¬ IsSegment files.log_b.items MalformedSegment
+Explains files (Lost lost) =
+    (found : Recovered) × Stands files found
+    × (lost_of found.tick found.from files.image_a.items files.image_b.items files.log_a.items files.log_b.items ≡ Some lost)

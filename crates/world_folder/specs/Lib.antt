@@ -1,7 +1,9 @@
 pub mod WorldFile
+pub mod Lost
 pub mod Fault
 pub mod OwnFile
 pub mod Told
+pub mod Completing
 pub mod Copying
 pub mod Ending
 pub mod Making
@@ -10,4 +12,5 @@ pub mod WordsImage
 pub mod Look
 pub mod Figures
 pub mod Forward
+pub mod Salvaging
 pub mod Texts

@@ -1,11 +1,14 @@
 -- The texts of reports and figures, as people read them.
-use Rattle.std.specs.Prelude.{ℕ, ◌+◌, ◌-◌, ◌^◌, min, List, [], ◌++◌, ◌==◌, if◌then◌else◌, codes, decimal, Option, Some, None}
+use Rattle.std.specs.Char.{is_control, encode_utf8, digit_char}
+use Rattle.std.specs.Prelude.{ℕ, ◌+◌, ◌-◌, ◌/◌, ◌%◌, ◌^◌, min, List, [], ◌++◌, ◌==◌, nat_lt, if◌then◌else◌, codes, decimal, Option, Some, None}
 use Rattle.world_actions.specs.declared.world.TheConstants.{CELLS, LIMIT}
 use Rattle.disk_model.specs.declared.four_files.FourFiles.{FourFiles}
 use Rattle.file_format.specs.declared.slot.Slot.{Slot}
 use Rattle.file_format.specs.declared.slot.Slot.TheVariants.{A, B}
 use Rattle.action_log.specs.declared.format.TheConstants.{SEGMENT_TICKS}
 use Rattle.world_folder.specs.declared.fault.Damaged.{Damaged}
+use Rattle.world_folder.specs.declared.lost.Lost.{Lost}
+use Rattle.world_folder.specs.declared.lost.Lost.TheVariants as lost
 use Rattle.world_folder.specs.declared.told.ImageTold.{ImageTold}
 use Rattle.world_folder.specs.declared.told.ImageTold.TheVariants as image
 use Rattle.world_folder.specs.declared.told.LogTold.{LogTold}
@@ -15,6 +18,10 @@ use Rattle.world_folder.specs.declared.words_text.BadWords.{BadWords}
 use Rattle.world_folder.specs.declared.words_text.BadWords.TheVariants as bad
 use Rattle.world_folder.specs.declared.world_file.TheConstants.{IMAGE_A, IMAGE_B, LOG_A, LOG_B}
 use Rattle.world_folder.specs.Told.{format_number}
+use Rattle.salvage.specs.declared.image_part.ImagePart.{ImagePart}
+use Rattle.salvage.specs.declared.image_part.ImagePart.TheVariants as image_part
+use Rattle.salvage.specs.declared.log_part.LogPart.{LogPart}
+use Rattle.salvage.specs.declared.log_part.LogPart.TheVariants as log_part
 
 -- a count and its noun, which is in the plural unless the count is 1
 abbrev pub counted_text : (count : ℕ) → (noun : List ℕ) → List ℕ
@@ -53,11 +60,17 @@ log_told_text (log.Open format base groups ticks) =
 abbrev pub damaged_names : Damaged → (a b : List ℕ) → List ℕ
 damaged_names damaged a b = if damaged.a then (if damaged.b then a ++ codes " and " ++ b else a) else b
 
--- ---- figures
-
 abbrev pub log_name : Slot → List ℕ
 log_name A = LOG_A.now
 log_name B = LOG_B.now
+
+-- what was lost of four files
+abbrev pub lost_text : Lost → List ℕ
+lost_text (lost.Image slot) = image_name slot ++ codes " is empty, so it was lost"
+lost_text (lost.Log slot) = log_name slot ++ codes " is empty, so it was lost"
+lost_text (lost.Gap slot) = log_name slot ++ codes " begins after ticks that were lost"
+
+-- ---- figures
 
 -- the segment that the log continues in, and how many ticks it has
 abbrev pub segment_text : Option (Slot × ℕ) → List ℕ
@@ -100,3 +113,31 @@ unlisted_text path why = path ++ codes ": " ++ bad_words_text why
 
 abbrev pub filled_text : (path : List ℕ) → List ℕ
 filled_text path = path ++ codes ": the folder isn't empty: choose an empty one"
+
+-- ---- what is taken of damaged files
+
+abbrev pub image_part_text : ImagePart → List ℕ
+image_part_text image_part.Closed = codes "closed"
+image_part_text (image_part.Whole tick) = codes "whole, tick " ++ decimal tick
+image_part_text image_part.Dropped = codes "damaged, nothing is taken"
+
+-- ticks after one of them, of which those up to a tick are taken
+abbrev pub run_text : (base ticks to : ℕ) → List ℕ
+run_text base ticks to =
+    counted_text ticks (codes "tick") ++ codes " after tick " ++ decimal base
+    ++ (if nat_lt to base then codes ", which is lost: nothing is taken" else [])
+
+abbrev pub log_part_text : LogPart → (to : ℕ) → List ℕ
+log_part_text log_part.Closed to = codes "closed"
+log_part_text log_part.Dropped to = codes "damaged, nothing is taken"
+log_part_text (log_part.Whole base ticks) to = codes "whole, " ++ run_text base ticks to
+log_part_text (log_part.Cut at base ticks) to = codes "damaged from byte " ++ decimal at ++ codes " on, " ++ run_text base ticks to
+
+-- ---- control characters
+
+-- a character as it is shown: a control character by its number
+abbrev pub shown_text : (character : ℕ) → List ℕ
+shown_text character =
+    if is_control character
+    then codes "\\x" ++ (encode_utf8 (digit_char (character / 16)) ++ encode_utf8 (digit_char (character % 16)))
+    else encode_utf8 character

@@ -1,12 +1,13 @@
 ghost use Rattle.std.specs.Prelude.{◌≡◌, IfErr};
 ghost use Rattle.world_folder.specs.Ending.{IsFault};
 
-use crate::copying::copy_world;
+use crate::copying::{Images, copy_world};
 use crate::ending::{Ending, Filled};
 use crate::fault::stands_in;
-use crate::folder::{opened, path_of, read_folder, sync_names};
+use crate::folder::{opened, path_of, sync_names};
 use crate::found::WorldTold;
 use crate::own_file::make_file;
+use crate::reading::read_folder;
 use crate::recovering::found_in;
 use crate::world_file::WorldFile;
 use disk_model::FourFiles;
@@ -27,7 +28,10 @@ pub fn back_up<R: Files<File = File> + Clock + Print + Eprint + AllocGlobal + Cl
     ensures { IfErr result IsFault }
 {
     look_for_room(rt, to)?;
-    let copied = copy_world(rt, folder)?;
+    let copied = match copy_world(rt, folder, Images::Newest) {
+        Ok(copied) => copied,
+        Err(reason) => return Err(reason.ending()),
+    };
     let newest = match stands_in(rt.alloc(), &copied.files) {
         Ok(found) => found.slot,
         Err(fault) => return Err(Ending::NoWorld(fault)),
@@ -41,8 +45,8 @@ pub fn back_up<R: Files<File = File> + Clock + Print + Eprint + AllocGlobal + Cl
     Ok(())
 }
 
-// Refuses a folder that has a file.
-fn look_for_room<R: Files<File = File> + AllocGlobal + Clone + Drop>(
+/// Refuses a folder that has a file.
+pub fn look_for_room<R: Files<File = File> + AllocGlobal + Clone + Drop>(
     rt: &R,
     to: &str,
 ) -> Result<(), Ending>
@@ -88,7 +92,8 @@ fn write_files<R: Files<File = File> + AllocGlobal>(
     sync_names(rt, to)
 }
 
-fn write_one<R: Files<File = File> + AllocGlobal>(
+/// Makes a file of a folder with these bytes, and makes them durable.
+pub fn write_one<R: Files<File = File> + AllocGlobal>(
     rt: &R,
     to: &str,
     file: WorldFile,

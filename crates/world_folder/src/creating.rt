@@ -1,21 +1,24 @@
-ghost use Rattle.std.specs.Prelude.{◌≡◌, ◌≤◌, IfOk, IfErr};
+ghost use Rattle.std.specs.Prelude.{◌≡◌, ◌≤◌, length, IfOk, IfErr};
 ghost use Rattle.world_actions.specs.declared.world.TheConstants.{CELLS};
 ghost use Rattle.world_actions.specs.World.{IsWorld};
 ghost use Rattle.world_folder.specs.Ending.{IsFault};
 
+use crate::completing::complete;
 use crate::ending::{Ending, Unlisted};
-use crate::folder::{failure_of, open_to_write, opened, path_of};
+use crate::folder::{failure_of, failure_of_present, opened, path_of, sync_names};
 use crate::forward::read_forward;
 use crate::making::{Made, make_in, make_of_words};
+use crate::present::{FolderFiles, open_present};
 use crate::words_text::{BadWords, TEXT_BYTES, read_words};
-use disk_model::{FileDisk, FourFiles};
+use disk_model::FourFiles;
+use file_disk::FileDisk;
 use std::alloc::Global;
 use std::fs::{File, Files};
 use std::io;
 use world_actions::Refusal;
 
 /// Makes the files of a world of zeros at tick 0 in a folder, and prints how many cells it has. If one of the files isn't
-/// closed, it makes no world and writes no file. Files that it made stay.
+/// closed, it makes no file and writes none. After another failure the files that it made stay, and are named.
 pub fn create<R: Files<File = File> + Print + AllocGlobal>(
     rt: &R,
     folder: &str,
@@ -25,13 +28,28 @@ pub fn create<R: Files<File = File> + Print + AllocGlobal>(
     ensures made { IfOk result (λ made. made.cells ≡ cells) }
     ensures fault { IfErr result IsFault }
 {
-    let files = open_to_write(rt, folder)?;
-    let made = match make_in(rt.alloc(), folder, cells, files) {
-        Ok((_, made)) => made,
-        Err((files, ending)) => return Err(not_made(rt.alloc(), folder, files, ending)),
-    };
-    println!(rt; "created {}", made.cells())?;
-    Ok(made)
+    let mut maker = FolderFiles::new(rt, folder);
+    match create_in(rt, folder, cells, &mut maker) {
+        Ok(made) => print_made(rt, made),
+        Err(ending) => Err(maker.unfinished(ending)),
+    }
+}
+
+fn create_in<R: Files<File = File> + AllocGlobal>(
+    rt: &R,
+    folder: &str,
+    cells: u32,
+    maker: &mut FolderFiles<'_, R>,
+) -> Result<Made, Ending>
+    requires { (1 ≤ cells) × (cells ≤ CELLS) }
+    ensures made { IfOk result (λ made. made.cells ≡ cells) }
+    ensures fault { IfErr result IsFault }
+{
+    let files = four_files(rt, folder, maker)?;
+    match make_in(rt.alloc(), folder, cells, files) {
+        Ok((_, made)) => Ok(made),
+        Err((unmade, ending)) => Err(not_made(rt.alloc(), folder, unmade, ending)),
+    }
 }
 
 /// Makes the files of a world of the words that a file lists, at tick 0, and prints how many cells it has. A file that
@@ -44,13 +62,53 @@ pub fn create_of_words<R: Files<File = File> + Print + AllocGlobal>(
     ensures fault { IfErr result IsFault }
 {
     let words = listed_words(rt, list)?;
-    let files = open_to_write(rt, folder)?;
-    let made = match make_of_words(rt.alloc(), folder, &words, files) {
-        Ok((_, made)) => made,
-        Err((files, why)) => return Err(not_made(rt.alloc(), folder, files, why)),
-    };
+    let mut maker = FolderFiles::new(rt, folder);
+    match create_of(rt, folder, &words, &mut maker) {
+        Ok(made) => print_made(rt, made),
+        Err(ending) => Err(maker.unfinished(ending)),
+    }
+}
+
+fn create_of<R: Files<File = File> + AllocGlobal>(
+    rt: &R,
+    folder: &str,
+    words: &[u64],
+    maker: &mut FolderFiles<'_, R>,
+) -> Result<Made, Ending>
+    requires { IsWorld words.now }
+    ensures made { IfOk result (λ made. made.cells ≡ length words.now) }
+    ensures fault { IfErr result IsFault }
+{
+    let files = four_files(rt, folder, maker)?;
+    match make_of_words(rt.alloc(), folder, words, files) {
+        Ok((_, made)) => Ok(made),
+        Err((files, ending)) => Err(not_made(rt.alloc(), folder, files, ending)),
+    }
+}
+
+fn print_made<R: Print>(rt: &R, made: Made) -> Result<Made, Ending>
+    ensures made { IfOk result (λ same. same ≡ made) }
+    ensures fault { IfErr result IsFault }
+{
     println!(rt; "created {}", made.cells())?;
     Ok(made)
+}
+
+// The four files of a folder in which a world is to be made. They are made durable with their names.
+fn four_files<R: Files<File = File> + AllocGlobal>(
+    rt: &R,
+    folder: &str,
+    maker: &mut FolderFiles<'_, R>,
+) -> Result<FourFiles<FileDisk>, Ending>
+    ensures { IfErr result IsFault }
+{
+    let mut present = open_present(rt, folder)?;
+    let files = match complete(rt.alloc(), folder, &mut present, maker) {
+        Ok(files) => files,
+        Err(ending) => return Err(not_read(rt.alloc(), folder, present, ending)),
+    };
+    sync_names(rt, folder)?;
+    Ok(files)
 }
 
 // The words that a file lists.
@@ -87,6 +145,22 @@ fn not_made(alloc: Global, folder: &str, files: FourFiles<FileDisk>, ending: End
 {
     match ending {
         Ending::Fault(Refusal::Device) => failure_of(alloc, folder, files),
+        ending => ending,
+    }
+}
+
+// How the program ends if the files that are there can't be looked at: of a device that failed the file is named.
+fn not_read(
+    alloc: Global,
+    folder: &str,
+    present: FourFiles<Option<FileDisk>>,
+    ending: Ending,
+) -> Ending
+    requires { IsFault ending }
+    ensures { IsFault result }
+{
+    match ending {
+        Ending::Fault(Refusal::Device) => failure_of_present(alloc, folder, present),
         ending => ending,
     }
 }

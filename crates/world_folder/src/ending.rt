@@ -1,12 +1,14 @@
-ghost use Rattle.std.specs.Prelude.{◌≡◌, Some};
+ghost use Rattle.std.specs.Prelude.{◌≡◌, Some, true, false};
 ghost use Rattle.std.specs.Path.{path_buf_bytes};
 ghost use Rattle.std.specs.Process.{exit_status};
-ghost use Rattle.world_folder.specs.Ending.{status_of};
+ghost use Rattle.world_folder.specs.Ending.{IsStatusOfError, IsStatusOfRefusal, IsStatusOfServer, IsStatusOfUnfinished};
 ghost use Rattle.world_folder.specs.Texts.{filled_text, unlisted_text};
 
+use crate::escaped::Escaped;
 use crate::fault::Fault;
 use crate::folder::Unreadable;
-use crate::system_error::refusal_of;
+use crate::system_error::{is_shortage, refusal_of};
+use crate::unfinished::Unfinished;
 use crate::words_text::BadWords;
 use std::alloc::AllocError;
 use std::fmt::{self, Display};
@@ -32,6 +34,8 @@ pub enum Ending {
     NoWorld(Fault),
     /// A world can't be made over this file.
     Occupied(Occupied),
+    /// A world wasn't made, and files of it may be.
+    Unfinished(Unfinished),
     /// A copy can't be made in this folder.
     Filled(Filled),
     /// A world can't be made of the words in this file.
@@ -194,39 +198,24 @@ impl From<io::Error> for Ending {
 }
 
 impl Termination for Ending {
-    ghost use Rattle.std.specs.Prelude.{◌≡◌, ◌⊎◌};
     ghost use Rattle.std.specs.Process.{exit_status};
-    ghost use Rattle.world_folder.specs.declared.folder.Unreadable.{Unreadable as File};
-    ghost use Rattle.world_folder.specs.declared.ending.Occupied.{Occupied as Open};
-    ghost use Rattle.world_folder.specs.declared.ending.Filled.{Filled as Full};
-    ghost use Rattle.world_folder.specs.declared.ending.Unlisted.{Unlisted as List};
-    ghost use Rattle.world_folder.specs.declared.ending.StreamFailure.{StreamFailure as OneStream};
-    ghost use Rattle.world_folder.specs.declared.ending.ServerEnding.{ServerEnding as OfServer};
-    ghost use Rattle.world_folder.specs.Ending.{status_of};
+    ghost use Rattle.world_folder.specs.Ending.{IsStatusOf};
 
     /// Prints a fault by its code and in words, and returns the exit status.
     fn report<R: Eprint>(self, rt: &R) -> ExitCode
-        ensures well { (self ≡ Ending.Ran) ⊎ (self ≡ Ending.Told) → exit_status result ≡ 0 }
-        ensures fault { (refusal : Refusal) → self ≡ Ending.Fault refusal → exit_status result ≡ 1 }
-        ensures unreadable { (file : File) → self ≡ Ending.Unreadable file → exit_status result ≡ 1 }
-        ensures no_world { (fault : Fault) → self ≡ Ending.NoWorld fault → exit_status result ≡ 1 }
-        ensures occupied { (file : Open) → self ≡ Ending.Occupied file → exit_status result ≡ 1 }
-        ensures filled { (folder : Full) → self ≡ Ending.Filled folder → exit_status result ≡ 1 }
-        ensures unlisted { (file : List) → self ≡ Ending.Unlisted file → exit_status result ≡ 1 }
-        ensures stream { (failure : OneStream) → self ≡ Ending.Stream failure → exit_status result ≡ 1 }
-        ensures mistaken { self ≡ Ending.Mistaken → exit_status result ≡ 2 }
-        ensures server { (ending : OfServer) → self ≡ Ending.Server ending → exit_status result ≡ status_of ending }
+        ensures { IsStatusOf self (exit_status result) }
     {
         match self {
             Ending::Ran | Ending::Told => ExitCode::SUCCESS,
             Ending::Mistaken => ExitCode::from(2),
             Ending::Fault(refusal) => report_fault(rt, refusal, refusal),
-            Ending::Unreadable(file) => report_fault(rt, refusal_of(&file.error), file),
+            Ending::Unreadable(file) => report_error(rt, file.error, file),
             Ending::NoWorld(fault) => report_fault(rt, fault.refusal(), fault),
             Ending::Occupied(file) => report_fault(rt, Refusal::NotEmpty, file),
+            Ending::Unfinished(unfinished) => report_unfinished(rt, unfinished),
             Ending::Filled(folder) => report_fault(rt, Refusal::NotEmpty, folder),
             Ending::Unlisted(file) => report_fault(rt, file.why.refusal(), file),
-            Ending::Stream(failure) => report_fault(rt, refusal_of(&failure.error), failure),
+            Ending::Stream(failure) => report_stream(rt, failure),
             Ending::Server(ending) => report_server(rt, ending),
         }
     }
@@ -234,10 +223,10 @@ impl Termination for Ending {
 
 // Prints a server's fault, and returns the exit status.
 fn report_server<R: Eprint>(rt: &R, ending: ServerEnding) -> ExitCode
-    ensures { exit_status result ≡ status_of ending }
+    ensures { IsStatusOfServer ending (exit_status result) }
 {
     match ending {
-        ServerEnding::NoPort(port) => report_fault(rt, refusal_of(&port.error), port),
+        ServerEnding::NoPort(port) => report_error(rt, port.error, port),
         ServerEnding::NoThread => report_fault(rt, Refusal::NoMemory, NO_THREAD),
         ServerEnding::ListenerFailed => ExitCode::from(10),
         ServerEnding::ImagesDown => ExitCode::from(11),
@@ -247,11 +236,54 @@ fn report_server<R: Eprint>(rt: &R, ending: ServerEnding) -> ExitCode
 
 const NO_THREAD: &str = "there is no thread for the server";
 
-// Prints a fault by the code of its refusal, and in these words.
-fn report_fault<R: Eprint, D: Display + Drop>(rt: &R, refusal: Refusal, words: D) -> ExitCode
+// Prints why a world wasn't made, and returns the exit status.
+fn report_unfinished<R: Eprint>(rt: &R, unfinished: Unfinished) -> ExitCode
+    ensures { IsStatusOfUnfinished unfinished.why (exit_status result) }
+{
+    match unfinished.why.error() {
+        Some(error) => report_error(rt, error, unfinished),
+        None => report_fault(rt, Refusal::NoMemory, unfinished),
+    }
+}
+
+// Prints that a stream failed, and returns the exit status.
+fn report_stream<R: Eprint>(rt: &R, failure: StreamFailure) -> ExitCode
     ensures { exit_status result ≡ 1 }
 {
-    let _ = eprintln!(rt; "fault {}", refusal.code());
-    let _ = eprintln!(rt; "worldd: {words}");
+    tell(rt, refusal_of(&failure.error), failure);
     ExitCode::from(1)
+}
+
+// Prints a fault by the code of its refusal, and in these words. It returns the exit status.
+fn report_fault<R: Eprint, D: Display + Drop>(rt: &R, refusal: Refusal, words: D) -> ExitCode
+    ensures { IsStatusOfRefusal refusal (exit_status result) }
+{
+    tell(rt, refusal, words);
+    fault_status(refusal == Refusal::NoMemory)
+}
+
+// Prints an error of the system as a fault, in these words. It returns the exit status.
+fn report_error<R: Eprint, D: Display + Drop>(rt: &R, error: io::Error, words: D) -> ExitCode
+    ensures { IsStatusOfError error (exit_status result) }
+{
+    tell(rt, refusal_of(&error), words);
+    fault_status(is_shortage(&error))
+}
+
+// Prints a code and the reason.
+fn tell<R: Eprint, D: Display + Drop>(rt: &R, refusal: Refusal, words: D) {
+    let _ = eprintln!(rt; "fault {}", refusal.code());
+    let _ = eprintln!(rt; "worldd: {}", Escaped(words));
+}
+
+// The exit status of a fault. A shortage passes, so the same command is worth another try.
+fn fault_status(is_shortage: bool) -> ExitCode
+    ensures shortage { is_shortage ≡ true → exit_status result ≡ 13 }
+    ensures other { is_shortage ≡ false → exit_status result ≡ 1 }
+{
+    if is_shortage {
+        ExitCode::from(13)
+    } else {
+        ExitCode::from(1)
+    }
 }

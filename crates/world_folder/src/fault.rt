@@ -2,9 +2,10 @@ ghost use Rattle.std.specs.Prelude.{◌≡◌, ◌⊎◌, ◌↔◌, ◌++◌, I
 ghost use Rattle.image_files.specs.Image.{image_of};
 ghost use Rattle.action_log.specs.Segment.{MalformedSegment, IsSegment};
 ghost use Rattle.recovery.specs.Recovery.{Recovers, is_bad_image};
-ghost use Rattle.world_folder.specs.Fault.{Stands, Explains};
+ghost use Rattle.world_folder.specs.Fault.{Stands, IsWhole, Explains};
 ghost use Rattle.world_folder.specs.Texts.{damaged_names};
 
+use crate::lost::{Lost, lost_of};
 use crate::world_file::{IMAGE_A, IMAGE_B, LOG_A, LOG_B};
 use action_log::read_log;
 use disk_model::FourFiles;
@@ -34,6 +35,8 @@ pub enum Fault {
     Segments(Damaged),
     /// All files are of a format, and an action of the log is refused.
     Replay,
+    /// A world is recovered, and ticks after it were answered.
+    Lost(Lost),
 }
 
 impl Fault {
@@ -49,6 +52,8 @@ impl Fault {
             Fault::NoImage => Refusal::NoImage,
             Fault::Images(_) => Refusal::BadImage,
             Fault::Segments(_) | Fault::Replay => Refusal::BadLog,
+            Fault::Lost(Lost::Image(_)) => Refusal::BadImage,
+            Fault::Lost(Lost::Log(_) | Lost::Gap(_)) => Refusal::BadLog,
         }
     }
 }
@@ -67,6 +72,7 @@ impl fmt::Display for Fault {
                 write!(f, "{refusal}: {}{}{}", names.0, names.1, names.2)
             }
             Fault::Replay => write!(f, "{refusal}: an action of the log is refused in replay"),
+            Fault::Lost(lost) => write!(f, "{refusal}: {lost}"),
         }
     }
 }
@@ -86,8 +92,21 @@ fn names_of(
     }
 }
 
-/// The world that four files hold, or the reason why they hold none.
+/// The world that four files hold, or the reason why they hold none. A world that lacks ticks which were answered is none.
 pub fn stands_in(alloc: Global, files: &FourFiles<Vec<u8>>) -> Result<Recovered, Fault>
+    ensures recovered { IfOk result (Stands files.now) }
+    ensures whole { IfOk result (λ found. IsWhole files.now found) }
+    ensures fault { IfErr result (Explains files.now) }
+{
+    let found = found_in(alloc, files)?;
+    match lost_of(found.tick, found.from, files) {
+        Some(lost) => Err(Fault::Lost(lost)),
+        None => Ok(found),
+    }
+}
+
+// What recovery finds in four files, or the reason why it finds no world.
+fn found_in(alloc: Global, files: &FourFiles<Vec<u8>>) -> Result<Recovered, Fault>
     ensures recovered { IfOk result (Stands files.now) }
     ensures fault { IfErr result (Explains files.now) }
 {

@@ -6,7 +6,7 @@ ghost use Rattle.world_folder.specs.Told.{IsLogTold};
 ghost use Rattle.world_folder.specs.Figures.{AreFigures, current_segment, told_segment};
 ghost use Rattle.world_folder.specs.Texts.{figures_text, lengths_text, pair_text, segment_text, total_of};
 
-use crate::copying::copy_world;
+use crate::copying::{Images, copy_world};
 use crate::counted::Counted;
 use crate::ending::Ending;
 use crate::fault::{Fault, stands_in};
@@ -83,7 +83,10 @@ pub fn status<R: Files<File = File> + Clock + Print + AllocGlobal>(
 ) -> Result<(), Ending>
     ensures { IfErr result IsFault }
 {
-    let copied = copy_world(rt, folder)?;
+    let copied = match copy_world(rt, folder, Images::Newest) {
+        Ok(copied) => copied,
+        Err(reason) => return Err(reason.ending()),
+    };
     let figures = match figures_of(rt.alloc(), &copied.files) {
         Ok(figures) => figures,
         Err(fault) => return Err(Ending::NoWorld(fault)),

@@ -1,10 +1,13 @@
 //! The findings in the heads of four files: which image is the newest, and which segments the log has.
-ghost use Rattle.std.specs.Prelude.{◌≡◌, ◌≤◌, length};
+ghost use Rattle.std.specs.Prelude.{◌≡◌, ◌⊎◌, ◌≤◌, take, length, IsTrue, IfOk, IfErr};
+ghost use Rattle.disk_model.specs.FourFiles.{KeepsFile};
 ghost use Rattle.world_folder.specs.Look.{opened_tick, opened_base, newest_tick, look_of};
 
-use disk_model::FourFiles;
+use disk_model::{Disk, FourFiles};
 use file_format::{OPEN_GATE, Slot, u64_at};
 use image_files::TICK_PLACE;
+use std::alloc::Global;
+use world_actions::Refusal;
 
 /// The bytes of an image's head: its gate, its number of cells and its tick.
 pub const IMAGE_HEAD: usize = image_files::HEADER_BYTES;
@@ -21,6 +24,18 @@ pub struct Look {
     pub log_a: Option<u64>,
     /// The same of log.b.
     pub log_b: Option<u64>,
+}
+
+/// Reads so many bytes of a file from its first one on, or all if it has fewer.
+pub fn read_head<D: Disk>(alloc: Global, disk: &mut D, most: usize) -> Result<Vec<u8>, Refusal>
+    ensures head { IsTrue D.honest → IfOk result (λ head. head.items ≡ take most (D.content disk.old)) }
+    ensures kept { IsTrue D.honest → KeepsFile D.content D.may_leave disk.old disk.new }
+    ensures refused { IfErr result (λ refusal. (refusal ≡ Refusal.Device) ⊎ (refusal ≡ Refusal.NoMemory)) }
+{
+    let length = disk.len()?.min(most as u64);
+    let mut head = vec![in alloc; 0; length as usize]?;
+    disk.read_at(0, &mut head)?;
+    Ok(head)
 }
 
 /// Looks at the first bytes of four files, and at no more of each than its head.

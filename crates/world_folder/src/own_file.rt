@@ -1,10 +1,9 @@
 //! A file that a world has to itself.
-ghost use Rattle.std.specs.Prelude.{◌≡◌, ◌<ℤ◌, pos, IfOk, IsOk};
+ghost use Rattle.std.specs.Prelude.{◌≡◌, ◌<ℤ◌, pos, false, IfOk, IfSome, IsOk};
 ghost use Rattle.std.specs.Fd.{file_raw_fd};
-ghost use Rattle.world_folder.specs.OwnFile.{AreFour};
+ghost use Rattle.world_folder.specs.OwnFile.{IsApart, AreApart};
 
-use crate::system_error::error_of;
-use disk_model::FileDisk;
+use file_disk::FileDisk;
 use std::fs::{self, File, Files, Metadata, OpenOptions};
 use std::io::{self, ErrorKind};
 use std::os::fd::AsRawFd;
@@ -44,7 +43,7 @@ impl OwnFile {
     pub fn of(file: File) -> io::Result<Self> {
         let identity = Identity::of(&file.metadata()?);
         Ok(OwnFile {
-            disk: FileDisk::open(file).map_err(error_of)?,
+            disk: FileDisk::open(file)?,
             identity,
         })
     }
@@ -53,31 +52,32 @@ impl OwnFile {
 /// The permissions of a new file.
 const OWNER_ALONE: u32 = 0o600;
 
-/// The action if a file doesn't exist.
-#[derive(Clone, Copy, PartialEq, Eq)]
-pub enum Absent {
-    Make,
-    Refuse,
-}
-
-/// Opens a file of a folder for reading and writing, and makes an absent one if it is to be made.
+/// Opens a file of a folder for reading and writing.
 pub fn open_file<R: Files<File = File> + AllocGlobal>(
     rt: &R,
     folder: &str,
     name: &str,
-    absent: Absent,
 ) -> io::Result<File>
     ensures { IfOk result (λ file. pos 2 <ℤ file_raw_fd file) }
 {
     let path = Path::new(folder).join(rt.alloc(), name)?;
-    let file = match fs::symlink_metadata(rt, path.as_path()) {
-        Ok(there) => open_there(rt, path.as_path(), &there)?,
-        Err(error) if error.kind() == ErrorKind::NotFound && absent == Absent::Make => {
-            make(rt, path.as_path())?
-        }
-        Err(error) => return Err(error),
-    };
-    above_streams(file)
+    let there = fs::symlink_metadata(rt, path.as_path())?;
+    above_streams(open_there(rt, path.as_path(), &there)?)
+}
+
+/// The same, or `None` if there is no file of this name.
+pub fn find_file<R: Files<File = File> + AllocGlobal>(
+    rt: &R,
+    folder: &str,
+    name: &str,
+) -> io::Result<Option<File>>
+    ensures { IfOk result (λ found. IfSome found (λ file. pos 2 <ℤ file_raw_fd file)) }
+{
+    match open_file(rt, folder, name) {
+        Ok(file) => Ok(Some(file)),
+        Err(error) if error.kind() == ErrorKind::NotFound => Ok(None),
+        Err(error) => Err(error),
+    }
 }
 
 /// Makes a file of a folder that its owner alone may read and write. One that is there is an error.
@@ -134,14 +134,30 @@ pub fn above_streams(file: File) -> io::Result<File>
     }
 }
 
-/// Refuses one file under two of the four names.
-pub fn are_four(files: &[Identity; 4]) -> io::Result<()>
-    ensures { IsOk result → AreFour files.now }
+/// Refuses one file under two of the four names. A file that isn't there has no number.
+pub fn are_apart(files: &[Option<Identity>; 4]) -> io::Result<()>
+    ensures { IsOk result → AreApart files.now }
 {
     let [a, b, c, d] = *files;
-    if a == b || a == c || a == d || b == c || b == d || c == d {
+    if is_same(a, b)
+        || is_same(a, c)
+        || is_same(a, d)
+        || is_same(b, c)
+        || is_same(b, d)
+        || is_same(c, d)
+    {
         Err(io::Error::other("two of the four files are one"))
     } else {
         Ok(())
+    }
+}
+
+// True if both files are there and are one.
+fn is_same(a: Option<Identity>, b: Option<Identity>) -> bool
+    ensures { result ≡ false → IsApart a b }
+{
+    match (a, b) {
+        (Some(a), Some(b)) => a == b,
+        _ => false,
     }
 }

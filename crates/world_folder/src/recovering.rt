@@ -4,23 +4,26 @@ ghost use Rattle.world_folder.specs.Fault.{Files, AreRead, Stands};
 
 use crate::ending::Ending;
 use crate::fault::stands_in;
-use crate::folder::{all_read, read_folder};
 use crate::found::WorldTold;
+use crate::looking::look_at_folder;
+use crate::reading::all_read;
 use crate::world_file::Named;
 use disk_model::FourFiles;
 use recovery::Recovered;
 use std::alloc::Global;
 use std::fs::{self, File};
 use std::io;
+use std::time::Clock;
 
-/// Prints which world the files of a folder hold, and writes nothing into it.
-pub fn recover<R: fs::Files<File = File> + Print + AllocGlobal>(
+/// Prints which world the files of a folder hold, which a server may write meanwhile. It writes nothing into the folder.
+pub fn recover<R: fs::Files<File = File> + Clock + Print + AllocGlobal>(
     rt: &R,
     folder: &str,
 ) -> Result<(), Ending>
     ensures { IfErr result IsFault }
 {
-    let found = found_in(rt.alloc(), folder, read_folder(rt, folder))?;
+    let seen = look_at_folder(rt, folder)?;
+    let found = found_in(rt.alloc(), folder, seen.files)?;
     println!(rt; "recovered {}", WorldTold::of(&found))?;
     Ok(())
 }

@@ -1,5 +1,6 @@
-ghost use Rattle.std.specs.Prelude.{◌≡◌, ◌≢◌};
+ghost use Rattle.std.specs.Prelude.{◌≡◌, ◌≢◌, ◌↔◌, IsTrue};
 ghost use Rattle.std.specs.IoError.{error_kind};
+ghost use Rattle.world_folder.specs.Ending.{IsShortage};
 
 use std::alloc::AllocError;
 use std::fmt;
@@ -33,6 +34,18 @@ pub fn refusal_of(error: &io::Error) -> Refusal
     } else {
         Refusal::Device
     }
+}
+
+/// True if memory or room on a disk is wanting, which may be there at another try.
+pub fn is_shortage(error: &io::Error) -> bool
+    ensures { IsTrue result ↔ IsShortage error.now }
+{
+    let kind = error.kind();
+    kind == ErrorKind::OutOfMemory
+        || kind == ErrorKind::StorageFull
+        || kind == ErrorKind::QuotaExceeded
+        || kind == ErrorKind::FileTooLarge
+        || kind == ErrorKind::WriteZero
 }
 
 /// The error of the system for a refusal.

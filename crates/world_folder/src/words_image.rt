@@ -39,7 +39,7 @@ pub fn write_words<D: Disk>(
     ensures device { result ≡ Err Refusal.Device → Grew (D.faults image.old) (D.faults image.new) }
     ensures no_fault { OnOk result (D.faults image.new ≡ D.faults image.old) }
 {
-    let body = image_body(alloc, words)?;
+    let body = image_body(alloc, 0, words)?;
     shut_gate(bytes, image)?;
     write_body(&body, image)?;
     open_gate(image)
@@ -97,15 +97,15 @@ fn open_gate<D: Disk>(image: &mut D) -> Result<(), Refusal>
     image.sync()
 }
 
-// The bytes behind the gate of an image of these words at tick 0.
-fn image_body(alloc: Global, words: &[u64]) -> Result<Vec<u8>, AllocError>
+/// The bytes behind the gate of an image of these words after a tick.
+pub fn image_body(alloc: Global, tick: u64, words: &[u64]) -> Result<Vec<u8>, AllocError>
     requires { length words.now ≤ CELLS }
     ensures { IfOk result (λ body. body.items
-        ≡ header_bytes Second (length words.now) 0 ++ flat_map (number_bytes WORD_BYTES) words.now) }
+        ≡ header_bytes Second (length words.now) tick ++ flat_map (number_bytes WORD_BYTES) words.now) }
 {
     let mut body = Vec::with_capacity(alloc, WORD_BYTES * (2 + words.len()))?;
     put_u64(&mut body, marked(words.len() as u64));
-    put_u64(&mut body, 0);
+    put_u64(&mut body, tick);
     for word in words {
         put_u64(&mut body, *word);
     }

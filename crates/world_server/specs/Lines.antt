@@ -1,10 +1,13 @@
 -- The texts of the lines that a server prints.
 use Rattle.std.specs.Prelude.{ℕ, List, [], ◌++◌, codes, decimal, Option, Some, None}
 use Rattle.std.specs.Net.Socket.{socket_port}
+use Rattle.std.specs.Path.{path_buf_bytes}
 use Rattle.tcp_service.specs.declared.door.Unserved.TheVariants.{NoMemory, NoThread}
 use Rattle.world_folder.specs.Texts.{world_text}
 use Rattle.world_server.specs.declared.line.Line.{Line}
 use Rattle.world_server.specs.declared.line.Line.TheVariants as line
+use Rattle.world_server.specs.declared.line.Paths.{Paths}
+use Rattle.world_server.specs.Paths.{path_at}
 use Rattle.world_server.specs.declared.place.Place.{Place}
 use Rattle.world_server.specs.declared.place.Place.TheVariants as place
 use Rattle.world_server.specs.declared.reporter.Report.{Report}
@@ -15,22 +18,24 @@ report_text report =
     codes "tick " ++ decimal report.counts.tick ++ codes " acked " ++ decimal report.counts.acked ++ codes " image " ++ decimal report.counts.image
     ++ codes " sessions " ++ decimal report.counts.sessions ++ codes " batches/s " ++ decimal report.rate ++ codes " waiting " ++ decimal report.counts.waiting
 
--- a line, over the path of the server's socket; nothing is stated of a line that may have an error of the system
-abbrev pub line_text : (socket : List ℕ) → Line → Option (List ℕ)
-line_text socket (line.Recovered ended from) = Some (codes "recovered " ++ world_text ended from)
-line_text socket (line.Listening port) = Some (codes "listening " ++ decimal port)
-line_text socket line.ListeningAtSocket = Some (codes "listening " ++ socket)
-line_text socket (line.Stopped ended acked) = Some (codes "stopped tick " ++ decimal ended ++ codes " acked " ++ decimal acked)
-line_text socket (line.ImageOpened tick) = Some (codes "image of tick " ++ decimal tick ++ codes " opened")
-line_text socket (line.SessionRefused NoMemory) = Some (codes "session refused: there is no memory")
-line_text socket (line.SessionRefused NoThread) = Some (codes "session refused: there is no thread")
-line_text socket line.ShortageEnded = Some (codes "clients no longer wait")
-line_text socket line.PortClosed = Some (codes "the port is closed: no more clients can come")
-line_text socket line.SocketClosed = Some (codes "the socket is closed: no more clients can come")
-line_text socket (line.Report report) = Some (report_text report)
-line_text socket (line.Dropped count) = Some (codes "lines dropped: " ++ decimal count)
-line_text socket line.Last = Some []
-line_text socket other = None
+-- a line, over the paths of the server's files and socket; nothing is stated of a line that may have an error of the system
+abbrev pub line_text : Paths → Line → Option (List ℕ)
+line_text paths (line.Recovered ended from) = Some (codes "recovered " ++ world_text ended from)
+line_text paths (line.Listening port) = Some (codes "listening " ++ decimal port)
+line_text paths line.ListeningAtSocket = Some (codes "listening " ++ path_buf_bytes paths.socket)
+line_text paths (line.Stopped ended acked) = Some (codes "stopped tick " ++ decimal ended ++ codes " acked " ++ decimal acked)
+line_text paths (line.ImageOpened tick) = Some (codes "image of tick " ++ decimal tick ++ codes " opened")
+line_text paths (line.FileMissed file) =
+    Some (path_buf_bytes (path_at paths.files file) ++ codes " was removed or replaced: save the files before the server ends")
+line_text paths (line.SessionRefused NoMemory) = Some (codes "session refused: there is no memory")
+line_text paths (line.SessionRefused NoThread) = Some (codes "session refused: there is no thread")
+line_text paths line.ShortageEnded = Some (codes "clients no longer wait")
+line_text paths line.PortClosed = Some (codes "the port is closed: no more clients can come")
+line_text paths line.SocketClosed = Some (codes "the socket is closed: no more clients can come")
+line_text paths (line.Report report) = Some (report_text report)
+line_text paths (line.Dropped count) = Some (codes "lines dropped: " ++ decimal count)
+line_text paths line.Last = Some []
+line_text paths other = None
 
 -- the line of a place that clients may come to
 abbrev pub listening_line : Place → Line

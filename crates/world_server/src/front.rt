@@ -1,30 +1,36 @@
 //! The parts of a server that its clients and its operator meet.
-ghost use Rattle.std.specs.Prelude.{◌≡◌, IfErr};
+ghost use Rattle.std.specs.Prelude.{◌≡◌, IfErr, IfSome};
 ghost use Rattle.world_folder.specs.Ending.{IsFault};
 
+use crate::kept::kept_files;
 use crate::lines::Lines;
 use crate::place::Place;
 use crate::reporter::start_reporter;
 use crate::service::{Address, Service};
 use crate::socket::listen_at;
+use crate::standing::Standing;
 use crate::streams::Streams;
+use disk_model::Disk;
+use file_disk::FileDisk;
+use shared_capture::Method;
 use std::alloc::Global;
 use std::fs::{File, Files};
 use std::io;
 use std::net::{Ipv4Addr, Net, SocketAddr, TcpListener, TcpStream};
-use std::sync::atomic::AtomicBool;
 use std::sync::{Arc, Wait};
 use std::thread::Threads;
 use std::time::Clock;
 use tcp_service::Pulse;
 use transports::Listener;
+use worker_steps::Opened;
 use worker_threads::NotStarted;
+use workers::ImageWriter;
 use world_actions::Refusal;
 use world_folder::{Ending, NoPort, ServerEnding, opened};
 
 /// The streams, the listener with its place, and the lines of the workers and sessions.
 #[derive(Drop)]
-pub struct Front<R: Wait + Net + Copy> {
+pub struct Front<R: Wait + Clock + Net + Copy> {
     pub streams: Streams,
     pub listener: Listener,
     pub place: Arc<Place, Global>,
@@ -44,12 +50,12 @@ impl<
         + Send
         + 'static,
 > Front<R> {
-    /// Listens, beside streams that have begun. The server's counts begin with these.
-    pub fn open(
+    /// Listens for the clients of an open world, beside streams that have begun.
+    pub fn open<M: Method>(
         rt: &R,
         service: &Service<'_>,
         streams: Streams,
-        pulse: Pulse,
+        world: &Opened<M, FileDisk>,
     ) -> Result<Self, Ending>
         ensures { IfErr result IsFault }
     {
@@ -57,7 +63,7 @@ impl<
             Ok(listening) => listening,
             Err(ending) => return Err(streams.finish(rt, ending)),
         };
-        match lines_of(rt, service, &streams, &place, pulse) {
+        match lines_of(rt, service, &streams, &place, world) {
             Ok(lines) => Ok(Front {
                 streams,
                 listener,
@@ -85,28 +91,50 @@ pub fn start_streams<R: Threads + Wait + Print + Eprint + AllocGlobal + Copy + S
     }
 }
 
-// The lines that leave by these streams.
-fn lines_of<R: Threads + Wait + Clock + Net + AllocGlobal + Copy + Send + 'static>(
+// The lines of a world's server that leave by these streams.
+fn lines_of<R: Threads + Wait + Clock + Net + AllocGlobal + Copy + Send + 'static, M: Method>(
     rt: &R,
     service: &Service<'_>,
     streams: &Streams,
     place: &Arc<Place, Global>,
-    pulse: Pulse,
+    world: &Opened<M, FileDisk>,
 ) -> Result<Lines<R>, Ending>
     ensures { IfErr result IsFault }
 {
-    let Ok(is_left) = Arc::new(rt.alloc(), AtomicBool::new(false)) else {
+    let Ok(standing) = Arc::new(rt.alloc(), Standing::new()) else {
+        return Err(Ending::Fault(Refusal::NoMemory));
+    };
+    let files = kept_files(rt.alloc(), service.folder, &world.images, &world.log)?;
+    let Ok(files) = Arc::new(rt.alloc(), files) else {
         return Err(Ending::Fault(Refusal::NoMemory));
     };
     Ok(Lines {
         rt: *rt,
         place: place.clone()?,
+        files,
         output: streams.output.clone()?,
         errors: streams.errors.clone()?,
+        standing,
         exits_when_log_down: service.exits_when_log_down,
-        is_left,
-        pulse: reported(rt, service.report, streams, pulse)?,
+        exit_when_closed: service.exit_when_closed,
+        closed_at: None,
+        pulse: reported(rt, service.report, streams, pulse_of(world))?,
     })
+}
+
+// The counts of a server that has opened this world.
+fn pulse_of<M: Method>(world: &Opened<M, FileDisk>) -> Pulse {
+    Pulse::new(world.ended, newest_image(&world.images))
+}
+
+// The tick of the newest image, which each world has once its start has ended.
+fn newest_image<D: Disk>(images: &ImageWriter<D>) -> u64
+    ensures { IfSome images.now.keeper.newest (λ newest. result ≡ newest.1) }
+{
+    match images.keeper.newest() {
+        Some((_, tick)) => tick,
+        None => 0,
+    }
 }
 
 // Starts the thread that prints figures, if they are asked for, and returns the counts that it prints.

@@ -5,6 +5,7 @@
 #![tactic(auto)]
 
 mod front;
+mod kept;
 mod line;
 mod lines;
 mod place;
@@ -13,9 +14,11 @@ mod reporter;
 mod service;
 mod serving;
 mod socket;
+mod standing;
 mod streams;
 
 pub use lines::Announce;
 pub use service::{Address, Clients, Every, Service};
 pub use serving::{serve, serve_opened};
 pub use socket::SocketMode;
+pub use standing::Losses;

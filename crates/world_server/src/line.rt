@@ -1,7 +1,7 @@
 //! The lines that a server prints.
 ghost use Rattle.std.specs.Prelude.{◌≡◌};
-ghost use Rattle.std.specs.Path.{path_buf_bytes};
 ghost use Rattle.world_server.specs.Lines.{line_text};
+ghost use Rattle.world_server.specs.Paths.{path_at};
 
 use crate::reporter::Report;
 use disk_model::FourFiles;
@@ -36,6 +36,8 @@ pub enum Line {
         acked: u64,
         failure: Option<Failure>,
     },
+    /// The file has no name any more.
+    FileMissed(WorldFile),
     SessionRefused(Unserved),
     ShortageBegan(io::Error),
     ShortageEnded,
@@ -66,7 +68,7 @@ pub struct Printed<'a> {
 }
 
 impl fmt::Display for Printed<'_> {
-    ghost output = { λ printed. line_text (path_buf_bytes printed.paths.now.socket) printed.line };
+    ghost output = { λ printed. line_text printed.paths.now printed.line };
 
     fn fmt<W: fmt::Write>(&self, f: &mut fmt::Formatter<W>) -> fmt::Result {
         match self.line {
@@ -83,6 +85,11 @@ impl fmt::Display for Printed<'_> {
                 write!(f, "log down after tick {acked}")?;
                 write_failure(f, &self.paths.files, failure)
             }
+            Line::FileMissed(file) => write!(
+                f,
+                "{} was removed or replaced: save the files before the server ends",
+                path_of(&self.paths.files, file).as_str()
+            ),
             Line::SessionRefused(Unserved::NoMemory) => {
                 f.write_str("session refused: there is no memory")
             }
@@ -115,10 +122,7 @@ fn write_failure<W: fmt::Write>(
 }
 
 fn path_of(paths: &FourFiles<PathBuf>, file: WorldFile) -> &PathBuf
-    ensures image_a { file ≡ WorldFile.ImageA → result.now ≡ paths.now.image_a }
-    ensures image_b { file ≡ WorldFile.ImageB → result.now ≡ paths.now.image_b }
-    ensures log_a { file ≡ WorldFile.LogA → result.now ≡ paths.now.log_a }
-    ensures log_b { file ≡ WorldFile.LogB → result.now ≡ paths.now.log_b }
+    ensures { result.now ≡ path_at paths.now file }
 {
     match file {
         WorldFile::ImageA => &paths.image_a,

@@ -1,15 +1,18 @@
 //! The lines of a running server.
 ghost use Rattle.std.specs.Prelude.{◌≡◌, None, Some, IfSome};
 
+use crate::kept::KeptFile;
 use crate::line::{Failure, Line};
 use crate::place::Place;
 use crate::printer::Printer;
-use disk_model::FileDisk;
+use crate::standing::{Losses, Standing, have_passed};
+use disk_model::FourFiles;
+use file_disk::FileDisk;
 use std::alloc::{AllocError, Global};
 use std::io;
 use std::net::Net;
-use std::sync::atomic::{AtomicBool, Ordering};
 use std::sync::{Arc, Wait};
+use std::time::{Clock, Instant};
 use tcp_service::{Door, Pulse, Unserved};
 use worker_threads::{TickWatch, Watch};
 use workers::{ImageWriter, Log};
@@ -17,28 +20,36 @@ use world_folder::WorldFile;
 
 /// Passes on what happens in a running server as lines, and never waits.
 #[derive(Drop)]
-pub struct Lines<R: Wait + Net + Copy> {
+pub struct Lines<R: Wait + Clock + Net + Copy> {
     pub rt: R,
     /// The server listens there.
     pub place: Arc<Place, Global>,
+    /// The files that it has open.
+    pub files: Arc<FourFiles<KeptFile>, Global>,
     pub output: Printer,
     pub errors: Printer,
+    pub standing: Arc<Standing, Global>,
     pub exits_when_log_down: bool,
-    /// True if the server is to be left, since its log is down.
-    pub is_left: Arc<AtomicBool, Global>,
+    /// For how many seconds it waits for clients once no more can come; without a number for ever.
+    pub exit_when_closed: Option<u32>,
+    /// The time since which no more can come, in the thread that accepts them.
+    pub closed_at: Option<Instant>,
     /// The counts of the server, if its figures are printed.
     pub pulse: Option<Arc<Pulse, Global>>,
 }
 
-impl<R: Wait + Net + Copy> Clone for Lines<R> {
+impl<R: Wait + Clock + Net + Copy> Clone for Lines<R> {
     fn clone(&self) -> Result<Self, AllocError> {
         Ok(Lines {
             rt: self.rt,
             place: self.place.clone()?,
+            files: self.files.clone()?,
             output: self.output.clone()?,
             errors: self.errors.clone()?,
+            standing: self.standing.clone()?,
             exits_when_log_down: self.exits_when_log_down,
-            is_left: self.is_left.clone()?,
+            exit_when_closed: self.exit_when_closed,
+            closed_at: self.closed_at,
             pulse: match &self.pulse {
                 Some(pulse) => Some(pulse.clone()?),
                 None => None,
@@ -47,11 +58,36 @@ impl<R: Wait + Net + Copy> Clone for Lines<R> {
     }
 }
 
-impl<R: Wait + Net + Copy> Lines<R> {
+impl<R: Wait + Clock + Net + Copy> Lines<R> {
     // Has the server left, which may wait for clients.
     fn leave(&self) {
-        self.is_left.store(true, Ordering::SeqCst);
+        self.standing.leave();
         self.place.wake(&self.rt);
+    }
+
+    // True if the server has waited for its last clients for as long as it may.
+    fn is_overdue(&self) -> bool {
+        let (Some(seconds), Some(closed)) = (self.exit_when_closed, self.closed_at) else {
+            return false;
+        };
+        match closed.elapsed(&self.rt) {
+            Ok(passed) => have_passed(seconds, passed),
+            Err(_) => false,
+        }
+    }
+
+    // Says of each file once that it has no name any more.
+    fn look_at_names(&self) {
+        self.look_at_name(WorldFile::ImageA, &self.files.image_a);
+        self.look_at_name(WorldFile::ImageB, &self.files.image_b);
+        self.look_at_name(WorldFile::LogA, &self.files.log_a);
+        self.look_at_name(WorldFile::LogB, &self.files.log_b);
+    }
+
+    fn look_at_name(&self, file: WorldFile, kept: &KeptFile) {
+        if kept.is_newly_missed() {
+            self.note(Line::FileMissed(file));
+        }
     }
 
     // Prints a line on standard error.
@@ -60,19 +96,26 @@ impl<R: Wait + Net + Copy> Lines<R> {
     }
 }
 
-/// Prints how far play came.
+/// Prints how far play came, and knows what is down.
 pub trait Announce {
     /// So many ticks ended, and those up to the second number are acknowledged.
     fn stopped(&self, ended: u64, acked: u64);
+
+    /// What of the server is down so far.
+    fn losses(&self) -> Losses;
 }
 
-impl<R: Wait + Net + Copy> Announce for Lines<R> {
+impl<R: Wait + Clock + Net + Copy> Announce for Lines<R> {
     fn stopped(&self, ended: u64, acked: u64) {
         self.output.print(&self.rt, Line::Stopped { ended, acked });
     }
+
+    fn losses(&self) -> Losses {
+        self.standing.losses()
+    }
 }
 
-impl<R: Wait + Net + Copy> TickWatch for Lines<R> {
+impl<R: Wait + Clock + Net + Copy> TickWatch for Lines<R> {
     fn ticks_ended(&mut self, ticks: u64) {
         if let Some(pulse) = &self.pulse {
             pulse.ticks_ended(ticks);
@@ -80,21 +123,24 @@ impl<R: Wait + Net + Copy> TickWatch for Lines<R> {
     }
 }
 
-impl<R: Wait + Net + Copy> Watch<FileDisk> for Lines<R> {
+impl<R: Wait + Clock + Net + Copy> Watch<FileDisk> for Lines<R> {
     fn image_opened(&mut self, tick: u64) {
         if let Some(pulse) = &self.pulse {
             pulse.image_opened(tick);
         }
         self.note(Line::ImageOpened(tick));
+        self.look_at_names();
     }
 
     fn images_down(&mut self, images: &ImageWriter<FileDisk>) {
+        self.standing.images_are_down();
         let a = (WorldFile::ImageA, images.image_a.failure());
         let b = (WorldFile::ImageB, images.image_b.failure());
         self.note(Line::ImagesDown(first_failure(a, b)));
     }
 
     fn log_down(&mut self, acked: u64, log: &Log<FileDisk>) {
+        self.standing.log_is_down();
         let a = (WorldFile::LogA, log.a.failure());
         let b = (WorldFile::LogB, log.b.failure());
         let failure = first_failure(a, b);
@@ -105,7 +151,7 @@ impl<R: Wait + Net + Copy> Watch<FileDisk> for Lines<R> {
     }
 }
 
-impl<R: Wait + Net + Copy> Door for Lines<R> {
+impl<R: Wait + Clock + Net + Copy> Door for Lines<R> {
     fn opened(&mut self) {
         self.output.print(&self.rt, self.place.listening());
     }
@@ -123,15 +169,17 @@ impl<R: Wait + Net + Copy> Door for Lines<R> {
     }
 
     fn listener_failed(&mut self, error: &io::Error) {
+        self.standing.listener_is_down();
         self.note(Line::ListenerFailed(*error));
     }
 
     fn closed(&mut self) {
+        self.closed_at = Instant::now(&self.rt).ok();
         self.note(self.place.closed());
     }
 
     fn is_left(&self) -> bool {
-        self.is_left.load(Ordering::SeqCst)
+        self.standing.is_left() || self.is_overdue()
     }
 
     fn pulse(&self) -> Option<Arc<Pulse, Global>> {

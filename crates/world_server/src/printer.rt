@@ -9,6 +9,7 @@ use std::sync::{Arc, Wait};
 use std::thread::{self, Threads};
 use std::time::{Clock, Duration};
 use worker_threads::NotStarted;
+use world_folder::Escaped;
 
 /// How many lines may wait for a stream.
 const LINES: usize = 256;
@@ -22,7 +23,7 @@ pub trait Stream {
     fn print(&self, line: Line) -> io::Result<()>;
 }
 
-/// Standard error: each line begins with the program's name.
+/// Standard error: each line begins with the program's name, and its control characters are escaped.
 #[derive(Drop)]
 pub struct StandardError<R: Eprint> {
     pub rt: R,
@@ -35,7 +36,7 @@ impl<R: Eprint> Stream for StandardError<R> {
             line,
             paths: &self.paths,
         };
-        eprintln!(self.rt; "worldd: {printed}")
+        eprintln!(self.rt; "worldd: {}", Escaped(printed))
     }
 }
 

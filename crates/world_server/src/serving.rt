@@ -1,19 +1,22 @@
-ghost use Rattle.std.specs.Prelude.{IfSome, ◌≡◌, ◌≢◌, true, false, IsTrue, IfOk, IfErr, MatchResult};
+ghost use Rattle.std.specs.Prelude.{◌≡◌, ◌≢◌, true, false, IsTrue, IfOk, IfErr, MatchResult};
 ghost use Rattle.std.specs.declared.io.Error.{Error};
 ghost use Rattle.image_files.specs.declared.phase.Phase.TheVariants.{Down};
 ghost use Rattle.world_folder.specs.Ending.{IsFault};
 ghost use Rattle.worker_steps.specs.Stopped.{StaysSound};
 ghost use Rattle.worker_steps.specs.Begun.{IsWhole};
 ghost use Rattle.world_start.specs.Steps.{IsAhead};
-ghost use Rattle.world_server.specs.Serving.{EndsServing};
+ghost use Rattle.world_server.specs.Serving.{EndsServing, left_ending};
 
 use crate::front::{Front, start_streams};
 use crate::line::Line;
 use crate::lines::Announce;
 use crate::service::{Every, Service};
+use crate::standing::{Losses, ending_of_left};
 use crate::streams::Streams;
 use capture_core::{Capture, PlainCopy};
-use disk_model::{Disk, FileDisk, FourFiles};
+use disk_model::{Disk, FourFiles};
+use file_disk::FileDisk;
+use file_readers::read_files;
 use shared_capture::{Kind, Method, Pong, Zig};
 use std::alloc::Global;
 use std::fs::{File, Files};
@@ -21,14 +24,16 @@ use std::net::{Net, TcpListener, TcpStream};
 use std::sync::Wait;
 use std::thread::Threads;
 use std::time::Clock;
-use tcp_service::{Admission, Closed, Door, NotServed, Pulse, Stopped, serve_tcp};
+use tcp_service::{Admission, Closed, Door, NotServed, Stopped, serve_tcp};
 use transports::Listener;
 use worker_steps::{Gates, Opened};
 use worker_threads::{Seats, Watch, start_world};
-use workers::{Gate, ImageWriter, Open};
+use workers::{Gate, Open};
 use world_actions::Refusal;
-use world_folder::{Ending, ServerEnding, failure_of, open_existing, stands_in};
-use world_start::{Start, recover_world};
+use world_folder::{
+    Ending, Fault, NotRecovered, ServerEnding, failure_of, open_existing, recover_whole, stands_in,
+};
+use world_start::Start;
 
 /// Serves the world in a folder to so many clients. It prints which world was recovered, where it listens, and how far
 /// play came.
@@ -78,9 +83,12 @@ fn serve_by<
 {
     let alloc = rt.alloc();
     let mut files = open_existing(rt, service.folder)?;
-    match recover_world::<PlainCopy, FileDisk>(alloc, &mut files) {
+    match recover_whole::<PlainCopy, FileDisk>(alloc, &mut files) {
         Ok(begun) => serve_recovered::<R, M>(rt, service, begun, files),
-        Err(refusal) => Err(not_opened(alloc, service.folder, files, refusal)),
+        Err(NotRecovered::Lost(lost)) => Err(Ending::NoWorld(Fault::Lost(lost))),
+        Err(NotRecovered::Refused(refusal)) => {
+            Err(not_opened(alloc, service.folder, files, refusal))
+        }
     }
 }
 
@@ -146,27 +154,16 @@ fn serve_started<
     ensures ok { IfOk result EndsServing }
     ensures err { IfErr result IsFault }
 {
-    let pulse = Pulse::new(opened.ended, newest_image(&opened.images));
     let Front {
         streams,
         listener,
         place,
         lines,
-    } = Front::open(rt, service, streams, pulse)?;
+    } = Front::open(rt, service, streams, &opened)?;
     let (every, admission) = (service.every, service.admission());
     let served = serve_opened(rt, rt.alloc(), lines, opened, every, listener, admission);
     place.leave(rt);
     Ok(streams.finish(rt, ending_alone(served)))
-}
-
-// The tick of the newest image, which each world has once its start has ended.
-fn newest_image<D: Disk>(images: &ImageWriter<D>) -> u64
-    ensures { IfSome images.now.keeper.newest (λ newest. result ≡ newest.1) }
-{
-    match images.keeper.newest() {
-        Some((_, tick)) => tick,
-        None => 0,
-    }
 }
 
 /// Serves a world that was opened. It returns how the program ends, and what the server leaves once it has stopped. On
@@ -217,7 +214,7 @@ pub fn serve_opened<
             let ending = ending_of(&stopped);
             Ok((ending, stopped))
         }
-        Err(reason) => Err(not_served(reason)),
+        Err(reason) => Err(not_served(reason, announce.losses())),
     }
 }
 
@@ -231,17 +228,17 @@ fn ending_alone<S: Drop>(served: Result<(Ending, S), Ending>) -> Ending
     }
 }
 
-// How the program ends if a server doesn't run to its end.
-fn not_served(reason: NotServed) -> Ending
+// How the program ends if a server doesn't run to its end, of which so much is lost.
+fn not_served(reason: NotServed, lost: Losses) -> Ending
     ensures ends { EndsServing result }
     ensures memory { reason ≡ NotServed.NoMemory → result ≡ Ending.Fault Refusal.NoMemory }
     ensures thread { reason ≡ NotServed.NoThread → result ≡ Ending.Server ServerEnding.NoThread }
-    ensures left { reason ≡ NotServed.Left → result ≡ Ending.Server ServerEnding.LogDown }
+    ensures left { reason ≡ NotServed.Left → result ≡ left_ending lost }
 {
     match reason {
         NotServed::NoMemory => Ending::Fault(Refusal::NoMemory),
         NotServed::NoThread => Ending::Server(ServerEnding::NoThread),
-        NotServed::Left => Ending::Server(ServerEnding::LogDown),
+        NotServed::Left => ending_of_left(lost),
     }
 }
 
@@ -252,7 +249,9 @@ fn not_opened(alloc: Global, folder: &str, files: FourFiles<FileDisk>, refusal: 
     let mut files = files;
     match refusal {
         Refusal::Device => failure_of(alloc, folder, files),
-        Refusal::NoImage | Refusal::BadImage | Refusal::BadLog => match files.read_all(alloc) {
+        Refusal::NoImage | Refusal::BadImage | Refusal::BadLog => match read_files(
+            alloc, &mut files,
+        ) {
             Ok(bytes) => match stands_in(alloc, &bytes) {
                 Ok(_) => Ending::Fault(refusal),
                 Err(fault) => Ending::NoWorld(fault),

@@ -11,7 +11,7 @@ use Rattle.file_format.specs.declared.slot.Slot.{Slot}
 use Rattle.image_files.specs.declared.phase.Phase.TheVariants.{Idle, Closing, Header}
 use Rattle.image_files.specs.Images.{ImageFiles}
 use Rattle.image_files.specs.Progress.{Progress as ImageProgress, made_keeper}
-use Rattle.image_files.specs.Files.{Stands as ImagesStand, FitsFiles as ImagesFit, HoldsNewest, IsTold}
+use Rattle.image_files.specs.Files.{Stands as ImagesStand, FitsFiles as ImagesFit, IsTold}
 use Rattle.action_log.specs.Segment.{Segment, IsSegment}
 use Rattle.action_log.specs.Progress.{begun, QueueFollows, end_of}
 use Rattle.action_log.specs.Files.{FitsFiles as LogFits}
@@ -56,20 +56,20 @@ cells_left cells tick newest shut_a shut_b true words content all built = record
 
 module _ {C D : Type 0} (content : C → Content) (file : D → List ℕ) (leaves : D → List ℕ → Type 0) (honest : Bool) where
   pub images_order : (cells : ℕ) (newest : Option (Slot × ℕ)) (tick : ℕ) (words ia ib la lb : List ℕ) (engine : Engine C) (files : FourFiles D) → Begins content cells newest tick words ia ib la lb engine → length words ≡ cells
-      → (IsTrue honest → (file files.image_a ≡ ia) × (file files.image_b ≡ ib) × HoldsNewest cells newest ia ib) → ImagesInOrder content file honest engine files
-  images_order cells newest tick words ia ib la lb engine files b all has = record {
+      → (IsTrue honest → ImagesFit engine.images (file files.image_a) (file files.image_b)) → ImagesInOrder content file honest engine files
+  images_order cells newest tick words ia ib la lb engine files b all fits = record {
     cells = ap (λ (k : ImageProgress). k.cells) b.images ∙ (started_cells (has_round newest tick) tick (made_keeper cells newest (is_shut ia) (is_shut ib)) ∙ (sym all ∙ ap length (sym (built_live words (has_round newest tick) (content engine.store) b.store))));
     left = subst (λ k. CellsLeft k (content engine.store)) (sym b.images) (cells_left cells tick newest (is_shut ia) (is_shut ib) (has_round newest tick) words (content engine.store) all b.store);
-    fits = λ h. (let f = has h in subst (λ a. ImagesFit engine.images a (file files.image_b)) (sym f.0) (subst (λ b. ImagesFit engine.images ia b) (sym f.1) (b.images_fit f.2)));
+    fits = fits;
   }
 
   pub log_order : ((tick : ℕ) (shut_a shut_b : Bool) → QueueFollows (begun tick shut_a shut_b) [] × (end_of (begun tick shut_a shut_b) [] ≡ record { base = tick; count = 0 }))
       → (cells : ℕ) (newest : Option (Slot × ℕ)) (tick : ℕ) (words ia ib la lb : List ℕ) (engine : Engine C) (files : FourFiles D) → Begins content cells newest tick words ia ib la lb engine → tick ≤ TICK_MAX
-      → (IsTrue honest → (file files.log_a ≡ la) × (file files.log_b ≡ lb)) → LogInOrder content file honest engine files
-  log_order begins cells newest tick words ia ib la lb engine files b most has =
+      → (IsTrue honest → LogFits engine.log (file files.log_a) (file files.log_b)) → LogInOrder content file honest engine files
+  log_order begins cells newest tick words ia ib la lb engine files b most fits =
       let q = begins tick (is_shut la) (is_shut lb) in
       record {
-        fits = λ h. (let f = has h in subst (λ a. LogFits engine.log a (file files.log_b)) (sym f.0) (subst (λ b. LogFits engine.log la b) (sym f.1) b.log_fits));
+        fits = fits;
         queue = subst (λ k. QueueFollows k engine.queue.items) (sym b.log) (subst (QueueFollows (begun tick (is_shut la) (is_shut lb))) (sym b.queue) q.0);
         end = ap (λ k. end_of k engine.queue.items) b.log ∙ (ap (end_of (begun tick (is_shut la) (is_shut lb))) b.queue ∙ (q.1
             ∙ (ap (λ n. record { base = n; count = 0 }) (let e : tick ≡ engine.ended - engine.since = omega (arith, b.ended, b.since) in e) ∙ ap (λ n. record { base = engine.ended - engine.since; count = n }) (sym b.since))));

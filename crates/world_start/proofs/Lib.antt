@@ -1,4 +1,5 @@
 pub mod Beginning
+pub mod Carried
 pub mod Faults
 pub mod Following
 pub mod LogRuns

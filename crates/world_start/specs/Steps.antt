@@ -87,6 +87,9 @@ pub record StartLaws {D : Type 0} (file : D → List ℕ) (leaves : D → List �
   pub log : (tick : ℕ) (shut_a shut_b : Bool) (log_a log_b : D) (before_a before_b : Segment) → tick ≤ TICK_MAX → Only (file log_a) (leaves log_a) → Only (file log_b) (leaves log_b)
       → TellsShut shut_a (file log_a) → TellsShut shut_b (file log_b) → IsSegment (file log_a) before_a → IsSegment (file log_b) before_b
       → LogStands (begun tick shut_a shut_b) (file log_a) (file log_b) (leaves log_a) (leaves log_b) (start_of tick before_a before_b (start_moves shut_a shut_b))
+  pub fits_images : (cells : ℕ) (newest : Option (Slot × ℕ)) (shut_a shut_b : Bool) (image_a image_b : List ℕ) → 1 ≤ cells → cells ≤ CELLS → HoldsNewest cells newest image_a image_b
+      → TellsShut shut_a image_a → TellsShut shut_b image_b → ImagesFit (made_keeper cells newest shut_a shut_b) image_a image_b
+  pub fits_log : (tick : ℕ) (shut_a shut_b : Bool) (log_a log_b : List ℕ) → tick ≤ TICK_MAX → TellsShut shut_a log_a → TellsShut shut_b log_b → LogFits (begun tick shut_a shut_b) log_a log_b
   pub told : (bytes : List ℕ) → TellsShut (is_shut bytes) bytes
   pub queue : (tick : ℕ) (shut_a shut_b : Bool) → QueueFollows (begun tick shut_a shut_b) [] × (end_of (begun tick shut_a shut_b) [] ≡ record { base = tick; count = 0 })
   pub goes_on : WorldsGoOn

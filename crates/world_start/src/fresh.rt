@@ -12,6 +12,7 @@ use crate::laws::starts_begin;
 use action_log::log_outcomes;
 use capture_core::{Capture, PlainCopy};
 use disk_model::{Disk, FourFiles};
+use file_readers::read_files;
 use image_files::images_stay;
 use restart::{worlds_are_safe, zeros};
 use std::alloc::Global;
@@ -83,7 +84,7 @@ fn begin_fresh<C: Capture, D: Disk>(
     ensures device { IfErr result (HasFaulted D.faults files.old files.new) }
 {
     starts_begin::<D>();
-    let bytes = files.read_all(alloc)?;
+    let bytes = read_files(alloc, files)?;
     if !are_closed(alloc, &bytes) {
         return Err(Refusal::NotEmpty);
     }

@@ -8,6 +8,7 @@ use crate::laws::starts_begin;
 use action_log::segments_read_once;
 use capture_core::Capture;
 use disk_model::{Disk, FourFiles};
+use file_readers::read_files;
 use recovery::{crash_restarts, recover};
 use std::alloc::Global;
 use world_actions::Refusal;
@@ -42,7 +43,7 @@ pub fn recover_world<C: Capture, D: Disk>(
     starts_begin::<D>();
     segments_read_once();
     crash_restarts();
-    let bytes = files.read_all(alloc)?;
+    let bytes = read_files(alloc, files)?;
     let found = recover(
         alloc,
         &bytes.image_a,

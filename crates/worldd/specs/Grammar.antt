@@ -86,7 +86,8 @@ abbrev pub serve_rules : (methods modes : Option ValueParser) → List Rule
 serve_rules methods modes = folder_rule ∷ method_rule methods ∷ number_rule (codes "every") 1 65_536 (codes "64" ∷ [])
     ∷ number_rule (codes "port") 0 65_535 [] ∷ value_rule (codes "socket") ∷ mode_rule modes
     ∷ needed_number_rule (codes "clients") 1 100_000 ∷ number_rule (codes "idle") 1 86_400 []
-    ∷ number_rule (codes "report") 0 86_400 (codes "0" ∷ []) ∷ flag_rule (codes "exit-when-log-down") ∷ []
+    ∷ number_rule (codes "report") 0 86_400 (codes "0" ∷ []) ∷ flag_rule (codes "exit-when-log-down")
+    ∷ number_rule (codes "exit-when-closed") 0 86_400 [] ∷ []
 
 abbrev pub method_words : List (List ℕ)
 method_words = method_word Zigzag ∷ method_word PingPong ∷ []
@@ -109,7 +110,7 @@ IsServe command = (methods modes : Option ValueParser) × TakesWords method_word
 abbrev pub grammar : (methods modes : Option ValueParser) → List (List ℕ × List Rule)
 grammar methods modes = (codes "steps", []) ∷ (codes "create", create_rules) ∷ (codes "recover", folder_rule ∷ [])
     ∷ (codes "inspect", inspect_rules) ∷ (codes "status", folder_rule ∷ []) ∷ (codes "backup", backup_rules)
-    ∷ (codes "serve", serve_rules methods modes) ∷ []
+    ∷ (codes "salvage", backup_rules) ∷ (codes "serve", serve_rules methods modes) ∷ []
 
 -- a command, with the rules of its arguments
 abbrev pub entry_of : Shape → List ℕ × List Rule

@@ -5,7 +5,7 @@ use Rattle.clap.specs.declared.parser.matches.Found.{Found}
 use Rattle.clap.specs.Words.{first_value, rows_of, subcommand_name_of, subcommand_rows_of}
 use Rattle.world_actions.specs.declared.world.TheConstants.{CELLS}
 use Rattle.worldd.specs.declared.invocation.Invocation.{Invocation}
-use Rattle.worldd.specs.declared.invocation.Invocation.TheVariants.{Steps, Create, CreateOfWords, Recover, Inspect, Status, BackUp}
+use Rattle.worldd.specs.declared.invocation.Invocation.TheVariants.{Steps, Create, CreateOfWords, Recover, Inspect, Status, BackUp, Salvage}
 use Rattle.worldd.specs.Values.{HasFlag, HasNumber}
 
 -- the words are of this command, and these are its values
@@ -38,4 +38,6 @@ AsksTo name found (Inspect folder words) = (name ≡ codes "inspect") × (first_
     × HasFlag found (codes "words") words
 AsksTo name found (Status folder) = (name ≡ codes "status") × (first_value found (codes "dir") ≡ Some folder.now)
 AsksTo name found (BackUp folder to) = (name ≡ codes "backup") × (first_value found (codes "dir") ≡ Some folder.now)
+    × (first_value found (codes "to") ≡ Some to.now)
+AsksTo name found (Salvage folder to) = (name ≡ codes "salvage") × (first_value found (codes "dir") ≡ Some folder.now)
     × (first_value found (codes "to") ≡ Some to.now)

@@ -26,3 +26,5 @@ pub record AsksFor (found : Found) (service : Service) : Type 0 where
   pub no_idle : IfNone service.idle ((number : ℕ) → HasNumber 32 found (codes "idle") number → ⊥)
   pub report : HasNumber 32 found (codes "report") service.report
   pub exits : HasFlag found (codes "exit-when-log-down") service.exits_when_log_down
+  pub closed : IfSome service.exit_when_closed (HasNumber 32 found (codes "exit-when-closed"))
+  pub not_closed : IfNone service.exit_when_closed ((number : ℕ) → HasNumber 32 found (codes "exit-when-closed") number → ⊥)

@@ -8,7 +8,9 @@ ghost use Rattle.worldd.specs.Grammar.{IsArgument, IsChoiceOf, IsCreate, HasArgu
 ghost use Rattle.worldd.specs.Grammar.{HasCommands, HasGrammar};
 ghost use Rattle.worldd.specs.Values.{HasNumber};
 
-use crate::help::{BACKUP_HELP, CREATE_HELP, INSPECT_HELP, RECOVER_HELP, STATUS_HELP, STEPS_HELP};
+use crate::help::{
+    BACKUP_HELP, CREATE_HELP, INSPECT_HELP, RECOVER_HELP, SALVAGE_HELP, STATUS_HELP, STEPS_HELP,
+};
 use crate::serve_arguments::serve_command;
 use clap::error::Error;
 use clap::{Arg, ArgAction, ArgGroup, ArgMatches, Command, value_parser};
@@ -54,6 +56,7 @@ fn commands<'a>(alloc: Global) -> Result<Command<'a>, AllocError>
         .subcommand(inspect_command(alloc)?)?
         .subcommand(folder_command(alloc, "status", STATUS_ABOUT, STATUS_HELP)?)?
         .subcommand(backup_command(alloc)?)?
+        .subcommand(salvage_command(alloc)?)?
         .subcommand(serve_command(alloc)?)
 }
 
@@ -122,6 +125,13 @@ fn backup_command<'a>(alloc: Global) -> Result<Command<'a>, AllocError>
     folder_command(alloc, "backup", about, BACKUP_HELP)?.arg(to_argument(alloc))
 }
 
+fn salvage_command<'a>(alloc: Global) -> Result<Command<'a>, AllocError>
+    ensures { IfOk result (HasArguments (codes "salvage") backup_rules []) }
+{
+    let about = "Makes a world of what can be read of damaged or lost files";
+    folder_command(alloc, "salvage", about, SALVAGE_HELP)?.arg(to_argument(alloc))
+}
+
 /// An argument with a value, by its long name.
 pub fn value_argument<'a>(alloc: Global, name: &'a str, value: &'a str, help: &'a str) -> Arg<'a>
     ensures { IsArgument (value_rule name.entry.now) result }
@@ -158,7 +168,7 @@ fn list_argument<'a>(alloc: Global) -> Arg<'a>
 fn to_argument<'a>(alloc: Global) -> Arg<'a>
     ensures { IsArgument (needed_rule (codes "to")) result }
 {
-    let help = "The folder of the copy, which has to be empty";
+    let help = "The folder of the new files, which has to be empty";
     value_argument(alloc, TO, "FOLDER", help).required(true)
 }
 

@@ -41,8 +41,8 @@ It creates the missing ones of image.a, image.b, log.a and log.b, writes a world
 cells, all 0, into them, and prints `created N`. A file that is closed, by its first
 byte, is overwritten: use a folder for this world alone. With --words the cells have the
 words that FILE lists: numbers from 0 to 999999999999999999, with a space or a newline
-between them, as `inspect --words` prints them. After a fault the status is 1, and the
-first line on standard error is `fault CODE`:
+between them, as `inspect --words` prints them. After a fault the status is 1, or 13 if
+memory or room is wanting, and the first line on standard error is `fault CODE`:
   16 FILE lists no world: the line is named, and nothing was made,
   17 there is no memory, 18 a file can't be opened or written, is no ordinary file of
   its own, or another program writes this world, 22 a file already holds data: nothing
@@ -52,8 +52,8 @@ first line on standard error is `fault CODE`:
 pub const RECOVER_HELP: &str = "\
 It reads image.a, image.b, log.a and log.b, writes nothing and locks nothing, and prints
 `recovered N from T`: they hold the world after tick N, built from the image of tick T.
-If they hold no world the status is 1, and the first line on standard error is
-`fault CODE`:
+If they hold no world the status is 1, or 13 if memory is wanting, and the first line on
+standard error is `fault CODE`:
   13 no image is open, 14 an image is damaged, 15 the log is damaged,
   17 there is no memory, 18 a file is missing or can't be read";
 
@@ -85,11 +85,22 @@ pub const BACKUP_HELP: &str = "\
 It copies the newest image and the log of a world, also while a server writes them, and
 locks nothing. It recovers the copy, makes it durable, and prints `backed up N from T`:
 the copy holds the world after tick N, built from the image of tick T. It has every tick
-that was answered before it began. It makes no folder. After a fault the status is 1, and
-the first line on standard error is `fault CODE`:
+that was answered before it began. It makes no folder. After a fault the status is 1, or
+13 if memory or room is wanting, and the first line on standard error is `fault CODE`:
   13 no image is open, 14 an image is damaged, 15 the log is damaged,
   17 there is no memory, 18 a file is missing, can't be read or written, or a server
   began a new image under each of 1000 tries, 22 the folder of the copy isn't empty";
+
+/// The end of `worldd salvage --help`.
+pub const SALVAGE_HELP: &str = "\
+It makes a world in an empty folder of what can be read of files that `recover` refuses,
+and writes nothing into theirs. A bad image is left out, a log is cut behind its last
+whole group whose actions can be played again, and a lost file counts as closed. It
+prints what it took of each file, and `salvaged N from T`: the new files hold the world
+after tick N. Later ticks are lost. After a fault the status is 1, or 13 if memory or
+room is wanting, and the first line on standard error is `fault CODE`:
+  13 no image can be read, 17 there is no memory, 18 a file can't be read or written,
+  22 the folder of the new files isn't empty";
 
 /// The end of `worldd serve --help`.
 pub const SERVE_HELP: &str = "\
@@ -98,6 +109,7 @@ of the system at PATH, until K connections have come and gone, each in a thread 
 own. It makes no other file. METHOD is zigzag or pingpong, E from 1 to 65536, P from 0 to
 65535, K from 1 to 100000, SECONDS up to 86400, PATH of at most 101 bytes. After the
 last connection the port or the socket is closed; the file at PATH is removed at the end.
+With --exit-when-closed it waits for clients that are left for so many seconds only.
 Any user of this machine may connect to a port, and to a socket those whom MODE lets
 write its file.
 A client writes lines, and `end` closes a batch, which is answered once it is durable:
@@ -107,11 +119,12 @@ It prints, each line at once:
   recovered N from T        it found the world after tick N, built from the image of T
   listening PORT            clients may come; with a socket it is `listening PATH`
   stopped tick N acked A    all are gone: N ticks ended, and those up to A are durable;
-                            not after an end by --exit-when-log-down
+                            not after an end by one of the two flags --exit-when-..
 On standard error it prints, and drops lines that nobody reads:
   worldd: image of tick T opened
   worldd: images down: FILE: REASON            play continues without images
   worldd: log down after tick T: FILE: REASON  batches are answered `fault 12`
+  worldd: FILE was removed or replaced: save the files before the server ends
   worldd: session refused: REASON              a client was closed unanswered
   worldd: clients wait: REASON                 there are no descriptors or buffers
   worldd: clients no longer wait
@@ -123,7 +136,8 @@ On standard error it prints, and drops lines that nobody reads:
       S clients play, W batches wait
   worldd: lines dropped: COUNT                 nobody read them
 Its status is 0; 12 if the log is down, else 11 if images are, else 10 if the listener
-failed; 2 for a wrong command line; else 1, and standard error has `fault CODE`:
+failed; 2 for a wrong command line; 13 if memory, threads or room on the disk is wanting;
+else 1. After 1 and 13 standard error has `fault CODE`:
   13 no image is open, 14 an image is damaged, 15 the log is damaged,
   17 there is no memory, or no thread for the server, 18 a file is missing, fails or is
   no ordinary file of its own, another program writes this world, the port or the socket

@@ -22,6 +22,7 @@ pub enum Invocation<'a> {
     Inspect { folder: &'a str, words: bool },
     Status { folder: &'a str },
     BackUp { folder: &'a str, to: &'a str },
+    Salvage { folder: &'a str, to: &'a str },
 }
 
 /// The work that the words ask for, if the command isn't `serve`.
@@ -60,6 +61,10 @@ fn invocation_in<'a>(name: &str, given: &ArgMatches<'a>) -> Option<Invocation<'a
             folder,
             to: given.get_str(TO)?,
         }),
+        "salvage" => {
+            let to = given.get_str(TO)?;
+            Some(Invocation::Salvage { folder, to })
+        }
         _ => None,
     }
 }

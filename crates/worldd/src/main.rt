@@ -4,12 +4,13 @@
 //! `inspect` and `status` print which world the files of a folder hold, and write nothing into it. `backup` copies it,
 //! also while it is served. `serve` serves the world of a folder to clients of a port or of a socket.
 //!
-//! The status is 0 if the run ended well, and 2 for a wrong command line. It is 1 after a fault: standard error then has
-//! `fault CODE`, and the reason on the next line. A server ends with 12 if its log is down, with 11 if its images are,
-//! and with 10 if its listener failed.
+//! The status is 0 if the run ended well, and 2 for a wrong command line. It is 1 after a fault, and 13 after one by a
+//! shortage of memory, threads or room on a disk: standard error then has `fault CODE`, and the reason on the next line. A
+//! server ends with 12 if its log is down, with 11 if its images are, and with 10 if its listener failed.
 #![tactic(auto)]
 
 ghost use Rattle.std.specs.Prelude.{◌≡◌, IfSome, IfNone};
+ghost use Rattle.std.specs.declared.io.Error.{Error};
 ghost use Rattle.worldd.specs.Invocation.{IsPossible};
 
 mod arguments;
@@ -27,7 +28,10 @@ use std::io;
 use std::time::Clock;
 use streams::run_steps;
 use world_actions::Refusal;
-use world_folder::{Ending, back_up, create, create_of_words, inspect, opened, recover, status};
+use world_folder::{
+    Ending, Stream, StreamFailure, back_up, create, create_of_words, inspect, opened, recover,
+    salvage_world, status,
+};
 use world_server::serve;
 
 fn main(rt: HostRuntime) -> Ending {
@@ -71,17 +75,24 @@ fn run<R: Input + Print + Eprint + Clock + Files<File = File> + AllocGlobal + Cl
         Invocation::Inspect { folder, words } => Ending::of_command(inspect(rt, folder, words)),
         Invocation::Status { folder } => Ending::of_command(status(rt, folder)),
         Invocation::BackUp { folder, to } => Ending::of_command(back_up(rt, folder, to)),
+        Invocation::Salvage { folder, to } => Ending::of_command(salvage_world(rt, folder, to)),
     }
 }
 
 // How the program ends if it isn't run.
 fn not_run(reason: NotRun) -> Ending
     ensures told { reason ≡ NotRun.Told → result ≡ Ending.Told }
+    ensures unprinted { (error : Error) → reason ≡ NotRun.Unprinted error
+        → result ≡ Ending.Stream (record { stream = Stream.Output; error = error }) }
     ensures mistaken { reason ≡ NotRun.Mistaken → result ≡ Ending.Mistaken }
     ensures memory { reason ≡ NotRun.NoMemory → result ≡ Ending.Fault Refusal.NoMemory }
 {
     match reason {
         NotRun::Told => Ending::Told,
+        NotRun::Unprinted(error) => Ending::Stream(StreamFailure {
+            stream: Stream::Output,
+            error,
+        }),
         NotRun::Mistaken => Ending::Mistaken,
         NotRun::NoMemory => Ending::Fault(Refusal::NoMemory),
     }

@@ -44,6 +44,8 @@ const REPORT: &str = "report";
 
 const EXIT_WHEN_LOG_DOWN: &str = "exit-when-log-down";
 
+const EXIT_WHEN_CLOSED: &str = "exit-when-closed";
+
 /// The name of the group of the port and the socket.
 const ADDRESS: &str = "address";
 
@@ -62,6 +64,7 @@ pub fn serve_command<'a>(alloc: Global) -> Result<Command<'a>, AllocError>
         .arg(idle_argument(alloc))?
         .arg(report_argument(alloc))?
         .arg(exit_argument(alloc))?
+        .arg(closed_argument(alloc))?
         .group(address_group(alloc)?)
 }
 
@@ -181,6 +184,15 @@ fn exit_argument<'a>(alloc: Global) -> Arg<'a>
         .help("Ends with status 12 as soon as the log is down")
 }
 
+fn closed_argument<'a>(alloc: Global) -> Arg<'a>
+    ensures { IsArgument (number_rule (codes "exit-when-closed") 0 86_400 []) result }
+{
+    let help = "Ends so many seconds after no more clients can come; never by default";
+    value_argument(alloc, EXIT_WHEN_CLOSED, "SECONDS", help).value_parser(value_parser!(u32).range(
+        0..=86_400,
+    ))
+}
+
 /// The service that the words ask for, if the command is `serve`.
 pub fn service_of<'a>(matches: &ArgMatches<'a>) -> Option<Service<'a>>
     ensures some { IfSome result (λ service. (found : Found)
@@ -206,6 +218,7 @@ fn service_in<'a>(given: &ArgMatches<'a>) -> Option<Service<'a>>
         clients: Clients(number_of(given, CLIENTS)?),
         idle: number_of(given, IDLE),
         report: number_of(given, REPORT)?,
+        exit_when_closed: number_of(given, EXIT_WHEN_CLOSED),
         exits_when_log_down: given.get_flag(EXIT_WHEN_LOG_DOWN),
     })
 }

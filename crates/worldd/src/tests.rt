@@ -90,20 +90,22 @@ fn reported(alloc: Global, ending: Ending) -> (ExitCode, String) {
 
 #[test]
 fn faults_are_told_by_code_and_in_words(rt: HostRuntime) {
-    for (refusal, text) in [
+    for (refusal, code, text) in [
         (
             Refusal::BadCell,
+            1,
             "fault 1\nworldd: there is no such cell: cells are numbered from 0 to the number of cells less 1\n",
         ),
         (
             Refusal::NoMemory,
+            13,
             "fault 17\nworldd: there is no memory left\n",
         ),
-        (Refusal::Device, "fault 18\nworldd: the device failed\n"),
+        (Refusal::Device, 1, "fault 18\nworldd: the device failed\n"),
     ] {
         let (status, errors) = reported(rt.alloc(), Ending::Fault(refusal));
         assert!(rt;
-            status == ExitCode::from(1) && errors.as_str() == text,
+            status == ExitCode::from(code) && errors.as_str() == text,
             "{errors}"
         );
     }
@@ -135,7 +137,7 @@ fn unread(alloc: Global) -> (bool, String) {
 #[test]
 fn unreadable_words_are_mistaken(rt: HostRuntime) {
     let (is_mistaken, errors) = unread(rt.alloc());
-    let text = "error: the command line can't be read: invalid data\n";
+    let text = "error: a word of the command line isn't UTF-8: a path has to be\n";
     assert!(rt; is_mistaken && errors.as_str() == text, "{errors}");
 }
 
@@ -167,8 +169,8 @@ fn words(alloc: Global, line: &[&str]) -> Result<Vec<String>, Fail> {
 }
 
 // The parts of the service that a command line asks for. They are the folder, whether the method is Ping-Pong, the number
-// of ticks and the address as text. Then come the number of clients, their seconds of silence, those between two reports,
-// and whether it ends when the log is down.
+// of ticks and the address as text. Then come the number of clients, their seconds of silence, those between two reports
+// and those with a closed door, and whether it ends when the log is down.
 fn asked(alloc: Global, line: &[&str]) -> Result<Option<Asked>, Fail> {
     let words = words(alloc, line)?;
     let matches = matches_of(alloc, &words)?;
@@ -185,11 +187,22 @@ fn asked(alloc: Global, line: &[&str]) -> Result<Option<Asked>, Fail> {
         service.clients,
         service.idle,
         service.report,
+        service.exit_when_closed,
         service.exits_when_log_down,
     )))
 }
 
-type Asked = (String, bool, Every, String, Clients, Option<u32>, u32, bool);
+type Asked = (
+    String,
+    bool,
+    Every,
+    String,
+    Clients,
+    Option<u32>,
+    u32,
+    Option<u32>,
+    bool,
+);
 
 const LEAST: [&str; 10] = [
     "worldd",
@@ -204,7 +217,7 @@ const LEAST: [&str; 10] = [
     "100000",
 ];
 
-const ALL: [&str; 19] = [
+const ALL: [&str; 21] = [
     "worldd",
     "serve",
     "--method",
@@ -222,13 +235,15 @@ const ALL: [&str; 19] = [
     "--report",
     "60",
     "--exit-when-log-down",
+    "--exit-when-closed",
+    "0",
     "--dir",
     "other",
 ];
 
 #[test]
 fn flags_of_serve_are_read(rt: HostRuntime) -> Result<(), Fail> {
-    let Some((folder, is_ping_pong, every, address, clients, idle, report, exits)) = asked(
+    let Some((folder, is_ping_pong, every, address, clients, idle, report, closed, exits)) = asked(
         rt.alloc(),
         &LEAST,
     )?
@@ -238,10 +253,10 @@ fn flags_of_serve_are_read(rt: HostRuntime) -> Result<(), Fail> {
     assert!(rt; folder.as_str() == "world" && is_ping_pong && !exits);
     assert!(rt; address.as_str() == "Port(0)", "{address}");
     assert_eq!(rt;
-        (every, clients, idle, report),
-        (Every(64), Clients(100_000), None, 0)
+        (every, clients, idle, report, closed),
+        (Every(64), Clients(100_000), None, 0, None)
     );
-    let Some((folder, is_ping_pong, every, address, clients, idle, report, exits)) = asked(
+    let Some((folder, is_ping_pong, every, address, clients, idle, report, closed, exits)) = asked(
         rt.alloc(),
         &ALL,
     )?
@@ -251,8 +266,8 @@ fn flags_of_serve_are_read(rt: HostRuntime) -> Result<(), Fail> {
     assert!(rt; folder.as_str() == "other" && !is_ping_pong && exits);
     assert!(rt; address.as_str() == SOCKET_OF_A_GROUP, "{address}");
     assert_eq!(rt;
-        (every, clients, idle, report),
-        (Every(65_536), Clients(1), Some(86_400), 60)
+        (every, clients, idle, report, closed),
+        (Every(65_536), Clients(1), Some(86_400), 60, Some(0))
     );
     Ok(())
 }

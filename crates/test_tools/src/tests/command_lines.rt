@@ -49,7 +49,7 @@ fn wrong_command_lines_are_mistaken(rt: HostRuntime) -> Result<(), Fail> {
     for (line, wanted) in MISTAKEN {
         let (why, text) = not_run(&rt, line)?;
         assert!(rt;
-            why == NotRun::Mistaken && text.as_str() == wanted,
+            matches!(why, NotRun::Mistaken) && text.as_str() == wanted,
             "{text}"
         );
     }
@@ -66,7 +66,7 @@ fn help_and_the_version_are_told(rt: HostRuntime) -> Result<(), Fail> {
     for (flag, start) in TOLD {
         let (why, text) = not_run(&rt, &["measures", flag])?;
         assert!(rt;
-            why == NotRun::Told && text.as_str().starts_with(start),
+            matches!(why, NotRun::Told) && text.as_str().starts_with(start),
             "{text}"
         );
     }
@@ -76,9 +76,9 @@ fn help_and_the_version_are_told(rt: HostRuntime) -> Result<(), Fail> {
 #[test]
 fn what_the_system_does_not_give(rt: HostRuntime) {
     let invalid = io::Error::from(io::ErrorKind::InvalidData);
-    assert_eq!(rt; unreadable(&rt, &invalid), NotRun::Mistaken);
+    assert!(rt; matches!(unreadable(&rt, &invalid), NotRun::Mistaken));
     let memory = io::Error::from(AllocError);
-    assert_eq!(rt; unreadable(&rt, &memory), NotRun::NoMemory);
+    assert!(rt; matches!(unreadable(&rt, &memory), NotRun::NoMemory));
     let memory = Error::from(AllocError);
-    assert_eq!(rt; refused(&rt, &memory), NotRun::NoMemory);
+    assert!(rt; matches!(refused(&rt, &memory), NotRun::NoMemory));
 }

@@ -1,32 +1,33 @@
-use Rattle.std.proofs.Common.{◌≡◌, refl, sym, ap, ◌∙◌, inl, inr, length, nat_lt, Some, Ok}
+use Rattle.std.proofs.Common.{◌≡◌, ◌≤◌, refl, sym, ap, ◌∙◌, inl, inr, length, nat_lt, ℕ, Option, Some, Ok, Err, arith}
+use Rattle.file_format.specs.declared.slot.Slot.{Slot}
+use Rattle.world_actions.specs.declared.world.TheConstants.{CELLS}
 use Rattle.image_files.specs.Progress.{Progress as ImageProgress}
 use Rattle.action_log.specs.declared.progress.Progress.{Progress as LogProgress}
 use Rattle.restart.specs.Start.{is_shut}
-use Rattle.world_start.specs.Opening.{IsRefused}
+use Rattle.world_start.specs.Opening.{HasFaulted, IsRefused}
 use Rattle.recovery.specs.Recovered.{recovery_of_answer}
 use Rattle.world_start.proofs.Recovered.{if_err, recovers_on, holds_newest, is_read}
 use Rattle.world_start.proofs.Beginning.{images_order, log_order, built_live}
-use Rattle.world_start.proofs.Faults.{images_up}
+use Rattle.world_start.proofs.Carried.{read_recovers, read_begins, images_left, log_left, chosen}
+use Rattle.world_start.proofs.Faults.{images_up, some_of_one}
 use Rattle.world_start.proofs.recovering.recover_world.Goals as goal
+
+pub returns-in_err-bytes-clause-device : goal.returns-in_err-bytes-clause-device
+returns-in_err-bytes-clause-device g c =
+    if_err c.from_residual.result c.in_err-bytes.field-0.0 (HasFaulted g.D.Disk.faults c.args.files.now c.read_files.new.files) c.from_residual.ensures.1
+    (λ device. some_of_one _ _ (c.in_err-bytes.ensures.fault (ap (λ r. Err r) device)))
 
 pub returns-in_err-found-clause-refused : goal.returns-in_err-found-clause-refused
 returns-in_err-found-clause-refused g c =
-    if_err c.from_residual-in_err-found.result c.in_err-found.field-0.0 (IsRefused g.D.Disk.content g.D.Disk.honest c.args.files.now) c.from_residual-in_err-found.ensures.1
+    let bytes = c.in_ok-bytes.bytes in
+    let refusal = c.in_err-found.field-0.0 in
+    if_err c.from_residual-in_err-found.result refusal (IsRefused g.D.Disk.content g.D.Disk.honest c.args.files.now) c.from_residual-in_err-found.ensures.1
     (elim c.in_err-found.ensures.refused [
       | inl none ↦ inl none
       | inr refused ↦ inr (inr (
-        c.deref.result.now,
-        c.deref-2.result.now,
-        c.deref-3.result.now,
-        c.deref-4.result.now,
-        refused,
-        λ honest. (let b = c.in_ok-bytes.ensures.bytes honest in record {
-          image_a_is = c.deref.ensures.value ∙ b.image_a;
-          image_b_is = c.deref-2.ensures.value ∙ b.image_b;
-          log_a_is = c.deref-3.ensures.value ∙ b.log_a;
-          log_b_is = c.deref-4.ensures.value ∙ b.log_b;
-        }),
-      ))
+          let found = chosen g.D.Disk.content g.D.Disk.honest c.args.files.now (Err refusal) bytes.image_a.items bytes.image_b.items bytes.log_a.items bytes.log_b.items
+          (recovers_on (Err refusal) c.deref.ensures.value c.deref-2.ensures.value c.deref-3.ensures.value c.deref-4.ensures.value refused) c.in_ok-bytes.ensures.read in
+          (found.image_a, found.image_b, found.log_a, found.log_b, found.recovers, found.read)))
     ])
 
 pub returns-clause-ahead : goal.returns-clause-ahead
@@ -34,61 +35,83 @@ returns-clause-ahead g c =
     let found = c.in_ok-found.found in
     let bytes = c.in_ok-bytes.bytes in
     let begins = c.in_ok-engine.ensures.begins in
-    let all : length c.deref-5.result.now ≡ c.len-cells.result = c.deref-5.ensures.len ∙ sym c.len-cells.ensures in
+    let content = g.D.Disk.content in
+    let leaves = g.D.Disk.may_leave in
+    let files = c.args.files.now in
+    let left = c.read_files.new.files in
+    let cells = c.len-cells.result in
+    let words = c.deref-5.result.now in
+    let engine = c.in_ok-engine.engine in
+    let newest : Option (Slot × ℕ) = Some (found.slot, found.from) in
+    let world = c.in_ok-found.ensures.world in
+    let all : length words ≡ cells = c.deref-5.ensures.len ∙ sym c.len-cells.ensures in
+    let same : length found.words.items ≡ cells = ap length (sym c.deref-5.ensures.value) ∙ all in
+    let some : 1 ≤ cells = omega (arith, same, world.some) in
+    let few : cells ≤ CELLS = omega (arith, same, world.most) in
+    let recovered = recovers_on (Ok (recovery_of_answer found)) c.deref.ensures.value c.deref-2.ensures.value c.deref-3.ensures.value c.deref-4.ensures.value c.in_ok-found.ensures.recovered in
     record {
-      images = images_order g.C.Capture.content g.D.Disk.content g.D.Disk.may_leave g.D.Disk.honest c.len-cells.result (Some (found.slot, found.from)) found.tick c.deref-5.result.now bytes.image_a.items bytes.image_b.items bytes.log_a.items bytes.log_b.items
-          c.in_ok-engine.engine c.read_all.new.self begins all
-          (λ honest. let b = c.in_ok-bytes.ensures.bytes honest in let k = c.read_all.ensures.kept honest in (
-            k.image_a.same_content ∙ sym b.image_a,
-            k.image_b.same_content ∙ sym b.image_b,
-            holds_newest c.crash_restarts.ensures c.len-cells.result (recovery_of_answer found) bytes.image_a.items bytes.image_b.items bytes.log_a.items bytes.log_b.items (ap length (sym c.deref-5.ensures.value) ∙ all)
-                (recovers_on (Ok (recovery_of_answer found)) c.deref.ensures.value c.deref-2.ensures.value c.deref-3.ensures.value c.deref-4.ensures.value c.in_ok-found.ensures.recovered),
-          ));
-      log = log_order g.C.Capture.content g.D.Disk.content g.D.Disk.may_leave g.D.Disk.honest c.starts_begin.ensures.queue c.len-cells.result (Some (found.slot, found.from)) found.tick c.deref-5.result.now bytes.image_a.items bytes.image_b.items bytes.log_a.items bytes.log_b.items
-          c.in_ok-engine.engine c.read_all.new.self begins c.in_ok-found.ensures.numbers.1
-          (λ honest. let b = c.in_ok-bytes.ensures.bytes honest in let k = c.read_all.ensures.kept honest in (k.log_a.same_content ∙ sym b.log_a, k.log_b.same_content ∙ sym b.log_b));
+      images = images_order g.C.Capture.content content leaves g.D.Disk.honest cells newest found.tick words bytes.image_a.items bytes.image_b.items bytes.log_a.items bytes.log_b.items engine left begins all
+          (λ honest. (
+          let read = c.in_ok-bytes.ensures.read honest in
+          let begun = read_begins content files bytes.image_a.items bytes.image_b.items bytes.log_a.items bytes.log_b.items read g.C.Capture.content leaves c.starts_begin.ensures cells newest found.tick words engine some few c.in_ok-found.ensures.numbers.1 begins in
+          images_left g.C.Capture.content content leaves files left (c.read_files.ensures.kept honest) cells newest found.tick words engine begun
+          (holds_newest c.crash_restarts.ensures cells (recovery_of_answer found) (content files.image_a) (content files.image_b) (content files.log_a) (content files.log_b) same
+          (read_recovers content files bytes.image_a.items bytes.image_b.items bytes.log_a.items bytes.log_b.items read (Ok (recovery_of_answer found)) recovered))));
+      log = log_order g.C.Capture.content content leaves g.D.Disk.honest c.starts_begin.ensures.queue cells newest found.tick words bytes.image_a.items bytes.image_b.items bytes.log_a.items bytes.log_b.items engine left begins c.in_ok-found.ensures.numbers.1
+          (λ honest. (
+          let begun = read_begins content files bytes.image_a.items bytes.image_b.items bytes.log_a.items bytes.log_b.items (c.in_ok-bytes.ensures.read honest) g.C.Capture.content leaves c.starts_begin.ensures cells newest found.tick words engine some few c.in_ok-found.ensures.numbers.1 begins in
+          log_left g.C.Capture.content content leaves files left (c.read_files.ensures.kept honest) cells newest found.tick words engine begun));
       up = (
-        λ down. images_up (nat_lt found.from found.tick) found.tick c.len-cells.result (Some (found.slot, found.from)) (is_shut bytes.image_a.items) (is_shut bytes.image_b.items) (ap (λ (k : ImageProgress). k.phase) (sym begins.images) ∙ down),
+        λ down. images_up (nat_lt found.from found.tick) found.tick cells newest (is_shut bytes.image_a.items) (is_shut bytes.image_b.items) (ap (λ (k : ImageProgress). k.phase) (sym begins.images) ∙ down),
         ap (λ (k : LogProgress). k.down) begins.log,
       );
       since = begins.since;
-      words = sym (built_live c.deref-5.result.now (nat_lt found.from found.tick) (g.C.Capture.content c.in_ok-engine.engine.store) begins.store ∙ c.deref-5.ensures.value);
-      limit = c.in_ok-found.ensures.world.limit;
+      words = sym (built_live words (nat_lt found.from found.tick) (g.C.Capture.content engine.store) begins.store ∙ c.deref-5.ensures.value);
+      limit = world.limit;
     }
 
 pub returns-clause-read : goal.returns-clause-read
 returns-clause-read g c = λ honest.
     let found = c.in_ok-found.found in
     let bytes = c.in_ok-bytes.bytes in
-    let b = c.in_ok-bytes.ensures.bytes honest in
-    let all : length c.deref-5.result.now ≡ c.len-cells.result = c.deref-5.ensures.len ∙ sym c.len-cells.ensures in
-    is_read g.C.Capture.content g.D.Disk.content g.D.Disk.may_leave
+    let content = g.D.Disk.content in
+    let leaves = g.D.Disk.may_leave in
+    let files = c.args.files.now in
+    let cells = c.len-cells.result in
+    let words = c.deref-5.result.now in
+    let engine = c.in_ok-engine.engine in
+    let world = c.in_ok-found.ensures.world in
+    let all : length words ≡ cells = c.deref-5.ensures.len ∙ sym c.len-cells.ensures in
+    let same : length found.words.items ≡ cells = ap length (sym c.deref-5.ensures.value) ∙ all in
+    let some : 1 ≤ cells = omega (arith, same, world.some) in
+    let few : cells ≤ CELLS = omega (arith, same, world.most) in
+    let read = c.in_ok-bytes.ensures.read honest in
+    is_read g.C.Capture.content content leaves
     c.starts_begin.ensures c.segments_read_once.ensures.once c.crash_restarts.ensures c.starts_begin.ensures.goes_on (λ disk. g.met.D.Disk.stays disk honest)
-    c.args.files.now c.read_all.new.self (c.read_all.ensures.kept honest) bytes.image_a.items bytes.image_b.items bytes.log_a.items bytes.log_b.items
-    (record { image_a_is = b.image_a; image_b_is = b.image_b; log_a_is = b.log_a; log_b_is = b.log_b })
-    (recovery_of_answer found) c.len-cells.result found.from c.deref-5.result.now c.in_ok-engine.engine c.in_ok-found.ensures.world c.in_ok-found.ensures.numbers.1 c.deref-5.ensures.value
+    files c.read_files.new.files (c.read_files.ensures.kept honest) (content files.image_a) (content files.image_b) (content files.log_a) (content files.log_b)
+    (record { image_a_is = refl; image_b_is = refl; log_a_is = refl; log_b_is = refl })
+    (recovery_of_answer found) cells found.from words engine world c.in_ok-found.ensures.numbers.1 c.deref-5.ensures.value
     (sym all ∙ ap length c.deref-5.ensures.value) refl
-    (recovers_on (Ok (recovery_of_answer found)) c.deref.ensures.value c.deref-2.ensures.value c.deref-3.ensures.value c.deref-4.ensures.value c.in_ok-found.ensures.recovered)
-    c.in_ok-engine.ensures.begins
+    (read_recovers content files bytes.image_a.items bytes.image_b.items bytes.log_a.items bytes.log_b.items read (Ok (recovery_of_answer found))
+    (recovers_on (Ok (recovery_of_answer found)) c.deref.ensures.value c.deref-2.ensures.value c.deref-3.ensures.value c.deref-4.ensures.value c.in_ok-found.ensures.recovered))
+    (read_begins content files bytes.image_a.items bytes.image_b.items bytes.log_a.items bytes.log_b.items read g.C.Capture.content leaves c.starts_begin.ensures cells (Some (found.slot, found.from)) found.tick words engine some few c.in_ok-found.ensures.numbers.1 c.in_ok-engine.ensures.begins)
 
 pub returns-clause-recovered : goal.returns-clause-recovered
 returns-clause-recovered g c =
     let found = c.in_ok-found.found in
+    let bytes = c.in_ok-bytes.bytes in
     let b = c.in_ok-engine.ensures.begins in
+    let of_bytes = chosen g.D.Disk.content g.D.Disk.honest c.args.files.now (Ok (recovery_of_answer found)) bytes.image_a.items bytes.image_b.items bytes.log_a.items bytes.log_b.items
+    (recovers_on (Ok (recovery_of_answer found)) c.deref.ensures.value c.deref-2.ensures.value c.deref-3.ensures.value c.deref-4.ensures.value c.in_ok-found.ensures.recovered) c.in_ok-bytes.ensures.read in
     record {
       bytes = record {
-        image_a = c.deref.result.now;
-        image_b = c.deref-2.result.now;
-        log_a = c.deref-3.result.now;
-        log_b = c.deref-4.result.now;
+        image_a = of_bytes.image_a;
+        image_b = of_bytes.image_b;
+        log_a = of_bytes.log_a;
+        log_b = of_bytes.log_b;
         recovery = recovery_of_answer found;
-        recovers = c.in_ok-found.ensures.recovered;
-        read = λ honest. (let b = c.in_ok-bytes.ensures.bytes honest in record {
-          image_a_is = c.deref.ensures.value ∙ b.image_a;
-          image_b_is = c.deref-2.ensures.value ∙ b.image_b;
-          log_a_is = c.deref-3.ensures.value ∙ b.log_a;
-          log_b_is = c.deref-4.ensures.value ∙ b.log_b;
-        });
+        recovers = of_bytes.recovers;
+        read = of_bytes.read;
       };
       tick_is = b.ended;
       from_is = refl;

@@ -14,7 +14,8 @@ returns c =
     let inspect = command_added _ (codes "inspect") _ _ _ _ _ recover c.in_ok-inspect_command.ensures c.in_ok-subcommand-4.ensures in
     let status = command_added _ (codes "status") _ _ _ _ _ inspect c.in_ok-folder_command-2.ensures c.in_ok-subcommand-5.ensures in
     let backup = command_added _ (codes "backup") _ _ _ _ _ status c.in_ok-backup_command.ensures c.in_ok-subcommand-6.ensures in
+    let salvage = command_added _ (codes "salvage") _ _ _ _ _ backup c.in_ok-salvage_command.ensures c.in_ok-subcommand-7.ensures in
     let serve = c.in_ok-serve_command.ensures in
-    let all : (command : Command) → AddsSubcommand c.in_ok-subcommand-6.field-0 c.in_ok-serve_command.field-0 command → HasGrammar command =
-    λ command adds. (serve.0, serve.1, serve.2, serve.3, command_added _ (codes "serve") _ _ _ _ command backup serve.4.2 adds) in
-    IfOk-weaker _ _ _ all c.subcommand-7.ensures
+    let all : (command : Command) → AddsSubcommand c.in_ok-subcommand-7.field-0 c.in_ok-serve_command.field-0 command → HasGrammar command =
+    λ command adds. (serve.0, serve.1, serve.2, serve.3, command_added _ (codes "serve") _ _ _ _ command salvage serve.4.2 adds) in
+    IfOk-weaker _ _ _ all c.subcommand-8.ensures

@@ -2,7 +2,7 @@ use Rattle.std.proofs.Common.{rules, ℕ, ◌≡◌, None, codes, ap, arith, sli
 use Rattle.clap.specs.declared.parser.matches.Found.{Found}
 use Rattle.clap.specs.Words.{found_of, first_value}
 use Rattle.worldd.specs.declared.invocation.Invocation.{Invocation}
-use Rattle.worldd.specs.declared.invocation.Invocation.TheVariants.{Steps, Create, CreateOfWords, Recover, Inspect, Status, BackUp}
+use Rattle.worldd.specs.declared.invocation.Invocation.TheVariants.{Steps, Create, CreateOfWords, Recover, Inspect, Status, BackUp, Salvage}
 use Rattle.worldd.specs.Invocation.{AsksForCells, AsksTo}
 use Rattle.worldd.proofs.invocation.creation_in.Goals as goal
 
@@ -16,6 +16,7 @@ no_creation found no_words no_cells (Recover folder) asks = let first : 99 ≡ 1
 no_creation found no_words no_cells (Inspect folder words) asks = let first : 99 ≡ 105 = ap (λ name. slice_index name 0) asks.0 in absurd (omega (arith, first))
 no_creation found no_words no_cells (Status folder) asks = let first : 99 ≡ 115 = ap (λ name. slice_index name 0) asks.0 in absurd (omega (arith, first))
 no_creation found no_words no_cells (BackUp folder to) asks = let first : 99 ≡ 98 = ap (λ name. slice_index name 0) asks.0 in absurd (omega (arith, first))
+no_creation found no_words no_cells (Salvage folder to) asks = let first : 99 ≡ 115 = ap (λ name. slice_index name 0) asks.0 in absurd (omega (arith, first))
 
 pub returns-in_err-cells_of-in-None-clause-none : goal.returns-in_err-cells_of-in-None-clause-none
 returns-in_err-cells_of-in-None-clause-none c =

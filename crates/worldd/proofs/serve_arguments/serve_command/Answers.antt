@@ -28,7 +28,9 @@ returns c =
     idle c.report_argument.ensures c.in_ok-arg-8.ensures in
     let exit = argument_added (codes "serve") _ [] (flag_rule (codes "exit-when-log-down")) c.in_ok-arg-8.field-0 c.in_ok-arg-9.field-0 c.exit_argument.result
     report c.exit_argument.ensures c.in_ok-arg-9.ensures in
-    let all : (command : Command) → AddsGroup c.in_ok-arg-9.field-0 c.in_ok-address_group.field-0 command → IsServe command =
+    let closed = argument_added (codes "serve") _ [] (number_rule (codes "exit-when-closed") 0 86_400 []) c.in_ok-arg-9.field-0 c.in_ok-arg-10.field-0 c.closed_argument.result
+    exit c.closed_argument.ensures c.in_ok-arg-10.ensures in
+    let all : (command : Command) → AddsGroup c.in_ok-arg-10.field-0 c.in_ok-address_group.field-0 command → IsServe command =
     λ command adds. (
       methods,
       modes,
@@ -37,7 +39,7 @@ returns c =
       (
         c.in_ok-address_group.field-0,
         c.in_ok-address_group.ensures,
-        group_added (codes "serve") (serve_rules methods modes) c.in_ok-arg-9.field-0 command c.in_ok-address_group.field-0 exit adds,
+        group_added (codes "serve") (serve_rules methods modes) c.in_ok-arg-10.field-0 command c.in_ok-address_group.field-0 closed adds,
       ),
     ) in
     IfOk-weaker _ _ _ all c.group.ensures

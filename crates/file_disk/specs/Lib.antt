@@ -1,0 +1,2 @@
+pub mod KnownFile
+pub mod Opening

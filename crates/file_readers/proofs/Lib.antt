@@ -1,0 +1,3 @@
+pub mod AskingLemmas
+pub mod FrontLemmas
+pub mod ImageLemmas

@@ -1,0 +1,299 @@
+-- The log along which what is taken is replayed.
+use Rattle.std.proofs.Common.{◌≡◌, ℕ, ◌+◌, ◌⊎◌, inl, inr, Bool, true, false, cond, eqb, ◌||◌, List, [], ◌++◌, length, Option, Some, None, Result, Ok, Err, refl, sym, ap, subst, ◌∙◌, add-zero, eq-eqb}
+use Rattle.std.specs.Prelude.{IsOk, IfErr, IsErrAnd}
+use Rattle.std.proofs.lemmas.Bool.{cond-true, cond-false, eqb-true}
+use Rattle.std.proofs.lemmas.List.{append-nil}
+use Rattle.world_actions.specs.declared.refusal.Refusal.{Refusal}
+use Rattle.world_actions.specs.declared.refusal.Refusal.TheVariants.{NoImage, BadImage, BadLog}
+use Rattle.world_ticks.specs.After.{and_then}
+use Rattle.image_files.specs.Image.{Image, image_of}
+use Rattle.action_log.specs.Segment.{Tick, joined, Segment, ClosedSegment, MalformedSegment, OpenSegment, IsSegment}
+use Rattle.action_log.proofs.ReadingLemmas.{reads_once}
+use Rattle.recovery.specs.Recovery.{Recovery, Recovers, Newest, newest, has_base, ticks_from, ticks_along, tail, words_after, recovery_of, recovery_from, recovery_with, replayed, is_bad_image, is_bad_segment}
+use Rattle.recovery.proofs.Replay.{words_after-append}
+use Rattle.recovery.proofs.Starting.{not_based}
+use Rattle.salvage.specs.declared.log_part.LogPart.{LogPart}
+use Rattle.salvage.specs.declared.log_part.LogPart.TheVariants as logs
+use Rattle.salvage.specs.Parts.{kept_log, segment_of, begins_at, IsKept}
+use Rattle.salvage.specs.Replay.{IsRefused, IsReplayed}
+use Rattle.salvage.specs.Salvage.{Reaches, AreReplayed}
+use Rattle.salvage.proofs.Forming.{closed_nothing, reads_before}
+
+-- ---- the tail of two segments
+
+along_alone : (t : ℕ) (p : Segment) → ticks_along t p ClosedSegment ≡ ticks_from t p
+along_alone t p = append-nil (ticks_from t p)
+
+-- the first segment's ticks don't depend on a second one that is closed
+pub tail_alone : (t : ℕ) (p : Segment) → tail t p ClosedSegment ≡ ticks_from t p
+tail_alone t p = go (has_base t p) refl
+  where
+    go : (b : Bool) → has_base t p ≡ b → tail t p ClosedSegment ≡ ticks_from t p
+    go true h = cond-true (has_base t p) (ticks_along t p ClosedSegment) [] h ∙ along_alone t p
+    go false h = cond-false (has_base t p) (ticks_along t p ClosedSegment) [] h ∙ sym (not_based t p h)
+
+-- the tail goes along log.b first if log.a doesn't begin there
+pub tail_second : (t : ℕ) (p q : Segment) → has_base t p ≡ false → tail t p q ≡ ticks_along t q p
+tail_second t p q elsewhere = cond-false (has_base t p) (ticks_along t p q) (cond (has_base t q) (ticks_along t q p) []) elsewhere ∙ go (has_base t q) refl
+  where
+    go : (b : Bool) → has_base t q ≡ b → cond (has_base t q) (ticks_along t q p) [] ≡ ticks_along t q p
+    go true h = cond-true (has_base t q) (ticks_along t q p) [] h
+    go false h =
+        let none : ticks_from t q ≡ [] = not_based t q h in
+        let here : t + 0 ≡ t = add-zero t in
+        cond-false (has_base t q) (ticks_along t q p) [] h
+        ∙ sym (ap (λ (l : List Tick). l ++ ticks_from (t + length l) p) none ∙ ap (λ n. ticks_from n p) here ∙ not_based t p elsewhere)
+
+-- it goes along log.a first if that begins there or is closed
+pub tail_first : (t : ℕ) (p q : Segment) → (has_base t p ≡ true) ⊎ (p ≡ ClosedSegment) → tail t p q ≡ ticks_along t p q
+tail_first t p q (inl h) = cond-true (has_base t p) (ticks_along t p q) (cond (has_base t q) (ticks_along t q p) []) h
+tail_first t p q (inr e) =
+    let here : t + 0 ≡ t = add-zero t in
+    subst (λ s. tail t s q ≡ ticks_along t s q) (sym e) (tail_second t ClosedSegment q refl ∙ along_alone t q ∙ ap (λ n. ticks_from n q) (sym here))
+
+-- ---- the newest image
+
+-- what recovery gives on the images alone, and on them with any segments
+pub record OnNewest (a b : Image) (n : Recovery) : Type 0 where
+  pub image : Newest
+  pub tick_is : image.tick ≡ n.tick
+  pub words_are : image.words ≡ n.words
+  pub with_logs : (la lb : Segment) → is_bad_segment la ≡ false → is_bad_segment lb ≡ false → recovery_of a b la lb ≡ replayed image (tail image.tick la lb)
+
+or_false : (x y : Bool) → x ≡ false → y ≡ false → (x || y) ≡ false
+or_false true y h k = absurd cc
+or_false false y h k = k
+
+first_fails : (x : Bool) (rest : Result Recovery Refusal) (n : Recovery) → cond x (Err BadImage) rest ≡ Ok n → (x ≡ false) × (rest ≡ Ok n)
+first_fails true rest n e = absurd cc
+first_fails false rest n e = (refl, e)
+
+abbrev from_ok : Recovery → Result Recovery Refusal → Recovery
+from_ok n (Ok answer) = answer
+from_ok n (Err refusal) = n
+
+pub on_newest : (a b : Image) (n : Recovery) → recovery_of a b ClosedSegment ClosedSegment ≡ Ok n → OnNewest a b n
+on_newest a b n e =
+    let tests = first_fails (is_bad_image a || is_bad_image b) (recovery_from (newest a b) ClosedSegment ClosedSegment) n e in
+    go (newest a b) refl tests.0 tests.1
+  where
+    go : (o : Option Newest) → newest a b ≡ o → (is_bad_image a || is_bad_image b) ≡ false → recovery_from (newest a b) ClosedSegment ClosedSegment ≡ Ok n → OnNewest a b n
+    go None is formed e = (let no : Err NoImage ≡ Ok n = ap (λ o. recovery_from o ClosedSegment ClosedSegment) (sym is) ∙ e in absurd cc)
+    go (Some image) is formed e =
+        let same : record { tick = image.tick + 0; from = image.tick; slot = image.slot; words = image.words } ≡ n =
+        ap (from_ok n) (ap (λ o. recovery_from o ClosedSegment ClosedSegment) (sym is) ∙ e) in
+        record {
+          image = image;
+          tick_is = sym (add-zero image.tick) ∙ ap (λ (r : Recovery). r.tick) same;
+          words_are = ap (λ (r : Recovery). r.words) same;
+          with_logs = λ la lb fa fb.
+              cond-false (is_bad_image a || is_bad_image b) (Err BadImage) (cond (is_bad_segment la || is_bad_segment lb) (Err BadLog) (recovery_from (newest a b) la lb)) formed
+              ∙ cond-false (is_bad_segment la || is_bad_segment lb) (Err BadLog) (recovery_from (newest a b) la lb) (or_false (is_bad_segment la) (is_bad_segment lb) fa fb)
+              ∙ ap (λ o. recovery_from o la lb) is;
+        }
+
+-- a segment that has no bytes is closed
+pub nothing_closed : (s : Segment) → IsSegment [] s → s ≡ ClosedSegment
+nothing_closed s reads = reads_once [] s ClosedSegment reads closed_nothing
+
+-- the images on which recovery gave this answer for empty segments
+pub newest_on : (ia ib : List ℕ) (n : Recovery) → Recovers ia ib [] [] (Ok n) → OnNewest (image_of ia) (image_of ib) n
+newest_on ia ib n e =
+    on_newest (image_of ia) (image_of ib) n
+    (subst (λ s. recovery_of (image_of ia) (image_of ib) s ClosedSegment ≡ Ok n) (nothing_closed e.a e.reads_a)
+    (subst (λ s. recovery_of (image_of ia) (image_of ib) e.a s ≡ Ok n) (nothing_closed e.b e.reads_b) e.holds))
+
+-- ---- what is taken of a segment
+
+-- the reading of what is taken
+pub formed_of : (part : LogPart) (list : List Tick) → is_bad_segment (segment_of part list) ≡ false
+formed_of logs.Closed list = refl
+formed_of (logs.Whole base ticks) list = refl
+formed_of (logs.Cut at base ticks) list = refl
+formed_of logs.Dropped list = refl
+
+pub begins_of : (t : ℕ) (part : LogPart) (list : List Tick) → begins_at t part ≡ has_base t (segment_of part list)
+begins_of t logs.Closed list = refl
+begins_of t (logs.Whole base ticks) list = refl
+begins_of t (logs.Cut at base ticks) list = refl
+begins_of t logs.Dropped list = refl
+
+-- what a segment has from a tick is accepted, if all lists that it may have there are
+pub from_accepted : (t : ℕ) (words : List ℕ) (s : Segment) → ((list : List Tick) → s ≡ OpenSegment t list → IsOk (words_after words list)) → IsOk (words_after words (ticks_from t s))
+from_accepted t words ClosedSegment h = refl
+from_accepted t words MalformedSegment h = refl
+from_accepted t words (OpenSegment base list) h = go (eqb base t) refl
+  where
+    go : (b : Bool) → eqb base t ≡ b → IsOk (words_after words (ticks_from t (OpenSegment base list)))
+    go true e = subst (λ l. IsOk (words_after words l)) (sym (cond-true (eqb base t) list [] e)) (h list (ap (λ n. OpenSegment n list) (eqb-true base t e)))
+    go false e = subst (λ l. IsOk (words_after words l)) (sym (cond-false (eqb base t) list [] e)) refl
+
+-- what is taken reads like this after a replay
+pub record Taken (t : ℕ) (words bytes : List ℕ) (formed part : LogPart) : Type 0 where
+  pub kept : IsKept bytes part
+  pub accepted : IsOk (words_after words (ticks_from t (segment_of part kept.list)))
+  pub begins : (u : ℕ) → has_base u (segment_of part kept.list) ≡ true → begins_at u formed ≡ true
+  pub stands : begins_at t formed ≡ true → (has_base t (segment_of part kept.list) ≡ true) ⊎ (segment_of part kept.list ≡ ClosedSegment)
+
+-- a segment that reads as the groups before a refused one
+record Reads (t : ℕ) (words : List ℕ) (formed : LogPart) (s : Segment) : Type 0 where
+  accepted : IsOk (words_after words (ticks_from t s))
+  begins : (u : ℕ) → has_base u s ≡ true → begins_at u formed ≡ true
+  stands : (has_base t s ≡ true) ⊎ (s ≡ ClosedSegment)
+
+reads_closed : (t : ℕ) (words : List ℕ) (formed : LogPart) → Reads t words formed ClosedSegment
+reads_closed t words formed = record { accepted = refl; begins = λ u h. absurd cc; stands = inr refl }
+
+reads_groups : (t : ℕ) (words bytes : List ℕ) (formed part : LogPart) (k : IsKept bytes formed) (r : IsRefused t words (kept_log formed bytes) part) → Reads t words formed (OpenSegment t (joined r.kept))
+reads_groups t words bytes formed part k r =
+    let whole : segment_of formed k.list ≡ OpenSegment t r.list = reads_once (kept_log formed bytes) (segment_of formed k.list) (OpenSegment t r.list) k.reads r.segment in
+    record {
+      accepted = from_accepted t words (OpenSegment t (joined r.kept)) (λ list is. subst (λ l. IsOk (words_after words l)) (let same : joined r.kept ≡ list = one_list t (joined r.kept) list is in same) r.accepted);
+      begins = λ u h. begins_of u formed k.list ∙ ap (has_base u) whole ∙ h;
+      stands = inl (eq-eqb t t refl);
+    }
+  where
+    one_list : (t : ℕ) (a b : List Tick) → OpenSegment t a ≡ OpenSegment t b → a ≡ b
+    one_list t a b e = cc
+
+dropped_closed : (part : LogPart) (list : List Tick) → part ≡ logs.Dropped → segment_of part list ≡ ClosedSegment
+dropped_closed part list e = ap (λ p. segment_of p list) e
+
+pub taken : (t : ℕ) (words bytes : List ℕ) (formed part : LogPart) → IsKept bytes formed → IsReplayed t words bytes formed part → Taken t words bytes formed part
+taken t words bytes formed part k (inl stays) =
+    let same : Taken t words bytes formed formed = record {
+      kept = k;
+      accepted = from_accepted t words (segment_of formed k.list) (λ list is. stays.1 list (subst (IsSegment (kept_log formed bytes)) is k.reads));
+      begins = λ u h. begins_of u formed k.list ∙ h;
+      stands = λ h. inl (sym (begins_of t formed k.list) ∙ h);
+    } in
+    subst (Taken t words bytes formed) (sym stays.0) same
+taken t words bytes formed part k (inr r) =
+    let before = reads_before t words bytes formed part k.fits r in
+    let now = segment_of part before.is_kept.list in
+    let reads : Reads t words formed now = elim before.list_is [
+      | inl dropped ↦ subst (Reads t words formed) (sym (dropped_closed part before.is_kept.list dropped)) (reads_closed t words formed)
+      | inr groups ↦ subst (Reads t words formed) (sym groups) (reads_groups t words bytes formed part k r)
+    ] in
+    record { kept = before.is_kept; accepted = reads.accepted; begins = reads.begins; stands = λ h. reads.stands }
+
+-- ---- the answers of recovery
+
+ok_words : (r : Result (List ℕ) Refusal) → IsOk r → (words : List ℕ) × (r ≡ Ok words)
+ok_words (Ok words) ok = (words, refl)
+ok_words (Err refusal) ok = absurd cc
+
+-- recovery gives the world after an accepted tail
+pub record Answers (a b : Image) (n : Recovery) (la lb : Segment) : Type 0 where
+  pub answer : Recovery
+  pub is : recovery_of a b la lb ≡ Ok answer
+  pub tick_is : answer.tick ≡ n.tick + length (tail n.tick la lb)
+  pub words_are : words_after n.words (tail n.tick la lb) ≡ Ok answer.words
+
+pub answers : (a b : Image) (n : Recovery) (la lb : Segment) → OnNewest a b n → is_bad_segment la ≡ false → is_bad_segment lb ≡ false → IsOk (words_after n.words (tail n.tick la lb)) → Answers a b n la lb
+answers a b n la lb on fa fb ok =
+    let after = ok_words (words_after n.words (tail n.tick la lb)) ok in
+    let same : tail on.image.tick la lb ≡ tail n.tick la lb = ap (λ t. tail t la lb) on.tick_is in
+    let words : words_after on.image.words (tail on.image.tick la lb) ≡ Ok after.0 = ap (λ w. words_after w (tail on.image.tick la lb)) on.words_are ∙ ap (words_after n.words) same ∙ after.1 in
+    record {
+      answer = record { tick = on.image.tick + length (tail on.image.tick la lb); from = on.image.tick; slot = on.image.slot; words = after.0 };
+      is = on.with_logs la lb fa fb ∙ ap (recovery_with on.image (tail on.image.tick la lb)) words;
+      tick_is = ap (λ t. t + length (tail t la lb)) on.tick_is;
+      words_are = after.1;
+    }
+
+-- another answer for the same files
+pub not_refused : (ia ib la lb : List ℕ) (n : Recovery) (sa sb : Segment) → IsSegment la sa → IsSegment lb sb → Answers (image_of ia) (image_of ib) n sa sb → (refusal : Refusal) → Recovers ia ib la lb (Err refusal) → ⊥
+not_refused ia ib la lb n sa sb ra rb x refusal e =
+    let here : recovery_of (image_of ia) (image_of ib) sa sb ≡ Err refusal =
+    subst (λ s. recovery_of (image_of ia) (image_of ib) s sb ≡ Err refusal) (reads_once la e.a sa e.reads_a ra)
+    (subst (λ s. recovery_of (image_of ia) (image_of ib) e.a s ≡ Err refusal) (reads_once lb e.b sb e.reads_b rb) e.holds) in
+    (let no : Ok x.answer ≡ Err refusal = sym x.is ∙ here in absurd cc)
+
+pub same_answer : (ia ib la lb : List ℕ) (n : Recovery) (sa sb : Segment) → IsSegment la sa → IsSegment lb sb → (x : Answers (image_of ia) (image_of ib) n sa sb) → (found : Recovery) → Recovers ia ib la lb (Ok found) → x.answer ≡ found
+same_answer ia ib la lb n sa sb ra rb x found e =
+    let here : recovery_of (image_of ia) (image_of ib) sa sb ≡ Ok found =
+    subst (λ s. recovery_of (image_of ia) (image_of ib) s sb ≡ Ok found) (reads_once la e.a sa e.reads_a ra)
+    (subst (λ s. recovery_of (image_of ia) (image_of ib) e.a s ≡ Ok found) (reads_once lb e.b sb e.reads_b rb) e.holds) in
+    ap (from_ok found) (sym x.is ∙ here)
+
+-- ---- the first segment alone
+
+module _ (ia ib bytes : List ℕ) (n : Recovery) (formed part : LogPart) (e : Recovers ia ib [] [] (Ok n)) (k : IsKept bytes formed) (replay : IsReplayed n.tick n.words bytes formed part) where
+  abbrev log : Segment
+  log = segment_of part (taken n.tick n.words bytes formed part k replay).kept.list
+
+  alone : Answers (image_of ia) (image_of ib) n log ClosedSegment
+  alone =
+      let t = taken n.tick n.words bytes formed part k replay in
+      answers (image_of ia) (image_of ib) n log ClosedSegment (newest_on ia ib n e) (formed_of part t.kept.list) refl
+      (subst (λ l. IsOk (words_after n.words l)) (sym (tail_alone n.tick log)) t.accepted)
+
+  pub first_not_refused : (refusal : Refusal) → Recovers ia ib (kept_log part bytes) [] (Err refusal) → ⊥
+  first_not_refused refusal f = not_refused ia ib (kept_log part bytes) [] n log ClosedSegment (taken n.tick n.words bytes formed part k replay).kept.reads closed_nothing alone refusal f
+
+  pub first_reaches : (reached : Recovery) → Recovers ia ib (kept_log part bytes) [] (Ok reached) → Reaches n.tick n.words bytes part reached.tick reached.words
+  first_reaches reached f =
+      let t = taken n.tick n.words bytes formed part k replay in
+      let same : alone.answer ≡ reached = same_answer ia ib (kept_log part bytes) [] n log ClosedSegment t.kept.reads closed_nothing alone reached f in
+      record {
+        log = log;
+        reads = t.kept.reads;
+        reached_is = ap (λ (r : Recovery). r.tick) (sym same) ∙ alone.tick_is ∙ ap (λ (l : List Tick). n.tick + length l) (tail_alone n.tick log);
+        replays = ap (words_after n.words) (sym (tail_alone n.tick log)) ∙ alone.words_are ∙ ap (λ (r : Recovery). Ok r.words) same;
+      }
+
+-- ---- both segments
+
+-- the ticks along two segments are accepted if those of each are
+along_accepted : (t : ℕ) (words : List ℕ) (s1 s2 : Segment) (reached : ℕ) (reached_words : List ℕ) → reached ≡ t + length (ticks_from t s1) → words_after words (ticks_from t s1) ≡ Ok reached_words
+    → IsOk (words_after reached_words (ticks_from reached s2)) → IsOk (words_after words (ticks_along t s1 s2))
+along_accepted t words s1 s2 reached reached_words at first second =
+    let x = ticks_from t s1 in
+    let y = ticks_from (t + length x) s2 in
+    let here : IsOk (words_after reached_words y) = subst (λ m. IsOk (words_after reached_words (ticks_from m s2))) at second in
+    subst (λ r. IsOk r) (sym (words_after-append words x y)) (subst (λ r. IsOk (and_then r (λ next. words_after next y))) (sym first) here)
+
+module _ (n : Recovery) (first second : List ℕ) (formed_first formed_second part_first part_second : LogPart) (k1 : IsKept first formed_first) (k2 : IsKept second formed_second)
+    (r : AreReplayed n.tick n.words first second formed_first formed_second part_first part_second) where
+  pub first_taken : Taken n.tick n.words first formed_first part_first
+  first_taken = taken n.tick n.words first formed_first part_first k1 r.first_is
+
+  pub second_taken : Taken r.reached r.reached_words second formed_second part_second
+  second_taken = taken r.reached r.reached_words second formed_second part_second k2 r.second_is
+
+  abbrev one : Segment
+  one = segment_of part_first first_taken.kept.list
+
+  abbrev two : Segment
+  two = segment_of part_second second_taken.kept.list
+
+  pub both_accepted : IsOk (words_after n.words (ticks_along n.tick one two))
+  both_accepted =
+      let log_is : r.reaches.log ≡ one = reads_once (kept_log part_first first) r.reaches.log one r.reaches.reads first_taken.kept.reads in
+      along_accepted n.tick n.words one two r.reached r.reached_words
+      (subst (λ s. r.reached ≡ n.tick + length (ticks_from n.tick s)) log_is r.reaches.reached_is)
+      (subst (λ s. words_after n.words (ticks_from n.tick s) ≡ Ok r.reached_words) log_is r.reaches.replays)
+      second_taken.accepted
+
+  -- log.a is the first one
+  pub answers_first : (ia ib : List ℕ) → Recovers ia ib [] [] (Ok n) → begins_at n.tick formed_first ≡ true → Answers (image_of ia) (image_of ib) n one two
+  answers_first ia ib e begins =
+      answers (image_of ia) (image_of ib) n one two (newest_on ia ib n e) (formed_of part_first first_taken.kept.list) (formed_of part_second second_taken.kept.list)
+      (subst (λ l. IsOk (words_after n.words l)) (sym (tail_first n.tick one two (first_taken.stands begins))) both_accepted)
+
+  -- log.b is the first one
+  pub answers_second : (ia ib : List ℕ) → Recovers ia ib [] [] (Ok n) → begins_at n.tick formed_second ≡ false → Answers (image_of ia) (image_of ib) n two one
+  answers_second ia ib e begins =
+      let not_there : has_base n.tick two ≡ false = go (has_base n.tick two) refl in
+      answers (image_of ia) (image_of ib) n two one (newest_on ia ib n e) (formed_of part_second second_taken.kept.list) (formed_of part_first first_taken.kept.list)
+      (subst (λ l. IsOk (words_after n.words l)) (sym (tail_second n.tick two one not_there)) both_accepted)
+    where
+      go : (b : Bool) → has_base n.tick two ≡ b → has_base n.tick two ≡ false
+      go true h = (let no : true ≡ false = sym (second_taken.begins n.tick h) ∙ begins in absurd cc)
+      go false h = h
+
+-- what a call that gives up returns
+pub if_err : {T : Type 0} (r : Result T Refusal) (refusal : Refusal) (P : Refusal → Type 0) → IsErrAnd r (λ e. e ≡ refusal) → P refusal → IfErr r P
+if_err (Ok value) refusal P h p = tt
+if_err (Err other) refusal P h p = subst P (sym h) p

@@ -1,0 +1,5 @@
+pub mod Spelled
+pub mod Forming
+pub mod Replaying
+pub mod Along
+pub mod Whole

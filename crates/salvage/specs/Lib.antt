@@ -1,0 +1,4 @@
+pub mod Parts
+pub mod Groups
+pub mod Replay
+pub mod Salvage

@@ -1,0 +1,9 @@
+use Rattle.std.proofs.Common.{subst, sym}
+use Rattle.std.specs.Process.{exit_status}
+use Rattle.world_folder.specs.declared.ending.Ending.{Ending}
+use Rattle.world_folder.specs.Ending.{IsStatusOf}
+use Rattle.world_folder.proofs.ending.EndingTermination.report.Goals as goal
+
+pub returns-in-Unreadable : goal.returns-in-Unreadable
+returns-in-Unreadable g c =
+    subst (λ (ending : Ending). IsStatusOf ending (exit_status c.report_error.result)) (sym c.in-Unreadable.is) c.report_error.ensures

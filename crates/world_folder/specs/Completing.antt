@@ -1,0 +1,65 @@
+-- The files of a folder in which a world is to be made: those that are there, and those that are made.
+use Rattle.std.specs.Prelude.{◌≡◌, ◌⊎◌, ◌≤◌, ℕ, List, true, length, Option, Some, None}
+use Rattle.std.specs.Path.{path_buf_bytes, path_join}
+use Rattle.world_actions.specs.declared.refusal.Refusal.TheVariants.{NoMemory, Device, NotEmpty}
+use Rattle.file_format.specs.Gate.{HasOpenGate}
+use Rattle.disk_model.specs.FourFiles.{KeepsFile}
+use Rattle.disk_model.specs.declared.four_files.FourFiles.{FourFiles}
+use Rattle.world_folder.specs.declared.ending.Ending.{Ending}
+use Rattle.world_folder.specs.declared.ending.Ending.TheVariants.{Fault, Occupied}
+use Rattle.world_folder.specs.declared.look.TheConstants.{IMAGE_HEAD, SEGMENT_HEAD}
+use Rattle.world_folder.specs.declared.unfinished.MadeFiles.{MadeFiles}
+use Rattle.world_folder.specs.declared.world_file.WorldFile.{WorldFile}
+use Rattle.world_folder.specs.declared.world_file.WorldFile.TheVariants.{ImageA, ImageB, LogA, LogB}
+use Rattle.world_folder.specs.declared.world_file.TheConstants.{IMAGE_A, IMAGE_B, LOG_A, LOG_B}
+
+-- which files were made, once this one was made too
+abbrev pub with_made : WorldFile → MadeFiles → MadeFiles
+with_made ImageA made = record made { image_a = true }
+with_made ImageB made = record made { image_b = true }
+with_made LogA made = record made { log_a = true }
+with_made LogB made = record made { log_b = true }
+
+-- the ending says that a file isn't closed: its code is 22
+abbrev pub IsOccupied : Ending → Type 0
+IsOccupied (Occupied file) = Unit {0}
+IsOccupied (Fault NotEmpty) = Unit {0}
+IsOccupied other = ⊥
+
+-- the gate is open, and the file has room for a header of so many bytes: it may hold an image or a segment
+abbrev pub IsOpenFile : (header : ℕ) → List ℕ → Type 0
+IsOpenFile header bytes = (header ≤ length bytes) × HasOpenGate bytes
+
+module _ {D : Type 0} (file : D → List ℕ) where
+  -- the file is there and open
+  abbrev pub IsOpenThere : (header : ℕ) → Option D → Type 0
+  IsOpenThere header None = ⊥
+  IsOpenThere header (Some disk) = IsOpenFile header (file disk)
+
+  -- none of the files that are there is open
+  pub record NoneIsOpen (present : FourFiles (Option D)) : Type 0 where
+    pub image_a : ¬ IsOpenThere IMAGE_HEAD present.image_a
+    pub image_b : ¬ IsOpenThere IMAGE_HEAD present.image_b
+    pub log_a : ¬ IsOpenThere SEGMENT_HEAD present.log_a
+    pub log_b : ¬ IsOpenThere SEGMENT_HEAD present.log_b
+
+  -- the file of this name is the first one that is there and open
+  abbrev pub IsFirstThere : FourFiles (Option D) → (name : List ℕ) → Type 0
+  IsFirstThere present name =
+      ((name ≡ IMAGE_A.now) × IsOpenThere IMAGE_HEAD present.image_a)
+      ⊎ (((name ≡ IMAGE_B.now) × ¬ IsOpenThere IMAGE_HEAD present.image_a × IsOpenThere IMAGE_HEAD present.image_b)
+      ⊎ (((name ≡ LOG_A.now) × ¬ IsOpenThere IMAGE_HEAD present.image_a × ¬ IsOpenThere IMAGE_HEAD present.image_b × IsOpenThere SEGMENT_HEAD present.log_a)
+      ⊎ ((name ≡ LOG_B.now) × ¬ IsOpenThere IMAGE_HEAD present.image_a × ¬ IsOpenThere IMAGE_HEAD present.image_b
+      × ¬ IsOpenThere SEGMENT_HEAD present.log_a × IsOpenThere SEGMENT_HEAD present.log_b)))
+
+  -- the ending says why no world is made in a folder: it names the first file that is there and open, or no file
+  abbrev pub TellsOpen : (folder : List ℕ) → FourFiles (Option D) → Ending → Type 0
+  TellsOpen folder present (Occupied told) = (name : List ℕ) × (path_buf_bytes told.path ≡ path_join folder name) × IsFirstThere present name
+  TellsOpen folder present (Fault refusal) = (refusal ≡ NoMemory) ⊎ (refusal ≡ Device)
+  TellsOpen folder present other = ⊥
+
+-- a file that is there is only read; none appears
+abbrev pub KeepsThere : {S : Type 0} → (S → List ℕ) → (S → List ℕ → Type 0) → Option S → Option S → Type 0
+KeepsThere content may_leave None new = new ≡ None
+KeepsThere content may_leave (Some old) None = ⊥
+KeepsThere content may_leave (Some old) (Some new) = KeepsFile content may_leave old new

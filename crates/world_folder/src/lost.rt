@@ -1,0 +1,114 @@
+//! Files of which one was lost or emptied, so that ticks that were answered are in none.
+ghost use Rattle.std.specs.Prelude.{◌≡◌, ◌⊎◌, take, IsTrue, IfOk, IfErr, Some};
+ghost use Rattle.disk_model.specs.FourFiles.{EachFile, KeepsFile};
+ghost use Rattle.world_folder.specs.Lost.{begins_after, empty_image, lost_log, lost_of};
+ghost use Rattle.world_folder.specs.Texts.{lost_text};
+
+use crate::look::{SEGMENT_HEAD, read_head};
+use crate::world_file::{IMAGE_A, IMAGE_B, LOG_A, LOG_B};
+use disk_model::{Disk, FourFiles};
+use file_format::{OPEN_GATE, Slot, marked_at};
+use std::alloc::Global;
+use std::fmt;
+use world_actions::Refusal;
+
+/// A finding on four files that no crash leaves behind: one of them was lost, emptied or replaced.
+#[derive(Clone, Copy, Debug, PartialEq, Eq)]
+pub enum Lost {
+    /// This image is empty, beside one of a tick above 0. By then both were written once.
+    Image(Slot),
+    /// This log is empty, beside such an image. The first start writes both.
+    Log(Slot),
+    /// This log begins after the tick that is recovered. The ticks up to its beginning were answered.
+    Gap(Slot),
+}
+
+impl fmt::Display for Lost {
+    ghost output = { λ lost. Some (lost_text lost) };
+
+    fn fmt<W: fmt::Write>(&self, f: &mut fmt::Formatter<W>) -> fmt::Result {
+        match self {
+            Lost::Image(Slot::A) => write!(f, "{IMAGE_A} is empty, so it was lost"),
+            Lost::Image(Slot::B) => write!(f, "{IMAGE_B} is empty, so it was lost"),
+            Lost::Log(Slot::A) => write!(f, "{LOG_A} is empty, so it was lost"),
+            Lost::Log(Slot::B) => write!(f, "{LOG_B} is empty, so it was lost"),
+            Lost::Gap(Slot::A) => write!(f, "{LOG_A} begins after ticks that were lost"),
+            Lost::Gap(Slot::B) => write!(f, "{LOG_B} begins after ticks that were lost"),
+        }
+    }
+}
+
+/// What was lost of four files with these bytes, of which this tick is recovered from an image of the tick `from`.
+pub fn lost_of(tick: u64, from: u64, files: &FourFiles<Vec<u8>>) -> Option<Lost>
+    ensures { result ≡ lost_of tick from files.now.image_a.items files.now.image_b.items
+        files.now.log_a.items files.now.log_b.items }
+{
+    if let Some(lost) = empty_image(Slot::A, from, &files.image_a) {
+        return Some(lost);
+    }
+    if let Some(lost) = empty_image(Slot::B, from, &files.image_b) {
+        return Some(lost);
+    }
+    match lost_log(Slot::A, tick, from, &files.log_a) {
+        Some(lost) => Some(lost),
+        None => lost_log(Slot::B, tick, from, &files.log_b),
+    }
+}
+
+fn empty_image(slot: Slot, from: u64, image: &[u8]) -> Option<Lost>
+    ensures { result ≡ empty_image slot from image.now }
+{
+    if image.is_empty() && from > 0 {
+        Some(Lost::Image(slot))
+    } else {
+        None
+    }
+}
+
+fn lost_log(slot: Slot, tick: u64, from: u64, log: &[u8]) -> Option<Lost>
+    ensures { result ≡ lost_log slot tick from log.now }
+{
+    if log.is_empty() {
+        return if from > 0 {
+            Some(Lost::Log(slot))
+        } else {
+            None
+        };
+    }
+    if begins_after(tick, log) {
+        Some(Lost::Gap(slot))
+    } else {
+        None
+    }
+}
+
+// True if a segment is open, and its ticks come after a later one than this.
+fn begins_after(tick: u64, log: &[u8]) -> bool
+    ensures { result ≡ begins_after tick log.now }
+{
+    if log.len() < SEGMENT_HEAD || log[0] != OPEN_GATE {
+        return false;
+    }
+    match marked_at(log) {
+        Some((_, base)) => tick < base,
+        None => false,
+    }
+}
+
+/// Reads as much of each file as `lost_of` looks at. A server reads it before it recovers the world.
+pub fn read_heads<D: Disk>(
+    alloc: Global,
+    files: &mut FourFiles<D>,
+) -> Result<FourFiles<Vec<u8>>, Refusal>
+    ensures heads { IsTrue D.honest → IfOk result (λ heads. EachFile files.old heads
+        (λ disk head. head.items ≡ take SEGMENT_HEAD (D.content disk))) }
+    ensures kept { IsTrue D.honest → EachFile files.old files.new (KeepsFile D.content D.may_leave) }
+    ensures refused { IfErr result (λ refusal. (refusal ≡ Refusal.Device) ⊎ (refusal ≡ Refusal.NoMemory)) }
+{
+    Ok(FourFiles {
+        image_a: read_head(alloc, &mut files.image_a, SEGMENT_HEAD)?,
+        image_b: read_head(alloc, &mut files.image_b, SEGMENT_HEAD)?,
+        log_a: read_head(alloc, &mut files.log_a, SEGMENT_HEAD)?,
+        log_b: read_head(alloc, &mut files.log_b, SEGMENT_HEAD)?,
+    })
+}

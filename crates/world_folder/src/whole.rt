@@ -1,0 +1,45 @@
+//! Recovery of a world of which nothing was lost.
+ghost use Rattle.std.specs.Prelude.{◌≡◌, None, take, IsTrue, IfOk};
+ghost use Rattle.disk_model.specs.FourFiles.{EachFile, KeepsFile};
+ghost use Rattle.world_start.specs.Steps.{IsAhead};
+ghost use Rattle.world_folder.specs.Lost.{NothingLost};
+
+use crate::lost::{Lost, lost_of, read_heads};
+use capture_core::Capture;
+use disk_model::{Disk, FourFiles};
+use std::alloc::Global;
+use world_actions::Refusal;
+use world_start::{Start, recover_world};
+
+/// Why no world is served.
+#[derive(Clone, Copy, Debug, PartialEq, Eq)]
+pub enum NotRecovered {
+    /// Recovery refuses the files, or there was no memory, or a device failed.
+    Refused(Refusal),
+    /// A world is recovered, and ticks after it were answered.
+    Lost(Lost),
+}
+
+/// Recovers the world in the files, as `recover_world` does, unless ticks that were answered are in none of them. The files
+/// are only read.
+pub fn recover_whole<C: Capture + Drop, D: Disk>(
+    alloc: Global,
+    files: &mut FourFiles<D>,
+) -> Result<Start<C>, NotRecovered>
+    ensures kept { IsTrue D.honest → EachFile files.old files.new (KeepsFile D.content D.may_leave) }
+    ensures ahead { IfOk result (λ begun. IsAhead C.content D.content D.honest begun files.new) }
+    ensures whole { IsTrue D.honest
+        → IfOk result (λ begun. NothingLost D.content begun.engine.ended begun.from files.old) }
+{
+    let heads = match read_heads(alloc, files) {
+        Ok(heads) => heads,
+        Err(refusal) => return Err(NotRecovered::Refused(refusal)),
+    };
+    match recover_world(alloc, files) {
+        Ok(begun) => match lost_of(begun.engine.ended, begun.from, &heads) {
+            Some(lost) => Err(NotRecovered::Lost(lost)),
+            None => Ok(begun),
+        },
+        Err(refusal) => Err(NotRecovered::Refused(refusal)),
+    }
+}
