@@ -160,7 +160,7 @@ def was_told(reader: int) -> bool:
 
 def is_fault(run: Run) -> bool:
     """Whether want of memory ended the run, and was told so."""
-    return run.status == 1 and run.told.partition("\n")[0] == FAULT
+    return run.status == 13 and run.told.partition("\n")[0] == FAULT
 
 
 def require(seen: collections.Counter[str], *kinds: str) -> None:

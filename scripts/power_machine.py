@@ -1,15 +1,21 @@
-"""A machine of QEMU's, for power_trial.py. Its disk is served from here by the NBD protocol, and records what is asked of it."""
+"""Machines of QEMU's, for power_trial.py and device_trial.py. The disk of each is served from here by the NBD protocol. It
+records what is asked of it, and may refuse it. Its power may be cut: another machine tells then what is left."""
+import argparse
+import collections
+import contextlib
 import heapq
 import pathlib
 import random
 import re
 import selectors
 import shutil
+import signal
 import socket
 import struct
 import subprocess
+import tempfile
 import time
-from collections.abc import Iterator
+from collections.abc import Callable, Iterator
 
 from kill_trial import PATIENCE_SECONDS, QUIET, Wrong
 
@@ -28,7 +34,22 @@ QEMU = """qemu-system-x86_64 -accel tcg,tb-size=128 -cpu Nehalem -m 384 -display
 APPENDED = "console=ttyS0 quiet panic=-1 mitigations=off nokaslr no_timer_check"
 # Of the NBD protocol: the greeting of a disk that can be flushed, and the kinds of requests.
 GREETING, CAN_BE_FLUSHED, READ, WRITE = struct.Struct(">8sQQI124x"), 5, 0, 1
+FAILED, SECTOR, FLUSH = 5, 512, 3
 DISK = -1
+# The disk of a file system, and how long the other machine is waited for.
+MEGABYTES, LOOK_SECONDS, BLOCKS = {"ext4": 144, "xfs": 300, "btrfs": 128, "udf": 64}, 600, ("1024", "4096")
+# What is left of the writes that no flush has covered: whole ones or sectors, each by such a chance or by any.
+WHOLE, WAYS = 1 << 30, {"no write left": (False, 0), "all writes left": (False, 1), "some writes left": (False, None)}
+WAYS |= {"some sectors left": (True, None), "most sectors left": (True, 0.95)}
+MOUNTED = "mount -t {fs} -o {options} /dev/vda /mnt || {{ e2fsck -fy /dev/vda; mount -t {fs} -o {options} /dev/vda /mnt; }}"
+READS = f"""while ! ls /dev/vport*; do sleep 0.1; done
+exec <>$(ls /dev/vport*) >&0 2>&1
+while read look; do
+    {MOUNTED}
+    worldd recover --dir /mnt/w || {{{{ mkdir -p /mnt/w; worldd create --dir /mnt/w --cells {{cells}}; }}}}
+    worldd inspect --dir /mnt/w --words; umount /mnt || rm -r /mnt/w; echo looked
+done
+"""
 
 
 def kernel_of(root: pathlib.Path) -> pathlib.Path | None:
@@ -65,13 +86,51 @@ def pack(room: pathlib.Path, root: pathlib.Path, fs: str, programs: dict[str, st
     subprocess.run("find . | busybox cpio -o -H newc >../files", shell=True, cwd=room / "first", check=True, stderr=QUIET)
 
 
-class Machine:
+class Disk:
+    """The bytes of a disk as they are read, and the durable ones. A flush makes writes durable. A request may be refused: it fails,
+    and of a write such a share of its sectors is made."""
+
+    def __init__(self, image: bytearray) -> None:
+        self.image, self.durable, self.lock = image, bytearray(image), contextlib.nullcontext()
+        self.refused: Callable[[int, bytes], float | None] = lambda kind, data: None
+        self.writes, self.done, self.count = {}, set(), 0
+
+    def is_refused(self, kind: int, at: int, data: bytes) -> bool:
+        """Whether a request is refused. Its share is made then."""
+        share = self.refused(kind, data)
+        for begin in range(0, len(data) if share else 0, SECTOR):
+            if random.random() < share:
+                self.done.add(self.write(at + begin, data[begin : begin + SECTOR]))
+        return share is not None
+
+    def write(self, at: int, data: bytes) -> int:
+        """Makes a write, and gives its number."""
+        self.count += 1
+        self.writes[self.count], self.image[at : at + len(data)] = (at, data), data
+        return self.count
+
+    def flush(self, numbers: list[int]) -> None:
+        """Makes these writes durable."""
+        for at, data in map(self.writes.pop, numbers):
+            self.durable[at : at + len(data)] = data
+
+    def cut(self, image: bytearray, size: int, share: float) -> None:
+        """Makes the image one that a cut leaves now: of the writes that aren't durable a share, in pieces of this size."""
+        image[:] = self.durable
+        for at, data in self.writes.values():
+            for begin in range(0, len(data), size):
+                if random.random() < share:
+                    end = min(begin + size, len(data))
+                    image[at + begin : at + end] = data[begin:end]
+
+
+class Machine(Disk):
     """A running machine with a disk. A write is read back at once, done after a while, later still if it has the slow bytes,
     and durable once a flush is done that began after that. A disk that lies keeps the last writes back at each flush."""
 
     def __init__(self, room: pathlib.Path, root: pathlib.Path, image: bytearray, ports: int) -> None:
-        self.image, self.durable, self.slow, self.kept_back = image, bytearray(image), (b"", 0.0), 0
-        self.writes, self.done, self.due, self.count, self.rests = {}, set(), [], 0, [b""] * (1 + ports)
+        super().__init__(image)
+        self.slow, self.kept_back, self.due, self.rests = (b"", 0.0), 0, [], [b""] * (1 + ports)
         doors = [socket.create_server(f"{room}/{name}", family=socket.AF_UNIX) for name in ("disk", "lines")]
         words = [*QEMU.format(room=room).split(), "-kernel", str(kernel_of(root)), "-append", APPENDED]
         for port in range(1 + ports):
@@ -91,28 +150,21 @@ class Machine:
         self.process.kill()
         self.process.wait()
 
-    def cut(self, image: bytearray, size: int, share: float) -> None:
-        """Makes the image one that a cut leaves now: of the writes that aren't durable a share, in pieces of this size."""
-        image[:] = self.durable
-        for at, data in self.writes.values():
-            for begin in range(0, len(data), size):
-                if random.random() < share:
-                    end = min(begin + size, len(data))
-                    image[at + begin : at + end] = data[begin:end]
-
     def take(self, seconds: float) -> int:
         """Takes a request of the disk, and gives how many writes and flushes that was. They are done after some such time."""
         _, _, kind, handle, at, length = struct.unpack(">IHHQQI", self.disk.recv(28, socket.MSG_WAITALL))
         answer = struct.pack(">IIQ", 0x67446698, 0, handle)
+        data, covered = self.disk.recv(length, socket.MSG_WAITALL) if kind == WRITE else b"", self.done & self.writes.keys()
+        if self.is_refused(kind, at, data):
+            self.disk.sendall(struct.pack(">IIQ", 0x67446698, FAILED, handle))
+            return 0
         if kind == READ:
             self.disk.sendall(answer + self.image[at : at + length])
             return 0
-        data, covered = self.disk.recv(length, socket.MSG_WAITALL) if kind == WRITE else b"", self.done & self.writes.keys()
-        self.count += 1
-        if kind == WRITE:
-            self.writes[self.count], self.image[at : at + length] = (at, data), data
+        number = self.write(at, data) if kind == WRITE else self.count + 1
+        self.count = number
         due = time.monotonic() + seconds * random.expovariate(1) + self.slow[1] * (self.slow[0] in data)
-        heapq.heappush(self.due, (due, self.count, kind, covered, answer))
+        heapq.heappush(self.due, (due, number, kind, covered, answer))
         return 1
 
     def events(self, seconds: float) -> Iterator[tuple[int, str]]:
@@ -123,9 +175,7 @@ class Machine:
             self.done.add(number)
             if kind != WRITE:
                 yield DISK, "flush"
-                lasting = sorted(self.writes)[: -self.kept_back] if self.kept_back else sorted(covered & self.writes.keys())
-                for at, data in map(self.writes.pop, lasting):
-                    self.durable[at : at + len(data)] = data
+                self.flush(sorted(self.writes)[: -self.kept_back] if self.kept_back else sorted(covered & self.writes.keys()))
             self.disk.sendall(answer)
         wait = max(0.0, self.due[0][0] - time.monotonic()) if self.due else 0.05
         for number in sorted(key.data for key, _ in self.chosen.select(wait)):
@@ -137,3 +187,52 @@ class Machine:
                 raise Wrong("the machine has ended")
             *lines, self.rests[number] = (self.rests[number] + data).split(b"\n")
             yield from ((number, line.decode(errors="replace").strip()) for line in lines)
+
+
+class Rig:
+    """Machines with a file system, the disk that the last cut left, and the counts so far. A library may be loaded first."""
+
+    def __init__(self, given: argparse.Namespace, folder: pathlib.Path, library: str, fault: str) -> None:
+        self.given, self.folder, self.library, self.fault = given, folder, library, fault
+        self.left, self.tally = bytearray(MEGABYTES[given.fs] << 20), collections.Counter()
+
+    def new_disk(self) -> bytearray:
+        """A disk with a new file system."""
+        fs, path = self.given.fs, self.folder / "new"
+        path.write_bytes(bytes(len(self.left)))
+        flags = {"ext4": ["-q", "-b", random.choice(BLOCKS)], "udf": ["-b", "512"]}.get(fs, [])
+        subprocess.run([f"mkfs.{fs}", *flags, path], check=True, capture_output=True)
+        return bytearray(path.read_bytes())
+
+    def machine(self, script: str, image: bytearray, ports: int, **words: object) -> contextlib.closing[Disk]:
+        """Starts a machine with this script."""
+        given, room = self.given, pathlib.Path(tempfile.mkdtemp(dir=self.folder))
+        programs = {"bin/worldd": given.worldd, "bin/e2fsck": shutil.which("e2fsck")}
+        if self.library:
+            source, programs["lib/first.so"] = pathlib.Path(__file__).with_name(self.library), f"{room}/first.so"
+            subprocess.run(["cc", "-shared", "-fPIC", "-o", f"{room}/first.so", source], check=True)
+        words |= {"fault": self.fault, "library": "/lib/first.so" if self.library else ""}
+        pack(room, given.kernel, given.fs, programs, script.format(**vars(given) | words))
+        return contextlib.closing(Machine(room, given.kernel, image, ports))
+
+    def reading(self) -> contextlib.closing[Disk]:
+        """Starts the machine that tells what is left on a disk."""
+        return self.machine(READS, bytearray(self.left), 1)
+
+    def cut(self, machine: Machine, reader: Machine, size: int, share: float) -> list[str]:
+        """Cuts the power of a machine, which goes on nevertheless. Gives what the other one tells of the disk that is left."""
+        told, end = [], time.monotonic() + LOOK_SECONDS
+        machine.process.send_signal(signal.SIGSTOP)
+        machine.cut(self.left, size, share)
+        reader.image[:] = self.left
+        reader.streams[1].sendall(b"look\n")
+        while "looked" not in told and time.monotonic() < end:
+            told += [line for port, line in reader.events(0) if port > 0]
+        reader.writes.clear()
+        machine.process.send_signal(signal.SIGCONT)
+        return told
+
+
+def world_of(told: list[str]) -> list[str]:
+    """The lines of a world among those that were told of a disk."""
+    return [line for line in told if re.match(r"recovered|fault|created|image|log|\d+ ", line)] or ["nothing"]

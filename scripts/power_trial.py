@@ -23,29 +23,24 @@ import tempfile
 import time
 
 from kill_trial import CELLS, CLIENTS, COUNT, METHODS, Found, Wrong, batches, found_in, judge, text_of
-from power_machine import DISK, Machine, lacking, pack
+from power_machine import DISK, MEGABYTES, MOUNTED, WAYS, WHOLE, Machine, Rig, lacking, world_of
 
 # The disk of a file system, and the sectors at which its writes are torn: btrfs has no current copy of its 4,096-byte superblock.
 # udf brings no name along with a sync of a new file, so the syncs of folders are left out there. Nothing mends its map of free
 # blocks after a cut: each run has a new disk, cuts begin once the world was created, and the system's own writing is put off.
-MEGABYTES, SECTORS, UDF = {"ext4": 144, "xfs": 300, "btrfs": 128, "udf": 64}, {"btrfs": 4096}, {"fs": "udf", "options": "rw"}
-BLOCKS, EVERY = ("1024", "4096"), (1, 8, 64)
+SECTORS, UDF, EVERY = {"btrfs": 4096}, {"fs": "udf", "options": "rw"}, (1, 8, 64)
 CUTS_OF_A_RUN, RUNS_OF_A_DISK, PATIENCE_SECONDS, WRITE_SECONDS = 60, 4, 600, 0.001
 # How likely the power is cut after a request of the disk, and before a flush is done: until clients are served, and then.
 NEVER, EARLY, LATE = {"request": 0, "flush": 0}, {"request": 0.06, "flush": 0.4}, {"request": 0.02, "flush": 0.1}
 # In every other run a write with these bytes, which the log has of each tick, takes longer: covers come by that. A disk that
 # drops flushes keeps so many writes back. To show that a sync matters may take so many times the cuts.
 SLOW_LOG, KEPT_BACK, SHOWN = (struct.pack("<BIq", 2, COUNT, 1), 0.05), 64, 5
-# What is left of the writes that no flush has covered: whole ones or sectors, each by such a chance or by any.
-WHOLE, WAYS = 1 << 30, {"no write left": (False, 0), "all writes left": (False, 1), "some writes left": (False, None)}
-WAYS |= {"some sectors left": (True, None), "most sectors left": (True, 0.95)}
 CREATE, MOUNT, PARTS = "in create", "in a mount", {"created": "just created", "recovered": "in a start", "listening": "in play"}
 STOOD = "in a round", "in a switch", "covered", "tail of log.a", "tail of log.b", "from image.a", "from image.b", "kept more"
 KINDS, MENDED = (*WAYS, CREATE, MOUNT, *PARTS.values(), "no world", *STOOD), "mended by e2fsck"
 UNMET = {"covered": "data=journal", CREATE: "udf", MOUNT: "udf", "in a start": "udf", "no world": "udf"}
 SYNCS, FOLDERS, FLUSHES = ("log body", "log gate", "image body", "image gate"), ("folder", "folder above"), "flushes"
 LOG = re.compile(r"log\.([ab]): open, format \d, base (\d+), \d+ groups?, (\d+) ticks?,")
-MOUNTED = "mount -t {fs} -o {options} /dev/vda /mnt || {{ e2fsck -fy /dev/vda; mount -t {fs} -o {options} /dev/vda /mnt; }}"
 SERVES = f"""echo {{wakes}} >/proc/sys/vm/dirty_writeback_centisecs; echo 20 >/proc/sys/vm/dirty_expire_centisecs
 {MOUNTED} >/dev/null
 mkdir -p /mnt/w; export LD_PRELOAD={{library}} SYNCS_LEFT_OUT="{{fault}}"
@@ -54,34 +49,14 @@ worldd recover --dir /mnt/w 2>/dev/null || worldd create --dir /mnt/w --cells {{
 for port in /dev/vport*; do (until nc 127.0.0.1 7070; do sleep 0.1; done) <>$port >&0 2>/dev/null & done
 worldd serve --dir /mnt/w --method {{method}} --every {{every}} --port 7070 --clients 1000
 """
-READS = f"""while ! ls /dev/vport*; do sleep 0.1; done
-exec <>$(ls /dev/vport*) >&0 2>&1
-while read look; do
-    {MOUNTED}
-    worldd recover --dir /mnt/w || {{{{ mkdir -p /mnt/w; worldd create --dir /mnt/w --cells {{cells}}; }}}}
-    worldd inspect --dir /mnt/w --words; umount /mnt || rm -r /mnt/w; echo looked
-done
-"""
 
 
-class Trial:
-    """A trial on a file system, with the counts so far."""
+class Trial(Rig):
+    """A trial on a file system. A library leaves a sync out, if that is the fault."""
 
     def __init__(self, given: argparse.Namespace, folder: pathlib.Path, fault: str) -> None:
-        self.given, self.folder, self.fault, self.left = given, folder, fault, bytearray(MEGABYTES[given.fs] << 20)
+        super().__init__(given, folder, "" if fault in ("", FLUSHES) else "left_out_syncs.c", fault)
         self.fresh, self.is_udf = Found("recovered 0 from 0", 0, 0, "image.a", [0] * given.cells, False), given.fs == "udf"
-        self.tally: collections.Counter[str] = collections.Counter()
-
-    def machine(self, script: str, image: bytearray, ports: int, **words: object) -> contextlib.closing[Machine]:
-        """Starts a machine with this script. A library leaves a sync out, if that is the fault."""
-        given, room = self.given, pathlib.Path(tempfile.mkdtemp(dir=self.folder))
-        programs = {"bin/worldd": given.worldd, "bin/e2fsck": shutil.which("e2fsck")}
-        if self.fault not in ("", FLUSHES):
-            source, programs["lib/left_out.so"] = pathlib.Path(__file__).with_name("left_out_syncs.c"), f"{room}/left_out.so"
-            subprocess.run(["cc", "-shared", "-fPIC", "-o", f"{room}/left_out.so", source], check=True)
-        words |= {"fault": self.fault, "library": "/lib/left_out.so" if "lib/left_out.so" in programs else ""}
-        pack(room, given.kernel, given.fs, programs, script.format(**vars(given) | words))
-        return contextlib.closing(Machine(room, given.kernel, image, ports))
 
     def serve(self, run: int, image: bytearray, before: Found | None, cuts: int) -> tuple[bytearray, Found | None]:
         """Lets a machine serve until the power was cut so often, and gives a disk that was left, with the world on it."""
@@ -95,7 +70,7 @@ class Trial:
                 for port, line in machine.events(WRITE_SECONDS):
                     told, word = re.match(r"tick (\d+):", line), line.partition(" ")[0]
                     if port == DISK and cuts and random.random() < chances[word]:
-                        found, cuts = self.cut(machine), cuts - 1
+                        found, cuts = self.found_after(machine), cuts - 1
                         image, before = (bytearray(self.left), found) if cuts == kept else (image, before)
                     elif told:
                         self.answered[int(told[1])] = self.waiting[port], line
@@ -112,20 +87,13 @@ class Trial:
         self.tally["ticks answered"] += len(self.answered)
         return image, before
 
-    def cut(self, machine: Machine) -> Found | None:
+    def found_after(self, machine: Machine) -> Found | None:
         """Cuts the power, judges what another machine recovers then, and gives the world on the disk that was left."""
-        (way, (is_torn, share)), told, end = random.choice(list(WAYS.items())), [], time.monotonic() + PATIENCE_SECONDS
+        way, (is_torn, share) = random.choice(list(WAYS.items()))
         size = self.given.sector or SECTORS.get(self.given.fs, 512) if is_torn else WHOLE
-        machine.process.send_signal(signal.SIGSTOP)
-        machine.cut(self.left, size, random.random() if share is None else share)
-        self.reader.image[:] = self.left
-        self.reader.streams[1].sendall(b"look\n")
-        while "looked" not in told and time.monotonic() < end:
-            told += [line for port, line in self.reader.events(0) if port > 0]
-        self.reader.writes.clear()
-        machine.process.send_signal(signal.SIGCONT)
+        told = self.cut(machine, self.reader, size, random.random() if share is None else share)
         self.tally.update({"cuts": 1, way: 1, self.part: 1, MENDED: "\n".join(told).count("FILE SYSTEM WAS MODIFIED")})
-        told = [line for line in told if re.match(r"recovered|fault|created|image|log|\d+ ", line)] or ["nothing"]
+        told = world_of(told)
         is_unmade = self.part == CREATE and told[0] in ("fault 13", "fault 18") and f"created {self.given.cells}" in told[1:2]
         told = [self.fresh.line, *told[2:]] if is_unmade else told
         if not told[0].startswith("recovered"):
@@ -145,14 +113,10 @@ class Trial:
 
     def run(self, cuts: int) -> str:
         """Cuts as often as was asked, and gives the counts, which have to grow. One journal of data lets no image lead."""
-        path = self.folder / "new"
-        with self.machine(READS, bytearray(self.left), 1) as self.reader:
+        with self.reading() as self.reader:
             for run, done in enumerate(range(0, cuts, CUTS_OF_A_RUN)):
                 if run % RUNS_OF_A_DISK == 0 or self.is_udf:
-                    path.write_bytes(bytes(len(self.left)))
-                    flags = {"ext4": ["-q", "-b", random.choice(BLOCKS)], "udf": ["-b", "512"]}.get(self.given.fs, [])
-                    subprocess.run([f"mkfs.{self.given.fs}", *flags, path], check=True, capture_output=True)
-                    image, before = bytearray(path.read_bytes()), None
+                    image, before = self.new_disk(), None
                 image, before = self.serve(run, image, before, min(CUTS_OF_A_RUN, cuts - done))
         counts = "; ".join(f"{name} {self.tally[name]}" for name in ("cuts", "ticks answered", *KINDS, MENDED))
         never = [kind for kind in KINDS if not self.tally[kind] and UNMET.get(kind) not in (self.given.fs, self.given.options)]

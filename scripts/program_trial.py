@@ -11,7 +11,9 @@ import collections
 import contextlib
 import fcntl
 import itertools
+import os
 import pathlib
+import resource
 import socket
 import struct
 import subprocess
@@ -64,12 +66,13 @@ class Trial:
         self.runs = 0
         self.seen: collections.Counter[str] = collections.Counter()
 
-    def run(self, *words, full: bool = False, script: bytes = b"") -> Outcome:
-        """Runs the program with these words. A full output takes no byte."""
+    def run(self, *words, full: bool = False, script: bytes = b"", memory: int = 0) -> Outcome:
+        """Runs the program with these words, with so many bytes of memory if a number is given. A full output takes no byte."""
+        limited = (lambda: resource.setrlimit(resource.RLIMIT_AS, (memory, memory))) if memory else None
         with open("/dev/full", "wb") as device:
             output = device if full else subprocess.PIPE
             command = [self.program, *words]
-            run = subprocess.run(command, input=script, stdout=output, stderr=subprocess.PIPE, timeout=SECONDS)
+            run = subprocess.run(command, input=script, stdout=output, stderr=subprocess.PIPE, timeout=SECONDS, preexec_fn=limited)
         outcome = Outcome((run.stdout or b"").decode(), run.stderr.decode(), run.returncode)
         self.runs += 1
         first = outcome.errors.partition("\n")[0]
@@ -119,7 +122,7 @@ def try_command_lines(trial: Trial) -> None:
     lacking = "the following required arguments were not provided:\n  "
     whole = "serve --dir world --method zigzag --clients 1"
     for words, text in (
-        ("", "'worldd' requires a subcommand but one was not provided\n  [subcommands: steps, create, recover, inspect, status, backup, serve, help]\n\nUsage: worldd <COMMAND>\n\n"),
+        ("", "'worldd' requires a subcommand but one was not provided\n  [subcommands: steps, create, recover, inspect, status, backup, salvage, serve, help]\n\nUsage: worldd <COMMAND>\n\n"),
         ("stepz", "unrecognized subcommand 'stepz'\n\n  tip: a similar subcommand exists: 'steps'\n\nUsage: worldd <COMMAND>\n\n"),
         ("steps extra", "unexpected argument 'extra' found\n\nUsage: worldd steps\n\n"),
         ("create --cells 1", f"{lacking}--dir <FOLDER>\n\n{make}\n\n"),
@@ -131,6 +134,7 @@ def try_command_lines(trial: Trial) -> None:
         ("recover", f"{lacking}--dir <FOLDER>\n\nUsage: worldd recover --dir <FOLDER>\n\n"),
         ("status", f"{lacking}--dir <FOLDER>\n\nUsage: worldd status --dir <FOLDER>\n\n"),
         ("backup --dir world", f"{lacking}--to <FOLDER>\n\nUsage: worldd backup --dir <FOLDER> --to <FOLDER>\n\n"),
+        ("salvage --dir world", f"{lacking}--to <FOLDER>\n\nUsage: worldd salvage --dir <FOLDER> --to <FOLDER>\n\n"),
         ("inspect --words", f"{lacking}--dir <FOLDER>\n\nUsage: worldd inspect --dir <FOLDER> --words\n\n"),
         ("serve --dir world", f"{lacking}--method <METHOD>\n  --clients <K>\n  <--port <P>|--socket <PATH>>\n\n{serve}\n\n"),
         (f"{whole}", f"{lacking}<--port <P>|--socket <PATH>>\n\n{serve}\n\n"),
@@ -144,12 +148,17 @@ def try_command_lines(trial: Trial) -> None:
         ("serve --idle 0", "invalid value '0' for '--idle <SECONDS>': 0 is not in 1..=86400\n\n"),
         ("serve --idle 86401", "invalid value '86401' for '--idle <SECONDS>': 86401 is not in 1..=86400\n\n"),
         ("serve --report 86401", "invalid value '86401' for '--report <SECONDS>': 86401 is not in 0..=86400\n\n"),
+        ("serve --exit-when-closed 86401", "invalid value '86401' for '--exit-when-closed <SECONDS>': 86401 is not in 0..=86400\n\n"),
         ("serve --clients 100001", "invalid value '100001' for '--clients <K>': 100001 is not in 1..=100000\n\n"),
     ):
         trial.ends(f"worldd {words}", trial.run(*words.split()), "", f"error: {text}{MORE}", 2)
-    trial.ends("bytes that are no text", trial.run(b"\xff"), "", "error: the command line can't be read: invalid data\n", 2)
+    trial.ends("bytes that are no text", trial.run(b"\xff"), "", "error: a word of the command line isn't UTF-8: a path has to be\n", 2)
     for flag in ("--version", "-V"):
         trial.ends(flag, trial.run(flag), "worldd 0.2.0 (reads file formats 1 and 2, writes 2)\n", "", 0)
+    for words in ("--version", "--help", "serve --help"):
+        trial.ends(f"{words} to a full output", trial.run(*words.split(), full=True), "", FULL, 1)
+    escaped = "fault 18\nworldd: no\\x1b[31m\\x07\\x0a\\x7f\\x9b\u00e9/image.a: " + NO_FILE + "\n"
+    trial.ends("control characters of a path", trial.run("recover", "--dir", "no\x1b[31m\a\n\x7f\x9b\u00e9"), "", escaped, 1)
     for words, start, end in (
         ("", "A main-memory world server with asynchronous checkpoints\n\nUsage: worldd <COMMAND>\n", "  -V, --version  Print version\n"),
         ("steps", "Runs the script on standard input, over a world in memory\n\nUsage: worldd steps\n", "21 no tick numbers are left\n"),
@@ -177,6 +186,11 @@ def try_command_lines(trial: Trial) -> None:
             "backup",
             "Copies the world in a folder, also while it is served\n\nUsage: worldd backup --dir <FOLDER> --to <FOLDER>\n",
             "\n  began a new image under each of 1000 tries, 22 the folder of the copy isn't empty\n",
+        ),
+        (
+            "salvage",
+            "Makes a world of what can be read of damaged or lost files\n\nUsage: worldd salvage --dir <FOLDER> --to <FOLDER>\n",
+            "\n  22 the folder of the new files isn't empty\n",
         ),
         (
             "serve",
@@ -229,13 +243,27 @@ def try_creating(trial: Trial) -> None:
         check_made(trial, "beside other files", create(trial, folder), folder)
         others = (folder / "notes").read_bytes(), (folder / "image.c").read_bytes()
         trial.check("other files", others, (b"of another program", GARBAGE))
-    for missing in NAMES:
-        with new_folder(b"", b"", b"", b"") as folder:
-            (folder / missing).unlink()
-            check_made(trial, f"{missing} is missing", create(trial, folder), folder)
     with new_folder() as folder:
         trial.ends("a full output", create(trial, folder, full=True), "", FULL, 1)
         trial.check("a full output", files_of(folder), (NEW_IMAGE, b"", NEW_LOG, b"\0"))
+
+
+def try_completing(trial: Trial) -> None:
+    """Each of the four files is missing, closed or open. With an open one none is made and none is written."""
+    opened = NEW_IMAGE, IMAGE_OF_2, NEW_LOG, LOG_OF_4
+    for files in itertools.product(*((None, b"\0", whole) for whole in opened)):
+        with new_folder() as folder:
+            there = {name: file for name, file in zip(NAMES, files) if file is not None}
+            for name, file in there.items():
+                (folder / name).write_bytes(file)
+            what = "create, " + ", ".join(f"{name} {'open' if there[name][0] else 'closed'}" for name in there)
+            got, first = create(trial, folder), next((name for name, file in there.items() if file != b"\0"), None)
+            if first:
+                trial.ends(what, got, "", fault_of(folder, 22, first, HOLDS_A_WORLD), 1)
+                trial.check(what, {path.name: path.read_bytes() for path in folder.iterdir()}, there)
+            else:
+                trial.ends(what, got, "created 2\n", "", 0)
+                trial.ends(what, trial.run("recover", "--dir", str(folder)), "recovered 0 from 0\n", "", 0)
 
 
 def try_not_creating(trial: Trial) -> None:
@@ -375,7 +403,7 @@ def try_copies(trial: Trial) -> None:
     with new_folder(*files) as folder, new_folder() as to:
         line = "backup", "--dir", str(folder), "--to", str(to)
         trial.ends("a copy", trial.run(*line), "backed up 4 from 3\n", "", 0)
-        trial.check("a copy", files_of(to), (b"", IMAGE_OF_3, LOG_OF_3, LOG_OF_4))
+        trial.check("a copy", files_of(to), (b"\0", IMAGE_OF_3, LOG_OF_3, LOG_OF_4))
         trial.check("a copy's modes", {(to / name).stat().st_mode & 0o777 for name in NAMES}, {0o600})
         trial.check("a copied world", files_of(folder), files)
         filled = f"fault 22\nworldd: {to}: the folder isn't empty: choose an empty one\n"
@@ -446,6 +474,48 @@ def try_found(trial: Trial) -> None:
             "recovered 3 from 0 in image.a\n"
         )
         check_found(trial, "groups and ticks", folder, "recovered 3 from 0\n", lines)
+
+
+# Files of which one was lost: an empty one beside an image of tick 3, and a log that begins after the recovered tick.
+LOST = (
+    (("", IMAGE_OF_3, LOG_OF_3, LOG_OF_4), 14, "an image file is damaged: image.a is empty, so it was lost"),
+    ((IMAGE_OF_3, "", LOG_OF_3, LOG_OF_4), 14, "an image file is damaged: image.b is empty, so it was lost"),
+    ((IMAGE_OF_3, IMAGE_OF_2, "", LOG_OF_4), 15, "a log file is damaged: log.a is empty, so it was lost"),
+    ((IMAGE_OF_3, IMAGE_OF_2, LOG_OF_3, ""), 15, "a log file is damaged: log.b is empty, so it was lost"),
+    ((IMAGE_OF_2, b"\0", b"\0", LOG_OF_4), 15, "a log file is damaged: log.b begins after ticks that were lost"),
+    ((b"\0", IMAGE_OF_2, NEW_LOG_OF_3, b"\0"), 15, "a log file is damaged: log.a begins after ticks that were lost"),
+)
+
+
+def try_lost(trial: Trial) -> None:
+    """Files of which one was lost: no command takes them for a world, and nothing is written."""
+    serve = "--method", "zigzag", "--port", "0", "--clients", "1"
+    for files, code, why in LOST:
+        files = tuple(data or b"" for data in files)
+        fault = f"fault {code}\nworldd: {why}\n"
+        with new_folder(*files) as folder, new_folder() as to:
+            for line in (("recover",), ("status",), ("serve", *serve), ("backup", "--to", str(to))):
+                trial.ends(f"{line[0]}: {why}", trial.run(*line, "--dir", str(folder)), "", fault, 1)
+            got = trial.run("inspect", "--dir", str(folder))
+            trial.check(f"inspect: {why}", (got.output.count("\n"), got.errors, got.status), (4, fault, 1))
+            trial.check(why, (files_of(folder), list(to.iterdir())), (files, []))
+
+
+def try_long(trial: Trial) -> None:
+    """Files with bytes that no format reads, more than there is memory for: they aren't read."""
+    limit = 256 << 20
+    files = IMAGE_OF_3, IMAGE_OF_2, LOG_OF_3, LOG_OF_4
+    with new_folder(*files) as folder, new_folder() as to:
+        for name in NAMES:
+            os.truncate(folder / name, 3 << 30)
+        trial.ends("long files", trial.run("recover", "--dir", str(folder), memory=limit), "recovered 4 from 3\n", "", 0)
+        got = trial.run("status", "--dir", str(folder), memory=limit)
+        trial.check("figures of long files", got.output.splitlines()[-1], f"bytes: {', '.join(f'{name} {3 << 30}' for name in NAMES)}, together {12 << 30}")
+        got = trial.run("backup", "--dir", str(folder), "--to", str(to), memory=limit)
+        trial.ends("a copy of long files", got, "backed up 4 from 3\n", "", 0)
+        trial.check("a copy of long files", files_of(to), (IMAGE_OF_3, b"\0", LOG_OF_3, LOG_OF_4))
+        got = trial.run("inspect", "--dir", str(folder), memory=limit)
+        trial.check("long files", (got.output.splitlines()[-1], got.status), ("recovered 4 from 3 in image.a", 0))
 
 
 def try_missing(trial: Trial) -> None:
@@ -591,7 +661,7 @@ def main() -> int:
     parser = argparse.ArgumentParser(description=__doc__.splitlines()[0])
     parser.add_argument("program", type=pathlib.Path, help="the built worldd")
     trial = Trial(str(parser.parse_args().program.resolve()))
-    for part in (try_command_lines, try_scripts, try_creating, try_not_creating, try_words, try_larger, try_found, try_figures, try_copies, try_missing, try_damaged, try_not_serving, try_serving, try_reporting):
+    for part in (try_command_lines, try_scripts, try_creating, try_completing, try_not_creating, try_words, try_larger, try_found, try_figures, try_copies, try_lost, try_long, try_missing, try_damaged, try_not_serving, try_serving, try_reporting):
         part(trial)
     wanted = ["status 0", "status 2", "served", *(f"status 1, fault {code}" for code in (13, 14, 15, 16, 18, 22))]
     never = [kind for kind in wanted if not trial.seen[kind]]

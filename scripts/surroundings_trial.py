@@ -37,6 +37,8 @@ CELLS = 1000
 # Text that worldd prints, of which a file of a world has none.
 FOREIGN = (b"recovered", b"listening", b"worldd", b"created", b"stopped")
 EXIT = ("--exit-when-log-down",)
+# The exit status of a shortage that passes.
+SHORTAGE = 13
 SMALL_PIPE = 4096
 LINES_WAITING = 256
 # How many clients send batches that are too long, and lines behind them.
@@ -53,8 +55,9 @@ CASES = (
     "short write named", "ended by its log", "start that fails", "no thread named",
     "socket with its mode", "socket removed", "old socket replaced", "socket in use kept", "socket's place taken",
     "other file kept", "next server's socket kept", "fault 16 not reset",
+    "left when closed", "left at once when closed", "left with its log down", "lost file named",
 )
-CASES_OF_ROOT = ("user let in", "user refused", "socket never open to others")
+CASES_OF_ROOT = ("user let in", "user refused", "socket never open to others", "shortage of room", "no /dev/null")
 # Users and groups, which the system need not know. The server's own are the first ones.
 OWNER, STRANGER = 61_001, 61_002
 AS_OWNER = {"user": OWNER, "group": OWNER, "extra_groups": []}
@@ -312,6 +315,93 @@ class Trial:
         want(status == 0 and output.endswith("stopped tick 2 acked 2\n"), f"the end by silence: {status} {output}")
         want(f"worldd: the {transport} is closed" in errors, f"nothing was printed of the {transport}: {errors}")
 
+    def overstayed(self) -> None:
+        """Clients stay connected after the last one has come: the server ends without them, after its seconds and not before."""
+        for seconds, transport in ((2, "port"), (3, SOCKET), (0, SOCKET)):
+            server = self.server("--exit-when-closed", str(seconds), clients=2, transport=transport)
+            first = server.client()
+            want(first.play() == b"tick 1: +\n", "no answer of a client that stays")
+            begun = time.monotonic()
+            server.client()
+            if seconds:
+                want(first.play() == b"tick 2: +\n", "no answer behind a closed door")
+                self.met["left when closed"] += 1
+            else:
+                self.met["left at once when closed"] += 1
+            status, output, errors = server.end()
+            passed = time.monotonic() - begun
+            want(status == 0 and "stopped" not in output, f"the end with clients that stay: {status} {output}")
+            want(seconds <= passed < seconds + PATIENCE_SECONDS / 2, f"it ended {passed} seconds after its door was closed, and not {seconds}")
+            want(f"worldd: the {transport} is closed" in errors, f"nothing was printed of the {transport}: {errors}")
+            server.holds(2 if seconds else 1)
+        self.overstayed_with_no_log()
+
+    def overstayed_with_no_log(self) -> None:
+        """The same with a log that is down: the status says so."""
+        limit = limiting(resource.RLIMIT_FSIZE, FILE_LIMIT)
+        server = self.server("--every", "65536", "--exit-when-closed", "1", clients=2, preexec_fn=limit)
+        client, ticks = server.client(), 0
+        while client.play(b"add 0 1\n" * 16).startswith(b"tick"):
+            ticks += 1
+        server.client()
+        want(server.end()[0] == 12, "the end with a client that stays and a log that is down")
+        self.met["left with its log down"] += 1
+        server.holds(ticks)
+
+    def shortage(self) -> None:
+        """The disk is full: a new world and a start end with a status of their own, and room mends it."""
+        full = self.scratch / "full"
+        full.mkdir()
+        mount = ("mount", "-t", "tmpfs", "-o", "size=64k", "tmpfs", full)
+        if not is_root() or subprocess.run(mount, capture_output=True).returncode:
+            return
+        try:
+            made = self.run("create", "--dir", full, "--cells", "100000", capture_output=True, text=True)
+            want(made.returncode == SHORTAGE and made.stderr.startswith("fault 18\n"), f"create on a full disk: {made}")
+            self.met["shortage of room"] += 1
+            for file in full.iterdir():
+                file.unlink()
+            made = self.run("create", "--dir", full, "--cells", "10", capture_output=True, text=True)
+            want(made.returncode == 0, f"create on a disk with room: {made}")
+        finally:
+            subprocess.run(("umount", full), check=True)
+
+    def lost_files(self) -> None:
+        """A file is removed under a server, or another is moved over it: a line says so once."""
+        server = self.server("--every", "1", transport=SOCKET, clients=1)
+        client = server.client()
+        want(client.play() == b"tick 1: +\n", "no answer")
+        (server.folder / "log.b").unlink()
+        (server.folder / "other").write_bytes(b"")
+        (server.folder / "other").rename(server.folder / "image.a")
+        for tick in range(2, 51):
+            want(client.play().startswith(b"tick %d:" % tick), f"tick {tick} without two files")
+        client.leave()
+        status, _, errors = server.end()
+        want(status == 0, f"the end without two files: {status}")
+        for name in NAMES:
+            line = f"worldd: {server.folder}/{name} was removed or replaced: save the files before the server ends\n"
+            wanted = 1 if name in ("log.b", "image.a") else 0
+            want(errors.count(line) == wanted, f"{name}, {wanted} lines wanted: {errors}")
+            self.met["lost file named"] += wanted
+
+    def no_null(self) -> None:
+        """There is no /dev/null: it is wanted only in the place of a stream that is closed."""
+        room = self.folder()
+        room.mkdir()
+        worldd = shutil.copy(self.worldd, room / "worldd")
+        for file in re.findall(r"(/\S+) \(0x", subprocess.run(("ldd", worldd), capture_output=True, text=True).stdout):
+            (room / file[1:]).parent.mkdir(parents=True, exist_ok=True)
+            shutil.copy(file, room / file[1:])
+        if not is_root():
+            return
+        command = ("chroot", room, "/worldd", "--version")
+        run = subprocess.run(command, capture_output=True, text=True)
+        want(run.returncode == 0 and run.stdout.startswith("worldd "), f"without /dev/null: {run}")
+        run = subprocess.run(("sh", "-c", 'exec "$@" 0<&-', "sh", *command), capture_output=True, text=True)
+        want(run.returncode == 1 and "worldd: /dev/null: " in run.stderr, f"without /dev/null and input: {run}")
+        self.met["no /dev/null"] += 1
+
     def links(self) -> None:
         """Files that are no ordinary files of their own, for those that write a world."""
         for command in (("serve", "--method", "zigzag", "--port", "0", "--clients", "1"), ("create", "--cells", "2")):
@@ -376,7 +466,7 @@ class Trial:
         first.kill()
         again = Server(self.worldd, first.folder, preexec_fn=limiting(resource.RLIMIT_FSIZE, START_LIMIT))
         status, output, errors = again.end()
-        want((status, output) == (1, "recovered 1 from 0\n"), f"a start that fails: {status} {output}")
+        want((status, output) == (SHORTAGE, "recovered 1 from 0\n"), f"a start that fails: {status} {output}")
         want(errors.startswith("fault 18\n") and SHORT in errors, f"no cause of the start: {errors}")
         self.met["start that fails"] += 1
         again.holds(1)
@@ -392,7 +482,7 @@ class Trial:
             status, output, errors = server.end()
             want("listening" not in output, "it listened without its threads")
             if "there is no thread for the server" in errors:
-                want(status == 1 and errors.startswith("fault 17\n"), f"no thread: {status} {errors}")
+                want(status == SHORTAGE and errors.startswith("fault 17\n"), f"no thread: {status} {errors}")
                 self.met["no thread named"] += 1
 
     def socket_modes(self) -> None:
@@ -571,6 +661,10 @@ class Trial:
         for transport in TRANSPORTS:
             self.short_connections(connections, transport)
             self.door(transport)
+        self.overstayed()
+        self.shortage()
+        self.lost_files()
+        self.no_null()
         self.descriptors()
         self.unread_errors()
         self.broken_output()
