@@ -17,6 +17,7 @@ use Rattle.world_core.specs.Laws.{SafetyLaws}
 use Rattle.world_core.specs.Facts.{IsCoreAt}
 use Rattle.world_core.specs.Exact.{IsLogAnswer, IsExact}
 use Rattle.world_core.specs.Headline.{AreSafe, Headline, Answers, Runs}
+use Rattle.world_core.specs.Written.{NoneIsEmpty, AreWritten, StayWritten}
 use Rattle.world_core.specs.Plain.{AreWords, IsPlainLogAnswer, IsPlainAnswer, AreAnswered, HasRun}
 use Rattle.world_core.proofs.Safe.{core_is_safe}
 
@@ -102,15 +103,16 @@ answered-more cells past (other ∷ moves) (said ∷ answers) asked given r a = 
 
 -- ---- a run
 
-pub has_begun : (cells : ℕ) (answers : List Answer) (state : State) → IsCoreAt fresh_past state → BeginsFresh cells state → answers ≡ [] → HasRun cells [] answers state
+pub has_begun : StayWritten → (cells : ℕ) (answers : List Answer) (state : State) → IsCoreAt fresh_past state → BeginsFresh cells state → answers ≡ [] → HasRun cells [] answers state
 unfolding HasRun
-has_begun cells answers state c b none = (c, ap length none, b.cells_are, (state, b, subst (λ a. Runs fresh_past state [] a state) (sym none) refl), subst (λ a. AreAnswered cells fresh_past [] a) (sym none) tt)
+has_begun stay cells answers state c b none =
+    (c, ap length none, b.cells_are, (state, b, subst (λ a. Runs fresh_past state [] a state) (sym none) refl), subst (λ a. AreAnswered cells fresh_past [] a) (sym none) tt, stay.fresh cells state b)
 
-pub has_run_more : SafetyLaws → (cells : ℕ) (old new : State) (moves : List Move) (answers now : List Answer) (asked : Move) (given : Answer) → HasRun cells moves answers old
+pub has_run_more : SafetyLaws → StayWritten → (cells : ℕ) (old new : State) (moves : List Move) (answers now : List Answer) (asked : Move) (given : Answer) → HasRun cells moves answers old
     → ((past : Past) → IsCoreAt past old → IsCoreAt (past_after past asked given) new × Answers past old asked given new) → new.cells ≡ old.cells → now ≡ answers ++ given ∷ []
     → HasRun cells (moves ++ asked ∷ []) now new
 unfolding HasRun
-has_run_more laws cells old new moves answers now asked given h step same e =
+has_run_more laws stay cells old new moves answers now asked given h step same e =
     let past = past_of fresh_past moves answers in
     let one = step past h.0 in (
       subst (λ a. IsCoreAt (past_of fresh_past (moves ++ asked ∷ []) a) new) (sym e) (subst (λ p. IsCoreAt p new) (sym (past_of-more fresh_past moves answers asked given h.1)) one.0),
@@ -118,6 +120,8 @@ has_run_more laws cells old new moves answers now asked given h step same e =
       same ∙ h.2,
       (h.3.0, h.3.1, subst (λ a. Runs fresh_past h.3.0 (moves ++ asked ∷ []) a new) (sym e) (runs-more fresh_past h.3.0 old new moves answers asked given h.3.2 one.1)),
       subst (λ a. AreAnswered cells fresh_past (moves ++ asked ∷ []) a) (sym e) (answered-more cells fresh_past moves answers asked given h.4 (plain_is laws cells past old h.0 h.2 asked given one.1.exact)),
+      subst (λ a. AreWritten (past_of fresh_past (moves ++ asked ∷ []) a) new) (sym e)
+          (subst (λ p. AreWritten p new) (sym (past_of-more fresh_past moves answers asked given h.1)) (stay.moves past old asked given new h.0 one.0 one.1 h.5)),
     )
 
 pub run_safe : SafetyLaws → (cells : ℕ) (moves : List Move) (answers : List Answer) (state : State) → HasRun cells moves answers state → Headline cells moves answers (files_in state)
@@ -139,3 +143,7 @@ run_cells cells moves answers state h = h.2
 pub run_answers : (cells : ℕ) (moves : List Move) (answers : List Answer) (state : State) → HasRun cells moves answers state → (first : State) × BeginsFresh cells first × Runs fresh_past first moves answers state
 unfolding HasRun
 run_answers cells moves answers state h = h.3
+
+pub run_written : StayWritten → (cells : ℕ) (moves : List Move) (answers : List Answer) (state : State) → HasRun cells moves answers state → NoneIsEmpty (files_in state)
+unfolding HasRun
+run_written stay cells moves answers state h = stay.none_empty (past_of fresh_past moves answers) state h.0 h.5

@@ -65,7 +65,7 @@ taken_tick : (cell : Taken) (images : ImageFiles) → round_tick (round_in (with
 taken_tick cell (NoneYet images) = still_tick cell [] images.round
 taken_tick cell (Newest images) = still_tick cell images.words images.round
 
-taken_newest : (cell : Taken) (images : ImageFiles) → newest_in (with_taken cell images) ≡ newest_in images
+pub taken_newest : (cell : Taken) (images : ImageFiles) → newest_in (with_taken cell images) ≡ newest_in images
 taken_newest cell (NoneYet images) = refl
 taken_newest cell (Newest images) = refl
 

@@ -6,6 +6,7 @@ pub mod LogExact
 pub mod Covering
 pub mod Exact
 pub mod Safe
+pub mod Written
 pub mod Marking
 pub mod Crashing
 pub mod Recovering

@@ -52,7 +52,7 @@ module _ (safety : SafetyLaws) (cells : ℕ) (ticks : List (List Action)) (ackno
   is_fresh image_a image_b log_a log_b safe ha hb hla hlb = of_these (λ first second. IsFreshReading (image_of ia) (image_of ib) first second cells) (safe ia ib la lb ha hb hla hlb)
 
   -- the answer of recovery on files that are safe
-  restarts : (image_a image_b log_a log_b : List ℕ → Type 0) (has_image : Bool) → AreSafeFor has_image image_a image_b log_a log_b cells ticks acknowledged → image_a ia → image_b ib → log_a la → log_b lb
+  pub restarts : (image_a image_b log_a log_b : List ℕ → Type 0) (has_image : Bool) → AreSafeFor has_image image_a image_b log_a log_b cells ticks acknowledged → image_a ia → image_b ib → log_a la → log_b lb
       → (r : Recovery) → recovery_of (image_of ia) (image_of ib) a b ≡ Ok r → Restarts cells ticks acknowledged r (image_of ia) (image_of ib) a b
   restarts image_a image_b log_a log_b true safe ha hb hla hlb r e = safety.restarts.sound cells ticks acknowledged (image_of ia) (image_of ib) a b r (is_sound image_a image_b log_a log_b safe ha hb hla hlb) e
   restarts image_a image_b log_a log_b false safe ha hb hla hlb r e =
@@ -147,7 +147,7 @@ crash_refuses safety past old c ia ib la lb oa ob ola olb refusal e =
 
 -- ---- a fresh world
 
-closed_image : image_of [] ≡ Closed
+pub closed_image : image_of [] ≡ Closed
 unfolding image_of
 closed_image = refl
 

@@ -10,7 +10,7 @@ use Rattle.file_format.specs.declared.slot.Slot.{Slot}
 use Rattle.disk_model.specs.Disk.{Only}
 use Rattle.disk_model.specs.CrashOutcome.{IsCrashOutcome}
 use Rattle.image_files.specs.declared.phase.Phase.TheVariants.{Idle}
-use Rattle.image_files.specs.Images.{Round, ImageFiles, newest_in, round_in, with_round}
+use Rattle.image_files.specs.Images.{Round, ImageFiles, ImageFilesAre, newest_in, round_in, with_round}
 use Rattle.image_files.specs.Progress.{Progress as ImageProgress, made_keeper, begun_keeper, cells_taken}
 use Rattle.image_files.specs.Files.{TellsShut, IsTold}
 use Rattle.action_log.specs.declared.record.Record.{Record}
@@ -23,7 +23,7 @@ use Rattle.action_log.specs.declared.answer.LogAnswer.{LogAnswer}
 use Rattle.action_log.specs.declared.answer.LogAnswer.TheVariants as log_answer
 use Rattle.action_log.specs.Progress.{begun as begun_log, QueueFollows, end_of, work_of}
 use Rattle.action_log.specs.Cover.{covered, CoverStep}
-use Rattle.action_log.specs.Logs.{Logs, Writing, LogPlace, start_of, start_moves}
+use Rattle.action_log.specs.Logs.{Logs, Writing, JournalIs, LogPlace, start_of, start_moves}
 use Rattle.action_log.specs.LogSteps.{is_idle}
 use Rattle.action_log.specs.declared.phase.Phase.TheVariants.{Ready}
 use Rattle.capture_core.specs.Content.{Takes}
@@ -65,6 +65,13 @@ pub record KeeperLaws : Type 0 where
       → Only log_a.inner.content (IsCrashOutcome log_a.inner) → Only log_b.inner.content (IsCrashOutcome log_b.inner) → TellsShut shut_a log_a.inner.content → TellsShut shut_b log_b.inner.content
       → IsSegment log_a.inner.content before_a → IsSegment log_b.inner.content before_b
       → LogIn (begun_log tick shut_a shut_b) (start_of tick before_a before_b (start_moves shut_a shut_b)) log_a.inner log_b.inner
+
+-- whatever a crash leaves of the files, it holds what the keepers represent
+pub record OutcomeLaws : Type 0 where
+  pub images : (keeper : ImageProgress) (images : ImageFiles) (image_a image_b : File) → ImagesIn keeper images image_a.inner image_b.inner
+      → ImageFilesAre keeper.cells images (IsCrashOutcome image_a.inner) (IsCrashOutcome image_b.inner)
+  pub log : (keeper : LogProgress) (place : LogPlace) (log_a log_b : File) → LogIn keeper place log_a.inner log_b.inner
+      → JournalIs place.journal (IsCrashOutcome log_a.inner) (IsCrashOutcome log_b.inner)
 
 pub record SafetyLaws : Type 0 where
   pub safe : (state : State) (ticks : List (List Action)) (acknowledged : ℕ) (images : ImageFiles) (place : LogPlace) → state.images.cells ≡ state.cells → HasImages state images → HasLog state place

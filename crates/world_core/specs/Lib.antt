@@ -7,6 +7,7 @@ pub mod Moving
 pub mod Exact
 pub mod Facts
 pub mod Headline
+pub mod Written
 pub mod Plain
 pub mod Repeating
 -- inside: for private functions alone

@@ -17,6 +17,7 @@ use Rattle.world_core.specs.Starting.{BeginsFresh}
 use Rattle.world_core.specs.Exact.{tick_refusal_in, IsActionAnswer, IsImageAnswer, IsCrashAnswer}
 use Rattle.world_core.specs.Facts.{IsCoreAt}
 use Rattle.world_core.specs.Headline.{AreSafe, Runs}
+use Rattle.world_core.specs.Written.{AreWritten}
 
 -- these are the words after the ended ticks and the running one
 abbrev pub AreWords : (cells : ℕ) → History → (words : List ℕ) → Type 0
@@ -61,3 +62,4 @@ unfoldable pub HasRun : (cells : ℕ) → List Move → List Answer → State �
 HasRun cells moves answers state =
     IsCoreAt (past_of fresh_past moves answers) state × (length answers ≡ length moves) × (state.cells ≡ cells)
     × ((first : State) × BeginsFresh cells first × Runs fresh_past first moves answers state) × AreAnswered cells fresh_past moves answers
+    × AreWritten (past_of fresh_past moves answers) state

@@ -1,5 +1,6 @@
-ghost use Rattle.world_core.specs.Laws.{EventLaws, QueueLaws, KeeperLaws, SafetyLaws};
+ghost use Rattle.world_core.specs.Laws.{EventLaws, QueueLaws, KeeperLaws, OutcomeLaws, SafetyLaws};
 ghost use Rattle.world_core.specs.Headline.{CoresAreSafe, FreshAreRecovered};
+ghost use Rattle.world_core.specs.Written.{StayWritten};
 
 use action_log::{log_outcomes, log_queues, segments_read_once};
 use capture_core::PlainCopy;
@@ -38,6 +39,14 @@ pub fn keeper_laws()
     gates_are_told();
 }
 
+/// Laws: whatever a crash leaves of the files of a core, it holds what the keepers represent.
+pub fn outcome_laws()
+    ensures { OutcomeLaws }
+{
+    images_stay::<File>();
+    log_outcomes::<File>();
+}
+
 /// Laws: the files of a core in step are safe, and a crash begins the next start. Each file has only one reading.
 pub fn safety_laws()
     ensures { SafetyLaws }
@@ -55,5 +64,15 @@ pub fn cores_are_safe()
     ensures safe { CoresAreSafe }
     ensures fresh { FreshAreRecovered }
 {
+    safety_laws();
+}
+
+/// Laws: no crash leaves an empty log of a core after its first tick. None leaves an empty image after an image of a tick above
+/// 0 was opened. A fresh core has what this rests on, and each move keeps it.
+pub fn cores_stay_written()
+    ensures { StayWritten }
+{
+    keeper_laws();
+    outcome_laws();
     safety_laws();
 }

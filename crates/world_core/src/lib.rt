@@ -12,7 +12,7 @@ mod parts;
 mod running;
 mod world_core;
 
-pub use laws::cores_are_safe;
+pub use laws::{cores_are_safe, cores_stay_written};
 pub use moves::{Answer, Fate, FileName, Move, Remains};
 pub use running::run;
 pub use world_core::Core;

@@ -5,9 +5,10 @@ ghost use Rattle.world_core.specs.State.{State};
 ghost use Rattle.world_core.specs.Starting.{BeginsFresh};
 ghost use Rattle.world_core.specs.Facts.{IsCoreAt};
 ghost use Rattle.world_core.specs.Headline.{Headline, Runs};
+ghost use Rattle.world_core.specs.Written.{NoneIsEmpty};
 ghost use Rattle.world_core.specs.Plain.{AreAnswered, HasRun};
 
-use crate::laws::safety_laws;
+use crate::laws::{cores_stay_written, safety_laws};
 use crate::moves::{Answer, Move};
 use crate::world_core::Core;
 use capture_core::Capture;
@@ -16,7 +17,7 @@ use world_actions::Refusal;
 
 /// Runs moves over a fresh world, and returns one answer for each and the core after them. Whatever a crash leaves of its
 /// files then, recovery gives the world after the first ended ticks, and all acknowledged ones are among them. Each open
-/// image is the world after exactly its tick. Each move gets its refusal or its plain answer, and a crash the result of
+/// image is the world after exactly its tick. No crash empties a file that was written once (`written`). Each move gets its refusal or its plain answer, and a crash the result of
 /// recovery. `Core::step` continues with the core from there.
 pub fn run<C: Capture>(
     alloc: Global,
@@ -30,6 +31,12 @@ pub fn run<C: Capture>(
       log_a = r.1.log_a.inner;
       log_b = r.1.log_b.inner;
     })) }
+    ensures written { IfOk result (λ r. NoneIsEmpty (record {
+      image_a = r.1.image_a.inner;
+      image_b = r.1.image_b.inner;
+      log_a = r.1.log_a.inner;
+      log_b = r.1.log_b.inner;
+    })) }
     ensures plain { IfOk result (λ r. AreAnswered cells fresh_past moves.items r.0.items) }
     ensures stands { IfOk result (λ r. IsCoreAt (past_of fresh_past moves.items r.0.items) r.1) }
     ensures cells { IfOk result (λ r. r.1.cells ≡ cells) }
@@ -38,6 +45,7 @@ pub fn run<C: Capture>(
     ensures memory { IfErr result (λ refusal. refusal ≡ Refusal.NoMemory) }
 {
     safety_laws();
+    cores_stay_written();
     run_all(alloc, cells, moves)
 }
 
@@ -51,6 +59,7 @@ fn run_all<C: Capture>(
     ensures memory { IfErr result (λ refusal. refusal ≡ Refusal.NoMemory) }
 {
     safety_laws();
+    cores_stay_written();
     let mut core = Core::fresh(alloc, cells)?;
     let mut answers = Vec::new(alloc);
     for asked in moves {

@@ -1,5 +1,5 @@
 use Rattle.std.proofs.lemmas.Result.{IfOk-weaker}
-use Rattle.world_core.proofs.Headline.{run_safe, run_plain, run_stands, run_cells, run_answers}
+use Rattle.world_core.proofs.Headline.{run_safe, run_plain, run_stands, run_cells, run_answers, run_written}
 use Rattle.world_core.proofs.running.run.Goals as goal
 
 pub returns-clause-headline : goal.returns-clause-headline
@@ -16,3 +16,6 @@ returns-clause-cells g c = IfOk-weaker c.run_all.result _ _ (λ r h. run_cells c
 
 pub returns-clause-answers : goal.returns-clause-answers
 returns-clause-answers g c = IfOk-weaker c.run_all.result _ _ (λ r h. run_answers c.args.cells c.args.moves.items r.0.items r.1 h) c.run_all.ensures.has_run
+
+pub returns-clause-written : goal.returns-clause-written
+returns-clause-written g c = IfOk-weaker c.run_all.result _ _ (λ r h. run_written c.cores_stay_written.ensures c.args.cells c.args.moves.items r.0.items r.1 h) c.run_all.ensures.has_run

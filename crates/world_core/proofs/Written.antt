@@ -1,0 +1,466 @@
+-- No crash leaves an empty file of a core, from the start's end and from the first ticks on.
+use Rattle.std.proofs.Common.{◌≡◌, ℕ, ◌+◌, ◌<◌, ◌≤◌, ◌⊎◌, inl, inr, Bool, true, false, not, IsTrue, List, [], ◌∷◌, ◌++◌, length, take, replicate, Option, Some, None, Ok, refl, sym, ap, subst, ◌∙◌, arith}
+use Rattle.std.proofs.lemmas.List.{length-append, length-take-le, length-take}
+use Rattle.world_actions.specs.declared.action.Action.{Action}
+use Rattle.file_format.specs.declared.slot.Slot.{Slot}
+use Rattle.file_format.specs.declared.slot.Slot.TheVariants.{A, B}
+use Rattle.file_format.specs.Slot.{of_slot, in_slot, beside_slot, other_slot}
+use Rattle.disk_model.specs.Disk.{Only, Call, Length, Read, Write, Sync, CalledOnce}
+use Rattle.disk_model.specs.FileState.{FileState, Calls}
+use Rattle.disk_model.specs.Fused.{Fails}
+use Rattle.disk_model.specs.CrashOutcome.{IsCrashOutcome}
+use Rattle.image_files.specs.declared.phase.Phase.{Phase as ImagePhase}
+use Rattle.image_files.specs.declared.phase.Phase.TheVariants as image_phase
+use Rattle.image_files.specs.declared.answer.ImageAnswer.{ImageAnswer}
+use Rattle.image_files.specs.declared.answer.ImageAnswer.TheVariants as image_given
+use Rattle.image_files.specs.Image.{Image, Closed, Open, image_of}
+use Rattle.image_files.specs.Images.{Round, Images, FirstImages, ImageFiles, NoneYet, Newest, newest_in, round_in, with_opened, StepsImages}
+use Rattle.image_files.specs.Progress.{Progress as ImageProgress, newest_tick, target_of, made_keeper}
+use Rattle.image_files.specs.Steps.{CallsIn as ImageCallsIn}
+use Rattle.capture_core.specs.Content.{Content, Takes}
+use Rattle.action_log.specs.declared.phase.Phase.{Phase}
+use Rattle.action_log.specs.declared.phase.Phase.TheVariants.{Retiring, RetiringSync, Ready, BodySync, Gate, GateSync, Closing, ClosingSync, Header, HeaderSync, Opening, OpeningSync}
+use Rattle.action_log.specs.declared.record.Record.{Record}
+use Rattle.action_log.specs.declared.record.Record.TheVariants as records
+use Rattle.action_log.specs.declared.answer.LogAnswer.{LogAnswer}
+use Rattle.action_log.specs.declared.answer.LogAnswer.TheVariants as log_given
+use Rattle.action_log.specs.declared.progress.Progress.{Progress as LogProgress}
+use Rattle.action_log.specs.Progress.{rest_in, is_of_start}
+use Rattle.action_log.specs.Calls.{CallsIn as LogCallsIn}
+use Rattle.action_log.specs.Written.{Written}
+use Rattle.action_log.specs.Files.{CurrentFits, CurrentOutcomes}
+use Rattle.action_log.specs.Segment.{Segment, OpenSegment, IsSegment}
+use Rattle.action_log.specs.Logs.{Logs, Start, Journal, InStart, Writing, LogPlace, LogsAre, started}
+use Rattle.action_log.specs.LogSteps.{StepIn}
+use Rattle.recovery.specs.Recovery.{Recovery, Recovers}
+use Rattle.recovery.specs.Restart.{IsBuilt}
+use Rattle.recovery.specs.Start.{IsFirstRound}
+use Rattle.restart.specs.Start.{started_keeper, is_shut}
+use Rattle.restart.specs.InStep.{HasPhase}
+use Rattle.world_core.specs.declared.moves.Fate.{Fate}
+use Rattle.world_core.specs.declared.moves.Fate.TheVariants as fate_
+use Rattle.world_core.specs.declared.moves.Move.{Move}
+use Rattle.world_core.specs.declared.moves.Move.TheVariants as move
+use Rattle.world_core.specs.declared.moves.Answer.{Answer}
+use Rattle.world_core.specs.declared.moves.Answer.TheVariants as answer
+use Rattle.world_core.specs.declared.moves.Remains.{Remains}
+use Rattle.world_core.specs.Past.{Past, past_after, fresh_past}
+use Rattle.world_core.specs.State.{File, State, files_in, HasImages, HasLog}
+use Rattle.world_core.specs.Starting.{HasOnly, Begins, BeginsFresh, StandsOn}
+use Rattle.world_core.specs.Moving.{CallsBy, EndsTick, StepsImageKeeper, StepsLogKeeper}
+use Rattle.world_core.specs.Exact.{MayLeave}
+use Rattle.world_core.specs.Facts.{IsCoreAt}
+use Rattle.world_core.specs.Headline.{Answers}
+use Rattle.world_core.specs.Laws.{KeeperLaws, OutcomeLaws, SafetyLaws}
+use Rattle.world_core.specs.Written.{NoneIsEmpty, IsWritten, AreWritten, StayWritten}
+use Rattle.world_core.proofs.Safe.{core_is_safe_for}
+use Rattle.world_core.proofs.Imaging.{taken_newest}
+use Rattle.world_core.proofs.Recovering.{restarts, closed_image}
+
+-- ---- a file
+
+-- a crash may leave the durable bytes
+durable_stays : (file : FileState) → IsCrashOutcome file file.durable
+durable_stays file = record { are_bytes = file.in_order.durable_bytes; no_shorter = omega arith; no_longer = file.in_order.no_shorter; kept = λ place inside synced. refl }
+
+outcome_written : (file : FileState) (left : List ℕ) → IsWritten file → IsCrashOutcome file left → 0 < length left
+outcome_written file left w o = omega (arith, w, o.no_shorter)
+
+only_written : (bytes : List ℕ) (file : File) → HasOnly bytes file → 0 < length bytes → IsWritten file.inner
+only_written bytes file h some = subst (λ b. 0 < length b) (sym (h.only file.inner.durable (durable_stays file.inner))) some
+
+-- a call shortens no file
+calls_keep : (old : FileState) (call : Call) (succeeded : Bool) (new : FileState) → Calls old call succeeded new → IsWritten old → IsWritten new
+calls_keep old call false new is w = subst IsWritten (sym is) w
+calls_keep old (Write at bytes) true new is w = subst (λ b. 0 < length b) (sym is.durable) w
+calls_keep old Sync true new is w = subst (λ b. 0 < length b) (sym is.synced.durable) (let some : 0 < length old.content = omega (arith, w, old.in_order.no_shorter) in some)
+calls_keep old Length true new is w = subst IsWritten (sym is) w
+calls_keep old (Read at count) true new is w = subst IsWritten (sym is) w
+
+-- once a file is written, it stays so
+abbrev pub Keeps : (old new : File) → Type 0
+Keeps old new = IsWritten old.inner → IsWritten new.inner
+
+same_keeps : (old new : File) → new ≡ old → Keeps old new
+same_keeps old new is w = subst (λ (f : File). IsWritten f.inner) (sym is) w
+
+fails_keep : (old : File) (call : Call) (new : File) → Fails Calls old call new → Keeps old new
+fails_keep old (Write at bytes) new f w = calls_keep old.inner (Write at bytes) f.0 new.inner f.1 w
+fails_keep old Length new f w = subst IsWritten (sym f.0) w
+fails_keep old (Read at count) new f w = subst IsWritten (sym f.0) w
+fails_keep old Sync new f w = subst IsWritten (sym f.0) w
+
+called_keeps : (fate : Fate) (old : File) (call : Call) (succeeded : Bool) (new : File) → CallsBy fate old call succeeded new → Keeps old new
+called_keeps fate_.Done old call succeeded new c w = calls_keep old.inner call succeeded new.inner c.0 w
+called_keeps fate_.Failed old call succeeded new c w = fails_keep old call new c.1 w
+
+once_keeps : (fate : Fate) (old new : File) → CalledOnce (CallsBy fate) old new → Keeps old new
+once_keeps fate old new c = called_keeps fate old c.0 c.1 new c.2
+
+-- two files of a kind
+by_slot : (slot : Slot) (a new_a b new_b : File) → Keeps (of_slot slot a b) (of_slot slot new_a new_b) × Keeps (of_slot slot b a) (of_slot slot new_b new_a) → Keeps a new_a × Keeps b new_b
+by_slot A a new_a b new_b k = k
+by_slot B a new_a b new_b k = (k.1, k.0)
+
+-- ---- a step of a keeper
+
+module _ (fate : Fate) where
+  image_calls_keep : (phase : ImagePhase) (target new_target newest new_newest : File) → ImageCallsIn phase (CallsBy fate) target new_target newest new_newest → Keeps target new_target × Keeps newest new_newest
+  image_calls_keep image_phase.Idle target new_target newest new_newest c = (same_keeps target new_target c.0, same_keeps newest new_newest c.1)
+  image_calls_keep image_phase.Taking target new_target newest new_newest c = (same_keeps target new_target c.0, same_keeps newest new_newest c.1)
+  image_calls_keep image_phase.Down target new_target newest new_newest c = (same_keeps target new_target c.0, same_keeps newest new_newest c.1)
+  image_calls_keep image_phase.Reading target new_target newest new_newest c = (same_keeps target new_target c.0, once_keeps fate newest new_newest c.1)
+  image_calls_keep phase target new_target newest new_newest c = (once_keeps fate target new_target c.0, same_keeps newest new_newest c.1)
+
+  image_step_keeps : (old : State) (given : ImageAnswer) (new : State) → StepsImageKeeper fate old given new → Keeps old.image_a new.image_a × Keeps old.image_b new.image_b
+  image_step_keeps old given new s =
+      let slot = target_of old.images.newest in
+      by_slot slot old.image_a new.image_a old.image_b new.image_b
+      (image_calls_keep old.images.phase (of_slot slot old.image_a old.image_b) (of_slot slot new.image_a new.image_b) (of_slot slot old.image_b old.image_a) (of_slot slot new.image_b new.image_a) s.calls)
+
+  log_calls_keep : (phase : Phase) (queue : List Record) (current new_current other new_other : File) → LogCallsIn (CallsBy fate) current new_current other new_other phase queue → Keeps current new_current × Keeps other new_other
+  log_calls_keep Ready [] current new_current other new_other c = (same_keeps current new_current c.0, same_keeps other new_other c.1)
+  log_calls_keep Ready (records.Tick tick ∷ queue) current new_current other new_other c = (once_keeps fate current new_current c.0, same_keeps other new_other c.1)
+  log_calls_keep Ready (records.Switch tick ∷ queue) current new_current other new_other c = (same_keeps current new_current c.0, once_keeps fate other new_other c.1)
+  log_calls_keep Retiring queue current new_current other new_other c = (once_keeps fate current new_current c.0, same_keeps other new_other c.1)
+  log_calls_keep RetiringSync queue current new_current other new_other c = (once_keeps fate current new_current c.0, same_keeps other new_other c.1)
+  log_calls_keep BodySync queue current new_current other new_other c = (once_keeps fate current new_current c.0, same_keeps other new_other c.1)
+  log_calls_keep Gate queue current new_current other new_other c = (once_keeps fate current new_current c.0, same_keeps other new_other c.1)
+  log_calls_keep GateSync queue current new_current other new_other c = (once_keeps fate current new_current c.0, same_keeps other new_other c.1)
+  log_calls_keep phase queue current new_current other new_other c = (same_keeps current new_current c.0, once_keeps fate other new_other c.1)
+
+  log_step_keeps_by : (down : Bool) (old : State) (given : LogAnswer) (new : State) → old.log.down ≡ down → StepsLogKeeper fate old given new → Keeps old.log_a new.log_a × Keeps old.log_b new.log_b
+  log_step_keeps_by false old given new up s =
+      let slot = old.log.current in
+      by_slot slot old.log_a new.log_a old.log_b new.log_b
+      (log_calls_keep old.log.phase old.queue (of_slot slot old.log_a old.log_b) (of_slot slot new.log_a new.log_b) (of_slot slot old.log_b old.log_a) (of_slot slot new.log_b new.log_a) (s.calls up))
+  log_step_keeps_by true old given new down s = (let r = s.rests (inr down) in (same_keeps old.log_a new.log_a r.2, same_keeps old.log_b new.log_b r.3))
+
+  log_step_keeps : (old : State) (given : LogAnswer) (new : State) → StepsLogKeeper fate old given new → Keeps old.log_a new.log_a × Keeps old.log_b new.log_b
+  log_step_keeps old given new s = log_step_keeps_by old.log.down old given new refl s
+
+-- ---- files with an open image or segment
+
+nonempty_image : (bytes : List ℕ) (tick : ℕ) (words : List ℕ) → image_of bytes ≡ Open tick words → 0 < length bytes
+nonempty_image [] tick words is = absurd (let e : Closed ≡ Open tick words = sym closed_image ∙ is in cc)
+nonempty_image (gate ∷ bytes) tick words is = omega arith
+
+open_written : (file : FileState) (tick : ℕ) (words : List ℕ) → ((left : List ℕ) → IsCrashOutcome file left → image_of left ≡ Open tick words) → IsWritten file
+open_written file tick words reads = nonempty_image file.durable tick words (reads file.durable (durable_stays file))
+
+-- both images are open
+both_open : (slot : Slot) (a b : FileState) (tick earlier : ℕ) (words before : List ℕ)
+    → ((left : List ℕ) → in_slot slot (IsCrashOutcome a) (IsCrashOutcome b) left → image_of left ≡ Open tick words)
+    → ((left : List ℕ) → beside_slot slot (IsCrashOutcome a) (IsCrashOutcome b) left → image_of left ≡ Open earlier before)
+    → IsWritten a × IsWritten b
+both_open A a b tick earlier words before newest beside = (open_written a tick words newest, open_written b earlier before beside)
+both_open B a b tick earlier words before newest beside = (open_written a earlier before beside, open_written b tick words newest)
+
+current_written : (tick : ℕ) (log_a log_b : FileState) → LogsAre (started tick) (IsCrashOutcome log_a) (IsCrashOutcome log_b) → IsWritten log_a
+current_written tick log_a log_b logs =
+    let r = logs.current log_a.durable (durable_stays log_a) in
+    elim r.2 [
+      | inl is ↦ (let s = subst (IsSegment log_a.durable) is r.1 in omega (arith, s.long))
+      | inr is ↦ (let s = subst (IsSegment log_a.durable) is r.1 in omega (arith, s.long))
+    ]
+
+-- ---- the end of a start
+
+-- only the last call of a start is the last of its job
+last_phase : (phase : Phase) (shut : Bool) → rest_in phase shut ≡ 1 → IsTrue (is_of_start phase true) → phase ≡ OpeningSync
+last_phase Retiring true one of_start = absurd (omega (arith, one))
+last_phase Retiring false one of_start = absurd (omega (arith, one))
+last_phase RetiringSync true one of_start = absurd (omega (arith, one))
+last_phase RetiringSync false one of_start = absurd (omega (arith, one))
+last_phase Ready shut one of_start = absurd (omega (arith, one))
+last_phase BodySync shut one of_start = absurd (omega (arith, one))
+last_phase Gate shut one of_start = absurd (omega (arith, one))
+last_phase GateSync shut one of_start = absurd (let h = of_start in cc)
+last_phase Closing shut one of_start = absurd (omega (arith, one))
+last_phase ClosingSync shut one of_start = absurd (omega (arith, one))
+last_phase Header shut one of_start = absurd (omega (arith, one))
+last_phase HeaderSync shut one of_start = absurd (omega (arith, one))
+last_phase Opening shut one of_start = absurd (omega (arith, one))
+last_phase OpeningSync shut one of_start = refl
+
+-- before that call log.b was closed, durably
+retired_written : (phase : Phase) (current : Slot) (starting down : Bool) (base : ℕ) (written : Written) (log_a log_b : FileState) → phase ≡ OpeningSync → current ≡ B → starting ≡ true
+    → CurrentFits phase starting down base written (of_slot current log_a.content log_b.content)
+    → CurrentOutcomes phase base written (of_slot current log_a.content log_b.content) (in_slot current (IsCrashOutcome log_a) (IsCrashOutcome log_b))
+    → IsWritten log_b
+retired_written phase current starting down base written log_a log_b last is_b in_start fits outcomes =
+    let shut = subst (λ s. CurrentFits OpeningSync true down base written (of_slot s log_a.content log_b.content)) is_b
+        (subst (λ p. CurrentFits p true down base written (of_slot current log_a.content log_b.content)) last
+        (subst (λ s. CurrentFits phase s down base written (of_slot current log_a.content log_b.content)) in_start fits)) in
+    let only = subst (λ s. CurrentOutcomes OpeningSync base written (of_slot s log_a.content log_b.content) (in_slot s (IsCrashOutcome log_a) (IsCrashOutcome log_b))) is_b
+        (subst (λ p. CurrentOutcomes p base written (of_slot current log_a.content log_b.content) (in_slot current (IsCrashOutcome log_a) (IsCrashOutcome log_b))) last outcomes) in
+    subst (λ b. 0 < length b) (sym (only log_b.durable (durable_stays log_b))) shut.0
+
+ends_closed : (state : State) (start : Start) (left : ℕ) → HasLog state (record { journal = InStart start; left = left }) → state.log.down ≡ false → state.log.starting ≡ true → left ≡ 1 → IsWritten state.log_b.inner
+ends_closed state start left h up in_start one =
+    let keeper = state.log in
+    let last = last_phase keeper.phase keeper.other_shut (sym (h.left_is up) ∙ one) (subst (λ s. IsTrue (is_of_start keeper.phase s)) in_start h.holds.in_order.of_start) in
+    retired_written keeper.phase keeper.current keeper.starting keeper.down keeper.base h.written state.log_a.inner state.log_b.inner last (h.holds.in_order.first_is_a in_start) in_start
+    h.holds.fits.of_current h.endures.of_current
+
+not_both : (b : Bool) → b ≡ true → b ≡ false → ⊥
+not_both b is isnt = absurd (let e : true ≡ false = sym is ∙ isnt in cc)
+
+-- a keeper that is down stays in its start
+was_up : (fate : Fate) (down : Bool) (old : State) (given : LogAnswer) (new : State) → old.log.down ≡ down → StepsLogKeeper fate old given new → old.log.starting ≡ true → new.log.starting ≡ false → old.log.down ≡ false
+was_up fate false old given new e s was is = e
+was_up fate true old given new e s was is = absurd (not_both new.log.starting (ap (λ (k : LogProgress). k.starting) (s.rests (inr e)).0 ∙ was) is)
+
+-- the start's last step leaves both logs written
+start_ends : OutcomeLaws → (fate : Fate) (old new : State) (journal : Journal) (left : ℕ) (given : LogAnswer) (next : LogPlace) → StepsLogKeeper fate old given new
+    → HasLog old (record { journal = journal; left = left }) → HasLog new next → StepIn journal left old.queue given next new.queue
+    → old.log.starting ≡ true → new.log.starting ≡ false → IsWritten new.log_a.inner × IsWritten new.log_b.inner
+start_ends outcomes fate old new (Writing logs) left given next s had has step was is = absurd (not_both old.log.starting was had.0.over)
+start_ends outcomes fate old new (InStart start) left log_given.Idle next s had has step was is = absurd step.0
+start_ends outcomes fate old new (InStart start) left (log_given.Acked tick) next s had has step was is = absurd step.0
+start_ends outcomes fate old new (InStart start) left log_given.Down next s had has step was is =
+    absurd (not_both new.log.starting (let h = subst (HasLog new) step.0.1 has in h.in_work) is)
+start_ends outcomes fate old new (InStart start) left log_given.Working next s had has step was is = elim step.0 [
+  | inl more ↦ absurd (not_both new.log.starting (let h = subst (HasLog new) more.1 has in h.in_work) is)
+  | inr last ↦ (
+      let place : LogPlace = record { journal = Writing (started start.tick); left = 0 } in
+      let a = current_written start.tick new.log_a.inner new.log_b.inner (outcomes.log new.log place new.log_a new.log_b (subst (HasLog new) last.1 has)) in
+      (a, (log_step_keeps fate old log_given.Working new s).1 (ends_closed old start left had (was_up fate old.log.down old log_given.Working new refl s was is) was last.0)))
+]
+
+log_ends : OutcomeLaws → (fate : Fate) (old new : State) (place : LogPlace) (given : LogAnswer) → HasLog old place → StepsLogKeeper fate old given new → old.log.starting ≡ true → new.log.starting ≡ false
+    → IsWritten new.log_a.inner × IsWritten new.log_b.inner
+log_ends outcomes fate old new place given has s was is =
+    let next = s.stands place has in
+    start_ends outcomes fate old new place.journal place.left given next.0 s has next.1 next.2 was is
+
+-- ---- a round's end
+
+-- a round that goes on, and one that fails, leave the newest image
+newest_same : (cells : ℕ) (images : ImageFiles) (given : ImageAnswer) (next : ImageFiles) (old new : Content) → StepsImages Takes cells images given next old new
+    → (newest_in next ≡ newest_in images) ⊎ ((round : Round) × (next ≡ with_opened round images) × (round_in images ≡ Some round))
+newest_same cells images image_given.Idle next old new s = inl (ap newest_in s.1)
+newest_same cells images image_given.Working next old new s = elim s.2 [
+  | inl same ↦ inl (ap newest_in same.0)
+  | inr took ↦ inl (ap newest_in took.2 ∙ taken_newest took.0 images)
+]
+newest_same cells images (image_given.Opened tick) next old new s = inr (s.0, s.4, s.1)
+newest_same cells images image_given.Down next old new s = inl (ap newest_in s.2)
+
+-- the first image is of tick 0
+first_tick : (cells : ℕ) (ticks : List (List Action)) (acknowledged : ℕ) (images : FirstImages) (journal : Journal) (queue : List Record) (round : Round) → HasPhase cells ticks acknowledged (NoneYet images) journal queue → images.round ≡ Some round → round.tick ≡ 0
+first_tick cells ticks acknowledged images (InStart start) queue round h some = (let first = subst (IsFirstRound cells) some h.0.follows.round in first.0)
+first_tick cells ticks acknowledged images (Writing logs) queue round h some = absurd h
+
+-- a round that ends leaves two images that are written, except the first one
+opened_written : OutcomeLaws → (past : Past) (old new : State) (images : ImageFiles) (journal : Journal) (round : Round) → HasPhase old.cells past.history.ticks past.acknowledged images journal old.queue → round_in images ≡ Some round
+    → HasImages new (with_opened round images) → 0 < newest_tick (newest_in (with_opened round images)) → IsWritten new.image_a.inner × IsWritten new.image_b.inner
+opened_written outcomes past old new (NoneYet images) journal round phase some has after_first =
+    absurd (omega (arith, after_first, first_tick old.cells past.history.ticks past.acknowledged images journal old.queue round phase some))
+opened_written outcomes past old new (Newest images) journal round phase some has after_first =
+    let left = outcomes.images new.images (with_opened round (Newest images)) new.image_a new.image_b has in
+    both_open (other_slot images.slot) new.image_a.inner new.image_b.inner round.tick images.tick round.taken images.words left.newest left.target
+
+image_step_written : KeeperLaws → OutcomeLaws → (past : Past) (fate : Fate) (old : State) (given : ImageAnswer) (new : State) → IsCoreAt past old → StepsImageKeeper fate old given new → AreWritten past old
+    → 0 < newest_tick new.images.newest → IsWritten new.image_a.inner × IsWritten new.image_b.inner
+image_step_written keepers outcomes past fate old given new c s w after_first =
+    let next = s.stands c.images c.has_images in
+    let was : old.images.newest ≡ newest_in c.images = keepers.newest old.images c.images old.image_a old.image_b c.has_images in
+    let is : new.images.newest ≡ newest_in next.0 = keepers.newest new.images next.0 new.image_a new.image_b next.1 in
+    let keeps = image_step_keeps fate old given new s in
+    elim (newest_same old.images.cells c.images given next.0 old.content new.content next.2) [
+      | inl same ↦ (
+          let before : 0 < newest_tick old.images.newest = subst (λ n. 0 < newest_tick n) (is ∙ same ∙ sym was) after_first in
+          let both = w.imaged before in
+          (keeps.0 both.0, keeps.1 both.1))
+      | inr opened ↦ (
+          let has = subst (HasImages new) opened.1 next.1 in
+          opened_written outcomes past old new c.images c.place.journal opened.0 c.in_step.phase opened.2 has (subst (λ n. 0 < newest_tick n) (is ∙ ap newest_in opened.1) after_first))
+    ]
+
+-- ---- a tick's end
+
+-- a record is queued only after the start
+queued_by : (past : Past) (state : State) (images : ImageFiles) (journal : Journal) (left : ℕ) → HasPhase state.cells past.history.ticks past.acknowledged images journal state.queue → HasLog state (record { journal = journal; left = left })
+    → 0 < length state.queue → state.log.starting ≡ false
+queued_by past state (NoneYet images) (InStart start) left h has some = absurd (omega (arith, some, ap length h.1))
+queued_by past state (Newest images) (InStart start) left h has some = absurd (omega (arith, some, ap length h.1))
+queued_by past state (NoneYet images) (Writing logs) left h has some = absurd h
+queued_by past state (Newest images) (Writing logs) left h has some = has.0.over
+
+tick_written : (past next : Past) (old new : State) → IsCoreAt next new → EndsTick old new → AreWritten past old → AreWritten next new
+tick_written past next old new c e w =
+    let queued : length new.queue ≡ length old.queue + 1 = ap (λ (s : State). length s.queue) e.2 ∙ length-append old.queue (records.Tick e.0 ∷ []) in
+    let over : new.log.starting ≡ false = queued_by next new c.images c.place.journal c.place.left c.in_step.phase c.has_log (let some : 0 < length new.queue = omega (arith, queued) in some) in
+    let both = w.started (ap (λ (s : State). s.log.starting) (sym e.2) ∙ over) in
+    let logs : IsWritten new.log_a.inner × IsWritten new.log_b.inner =
+        (subst (λ (s : State). IsWritten s.log_a.inner) (sym e.2) both.0, subst (λ (s : State). IsWritten s.log_b.inner) (sym e.2) both.1) in
+    record {
+      started = λ is. logs;
+      ticked = λ some. logs;
+      imaged = λ after_first. (
+          let images = w.imaged (subst (λ (s : State). 0 < newest_tick s.images.newest) e.2 after_first) in
+          (subst (λ (s : State). IsWritten s.image_a.inner) (sym e.2) images.0, subst (λ (s : State). IsWritten s.image_b.inner) (sym e.2) images.1));
+    }
+
+-- ---- the other moves
+
+-- the same files, keepers and ticks
+still_written : (past next : Past) (old new : State) → next.history.ticks ≡ past.history.ticks → new.log ≡ old.log → new.images.newest ≡ old.images.newest
+    → new.log_a ≡ old.log_a → new.log_b ≡ old.log_b → new.image_a ≡ old.image_a → new.image_b ≡ old.image_b → AreWritten past old → AreWritten next new
+still_written past next old new ticks log newest log_a log_b image_a image_b w = record {
+  started = λ is. (let both = w.started (ap (λ (k : LogProgress). k.starting) (sym log) ∙ is) in (same_keeps old.log_a new.log_a log_a both.0, same_keeps old.log_b new.log_b log_b both.1));
+  ticked = λ some. (let both = w.ticked (subst (λ (t : List (List Action)). 0 < length t) ticks some) in (same_keeps old.log_a new.log_a log_a both.0, same_keeps old.log_b new.log_b log_b both.1));
+  imaged = λ after_first. (let both = w.imaged (subst (λ n. 0 < newest_tick n) newest after_first) in (same_keeps old.image_a new.image_a image_a both.0, same_keeps old.image_b new.image_b image_b both.1));
+}
+
+same_written : (past next : Past) (old new : State) → next.history.ticks ≡ past.history.ticks → new ≡ old → AreWritten past old → AreWritten next new
+same_written past next old new ticks is w =
+    still_written past next old new ticks (ap (λ (s : State). s.log) is) (ap (λ (s : State). s.images.newest) is) (ap (λ (s : State). s.log_a) is) (ap (λ (s : State). s.log_b) is)
+    (ap (λ (s : State). s.image_a) is) (ap (λ (s : State). s.image_b) is) w
+
+image_written : KeeperLaws → OutcomeLaws → (past next : Past) (fate : Fate) (old : State) (given : ImageAnswer) (new : State) → next.history.ticks ≡ past.history.ticks → IsCoreAt past old → StepsImageKeeper fate old given new
+    → AreWritten past old → AreWritten next new
+image_written keepers outcomes past next fate old given new ticks c s w =
+    let log_a = same_keeps old.log_a new.log_a (ap (λ (s : State). s.log_a) s.rest) in
+    let log_b = same_keeps old.log_b new.log_b (ap (λ (s : State). s.log_b) s.rest) in
+    record {
+      started = λ is. (let both = w.started (ap (λ (s : State). s.log.starting) (sym s.rest) ∙ is) in (log_a both.0, log_b both.1));
+      ticked = λ some. (let both = w.ticked (subst (λ (t : List (List Action)). 0 < length t) ticks some) in (log_a both.0, log_b both.1));
+      imaged = image_step_written keepers outcomes past fate old given new c s w;
+    }
+
+log_started : OutcomeLaws → (past : Past) (fate : Fate) (old : State) (given : LogAnswer) (new : State) → IsCoreAt past old → StepsLogKeeper fate old given new → AreWritten past old
+    → (was : Bool) → old.log.starting ≡ was → new.log.starting ≡ false → IsWritten new.log_a.inner × IsWritten new.log_b.inner
+log_started outcomes past fate old given new c s w true was is = log_ends outcomes fate old new c.place given c.has_log s was is
+log_started outcomes past fate old given new c s w false was is = (let both = w.started was in let keeps = log_step_keeps fate old given new s in (keeps.0 both.0, keeps.1 both.1))
+
+log_written : OutcomeLaws → (past next : Past) (fate : Fate) (old : State) (given : LogAnswer) (new : State) → next.history.ticks ≡ past.history.ticks → IsCoreAt past old → StepsLogKeeper fate old given new
+    → AreWritten past old → AreWritten next new
+log_written outcomes past next fate old given new ticks c s w =
+    let keeps = log_step_keeps fate old given new s in
+    let image_a = same_keeps old.image_a new.image_a (ap (λ (s : State). s.image_a) s.rest) in
+    let image_b = same_keeps old.image_b new.image_b (ap (λ (s : State). s.image_b) s.rest) in
+    record {
+      started = log_started outcomes past fate old given new c s w old.log.starting refl;
+      ticked = λ some. (let both = w.ticked (subst (λ (t : List (List Action)). 0 < length t) ticks some) in (keeps.0 both.0, keeps.1 both.1));
+      imaged = λ after_first. (let both = w.imaged (subst (λ (s : State). 0 < newest_tick s.images.newest) s.rest after_first) in (image_a both.0, image_b both.1));
+    }
+
+-- ---- a crash
+
+started_newest : (round : Bool) (tick : ℕ) (keeper : ImageProgress) → (started_keeper round tick keeper).newest ≡ keeper.newest
+started_newest false tick keeper = refl
+started_newest true tick keeper = refl
+
+-- a start on files of which none is empty
+begun_written : (cells : ℕ) (newest : Option (Slot × ℕ)) (tick : ℕ) (words : List ℕ) (round : Bool) (image_a image_b log_a log_b : List ℕ) (next : Past) (new : State)
+    → Begins cells newest tick words round image_a image_b log_a log_b new
+    → (0 < length next.history.ticks → (0 < length log_a) × (0 < length log_b)) → (0 < newest_tick newest → (0 < length image_a) × (0 < length image_b))
+    → AreWritten next new
+begun_written cells newest tick words round image_a image_b log_a log_b next new b logs images = record {
+  started = λ is. absurd (not_both new.log.starting (ap (λ (k : LogProgress). k.starting) b.log) is);
+  ticked = λ some. (let both = logs some in (only_written log_a new.log_a b.file_la both.0, only_written log_b new.log_b b.file_lb both.1));
+  imaged = λ after_first. (
+      let is : new.images.newest ≡ newest = ap (λ (k : ImageProgress). k.newest) b.images ∙ started_newest round tick (made_keeper cells newest (is_shut image_a) (is_shut image_b)) in
+      let both = images (subst (λ n. 0 < newest_tick n) is after_first) in
+      (only_written image_a new.image_a b.file_a both.0, only_written image_b new.image_b b.file_b both.1));
+}
+
+-- the file in a slot is the newest image's or the other one
+beside_or : (chosen slot : Slot) (image_a image_b : Image) (which : Image) → of_slot chosen image_a image_b ≡ which → (of_slot slot image_a image_b ≡ which) ⊎ (of_slot slot image_b image_a ≡ which)
+beside_or A A image_a image_b which is = inl is
+beside_or A B image_a image_b which is = inr is
+beside_or B A image_a image_b which is = inr is
+beside_or B B image_a image_b which is = inl is
+
+open_tick : (tick from : ℕ) (words older : List ℕ) → Open tick words ≡ Open from older → tick ≡ from
+open_tick tick from words older e = cc
+
+-- if recovery takes the newest image, its tick is that image's; else the other file is open
+taken_or_open : (newest beside : List ℕ) (tick from : ℕ) (words older : List ℕ) → image_of newest ≡ Open tick words → (image_of newest ≡ Open from older) ⊎ (image_of beside ≡ Open from older) → (tick ≡ from) ⊎ (0 < length beside)
+taken_or_open newest beside tick from words older reads (inl is) = inl (open_tick tick from words older (sym reads ∙ is))
+taken_or_open newest beside tick from words older reads (inr is) = inr (nonempty_image beside from older is)
+
+beside_left : (file : FileState) (tick from : ℕ) (left : List ℕ) → IsCrashOutcome file left → (0 < tick → IsWritten file) → 0 < from → (tick ≡ from) ⊎ (0 < length left) → 0 < length left
+beside_left file tick from left o written some (inl same) = outcome_written file left (written (omega (arith, same, some))) o
+beside_left file tick from left o written some (inr there) = there
+
+images_left : (slot : Slot) (a b : FileState) (tick from : ℕ) (words older ia ib : List ℕ) (chosen : Slot) → ((left : List ℕ) → in_slot slot (IsCrashOutcome a) (IsCrashOutcome b) left → image_of left ≡ Open tick words)
+    → (0 < tick → IsWritten a × IsWritten b) → IsCrashOutcome a ia → IsCrashOutcome b ib → of_slot chosen (image_of ia) (image_of ib) ≡ Open from older → 0 < from → (0 < length ia) × (0 < length ib)
+images_left A a b tick from words older ia ib chosen newest written oa ob is some =
+    (nonempty_image ia tick words (newest ia oa), beside_left b tick from ib ob (λ t. (written t).1) some (taken_or_open ia ib tick from words older (newest ia oa) (beside_or chosen A (image_of ia) (image_of ib) (Open from older) is)))
+images_left B a b tick from words older ia ib chosen newest written oa ob is some =
+    (beside_left a tick from ia oa (λ t. (written t).0) some (taken_or_open ib ia tick from words older (newest ib ob) (beside_or chosen B (image_of ia) (image_of ib) (Open from older) is)), nonempty_image ib tick words (newest ib ob))
+
+images_left_by : KeeperLaws → OutcomeLaws → (past : Past) (state : State) (images : ImageFiles) (journal : Journal) → HasImages state images → HasPhase state.cells past.history.ticks past.acknowledged images journal state.queue → AreWritten past state
+    → (r : Recovery) (ia ib : List ℕ) (la lb : Segment) → IsBuilt r (image_of ia) (image_of ib) la lb → r.tick ≤ length past.history.ticks → IsCrashOutcome state.image_a.inner ia → IsCrashOutcome state.image_b.inner ib
+    → 0 < r.from → (0 < length ia) × (0 < length ib)
+images_left_by keepers outcomes past state (NoneYet images) (InStart start) has phase w r ia ib la lb built within oa ob some = absurd (omega (arith, some, within, built.ends, ap length phase.0.no_ticks))
+images_left_by keepers outcomes past state (NoneYet images) (Writing logs) has phase w r ia ib la lb built within oa ob some = absurd phase
+images_left_by keepers outcomes past state (Newest images) journal has phase w r ia ib la lb built within oa ob some =
+    let left = outcomes.images state.images (Newest images) state.image_a state.image_b has in
+    let is : state.images.newest ≡ Some (images.slot, images.tick) = keepers.newest state.images (Newest images) state.image_a state.image_b has in
+    images_left images.slot state.image_a.inner state.image_b.inner images.tick r.from images.words built.words ia ib r.slot left.newest
+    (λ t. w.imaged (subst (λ n. 0 < newest_tick n) (sym is) t)) oa ob built.image some
+
+pub none_is_empty : KeeperLaws → OutcomeLaws → SafetyLaws → (past : Past) (state : State) → IsCoreAt past state → AreWritten past state → NoneIsEmpty (files_in state)
+none_is_empty keepers outcomes safety past state c w ia ib la lb r may e =
+    let again = restarts safety state.cells past.history.ticks past.acknowledged ia ib la lb e.a e.b e.reads_a e.reads_b (IsCrashOutcome state.image_a.inner) (IsCrashOutcome state.image_b.inner) (IsCrashOutcome state.log_a.inner) (IsCrashOutcome state.log_b.inner)
+        past.has_image (core_is_safe_for safety past state c) may.0 may.1 may.2 may.3 r e.holds in
+    let built = safety.restarts.built (image_of ia) (image_of ib) e.a e.b r e.holds in (
+      λ some. (
+          let both = w.ticked (let t : 0 < length past.history.ticks = omega (arith, some, again.world.ended) in t) in
+          (outcome_written state.log_a.inner la both.0 may.2, outcome_written state.log_b.inner lb both.1 may.3)),
+      images_left_by keepers outcomes past state c.images c.place.journal c.has_images c.in_step.phase w r ia ib e.a e.b built again.world.ended may.0 may.1,
+    )
+
+module _ (keepers : KeeperLaws) (outcomes : OutcomeLaws) (safety : SafetyLaws) (past : Past) (old : State) (c : IsCoreAt past old) (w : AreWritten past old) where
+  recovered_written : (next : Past) (tick from : ℕ) (ia ib la lb : List ℕ) (new : State) → next.history.ticks ≡ take tick past.history.ticks → MayLeave (files_in old) ia ib la lb
+      → StandsOn old.cells ia ib la lb (answer.Recovered tick from) new → AreWritten next new
+  recovered_written next tick from ia ib la lb new ticks may s =
+      let r = s.0 in
+      let none = none_is_empty keepers outcomes safety past old c w ia ib la lb r may s.1 in
+      begun_written old.cells (Some (r.slot, r.from)) r.tick r.words _ ia ib la lb next new s.5
+      (λ some. none.0 (let t : 0 < r.tick = omega (arith, some, ap (λ (t : List (List Action)). length t) ticks, length-take tick past.history.ticks, s.2) in t)) none.1
+
+  moves_keep : (asked : Move) (given : Answer) (new : State) → IsCoreAt (past_after past asked given) new → Answers past old asked given new → AreWritten (past_after past asked given) new
+  moves_keep (move.Act action) answer.Did new k a =
+      still_written past (past_after past (move.Act action) answer.Did) old new refl (ap (λ (s : State). s.log) a.does.rest) (ap (λ (s : State). s.images.newest) a.does.rest)
+      (ap (λ (s : State). s.log_a) a.does.rest) (ap (λ (s : State). s.log_b) a.does.rest) (ap (λ (s : State). s.image_a) a.does.rest) (ap (λ (s : State). s.image_b) a.does.rest) w
+  moves_keep (move.Act action) given new k a = same_written past (past_after past (move.Act action) given) old new refl a.does w
+  moves_keep (move.Get cell) given new k a = same_written past (past_after past (move.Get cell) given) old new refl a.does w
+  moves_keep move.End (answer.Ended tick) new k a = tick_written past (past_after past move.End (answer.Ended tick)) old new k a.does w
+  moves_keep move.End given new k a = same_written past (past_after past move.End given) old new refl a.does w
+  moves_keep move.Mark (answer.Started tick) new k a =
+      still_written past (past_after past move.Mark (answer.Started tick)) old new refl (ap (λ (s : State). s.log) a.does.1) (ap (λ (s : State). s.images.newest) a.does.1)
+      (ap (λ (s : State). s.log_a) a.does.1) (ap (λ (s : State). s.log_b) a.does.1) (ap (λ (s : State). s.image_a) a.does.1) (ap (λ (s : State). s.image_b) a.does.1) w
+  moves_keep move.Mark given new k a = same_written past (past_after past move.Mark given) old new refl a.does w
+  moves_keep (move.Image fate) (answer.Image given) new k a = image_written keepers outcomes past (past_after past (move.Image fate) (answer.Image given)) fate old given new refl c a.does w
+  moves_keep (move.Image fate) given new k a = same_written past (past_after past (move.Image fate) given) old new refl a.does w
+  moves_keep (move.Log fate) (answer.Log given) new k a = elim a.does [
+    | inl waits ↦ same_written past (past_after past (move.Log fate) (answer.Log given)) old new refl waits.2 w
+    | inr step ↦ log_written outcomes past (past_after past (move.Log fate) (answer.Log given)) fate old given new refl c step w
+  ]
+  moves_keep (move.Log fate) given new k a = same_written past (past_after past (move.Log fate) given) old new refl a.does w
+  moves_keep (move.Cover tick) (answer.Log given) new k a =
+      still_written past (past_after past (move.Cover tick) (answer.Log given)) old new refl (ap (λ (s : State). s.log) a.does.rest) (ap (λ (s : State). s.images.newest) a.does.rest)
+      (ap (λ (s : State). s.log_a) a.does.rest) (ap (λ (s : State). s.log_b) a.does.rest) (ap (λ (s : State). s.image_a) a.does.rest) (ap (λ (s : State). s.image_b) a.does.rest) w
+  moves_keep (move.Cover tick) given new k a = same_written past (past_after past (move.Cover tick) given) old new refl a.does w
+  moves_keep (move.Crash left) (answer.Recovered tick from) new k a =
+      recovered_written (past_after past (move.Crash left) (answer.Recovered tick from)) tick from left.image_a.items left.image_b.items left.log_a.items left.log_b.items new refl a.exact.0 a.does
+  moves_keep (move.Crash left) answer.Blank new k a =
+      begun_written old.cells None 0 _ true left.image_a.items left.image_b.items left.log_a.items left.log_b.items (past_after past (move.Crash left) answer.Blank) new a.does.1
+      (λ some. absurd (omega (arith, some))) (λ some. absurd (omega (arith, some)))
+  moves_keep (move.Crash left) given new k a = same_written past (past_after past (move.Crash left) given) old new refl a.does w
+
+pub fresh_written : (cells : ℕ) (state : State) → BeginsFresh cells state → AreWritten fresh_past state
+fresh_written cells state b =
+    begun_written cells None 0 (replicate cells 0) true [] [] [] [] fresh_past state b (λ some. absurd (omega (arith, some))) (λ some. absurd (omega (arith, some)))
+
+pub stay_written : KeeperLaws → OutcomeLaws → SafetyLaws → StayWritten
+stay_written keepers outcomes safety = record {
+  fresh = fresh_written;
+  moves = λ past old asked given new c k a w. moves_keep keepers outcomes safety past old c w asked given new k a;
+  none_empty = none_is_empty keepers outcomes safety;
+}
