@@ -70,6 +70,10 @@ lost_text (lost.Image slot) = image_name slot ++ codes " is empty, so it was los
 lost_text (lost.Log slot) = log_name slot ++ codes " is empty, so it was lost"
 lost_text (lost.Gap slot) = log_name slot ++ codes " begins after ticks that were lost"
 
+-- an empty log of a world at tick 0
+abbrev pub doubtful_text : Slot → List ℕ
+doubtful_text slot = log_name slot ++ codes " is empty: if this world was played, its ticks are lost"
+
 -- ---- figures
 
 -- the segment that the log continues in, and how many ticks it has

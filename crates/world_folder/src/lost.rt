@@ -1,8 +1,8 @@
 //! Files of which one was lost or emptied, so that ticks that were answered are in none.
 ghost use Rattle.std.specs.Prelude.{◌≡◌, ◌⊎◌, take, IsTrue, IfOk, IfErr, Some};
 ghost use Rattle.disk_model.specs.FourFiles.{EachFile, KeepsFile};
-ghost use Rattle.world_folder.specs.Lost.{begins_after, empty_image, lost_log, lost_of};
-ghost use Rattle.world_folder.specs.Texts.{lost_text};
+ghost use Rattle.world_folder.specs.Lost.{begins_after, doubtful_log, empty_image, first_empty, lost_log, lost_of};
+ghost use Rattle.world_folder.specs.Texts.{doubtful_text, lost_text};
 
 use crate::look::{SEGMENT_HEAD, read_head};
 use crate::world_file::{IMAGE_A, IMAGE_B, LOG_A, LOG_B};
@@ -17,7 +17,7 @@ use world_actions::Refusal;
 pub enum Lost {
     /// This image is empty, beside one of a tick above 0. By then both were written once.
     Image(Slot),
-    /// This log is empty, beside such an image. The first start writes both.
+    /// This log is empty, and a tick above 0 is recovered. The first start writes both logs, before a tick ends.
     Log(Slot),
     /// This log begins after the tick that is recovered. The ticks up to its beginning were answered.
     Gap(Slot),
@@ -49,9 +49,9 @@ pub fn lost_of(tick: u64, from: u64, files: &FourFiles<Vec<u8>>) -> Option<Lost>
     if let Some(lost) = empty_image(Slot::B, from, &files.image_b) {
         return Some(lost);
     }
-    match lost_log(Slot::A, tick, from, &files.log_a) {
+    match lost_log(Slot::A, tick, &files.log_a) {
         Some(lost) => Some(lost),
-        None => lost_log(Slot::B, tick, from, &files.log_b),
+        None => lost_log(Slot::B, tick, &files.log_b),
     }
 }
 
@@ -65,11 +65,11 @@ fn empty_image(slot: Slot, from: u64, image: &[u8]) -> Option<Lost>
     }
 }
 
-fn lost_log(slot: Slot, tick: u64, from: u64, log: &[u8]) -> Option<Lost>
-    ensures { result ≡ lost_log slot tick from log.now }
+fn lost_log(slot: Slot, tick: u64, log: &[u8]) -> Option<Lost>
+    ensures { result ≡ lost_log slot tick log.now }
 {
     if log.is_empty() {
-        return if from > 0 {
+        return if tick > 0 {
             Some(Lost::Log(slot))
         } else {
             None
@@ -92,6 +92,47 @@ fn begins_after(tick: u64, log: &[u8]) -> bool
     match marked_at(log) {
         Some((_, base)) => tick < base,
         None => false,
+    }
+}
+
+/// A log that is empty, of a world that is recovered at tick 0. Either its first start was cut off, or the log was lost with
+/// ticks that were answered. The files can't tell.
+#[derive(Clone, Copy, Debug, PartialEq, Eq)]
+pub struct Doubtful(pub Slot);
+
+impl fmt::Display for Doubtful {
+    ghost output = { λ doubtful. Some (doubtful_text doubtful.0) };
+
+    fn fmt<W: fmt::Write>(&self, f: &mut fmt::Formatter<W>) -> fmt::Result {
+        let name = match self.0 {
+            Slot::A => LOG_A,
+            Slot::B => LOG_B,
+        };
+        write!(
+            f,
+            "{name} is empty: if this world was played, its ticks are lost"
+        )
+    }
+}
+
+/// The empty log of a world that is recovered at this tick, from files with these bytes.
+pub fn doubtful_log(tick: u64, files: &FourFiles<Vec<u8>>) -> Option<Slot>
+    ensures { result ≡ doubtful_log tick files.now.log_a.items files.now.log_b.items }
+{
+    if tick > 0 {
+        return None;
+    }
+    first_empty(&files.log_a, &files.log_b)
+}
+
+// The first of two logs that is empty.
+fn first_empty(log_a: &[u8], log_b: &[u8]) -> Option<Slot>
+    ensures { result ≡ first_empty log_a.now log_b.now }
+{
+    match (log_a.is_empty(), log_b.is_empty()) {
+        (true, _) => Some(Slot::A),
+        (false, true) => Some(Slot::B),
+        (false, false) => None,
     }
 }
 

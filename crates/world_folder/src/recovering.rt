@@ -6,6 +6,7 @@ use crate::ending::Ending;
 use crate::fault::stands_in;
 use crate::found::WorldTold;
 use crate::looking::look_at_folder;
+use crate::lost::{Doubtful, doubtful_log};
 use crate::reading::all_read;
 use crate::world_file::Named;
 use disk_model::FourFiles;
@@ -15,15 +16,20 @@ use std::fs::{self, File};
 use std::io;
 use std::time::Clock;
 
-/// Prints which world the files of a folder hold, which a server may write meanwhile. It writes nothing into the folder.
-pub fn recover<R: fs::Files<File = File> + Clock + Print + AllocGlobal>(
+/// Prints which world the files of a folder hold, which a server may write meanwhile. It writes nothing into the folder. On
+/// standard error it names a log that may have been lost.
+pub fn recover<R: fs::Files<File = File> + Clock + Print + Eprint + AllocGlobal>(
     rt: &R,
     folder: &str,
 ) -> Result<(), Ending>
     ensures { IfErr result IsFault }
 {
     let seen = look_at_folder(rt, folder)?;
-    let found = found_in(rt.alloc(), folder, seen.files)?;
+    let files = all_read(rt.alloc(), folder, seen.files)?;
+    let found = stands_in(rt.alloc(), &files).map_err(Ending::NoWorld)?;
+    if let Some(slot) = doubtful_log(found.tick, &files) {
+        let _ = eprintln!(rt; "worldd: {}", Doubtful(slot));
+    }
     println!(rt; "recovered {}", WorldTold::of(&found))?;
     Ok(())
 }

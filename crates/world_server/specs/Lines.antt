@@ -3,7 +3,7 @@ use Rattle.std.specs.Prelude.{ℕ, List, [], ◌++◌, codes, decimal, Option, S
 use Rattle.std.specs.Net.Socket.{socket_port}
 use Rattle.std.specs.Path.{path_buf_bytes}
 use Rattle.tcp_service.specs.declared.door.Unserved.TheVariants.{NoMemory, NoThread}
-use Rattle.world_folder.specs.Texts.{world_text}
+use Rattle.world_folder.specs.Texts.{doubtful_text, world_text}
 use Rattle.world_server.specs.declared.line.Line.{Line}
 use Rattle.world_server.specs.declared.line.Line.TheVariants as line
 use Rattle.world_server.specs.declared.line.Paths.{Paths}
@@ -21,6 +21,7 @@ report_text report =
 -- a line, over the paths of the server's files and socket; nothing is stated of a line that may have an error of the system
 abbrev pub line_text : Paths → Line → Option (List ℕ)
 line_text paths (line.Recovered ended from) = Some (codes "recovered " ++ world_text ended from)
+line_text paths (line.Doubtful doubtful) = Some (doubtful_text doubtful.0)
 line_text paths (line.Listening port) = Some (codes "listening " ++ decimal port)
 line_text paths line.ListeningAtSocket = Some (codes "listening " ++ path_buf_bytes paths.socket)
 line_text paths (line.Stopped ended acked) = Some (codes "stopped tick " ++ decimal ended ++ codes " acked " ++ decimal acked)

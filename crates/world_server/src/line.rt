@@ -8,7 +8,7 @@ use disk_model::FourFiles;
 use std::path::PathBuf;
 use std::{fmt, io};
 use tcp_service::Unserved;
-use world_folder::{Reason, WorldFile};
+use world_folder::{Doubtful, Reason, WorldFile};
 
 /// A file whose call failed, and why.
 #[derive(Clone, Copy, Debug)]
@@ -24,6 +24,8 @@ pub enum Line {
         ended: u64,
         from: u64,
     },
+    /// This log may have been lost.
+    Doubtful(Doubtful),
     Listening(u16),
     ListeningAtSocket,
     Stopped {
@@ -73,6 +75,7 @@ impl fmt::Display for Printed<'_> {
     fn fmt<W: fmt::Write>(&self, f: &mut fmt::Formatter<W>) -> fmt::Result {
         match self.line {
             Line::Recovered { ended, from } => write!(f, "recovered {ended} from {from}"),
+            Line::Doubtful(doubtful) => write!(f, "{doubtful}"),
             Line::Listening(port) => write!(f, "listening {port}"),
             Line::ListeningAtSocket => write!(f, "listening {}", self.paths.socket.as_str()),
             Line::Stopped { ended, acked } => write!(f, "stopped tick {ended} acked {acked}"),

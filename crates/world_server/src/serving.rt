@@ -31,9 +31,9 @@ use worker_threads::{Seats, Watch, start_world};
 use workers::{Gate, Open};
 use world_actions::Refusal;
 use world_folder::{
-    Ending, Fault, NotRecovered, ServerEnding, failure_of, open_existing, recover_whole, stands_in,
+    Ending, Fault, NotRecovered, ServerEnding, Whole, failure_of, open_existing, recover_whole,
+    stands_in,
 };
-use world_start::Start;
 
 /// Serves the world in a folder to so many clients. It prints which world was recovered, where it listens, and how far
 /// play came.
@@ -84,7 +84,7 @@ fn serve_by<
     let alloc = rt.alloc();
     let mut files = open_existing(rt, service.folder)?;
     match recover_whole::<PlainCopy, FileDisk>(alloc, &mut files) {
-        Ok(begun) => serve_recovered::<R, M>(rt, service, begun, files),
+        Ok(found) => serve_recovered::<R, M>(rt, service, found, files),
         Err(NotRecovered::Lost(lost)) => Err(Ending::NoWorld(Fault::Lost(lost))),
         Err(NotRecovered::Refused(refusal)) => {
             Err(not_opened(alloc, service.folder, files, refusal))
@@ -109,17 +109,21 @@ fn serve_recovered<
 >(
     rt: &R,
     service: &Service<'_>,
-    begun: Start<PlainCopy>,
+    found: Whole<PlainCopy>,
     files: FourFiles<FileDisk>,
 ) -> Result<Ending, Ending>
-    requires { IsAhead ⟦<PlainCopy as Capture>⟧.content ⟦<FileDisk as Disk>⟧.content ⟦<FileDisk as Disk>⟧.honest begun files }
+    requires { IsAhead ⟦<PlainCopy as Capture>⟧.content ⟦<FileDisk as Disk>⟧.content ⟦<FileDisk as Disk>⟧.honest found.begun files }
     ensures ok { IfOk result EndsServing }
     ensures err { IfErr result IsFault }
 {
     let alloc = rt.alloc();
     let streams = start_streams(rt, service)?;
+    let Whole { begun, doubtful } = found;
     let (ended, from) = (begun.engine.ended, begun.from);
     streams.output.print(rt, Line::Recovered { ended, from });
+    if let Some(doubtful) = doubtful {
+        streams.errors.print(rt, Line::Doubtful(doubtful));
+    }
     match start_world::<M, PlainCopy, FileDisk>(alloc, begun, files) {
         Ok(opened) => serve_started(rt, service, streams, opened),
         Err((files, refusal)) => {
