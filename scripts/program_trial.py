@@ -374,9 +374,9 @@ def try_figures(trial: Trial) -> None:
             "bytes: image.a 33, image.b 0, log.a 22, log.b 10, together 65\n",
         ),
         (
-            (NEW_IMAGE, GARBAGE[:16], LOG_OF_GROUPS, b""),
+            (NEW_IMAGE, GARBAGE[:16], LOG_OF_GROUPS, b"\0"),
             "recovered 3 from 0 in image.a\nlog: 3 ticks behind the image, log.a has 3 of 65536\n"
-            "bytes: image.a 33, image.b 16, log.a 22, log.b 0, together 71\n",
+            "bytes: image.a 33, image.b 16, log.a 22, log.b 1, together 72\n",
         ),
     ):
         with new_folder(*files) as folder:
@@ -432,9 +432,9 @@ def both(trial: Trial, folder: pathlib.Path, full: bool = False) -> tuple[Outcom
     return tuple(trial.run(command, "--dir", str(folder), full=full) for command in ("recover", "inspect"))
 
 
-def check_found(trial: Trial, what: str, folder: pathlib.Path, recovered: str, lines: str) -> None:
-    """Both end well, recover with this line and inspect with these."""
-    trial.check(what, both(trial, folder), (Outcome(recovered, "", 0), Outcome(lines, "", 0)))
+def check_found(trial: Trial, what: str, folder: pathlib.Path, recovered: str, lines: str, noted: str = "") -> None:
+    """Both end well, recover with this line and perhaps a note on standard error, and inspect with these lines."""
+    trial.check(what, both(trial, folder), (Outcome(recovered, noted, 0), Outcome(lines, "", 0)))
 
 
 def check_fault(trial: Trial, what: str, folder: pathlib.Path, fault: str, lines: str) -> None:
@@ -464,7 +464,7 @@ def try_found(trial: Trial) -> None:
             "log.b: closed, 1 byte\n"
             "recovered 0 from 0 in image.b\n"
         )
-        check_found(trial, "a world in image.b", folder, "recovered 0 from 0\n", lines)
+        check_found(trial, "a world in image.b", folder, "recovered 0 from 0\n", lines, doubtful("log.a"))
     with new_folder(NEW_IMAGE, b"", LOG_OF_GROUPS, NEW_LOG_OF_3) as folder:
         lines = (
             "image.a: open, format 2, 2 cells, tick 0, 33 bytes\n"
@@ -476,12 +476,15 @@ def try_found(trial: Trial) -> None:
         check_found(trial, "groups and ticks", folder, "recovered 3 from 0\n", lines)
 
 
-# Files of which one was lost: an empty one beside an image of tick 3, and a log that begins after the recovered tick.
+# Files of which one was lost: an empty one beside an image of tick 3, an empty log beside ticks, and a log that begins after
+# the recovered tick.
 LOST = (
     (("", IMAGE_OF_3, LOG_OF_3, LOG_OF_4), 14, "an image file is damaged: image.a is empty, so it was lost"),
     ((IMAGE_OF_3, "", LOG_OF_3, LOG_OF_4), 14, "an image file is damaged: image.b is empty, so it was lost"),
     ((IMAGE_OF_3, IMAGE_OF_2, "", LOG_OF_4), 15, "a log file is damaged: log.a is empty, so it was lost"),
     ((IMAGE_OF_3, IMAGE_OF_2, LOG_OF_3, ""), 15, "a log file is damaged: log.b is empty, so it was lost"),
+    ((NEW_IMAGE, "", LOG_OF_GROUPS, ""), 15, "a log file is damaged: log.b is empty, so it was lost"),
+    ((NEW_IMAGE, "", "", LOG_OF_GROUPS), 15, "a log file is damaged: log.a is empty, so it was lost"),
     ((IMAGE_OF_2, b"\0", b"\0", LOG_OF_4), 15, "a log file is damaged: log.b begins after ticks that were lost"),
     ((b"\0", IMAGE_OF_2, NEW_LOG_OF_3, b"\0"), 15, "a log file is damaged: log.a begins after ticks that were lost"),
 )
@@ -499,6 +502,32 @@ def try_lost(trial: Trial) -> None:
             got = trial.run("inspect", "--dir", str(folder))
             trial.check(f"inspect: {why}", (got.output.count("\n"), got.errors, got.status), (4, fault, 1))
             trial.check(why, (files_of(folder), list(to.iterdir())), (files, []))
+
+
+def doubtful(name: str) -> str:
+    """The note on a log that may have been lost."""
+    return f"worldd: {name} is empty: if this world was played, its ticks are lost\n"
+
+
+def try_doubtful(trial: Trial) -> None:
+    """Worlds at tick 0 of which a log may have been lost: they are read and served, and the log is named."""
+    for logs, note in (
+        ((b"", b""), doubtful("log.a")),
+        ((b"", b"\0"), doubtful("log.a")),
+        ((NEW_LOG, b""), doubtful("log.b")),
+        ((NEW_LOG, b"\0"), ""),
+        ((b"\0", b"\0"), ""),
+    ):
+        with new_folder(NEW_IMAGE, b"", *logs) as folder:
+            trial.ends(f"recover beside {logs}", trial.run("recover", "--dir", str(folder)), "recovered 0 from 0\n", note, 0)
+            line = f"serve --dir {folder} --method zigzag --port 0 --clients 1".split()
+            with subprocess.Popen([trial.program, *line], stdout=subprocess.PIPE, stderr=subprocess.PIPE, text=True) as server:
+                address = [server.stdout.readline() for _ in range(2)][-1].split()[-1]
+                trial.check(f"serve beside {logs}", answer_to(address, b"end\n"), "tick 1:\n")
+                _, errors = server.communicate(timeout=SECONDS)
+            trial.runs += 1
+            trial.seen["served beside an empty log" if note else "served"] += 1
+            trial.check(f"the note beside {logs}", "".join(line for line in errors.splitlines(True) if " empty" in line), note)
 
 
 def try_long(trial: Trial) -> None:
@@ -535,7 +564,7 @@ def try_missing(trial: Trial) -> None:
         check_fault(trial, "a folder log.b", folder, other, f"{rest}log.b: unreadable: {NOT_A_FILE}\n")
         gone = trial.run("recover", "--dir", str(folder / "gone"))
         trial.check("no folder", (gone.errors[:17], gone.status), ("fault 18\nworldd: ", 1))
-    with new_folder(NEW_IMAGE, b"", b"", b"") as folder:
+    with new_folder(NEW_IMAGE, b"", NEW_LOG, b"\0") as folder:
         closed = both(trial, folder, full=True)
         trial.check("a full output", closed, (Outcome("", FULL, 1),) * 2)
 
@@ -661,9 +690,9 @@ def main() -> int:
     parser = argparse.ArgumentParser(description=__doc__.splitlines()[0])
     parser.add_argument("program", type=pathlib.Path, help="the built worldd")
     trial = Trial(str(parser.parse_args().program.resolve()))
-    for part in (try_command_lines, try_scripts, try_creating, try_completing, try_not_creating, try_words, try_larger, try_found, try_figures, try_copies, try_lost, try_long, try_missing, try_damaged, try_not_serving, try_serving, try_reporting):
+    for part in (try_command_lines, try_scripts, try_creating, try_completing, try_not_creating, try_words, try_larger, try_found, try_figures, try_copies, try_lost, try_doubtful, try_long, try_missing, try_damaged, try_not_serving, try_serving, try_reporting):
         part(trial)
-    wanted = ["status 0", "status 2", "served", *(f"status 1, fault {code}" for code in (13, 14, 15, 16, 18, 22))]
+    wanted = ["status 0", "status 2", "served", "served beside an empty log", *(f"status 1, fault {code}" for code in (13, 14, 15, 16, 18, 22))]
     never = [kind for kind in wanted if not trial.seen[kind]]
     for kind, count in sorted(trial.seen.items()):
         print(f"  {kind}: {count}")

@@ -52,9 +52,10 @@ memory or room is wanting, and the first line on standard error is `fault CODE`:
 pub const RECOVER_HELP: &str = "\
 It reads image.a, image.b, log.a and log.b, writes nothing and locks nothing, and prints
 `recovered N from T`: they hold the world after tick N, built from the image of tick T.
+On standard error it names a log that is empty at tick 0, and so may have been lost.
 If they hold no world the status is 1, or 13 if memory is wanting, and the first line on
 standard error is `fault CODE`:
-  13 no image is open, 14 an image is damaged, 15 the log is damaged,
+  13 no image is open, 14 an image is damaged or lost, 15 the log is damaged or lost,
   17 there is no memory, 18 a file is missing or can't be read";
 
 /// The end of `worldd inspect --help`.
@@ -121,6 +122,7 @@ It prints, each line at once:
   stopped tick N acked A    all are gone: N ticks ended, and those up to A are durable;
                             not after an end by one of the two flags --exit-when-..
 On standard error it prints, and drops lines that nobody reads:
+  worldd: FILE is empty: if this world was played, its ticks are lost
   worldd: image of tick T opened
   worldd: images down: FILE: REASON            play continues without images
   worldd: log down after tick T: FILE: REASON  batches are answered `fault 12`
