@@ -50,6 +50,7 @@ GARBAGE = b"\1" * 20
 NO_FILE = "No such file or directory (os error 2)"
 NOT_A_FILE = "not a regular file"
 HELD = "another program writes this world"
+NO_SERVER = "server: none\n"
 HOLDS_A_WORLD = "a file already holds a world: choose an empty folder"
 FULL = "fault 18\nworldd: standard output: No space left on device (os error 28)\n"
 MORE = "For more information, try '--help'.\n"
@@ -180,7 +181,7 @@ def try_command_lines(trial: Trial) -> None:
         (
             "status",
             "Prints figures of the world in a folder, also while it is served\n\nUsage: worldd status --dir <FOLDER>\n",
-            "\nthe files hold no world it ends as `recover` does, and as `backup` if no copy can be taken.\n",
+            "\nend. If the files hold no world this line is all, and it ends as `recover` does, and as\n`backup` if no copy can be taken.\n",
         ),
         (
             "backup",
@@ -380,13 +381,15 @@ def try_figures(trial: Trial) -> None:
         ),
     ):
         with new_folder(*files) as folder:
-            trial.ends(f"figures {lines[:20]}", trial.run("status", "--dir", str(folder)), lines, "", 0)
+            trial.ends(f"figures {lines[:20]}", trial.run("status", "--dir", str(folder)), lines + NO_SERVER, "", 0)
             trial.check("figures write nothing", files_of(folder), files)
     for what, files, fault in NO_WORLDS:
         with new_folder(*files) as folder:
-            trial.ends(f"figures of {what}", trial.run("status", "--dir", str(folder)), "", f"fault {fault}\n", 1)
+            trial.ends(f"figures of {what}", trial.run("status", "--dir", str(folder)), NO_SERVER, f"fault {fault}\n", 1)
     with new_folder(NEW_IMAGE, b"", b"") as folder:
-        trial.ends("figures of three files", trial.run("status", "--dir", str(folder)), "", fault_of(folder, 18, "log.b", NO_FILE), 1)
+        trial.ends("figures of three files", trial.run("status", "--dir", str(folder)), NO_SERVER, fault_of(folder, 18, "log.b", NO_FILE), 1)
+    with new_folder() as folder:
+        trial.ends("figures of no files", trial.run("status", "--dir", str(folder)), "server: unknown\n", fault_of(folder, 18, "image.a", NO_FILE), 1)
 
 
 # Folders that hold no world.
@@ -498,7 +501,8 @@ def try_lost(trial: Trial) -> None:
         fault = f"fault {code}\nworldd: {why}\n"
         with new_folder(*files) as folder, new_folder() as to:
             for line in (("recover",), ("status",), ("serve", *serve), ("backup", "--to", str(to))):
-                trial.ends(f"{line[0]}: {why}", trial.run(*line, "--dir", str(folder)), "", fault, 1)
+                printed = NO_SERVER if line == ("status",) else ""
+                trial.ends(f"{line[0]}: {why}", trial.run(*line, "--dir", str(folder)), printed, fault, 1)
             got = trial.run("inspect", "--dir", str(folder))
             trial.check(f"inspect: {why}", (got.output.count("\n"), got.errors, got.status), (4, fault, 1))
             trial.check(why, (files_of(folder), list(to.iterdir())), (files, []))
@@ -539,7 +543,7 @@ def try_long(trial: Trial) -> None:
             os.truncate(folder / name, 3 << 30)
         trial.ends("long files", trial.run("recover", "--dir", str(folder), memory=limit), "recovered 4 from 3\n", "", 0)
         got = trial.run("status", "--dir", str(folder), memory=limit)
-        trial.check("figures of long files", got.output.splitlines()[-1], f"bytes: {', '.join(f'{name} {3 << 30}' for name in NAMES)}, together {12 << 30}")
+        trial.check("figures of long files", got.output.splitlines()[-2], f"bytes: {', '.join(f'{name} {3 << 30}' for name in NAMES)}, together {12 << 30}")
         got = trial.run("backup", "--dir", str(folder), "--to", str(to), memory=limit)
         trial.ends("a copy of long files", got, "backed up 4 from 3\n", "", 0)
         trial.check("a copy of long files", files_of(to), (IMAGE_OF_3, b"\0", LOG_OF_3, LOG_OF_4))

@@ -26,6 +26,7 @@ import stat
 import subprocess
 import sys
 import tempfile
+import threading
 import time
 from collections.abc import Callable, Iterator
 
@@ -48,6 +49,13 @@ FILE_LIMIT = 20_011
 # One that the image of a start passes.
 START_LIMIT = 4_011
 SHORT = "the disk is full, or the file has reached a limit on its size"
+# The last line of `status`.
+UP, NO_LOG, NO_IMAGES, NEITHER = (f"server: running, log {log}, images {images}" for images in ("up", "down") for log in ("up", "down"))
+NO_SERVER, UNKNOWN, UNKNOWN_PARTS = "server: none", "server: unknown", "server: running, log unknown, images unknown"
+SERVER_LINES = UP, NO_LOG, NO_IMAGES, NEITHER, NO_SERVER, UNKNOWN, UNKNOWN_PARTS
+HELD, KEPT = "another program writes this world", "a program that looks at this world keeps its lock"
+# How many servers start beside looks, and how many pairs of them at once; how many threads look.
+LOOKED_AT, PAIRS, LOOKERS = 300, 25, 2
 CASES = (
     *(f"{command} with closed streams" for command in ("create", "recover", "inspect", "steps", "serve")),
     "short connections", "descriptors exhausted", "descriptors freed", "errors unread", "lines dropped",
@@ -56,11 +64,12 @@ CASES = (
     "socket with its mode", "socket removed", "old socket replaced", "socket in use kept", "socket's place taken",
     "other file kept", "next server's socket kept", "fault 16 not reset",
     "left when closed", "left at once when closed", "left with its log down", "lost file named",
+    *SERVER_LINES, "second server refused", "reader waited for", "reader too slow", "start beside looks", "one of two servers",
 )
 CASES_OF_ROOT = ("user let in", "user refused", "socket never open to others", "shortage of room", "no /dev/null")
 # Users and groups, which the system need not know. The server's own are the first ones.
 OWNER, STRANGER = 61_001, 61_002
-AS_OWNER = {"user": OWNER, "group": OWNER, "extra_groups": []}
+AS_OWNER, AS_STRANGER = ({"user": user, "group": user, "extra_groups": []} for user in (OWNER, STRANGER))
 LET_IN, REFUSED = 0, 13
 # How many servers start at each mode while a stranger tries to connect.
 STARTS = 25
@@ -385,6 +394,123 @@ class Trial:
             want(errors.count(line) == wanted, f"{name}, {wanted} lines wanted: {errors}")
             self.met["lost file named"] += wanted
 
+    def server_line(self, folder: pathlib.Path, **process) -> str:
+        """What `status` prints of the server of a world."""
+        command = (process.pop("program", self.worldd), "status", "--dir", folder)
+        run = subprocess.run(command, capture_output=True, text=True, timeout=PATIENCE_SECONDS, **process)
+        line = run.stdout.splitlines()[-1] if run.stdout else ""
+        unread = run.returncode == 1 and ": Permission denied (os error 13)\n" in run.stderr
+        want(line in SERVER_LINES and (run.returncode == 0 or unread), f"status prints {run.stdout}{run.stderr}")
+        self.met[line] += 1
+        return line
+
+    def becomes(self, folder: pathlib.Path, before: str, line: str, play: Callable[[], object] = lambda: None) -> None:
+        """Plays until `status` prints this line. It may print the one before it until then, and no other."""
+        end = time.monotonic() + PATIENCE_SECONDS
+        while (found := self.server_line(folder)) != line:
+            want(found == before and time.monotonic() < end, f"`{line}` is wanted, and `status` prints `{found}`")
+            play()
+
+    def server_lines(self) -> None:
+        """`status` prints whether a world is served and what of its server is down, up to the server's end."""
+        server = self.server("--every", "64")
+        client = server.client()
+        self.becomes(server.folder, UP, UP)
+        second = self.run("serve", "--dir", server.folder, *"--method zigzag --port 0 --clients 1".split(), capture_output=True, text=True)
+        want(second.returncode == 1 and second.stderr == f"fault 18\nworldd: {server.folder}/image.a: {HELD}\n", f"a second server: {second}")
+        self.met["second server refused"] += 1
+        resource.prlimit(server.process.pid, resource.RLIMIT_FSIZE, (START_LIMIT, START_LIMIT))
+        self.becomes(server.folder, UP, NO_IMAGES, client.play)
+        self.end_log(server, client)
+        self.becomes(server.folder, NO_IMAGES, NEITHER)
+        server.kill()
+        self.becomes(server.folder, NO_SERVER, NO_SERVER)
+        again = Server(self.worldd, server.folder, "--every", "65536")
+        client = again.client()
+        self.becomes(server.folder, UP, UP)
+        self.end_log(again, client)
+        self.becomes(server.folder, UP, NO_LOG)
+        again.kill()
+        self.becomes(server.folder, NO_SERVER, NO_SERVER)
+
+    def end_log(self, server: Server, client: Client) -> None:
+        """Plays until the log is down, since its file may hardly grow."""
+        figures = self.run("status", "--dir", server.folder, capture_output=True, text=True).stdout
+        most = (server.folder / re.search(r"(log\.[ab]) has", figures)[1]).stat().st_size + 3
+        resource.prlimit(server.process.pid, resource.RLIMIT_FSIZE, (most, most))
+        end = time.monotonic() + PATIENCE_SECONDS
+        while client.play().startswith(b"tick"):
+            want(time.monotonic() < end, "a log grows over its limit")
+        want(client.play() == b"fault 12\n", "no `fault 12` of a log that is down")
+
+    def unread_files(self) -> None:
+        """The same if this user may not read the files, and if it may read image.a alone."""
+        self.scratch.chmod(0o755)
+        worldd = self.scratch / "worldd"
+        shutil.copy(self.worldd, worldd)
+        worldd.chmod(0o755)
+        how = {"program": worldd, **(AS_STRANGER if is_root() else {})}
+        server = self.server()
+        server.client().play()
+        for name in NAMES:
+            (server.folder / name).chmod(0)
+        want(self.server_line(server.folder, **how) == UNKNOWN, "files that can't be read have a server")
+        (server.folder / "image.a").chmod(0o444)
+        want(self.server_line(server.folder, **how) == UNKNOWN_PARTS, "one file that can be read has no server")
+        server.kill()
+        want(self.server_line(server.folder, **how) == NO_SERVER, "one file that can be read has a server")
+
+    def slow_readers(self) -> None:
+        """A program that looks at a world keeps its lock: whoever writes the world waits for it, and not for long."""
+        for command in (("serve", *"--method zigzag --port 0 --clients 1".split()), ("create", "--cells", "2")):
+            folder = self.folder()
+            folder.mkdir()
+            if command[0] == "serve":
+                self.run("create", "--dir", folder, "--cells", 2, capture_output=True)
+            (folder / "image.a").touch()
+            with open(folder / "image.a", "rb") as reader:
+                fcntl.flock(reader, fcntl.LOCK_SH)
+                run = self.run(*command, "--dir", folder, capture_output=True, text=True)
+                refused = run.returncode == 1 and run.stderr.startswith(f"fault 18\nworldd: {folder}/image.a: {KEPT}")
+                want(refused, f"{command[0]} beside a slow reader: {run}")
+                self.met["reader too slow"] += 1
+                process = subprocess.Popen((self.worldd, *command, "--dir", folder), stdout=subprocess.PIPE)
+                time.sleep(0.2)
+                want(process.poll() is None, f"{command[0]} ended beside a reader")
+            line = process.stdout.readline()
+            want(line in (b"recovered 0 from 0\n", b"created 2\n"), f"{command[0]} beside a reader that has gone: {line}")
+            process.kill()
+            process.communicate()
+            self.met["reader waited for"] += 1
+
+    def starts_beside_looks(self) -> None:
+        """Others look all the time while servers start. None is refused, and none is reported with a part that is down."""
+        folder = self.folder()
+        folder.mkdir()
+        self.run("create", "--dir", folder, "--cells", 2, capture_output=True)
+        command = (self.worldd, "serve", "--dir", folder, *"--method zigzag --port 0 --clients 1".split())
+        with Lookers(self, folder):
+            for _ in range(LOOKED_AT):
+                self.starts(command, 1)
+                self.met["start beside looks"] += 1
+            for _ in range(PAIRS):
+                self.starts(command, 2)
+                self.met["one of two servers"] += 1
+
+    def starts(self, command: tuple[object, ...], count: int) -> None:
+        """So many servers of one world start at once: one of them serves it."""
+        servers = [subprocess.Popen(command, stdout=subprocess.PIPE, stderr=subprocess.PIPE) for _ in range(count)]
+        serving = [server for server in servers if server.stdout.readline().startswith(b"recovered")]
+        for server in servers:
+            if server not in serving:
+                errors = server.communicate()[1].decode()
+                want(errors.endswith(f": {HELD}\n"), f"a start was refused: {errors}")
+        want(len(serving) == 1, f"{len(serving)} of {count} servers serve one world")
+        line = serving[0].stdout.readline()
+        serving[0].kill()
+        errors = serving[0].communicate()[1].decode()
+        want(line.startswith(b"listening"), f"a server ended beside looks: {errors}")
+
     def no_null(self) -> None:
         """There is no /dev/null: it is wanted only in the place of a stream that is closed."""
         room = self.folder()
@@ -664,6 +790,10 @@ class Trial:
         self.overstayed()
         self.shortage()
         self.lost_files()
+        self.server_lines()
+        self.unread_files()
+        self.slow_readers()
+        self.starts_beside_looks()
         self.no_null()
         self.descriptors()
         self.unread_errors()
@@ -730,6 +860,46 @@ class Stranger:
     def __exit__(self, *_) -> None:
         self.process.kill()
         self.process.join()
+
+
+def ask_on(path: pathlib.Path) -> None:
+    """The work of a process: it asks for the lock of a file as `status` does, again and again."""
+    with open(path, "rb") as file:
+        while True:
+            with contextlib.suppress(BlockingIOError):
+                fcntl.flock(file, fcntl.LOCK_SH | fcntl.LOCK_NB)
+                fcntl.flock(file, fcntl.LOCK_UN)
+
+
+class Lookers:
+    """Threads that look at the server of a world again and again, and a process that does nothing else than ask for its lock."""
+
+    def __init__(self, trial: Trial, folder: pathlib.Path) -> None:
+        self.trial, self.folder, self.is_over, self.wrong = trial, folder, threading.Event(), ""
+        self.threads = [threading.Thread(target=self.look) for _ in range(LOOKERS)]
+        self.process = FORK.Process(target=ask_on, args=(folder / "image.a",), daemon=True)
+
+    def look(self) -> None:
+        """The work of a thread: no server is reported with a part that is down."""
+        while not self.is_over.is_set():
+            try:
+                line = self.trial.server_line(self.folder)
+                want(line in (UP, NO_SERVER), f"a server that starts is reported as `{line}`")
+            except (Wrong, subprocess.SubprocessError) as wrong:
+                self.wrong = str(wrong)
+
+    def __enter__(self) -> None:
+        self.process.start()
+        for thread in self.threads:
+            thread.start()
+
+    def __exit__(self, *_) -> None:
+        self.is_over.set()
+        for thread in self.threads:
+            thread.join()
+        self.process.kill()
+        self.process.join()
+        want(not self.wrong, self.wrong)
 
 
 @contextlib.contextmanager

@@ -23,6 +23,7 @@ use std::fs::{File, Files};
 use std::process::ExitCode;
 use std::sync::Wait;
 use std::thread::Threads;
+use std::time::Clock;
 use trial_kit::{CutTally, FailureTally, exit_code_of};
 use worker_threads::Seats;
 use world_actions::Refusal;
@@ -40,14 +41,32 @@ fn main(rt: HostRuntime) -> ExitCode {
 
 // Tries one method, and then the other one in the same files. Returns true if nothing was lost.
 fn try_all<
-    R: Threads + Wait + Files<File = File> + Print + Eprint + AllocGlobal + Copy + Send + 'static,
+    R: Threads
+        + Wait
+        + Clock
+        + Files<File = File>
+        + Print
+        + Eprint
+        + AllocGlobal
+        + Copy
+        + Send
+        + 'static,
 >(rt: &R) -> Result<bool, Refusal> {
     create(rt, FOLDER, CELLS).map_err(|_: _| Refusal::Device)?;
     Ok(try_method::<R, Zig>(rt, "zigzag", 1)? & try_method::<R, Pong>(rt, "pingpong", 2)?)
 }
 
 fn try_method<
-    R: Threads + Wait + Files<File = File> + Print + Eprint + AllocGlobal + Copy + Send + 'static,
+    R: Threads
+        + Wait
+        + Clock
+        + Files<File = File>
+        + Print
+        + Eprint
+        + AllocGlobal
+        + Copy
+        + Send
+        + 'static,
     M: Seats + Send + 'static,
 >(rt: &R, method: &str, seed: u64) -> Result<bool, Refusal> {
     let tally = cut_power::<R, M>(rt, FOLDER, seed)?;

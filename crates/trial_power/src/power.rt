@@ -12,6 +12,7 @@ use std::fs::{File, Files};
 use std::sync::atomic::{AtomicU64, Ordering};
 use std::sync::{Arc, Wait};
 use std::thread::Threads;
+use std::time;
 use trial_kit::{CutTally, Random};
 use worker_threads::Seats;
 use world_actions::Refusal;
@@ -22,7 +23,7 @@ pub const CUTS: u64 = 500;
 
 /// Plays the world in the files of a folder, and cuts the power at random moments of the run.
 pub fn cut_power<
-    R: Threads + Wait + Files<File = File> + AllocGlobal + Copy + Send + 'static,
+    R: Threads + Wait + time::Clock + Files<File = File> + AllocGlobal + Copy + Send + 'static,
     M: Seats + Send + 'static,
 >(rt: &R, folder: &str, seed: u64) -> Result<CutTally, Refusal> {
     let alloc = rt.alloc();

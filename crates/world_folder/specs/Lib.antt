@@ -13,4 +13,5 @@ pub mod Look
 pub mod Figures
 pub mod Forward
 pub mod Salvaging
+pub mod Served
 pub mod Texts

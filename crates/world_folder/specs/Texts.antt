@@ -14,6 +14,10 @@ use Rattle.world_folder.specs.declared.told.ImageTold.TheVariants as image
 use Rattle.world_folder.specs.declared.told.LogTold.{LogTold}
 use Rattle.world_folder.specs.declared.told.LogTold.TheVariants as log
 use Rattle.world_folder.specs.declared.figures.Figures.{Figures as FiguresValue}
+use Rattle.world_folder.specs.declared.served.PartTold.{PartTold}
+use Rattle.world_folder.specs.declared.served.PartTold.TheVariants as part
+use Rattle.world_folder.specs.declared.served.ServerTold.{ServerTold}
+use Rattle.world_folder.specs.declared.served.ServerTold.TheVariants as server
 use Rattle.world_folder.specs.declared.words_text.BadWords.{BadWords}
 use Rattle.world_folder.specs.declared.words_text.BadWords.TheVariants as bad
 use Rattle.world_folder.specs.declared.world_file.TheConstants.{IMAGE_A, IMAGE_B, LOG_A, LOG_B}
@@ -96,6 +100,18 @@ pair_text a bytes_of_a b bytes_of_b = a ++ codes " " ++ decimal bytes_of_a ++ co
 abbrev pub lengths_text : FourFiles ℕ → List ℕ
 lengths_text lengths = codes "bytes: " ++ pair_text IMAGE_A.now lengths.image_a IMAGE_B.now lengths.image_b
     ++ codes ", " ++ pair_text LOG_A.now lengths.log_a LOG_B.now lengths.log_b ++ codes ", together " ++ decimal (total_of lengths)
+
+-- ---- a server
+
+abbrev pub part_text : PartTold → List ℕ
+part_text part.Up = codes "up"
+part_text part.Down = codes "down"
+part_text part.Unknown = codes "unknown"
+
+abbrev pub server_text : ServerTold → List ℕ
+server_text (server.Running log images) = codes "server: running, log " ++ part_text log ++ codes ", images " ++ part_text images
+server_text server.Missing = codes "server: none"
+server_text server.Unknown = codes "server: unknown"
 
 -- ---- a text that lists no words
 

@@ -15,11 +15,12 @@ use file_disk::FileDisk;
 use std::alloc::Global;
 use std::fs::{File, Files};
 use std::io;
+use std::time::Clock;
 use world_actions::Refusal;
 
 /// Makes the files of a world of zeros at tick 0 in a folder, and prints how many cells it has. If one of the files isn't
 /// closed, it makes no file and writes none. After another failure the files that it made stay, and are named.
-pub fn create<R: Files<File = File> + Print + AllocGlobal>(
+pub fn create<R: Files<File = File> + Clock + Print + AllocGlobal>(
     rt: &R,
     folder: &str,
     cells: u32,
@@ -35,7 +36,7 @@ pub fn create<R: Files<File = File> + Print + AllocGlobal>(
     }
 }
 
-fn create_in<R: Files<File = File> + AllocGlobal>(
+fn create_in<R: Files<File = File> + Clock + AllocGlobal>(
     rt: &R,
     folder: &str,
     cells: u32,
@@ -54,7 +55,7 @@ fn create_in<R: Files<File = File> + AllocGlobal>(
 
 /// Makes the files of a world of the words that a file lists, at tick 0, and prints how many cells it has. A file that
 /// lists no words of a world is refused before anything is opened in the folder.
-pub fn create_of_words<R: Files<File = File> + Print + AllocGlobal>(
+pub fn create_of_words<R: Files<File = File> + Clock + Print + AllocGlobal>(
     rt: &R,
     folder: &str,
     list: &str,
@@ -69,7 +70,7 @@ pub fn create_of_words<R: Files<File = File> + Print + AllocGlobal>(
     }
 }
 
-fn create_of<R: Files<File = File> + AllocGlobal>(
+fn create_of<R: Files<File = File> + Clock + AllocGlobal>(
     rt: &R,
     folder: &str,
     words: &[u64],
@@ -95,7 +96,7 @@ fn print_made<R: Print>(rt: &R, made: Made) -> Result<Made, Ending>
 }
 
 // The four files of a folder in which a world is to be made. They are made durable with their names.
-fn four_files<R: Files<File = File> + AllocGlobal>(
+fn four_files<R: Files<File = File> + Clock + AllocGlobal>(
     rt: &R,
     folder: &str,
     maker: &mut FolderFiles<'_, R>,

@@ -1,4 +1,4 @@
-//! Figures of a world, from its files alone.
+//! Figures of a world, by what its files hold.
 ghost use Rattle.std.specs.Prelude.{◌≡◌, IfOk, IfErr, Some};
 ghost use Rattle.world_folder.specs.Ending.{IsFault};
 ghost use Rattle.world_folder.specs.Fault.{Explains};
@@ -11,6 +11,7 @@ use crate::counted::Counted;
 use crate::ending::Ending;
 use crate::fault::{Fault, stands_in};
 use crate::found::{FoundTold, WorldTold};
+use crate::served::server_in;
 use crate::told::{LogTold, tell_log};
 use crate::world_file::{IMAGE_A, IMAGE_B, LOG_A, LOG_B};
 use action_log::SEGMENT_TICKS;
@@ -76,8 +77,20 @@ fn opened_segment(log: LogTold) -> Option<(u64, usize)>
     }
 }
 
-/// Prints the figures of the world in a folder, which a server may write meanwhile.
+/// Prints the figures of the world in a folder, which a server may write meanwhile, and then whether one does. If the files
+/// hold no world, only the last line is printed.
 pub fn status<R: Files<File = File> + Clock + Print + AllocGlobal>(
+    rt: &R,
+    folder: &str,
+) -> Result<(), Ending>
+    ensures { IfErr result IsFault }
+{
+    let printed = print_figures(rt, folder);
+    println!(rt; "{}", server_in(rt, folder))?;
+    printed
+}
+
+fn print_figures<R: Files<File = File> + Clock + Print + AllocGlobal>(
     rt: &R,
     folder: &str,
 ) -> Result<(), Ending>

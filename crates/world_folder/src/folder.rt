@@ -5,16 +5,18 @@ ghost use Rattle.world_folder.specs.Ending.{IsFault, TellsOf};
 ghost use Rattle.world_folder.specs.WorldFile.{AreNamed};
 
 use crate::ending::Ending;
+use crate::locks::lock;
 use crate::own_file::{Identity, OwnFile, are_apart, open_file};
 use crate::system_error::Reason;
 use crate::world_file::{IMAGE_A, IMAGE_B, LOG_A, LOG_B, Named, WorldFile};
 use disk_model::FourFiles;
 use file_disk::FileDisk;
 use std::alloc::{AllocError, Global};
-use std::fs::{self, File, Files, TryLockError};
+use std::fs::{self, File, Files};
 use std::io::ErrorKind;
 use std::os::unix::fs::MetadataExt;
 use std::path::{Path, PathBuf};
+use std::time::Clock;
 use std::{fmt, io};
 use world_actions::Refusal;
 
@@ -42,7 +44,7 @@ pub fn sync_names<R: Files<File = File> + AllocGlobal>(rt: &R, folder: &str) -> 
 /// Opens the four files of a folder to serve the world in them. It makes none, and syncs the folder. It refuses a symbolic
 /// link, a file with a second name, and one file twice. A writer of a world holds a lock on its image.a as long as the file
 /// is open, so no two programs write it.
-pub fn open_existing<R: Files<File = File> + AllocGlobal>(
+pub fn open_existing<R: Files<File = File> + Clock + AllocGlobal>(
     rt: &R,
     folder: &str,
 ) -> Result<FourFiles<FileDisk>, Ending>
@@ -65,7 +67,7 @@ fn settle<R: Files<File = File>>(
 }
 
 // Opens each file by its own name, image.a first: no two programs then hold a part of the files each.
-fn open_each<R: Files<File = File> + AllocGlobal>(
+fn open_each<R: Files<File = File> + Clock + AllocGlobal>(
     rt: &R,
     folder: &str,
 ) -> Result<FourFiles<Named<OwnFile>>, Ending>
@@ -80,7 +82,7 @@ fn open_each<R: Files<File = File> + AllocGlobal>(
     })
 }
 
-fn open_named<R: Files<File = File> + AllocGlobal>(
+fn open_named<R: Files<File = File> + Clock + AllocGlobal>(
     rt: &R,
     folder: &str,
     file: WorldFile,
@@ -195,28 +197,20 @@ fn failure_in(file: &mut Option<FileDisk>) -> Option<io::Error> {
     }
 }
 
-fn open_own<R: Files<File = File> + AllocGlobal>(
+fn open_own<R: Files<File = File> + Clock + AllocGlobal>(
     rt: &R,
     folder: &str,
     file: WorldFile,
 ) -> io::Result<OwnFile> {
-    own(file, open_file(rt, folder, file.name())?)
+    own(rt, file, open_file(rt, folder, file.name())?)
 }
 
 /// Takes a file that is open to be written, and locks it if it is image.a.
-pub fn own(file: WorldFile, opened: File) -> io::Result<OwnFile> {
+pub fn own<R: Clock>(rt: &R, file: WorldFile, opened: File) -> io::Result<OwnFile> {
     if file == WorldFile::ImageA {
-        lock(&opened)?;
+        lock(rt, &opened)?;
     }
     OwnFile::of(opened)
-}
-
-fn lock(file: &File) -> io::Result<()> {
-    match file.try_lock() {
-        Ok(()) => Ok(()),
-        Err(TryLockError::WouldBlock) => Err(io::Error::other("another program writes this world")),
-        Err(TryLockError::Error(error)) => Err(error),
-    }
 }
 
 // Makes the names in a folder durable.

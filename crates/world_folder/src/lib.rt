@@ -2,8 +2,9 @@
 //! ends.
 //!
 //! `create` makes the files of a new world, and `create_of_words` those of one with given words. `recover` and `inspect`
-//! print what four files hold, and `status` prints figures. These three write nothing. `back_up` copies a world that may be
-//! served. `open_existing` locks the files to serve their world. An `Ending` says what went wrong, and names the file.
+//! print what four files hold, and `status` prints figures, and whether a server runs. These three write nothing. `back_up`
+//! copies a world that may be served. `open_existing` locks the files to serve their world. An `Ending` says what went wrong,
+//! and names the file.
 #![tactic(auto)]
 
 mod backing_up;
@@ -20,6 +21,7 @@ mod forward;
 mod found;
 mod inspecting;
 mod laws;
+mod locks;
 mod look;
 mod looking;
 mod lost;
@@ -29,6 +31,7 @@ mod present;
 mod reading;
 mod recovering;
 mod salvaging;
+mod served;
 mod system_error;
 mod told;
 mod unfinished;
@@ -48,6 +51,7 @@ pub use folder::{Unreadable, failure_of, open_existing, opened, path_of};
 pub use found::WorldTold;
 pub use inspecting::inspect;
 pub use laws::{copies_are_of_a_moment, sound_files_have_no_gap};
+pub use locks::lock;
 pub use look::{Look, look_at, read_head};
 pub use lost::{Doubtful, Lost, doubtful_log, lost_of, read_heads};
 pub use making::{Made, make_in, make_of_words};

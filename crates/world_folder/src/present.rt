@@ -12,11 +12,12 @@ use crate::world_file::WorldFile;
 use disk_model::FourFiles;
 use file_disk::FileDisk;
 use std::fs::{File, Files};
+use std::time::Clock;
 use world_actions::Refusal;
 
 /// Opens those files of a folder that are there, to write them, with the refusals and the lock of `open_existing`. It
 /// makes none.
-pub fn open_present<R: Files<File = File> + AllocGlobal>(
+pub fn open_present<R: Files<File = File> + Clock + AllocGlobal>(
     rt: &R,
     folder: &str,
 ) -> Result<FourFiles<Option<FileDisk>>, Ending>
@@ -32,7 +33,7 @@ pub fn open_present<R: Files<File = File> + AllocGlobal>(
     Ok(disks_of(files))
 }
 
-fn find_own<R: Files<File = File> + AllocGlobal>(
+fn find_own<R: Files<File = File> + Clock + AllocGlobal>(
     rt: &R,
     folder: &str,
     file: WorldFile,
@@ -42,7 +43,10 @@ fn find_own<R: Files<File = File> + AllocGlobal>(
     let found = find_file(rt, folder, file.name());
     match opened(rt.alloc(), folder, file.name(), found)? {
         None => Ok(None),
-        Some(found) => Ok(Some(opened(rt.alloc(), folder, file.name(), own(file, found))?)),
+        Some(found) => {
+            let owned = own(rt, file, found);
+            Ok(Some(opened(rt.alloc(), folder, file.name(), owned)?))
+        }
     }
 }
 
@@ -135,7 +139,7 @@ impl<'a, R: Files<File = File> + AllocGlobal> FolderFiles<'a, R> {
     }
 }
 
-impl<'a, R: Files<File = File> + AllocGlobal> MakesFiles<FileDisk> for FolderFiles<'a, R> {
+impl<'a, R: Files<File = File> + Clock + AllocGlobal> MakesFiles<FileDisk> for FolderFiles<'a, R> {
     ghost made = { λ files. files.made };
 
     /// Makes an empty file that its owner alone may read and write, and locks it if it is image.a.
@@ -143,7 +147,7 @@ impl<'a, R: Files<File = File> + AllocGlobal> MakesFiles<FileDisk> for FolderFil
         let new = make_file(self.rt, self.folder, file.name());
         let new = opened(self.rt.alloc(), self.folder, file.name(), new)?;
         self.note(file);
-        let owned = own(file, new);
+        let owned = own(self.rt, file, new);
         Ok(opened(self.rt.alloc(), self.folder, file.name(), owned)?.disk)
     }
 }

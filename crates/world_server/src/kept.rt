@@ -1,4 +1,4 @@
-//! Whether the files of a running server still have a name.
+//! The files of a running server: whether they still have a name, and the locks by which others see what is down.
 ghost use Rattle.std.specs.Prelude.{◌≡◌, ◌≢◌, Ok, true, false, IfOk, IfErr, IsErr};
 ghost use Rattle.world_folder.specs.Ending.{IsFault};
 
@@ -9,8 +9,9 @@ use std::fs::File;
 use std::io;
 use std::os::unix::fs::MetadataExt;
 use std::sync::atomic::{AtomicBool, Ordering};
+use std::time::Clock;
 use workers::{ImageWriter, Log};
-use world_folder::{Ending, WorldFile, opened};
+use world_folder::{Ending, WorldFile, lock, opened};
 
 /// A file that a server has open, by a descriptor of its own.
 #[derive(Drop)]
@@ -32,6 +33,12 @@ impl KeptFile {
     /// True the first time that the file has no name any more: it was removed, or another file was moved over it.
     pub fn is_newly_missed(&self) -> bool {
         is_removed(self.names()) && !self.is_missed.swap(true, Ordering::SeqCst)
+    }
+
+    /// Locks the file up to the server's end, which `status` sees. It waits while `status` asks, a second at most, and gives
+    /// up then.
+    pub fn lock<R: Clock>(&self, rt: &R) {
+        let _ = lock(rt, &self.file);
     }
 
     // How many names the file has.

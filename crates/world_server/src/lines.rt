@@ -18,7 +18,8 @@ use worker_threads::{TickWatch, Watch};
 use workers::{ImageWriter, Log};
 use world_folder::WorldFile;
 
-/// Passes on what happens in a running server as lines, and never waits.
+/// Passes on what happens in a running server as lines, and never waits for their readers. It locks the file that says what
+/// is down.
 #[derive(Drop)]
 pub struct Lines<R: Wait + Clock + Net + Copy> {
     pub rt: R,
@@ -134,6 +135,7 @@ impl<R: Wait + Clock + Net + Copy> Watch<FileDisk> for Lines<R> {
 
     fn images_down(&mut self, images: &ImageWriter<FileDisk>) {
         self.standing.images_are_down();
+        self.files.image_b.lock(&self.rt);
         let a = (WorldFile::ImageA, images.image_a.failure());
         let b = (WorldFile::ImageB, images.image_b.failure());
         self.note(Line::ImagesDown(first_failure(a, b)));
@@ -141,6 +143,7 @@ impl<R: Wait + Clock + Net + Copy> Watch<FileDisk> for Lines<R> {
 
     fn log_down(&mut self, acked: u64, log: &Log<FileDisk>) {
         self.standing.log_is_down();
+        self.files.log_a.lock(&self.rt);
         let a = (WorldFile::LogA, log.a.failure());
         let b = (WorldFile::LogB, log.b.failure());
         let failure = first_failure(a, b);

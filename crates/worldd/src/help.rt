@@ -73,13 +73,17 @@ from the image of tick T. If they hold no world it ends as `recover` does.";
 
 /// The end of `worldd status --help`.
 pub const STATUS_HELP: &str = "\
-It reads image.a, image.b, log.a and log.b, writes nothing and locks nothing, and prints
-three lines, also while a server writes the world:
+It reads image.a, image.b, log.a and log.b, and writes nothing. It asks for the locks by
+which a server is known, and gives back at once what it gets. It prints four lines:
   recovered N from T in NAME         as `inspect`
   log: 9 ticks behind the image, log.a has 9 of 65536
   bytes: image.a 33, image.b 33, log.a 145, log.b 10, together 221
-At 65536 ticks in a segment batches are refused with 6: its server writes no images. If
-the files hold no world it ends as `recover` does, and as `backup` if no copy can be taken.";
+  server: running, log up, images up
+At 65536 ticks in a segment batches are refused with 6: its server writes no images. The
+last line is `server: none` if no program writes the world, and `server: unknown` if this
+user can't read image.a. A log or images may be `down`, which lasts up to the server's
+end. If the files hold no world this line is all, and it ends as `recover` does, and as
+`backup` if no copy can be taken.";
 
 /// The end of `worldd backup --help`.
 pub const BACKUP_HELP: &str = "\

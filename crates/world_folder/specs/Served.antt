@@ -1,0 +1,32 @@
+-- What the locks of a world's files say of its server.
+use Rattle.std.specs.Prelude.{◌≡◌}
+use Rattle.world_folder.specs.declared.locks.LockState.{LockState}
+use Rattle.world_folder.specs.declared.locks.LockState.TheVariants as lock
+use Rattle.world_folder.specs.declared.served.Locks.{Locks as AskedLocks}
+use Rattle.world_folder.specs.declared.served.PartTold.{PartTold}
+use Rattle.world_folder.specs.declared.served.PartTold.TheVariants as part
+use Rattle.world_folder.specs.declared.served.ServerTold.{ServerTold}
+use Rattle.world_folder.specs.declared.served.ServerTold.TheVariants.{Running, Missing, Unknown}
+use Rattle.world_folder.specs.declared.world_file.WorldFile.TheVariants.{ImageA, ImageB, LogA}
+
+-- each of three locks is that of its own file
+pub record AreAsked (locks : AskedLocks) : Type 0 where
+  pub image_a : locks.image_a.file ≡ ImageA
+  pub image_b : locks.image_b.file ≡ ImageB
+  pub log_a : locks.log_a.file ≡ LogA
+
+-- a server takes the lock of a part that goes down
+abbrev pub part_told : LockState → PartTold
+part_told lock.Held = part.Down
+part_told lock.Free = part.Up
+part_told lock.Unknown = part.Unknown
+
+-- the report by the lock of a server that runs, with those on its parts
+abbrev pub running_told : (written : LockState) → (log images : PartTold) → ServerTold
+running_told lock.Held log images = Running log images
+running_told lock.Free log images = Missing
+running_told lock.Unknown log images = Unknown
+
+-- image.a is locked while a server runs, log.a once its log is down, and image.b once its images are
+abbrev pub server_told : AskedLocks → ServerTold
+server_told locks = running_told locks.image_a.value (part_told locks.log_a.value) (part_told locks.image_b.value)

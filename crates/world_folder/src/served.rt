@@ -1,0 +1,122 @@
+//! The report on the server of a world, by the locks of its files.
+ghost use Rattle.std.specs.Prelude.{◌≡◌, Some};
+ghost use Rattle.world_folder.specs.Served.{AreAsked, part_told, server_told};
+ghost use Rattle.world_folder.specs.Texts.{part_text, server_text};
+
+use crate::locks::{LockState, lock_state};
+use crate::reading::open_plain;
+use crate::world_file::{Named, WorldFile};
+use std::fmt;
+use std::fs::{File, Files};
+
+/// The report on a part of a server. A part that is down stays so up to the server's end.
+#[derive(Clone, Copy, Debug, PartialEq, Eq)]
+pub enum PartTold {
+    Up,
+    Down,
+    Unknown,
+}
+
+/// The report on the server of a world.
+#[derive(Clone, Copy, Debug, PartialEq, Eq)]
+pub enum ServerTold {
+    /// A program writes the world: a server, or one that makes it.
+    Running { log: PartTold, images: PartTold },
+    /// No program does.
+    Missing,
+    Unknown,
+}
+
+/// The locks of the files by which a server is known.
+#[derive(Drop)]
+pub struct Locks {
+    /// A server holds it from its start to its end.
+    pub image_a: Named<LockState>,
+    /// It holds this one once its images are down.
+    pub image_b: Named<LockState>,
+    /// It holds this one once its log is down.
+    pub log_a: Named<LockState>,
+}
+
+/// Reports on the server of the world in a folder. It asks for locks, and gives them back at once.
+pub fn server_in<R: Files<File = File> + AllocGlobal>(rt: &R, folder: &str) -> ServerTold {
+    tell_server(&locks_in(rt, folder))
+}
+
+// Asks for the lock of image.a last. A server that starts or ends meanwhile is then reported as one without a fault, or as none.
+fn locks_in<R: Files<File = File> + AllocGlobal>(rt: &R, folder: &str) -> Locks
+    ensures { AreAsked result }
+{
+    let image_b = lock_in(rt, folder, WorldFile::ImageB);
+    let log_a = lock_in(rt, folder, WorldFile::LogA);
+    Locks {
+        image_a: lock_in(rt, folder, WorldFile::ImageA),
+        image_b,
+        log_a,
+    }
+}
+
+fn lock_in<R: Files<File = File> + AllocGlobal>(
+    rt: &R,
+    folder: &str,
+    file: WorldFile,
+) -> Named<LockState>
+    ensures { result.file ≡ file }
+{
+    let value = match open_plain(rt, folder, file.name()) {
+        Ok(opened) => lock_state(&opened),
+        Err(_) => LockState::Unknown,
+    };
+    Named { file, value }
+}
+
+// What the locks say of the server.
+fn tell_server(locks: &Locks) -> ServerTold
+    ensures { result ≡ server_told locks.now }
+{
+    match locks.image_a.value {
+        LockState::Held => ServerTold::Running {
+            log: tell_part(locks.log_a.value),
+            images: tell_part(locks.image_b.value),
+        },
+        LockState::Free => ServerTold::Missing,
+        LockState::Unknown => ServerTold::Unknown,
+    }
+}
+
+// What a lock says of the part of a server that takes it when it goes down.
+fn tell_part(lock: LockState) -> PartTold
+    ensures { result ≡ part_told lock }
+{
+    match lock {
+        LockState::Held => PartTold::Down,
+        LockState::Free => PartTold::Up,
+        LockState::Unknown => PartTold::Unknown,
+    }
+}
+
+impl fmt::Display for PartTold {
+    ghost output = { λ part. Some (part_text part) };
+
+    fn fmt<W: fmt::Write>(&self, f: &mut fmt::Formatter<W>) -> fmt::Result {
+        match self {
+            PartTold::Up => f.write_str("up"),
+            PartTold::Down => f.write_str("down"),
+            PartTold::Unknown => f.write_str("unknown"),
+        }
+    }
+}
+
+impl fmt::Display for ServerTold {
+    ghost output = { λ server. Some (server_text server) };
+
+    fn fmt<W: fmt::Write>(&self, f: &mut fmt::Formatter<W>) -> fmt::Result {
+        match self {
+            ServerTold::Running { log, images } => {
+                write!(f, "server: running, log {log}, images {images}")
+            }
+            ServerTold::Missing => f.write_str("server: none"),
+            ServerTold::Unknown => f.write_str("server: unknown"),
+        }
+    }
+}
