@@ -218,7 +218,7 @@ def create(trial: Trial, folder: pathlib.Path, cells: int = 2, full: bool = Fals
 def check_made(trial: Trial, what: str, got: Outcome, folder: pathlib.Path) -> None:
     """A world of two cells was made, and these are its files."""
     trial.ends(what, got, "created 2\n", "", 0)
-    trial.check(what, files_of(folder), (NEW_IMAGE, b"", NEW_LOG, b"\0"))
+    trial.check(what, files_of(folder), (NEW_IMAGE, b"\0", NEW_LOG, b"\0"))
 
 
 def try_creating(trial: Trial) -> None:
@@ -227,12 +227,12 @@ def try_creating(trial: Trial) -> None:
         check_made(trial, "a new world", create(trial, folder), folder)
         trial.ends("the new world", trial.run("recover", "--dir", str(folder)), "recovered 0 from 0\n", "", 0)
         trial.ends("made again", create(trial, folder), "", fault_of(folder, 22, "image.a", HOLDS_A_WORLD), 1)
-        trial.check("made again", files_of(folder), (NEW_IMAGE, b"", NEW_LOG, b"\0"))
+        trial.check("made again", files_of(folder), (NEW_IMAGE, b"\0", NEW_LOG, b"\0"))
     with new_folder() as folder:
         trial.ends("the most cells", create(trial, folder, 1_048_576), "created 1048576\n", "", 0)
         lines = (
             "image.a: open, format 2, 1048576 cells, tick 0, 8388625 bytes\n"
-            "image.b: closed, 0 bytes\n"
+            "image.b: closed, 1 byte\n"
             "log.a: open, format 2, base 0, 0 groups, 0 ticks, 10 bytes\n"
             "log.b: closed, 1 byte\n"
             "recovered 0 from 0 in image.a\n"
@@ -246,7 +246,7 @@ def try_creating(trial: Trial) -> None:
         trial.check("other files", others, (b"of another program", GARBAGE))
     with new_folder() as folder:
         trial.ends("a full output", create(trial, folder, full=True), "", FULL, 1)
-        trial.check("a full output", files_of(folder), (NEW_IMAGE, b"", NEW_LOG, b"\0"))
+        trial.check("a full output", files_of(folder), (NEW_IMAGE, b"\0", NEW_LOG, b"\0"))
 
 
 def try_completing(trial: Trial) -> None:
@@ -314,7 +314,7 @@ def try_words(trial: Trial) -> None:
             made = trial.run("create", "--dir", str(folder), "--words", str(listed))
             trial.ends(f"the words {text!r}", made, f"created {len(words)}\n", "", 0)
             image = b"\1" + struct.pack(f"<QQ{len(words)}Q", len(words) + (0x20 << 56), 0, *words)
-            trial.check(f"the words {text!r}", files_of(folder), (image, b"", b"", b""))
+            trial.check(f"the words {text!r}", files_of(folder), (image, b"\0", b"\0", b"\0"))
             found = trial.run("inspect", "--words", "--dir", str(folder)).output.splitlines()
             trial.check(f"the words {text!r}", found[-2:], ["recovered 0 from 0 in image.a", " ".join(map(str, words))])
     bad = f"has something other than numbers from 0 to {most} with one space between them"

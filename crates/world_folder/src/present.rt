@@ -11,7 +11,9 @@ use crate::unfinished::{MadeFiles, Unfinished, Why};
 use crate::world_file::WorldFile;
 use disk_model::FourFiles;
 use file_disk::FileDisk;
+use file_format::CLOSED_GATE;
 use std::fs::{File, Files};
+use std::io::Write;
 use std::time::Clock;
 use world_actions::Refusal;
 
@@ -142,11 +144,14 @@ impl<'a, R: Files<File = File> + AllocGlobal> FolderFiles<'a, R> {
 impl<'a, R: Files<File = File> + Clock + AllocGlobal> MakesFiles<FileDisk> for FolderFiles<'a, R> {
     ghost made = { λ files. files.made };
 
-    /// Makes an empty file that its owner alone may read and write, and locks it if it is image.a.
+    /// Makes a file that its owner alone may read and write, and locks it if it is image.a. It is a closed gate: an empty file
+    /// of a world that was made is one that was lost.
     fn make(&mut self, file: WorldFile) -> Result<FileDisk, Ending> {
         let new = make_file(self.rt, self.folder, file.name());
-        let new = opened(self.rt.alloc(), self.folder, file.name(), new)?;
+        let mut new = opened(self.rt.alloc(), self.folder, file.name(), new)?;
         self.note(file);
+        let closed = new.write_all(&[CLOSED_GATE]);
+        opened(self.rt.alloc(), self.folder, file.name(), closed)?;
         let owned = own(self.rt, file, new);
         Ok(opened(self.rt.alloc(), self.folder, file.name(), owned)?.disk)
     }
