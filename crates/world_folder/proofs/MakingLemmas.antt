@@ -1,5 +1,6 @@
 -- Why no world is made.
 use Rattle.std.proofs.Common.{◌≡◌, ◌⊎◌, inl, inr, ⊎_elim, Ok, Err, ℕ, List, refl, sym, ap, subst, ◌∙◌}
+use Rattle.std.specs.Path.{path_buf_bytes, path_join}
 use Rattle.world_actions.specs.declared.refusal.Refusal.{Refusal}
 use Rattle.world_actions.specs.declared.refusal.Refusal.TheVariants.{NoMemory, Device, NotEmpty, NoImage}
 use Rattle.disk_model.specs.Disk.{Only}
@@ -8,10 +9,12 @@ use Rattle.disk_model.specs.FourFiles.{EachFile, KeepsFile}
 use Rattle.image_files.specs.Image.{Closed, Open, image_of}
 use Rattle.action_log.specs.Segment.{ClosedSegment, IsSegment}
 use Rattle.recovery.specs.Recovery.{Recovers}
+use Rattle.file_readers.specs.Reading.{AreFilesRead}
 use Rattle.world_start.specs.Fresh.{AreClosed, AreNotMade, FilesAreClosed}
 use Rattle.world_folder.specs.declared.ending.Ending.{Ending}
 use Rattle.world_folder.specs.declared.ending.Ending.TheVariants.{Fault, Occupied}
-use Rattle.world_folder.specs.Making.{IsFirstOpen, TellsUnmade, IsUnmade, HoldsNoOther, recovery_of_words}
+use Rattle.world_folder.specs.declared.ending.Occupied.{Occupied as OpenFile}
+use Rattle.world_folder.specs.Making.{IsFirstOpen, TellsUnmade, IsUnmade, HoldsWords, HoldsNoOther, recovery_of_words}
 
 -- the bytes of four files
 abbrev Four : Type 0
@@ -55,6 +58,41 @@ module _ {D : Type 0} (file : D → List ℕ) (leaves : D → List ℕ → Type 
         safe = λ synced closed. absurd (one_is closed);
       }
 
+-- a fault names one refusal
+pub device_named : (refusal : Refusal) → Fault refusal ≡ Fault Device → refusal ≡ Device
+device_named refusal is = cc
+
+-- ---- the files as they were read
+
+module _ {D : Type 0} (file : D → List ℕ) (files : FourFiles D) (ia ib la lb : List ℕ) (read : AreFilesRead file files ia ib la lb) where
+  -- the first file that isn't closed by what was read of it is the first one
+  first_open_read : (name : List ℕ) → IsFirstOpen ia ib la lb name → IsFirstOpen (file files.image_a) (file files.image_b) (file files.log_a) (file files.log_b) name
+  first_open_read name first =
+      let a = read.image_a_read.reads in
+      let b = read.image_b_read.reads in
+      let l = read.log_a_read.reads ClosedSegment in
+      let m = read.log_b_read.reads ClosedSegment in
+      ⊎_elim
+      (λ is. inl (is.0, λ closed. is.1 (a ∙ closed)))
+      (λ others. inr (⊎_elim
+      (λ is. inl (is.0, sym a ∙ is.1, λ closed. is.2 (b ∙ closed)))
+      (λ logs. inr (⊎_elim
+      (λ is. inl (is.0, sym a ∙ is.1, sym b ∙ is.2, λ closed. is.3 (l.1 closed)))
+      (λ is. inr (is.0, sym a ∙ is.1, sym b ∙ is.2, l.0 is.3, λ closed. is.4 (m.1 closed)))
+      logs))
+      others))
+      first
+
+  -- the ending names it, or tells of want of memory
+  pub tells_read : (folder name : List ℕ) (ending : Ending) → IsFirstOpen ia ib la lb name
+      → (ending ≡ Fault NoMemory) ⊎ ((opened : OpenFile) × (ending ≡ Occupied opened) × (path_buf_bytes opened.path ≡ path_join folder name))
+      → TellsUnmade file folder files ending
+  tells_read folder name ending first told =
+      ⊎_elim
+      (λ none. subst (λ (e : Ending). TellsUnmade file folder files e) (sym none) (inl refl))
+      (λ opened. subst (λ (e : Ending). TellsUnmade file folder files e) (sym opened.1) (name, opened.2, first_open_read name first))
+      told
+
 -- ---- a world of given words
 
 -- closed files hold no world
@@ -79,6 +117,33 @@ words_stand a b la lb words image image_b log_a log_b = record {
 }
 
 module _ {D : Type 0} (file : D → List ℕ) (leaves : D → List ℕ → Type 0) where
+  -- an image of words was made durable over the first of four closed files, which were read before
+  pub words_made : (files read : FourFiles D) (image : D) (words : List ℕ) → FilesAreClosed file files → EachFile files read (KeepsFile file leaves)
+      → image_of (file image) ≡ Open 0 words → Only (file image) (leaves image)
+      → HoldsWords file leaves files words (record { image_a = image; image_b = read.image_b; log_a = read.log_a; log_b = read.log_b })
+  words_made files read image words closed kept is only = record {
+    closed = closed;
+    image = is;
+    durable = only;
+    image_b = kept.image_b;
+    log_a = kept.log_a;
+    log_b = kept.log_b;
+    recovers =
+        (let b_closed : image_of (file read.image_b) ≡ Closed = ap image_of kept.image_b.same_content ∙ closed.image_b_closed in
+        let la_closed : IsSegment (file read.log_a) ClosedSegment = subst (λ (l : List ℕ). IsSegment l ClosedSegment) (sym kept.log_a.same_content) closed.log_a_closed in
+        let lb_closed : IsSegment (file read.log_b) ClosedSegment = subst (λ (l : List ℕ). IsSegment l ClosedSegment) (sym kept.log_b.same_content) closed.log_b_closed in
+        words_stand (file image) (file read.image_b) (file read.log_a) (file read.log_b) words is b_closed la_closed lb_closed);
+  }
+
+  -- no image is written over files of which one isn't closed
+  pub not_closed_unmade : (folder words : List ℕ) (files left : FourFiles D) (ending : Ending) → ¬ FilesAreClosed file files
+      → TellsUnmade file folder files ending → EachFile files left (KeepsFile file leaves) → HoldsNoOther file leaves folder files words ending left
+  not_closed_unmade folder words files left ending not_closed told kept = record {
+    told = told;
+    kept = λ other. kept;
+    safe = λ synced closed. absurd (not_closed closed);
+  }
+
   -- no image is known to be written over the first of four closed files, which were read before
   pub unwritten : (folder words : List ℕ) (files read : FourFiles D) (image : D) (refusal : Refusal)
       → FilesAreClosed file files → EachFile files read (KeepsFile file leaves)

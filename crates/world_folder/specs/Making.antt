@@ -1,13 +1,16 @@
 -- The results of making a world in a folder.
-use Rattle.std.specs.Prelude.{◌≡◌, ◌≢◌, ◌⊎◌, ℕ, List, [], Ok, Err}
+use Rattle.std.specs.Prelude.{◌≡◌, ◌≢◌, ◌⊎◌, ℕ, Bool, List, [], Ok, Err}
 use Rattle.std.specs.Path.{path_buf_bytes, path_join}
 use Rattle.world_actions.specs.declared.refusal.Refusal.TheVariants.{NoMemory, Device, NotEmpty, NoImage}
 use Rattle.file_format.specs.declared.slot.Slot.TheVariants.{A}
-use Rattle.disk_model.specs.Disk.{Only}
+use Rattle.disk_model.specs.Disk.{Call, Only}
 use Rattle.disk_model.specs.FourFiles.{EachFile, KeepsFile}
 use Rattle.disk_model.specs.declared.four_files.FourFiles.{FourFiles}
 use Rattle.image_files.specs.Image.{Closed, Open, image_of}
 use Rattle.action_log.specs.Segment.{ClosedSegment, IsSegment}
+use Rattle.action_log.specs.declared.format.TheConstants.{SEGMENT_BYTES_MAX}
+use Rattle.file_readers.specs.declared.image.TheConstants.{IMAGE_BYTES_MAX}
+use Rattle.file_readers.specs.Asking.{OnlyAsked}
 use Rattle.recovery.specs.Recovery.{Recovery, Recovers}
 use Rattle.recovery.specs.Sound.{IsFresh}
 use Rattle.world_start.specs.Opening.{AreSynced, AreSound, RecoversFiles}
@@ -42,6 +45,12 @@ module _ {D : Type 0} (file : D → List ℕ) (leaves : D → List ℕ → Type 
     pub kept : ending ≢ Fault Device → EachFile files left (KeepsFile file leaves)
     pub safe : AreSynced file leaves files → FilesAreClosed file files
         → IsFresh (leaves left.image_a) (leaves left.image_b) (leaves left.log_a) (leaves left.log_b) cells ⊎ AreSound file leaves left cells [] 0
+
+-- the files beside image.a are asked for no byte behind the greatest length of their format, and for nothing else
+pub record OthersOnlyAsked {D : Type 0} (called : D → Call → Bool → D → Type 0) (files left : FourFiles D) : Type 0 where
+  pub image_b : OnlyAsked called IMAGE_BYTES_MAX files.image_b left.image_b
+  pub log_a : OnlyAsked called SEGMENT_BYTES_MAX files.log_a left.log_a
+  pub log_b : OnlyAsked called SEGMENT_BYTES_MAX files.log_b left.log_b
 
 -- what recovery finds in a world that was made of these words
 abbrev pub recovery_of_words : List ℕ → Recovery

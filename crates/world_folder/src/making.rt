@@ -2,18 +2,22 @@ ghost use Rattle.std.specs.Prelude.{◌≡◌, ◌≢◌, ◌⊎◌, ◌≤◌, 
 ghost use Rattle.std.specs.Path.{path_buf_bytes, path_join};
 ghost use Rattle.world_actions.specs.declared.world.TheConstants.{CELLS};
 ghost use Rattle.disk_model.specs.FourFiles.{EachFile, KeepsFile, fault_counts};
+ghost use Rattle.action_log.specs.declared.format.TheConstants.{SEGMENT_BYTES_MAX};
+ghost use Rattle.file_readers.specs.declared.image.TheConstants.{IMAGE_BYTES_MAX};
+ghost use Rattle.file_readers.specs.Asking.{FilesOnlyAsked};
 ghost use Rattle.world_start.specs.Opening.{SomeGrew};
 ghost use Rattle.world_start.specs.Fresh.{AreClosed, AreMade, FilesAreClosed};
 ghost use Rattle.world_folder.specs.declared.ending.Occupied.{Occupied as Open};
 ghost use Rattle.world_folder.specs.Ending.{IsFault};
 ghost use Rattle.world_actions.specs.World.{IsWorld};
-ghost use Rattle.world_folder.specs.Making.{IsFirstOpen, TellsUnmade, IsUnmade, HoldsWords, HoldsNoOther};
+ghost use Rattle.world_folder.specs.Making.{IsFirstOpen, TellsUnmade, IsUnmade, HoldsWords, HoldsNoOther, OthersOnlyAsked};
 
 use crate::ending::{Ending, Occupied};
 use crate::folder::path_of;
 use crate::words_image::write_words;
 use crate::world_file::{IMAGE_A, IMAGE_B, LOG_A, LOG_B};
 use disk_model::{Disk, FourFiles};
+use file_readers::read_files;
 use std::alloc::Global;
 use world_actions::Refusal;
 use world_start::{are_closed, fresh_files, is_closed_image, is_closed_segment};
@@ -63,7 +67,7 @@ pub fn make_in<D: Disk>(
 }
 
 /// Makes the files of a world of these words at tick 0, of the four files of a folder, as `make_in` makes one of zeros.
-/// The log stays closed: a server begins it.
+/// The log stays closed: a server begins it. Bytes that no format reads aren't read.
 pub fn make_of_words<D: Disk>(
     alloc: Global,
     folder: &str,
@@ -76,12 +80,14 @@ pub fn make_of_words<D: Disk>(
     ensures cells { IfOk result (λ made. made.1.cells ≡ length words.now) }
     ensures unmade { IsTrue D.honest → IfErr result (λ unmade.
         HoldsNoOther D.content D.may_leave folder.now files words.now unmade.1 unmade.0) }
+    ensures asked { IfOk result (λ made. OthersOnlyAsked D.called files made.0) }
+    ensures unmade_asked { IfErr result (λ unmade. OthersOnlyAsked D.called files unmade.0) }
     ensures device { IfErr result (λ unmade. unmade.1 ≡ Ending.Fault Refusal.Device
         → SomeGrew (fault_counts D.faults files) (fault_counts D.faults unmade.0)) }
     ensures fault { IfErr result (λ unmade. IsFault unmade.1) }
 {
     let mut files = files;
-    let bytes = match files.read_all(alloc) {
+    let bytes = match read_files(alloc, &mut files) {
         Ok(bytes) => bytes,
         Err(refusal) => return Err((files, Ending::Fault(refusal))),
     };
@@ -102,11 +108,13 @@ pub fn make_of_words<D: Disk>(
 fn occupied<D: Disk>(alloc: Global, folder: &str, files: &mut FourFiles<D>) -> Ending
     ensures told { IsTrue D.honest → ¬ FilesAreClosed D.content files.old
         → TellsUnmade D.content folder.now files.old result }
+    ensures asked { FilesOnlyAsked D.called IMAGE_BYTES_MAX IMAGE_BYTES_MAX SEGMENT_BYTES_MAX SEGMENT_BYTES_MAX
+        files.old files.new }
     ensures kept { IsTrue D.honest → EachFile files.old files.new (KeepsFile D.content D.may_leave) }
     ensures other { result ≢ Ending.Fault Refusal.Device }
     ensures fault { IsFault result }
 {
-    match files.read_all(alloc) {
+    match read_files(alloc, files) {
         Ok(bytes) => occupied_by(alloc, folder, first_open(alloc, &bytes)),
         Err(_) => Ending::Fault(Refusal::NotEmpty),
     }

@@ -1,15 +1,16 @@
 //! The image of a world that is made of given words.
-ghost use Rattle.std.specs.Prelude.{◌≡◌, ◌⊎◌, ◌≤◌, ◌++◌, ◌∷◌, [], ℕ, List, length, IsTrue, IfOk, IfErr, OnOk, Err};
+ghost use Rattle.std.specs.Prelude.{◌≡◌, ◌⊎◌, ◌≤◌, ◌++◌, ◌∷◌, true, false, [], ℕ, List, length, IsTrue, IfOk, IfErr, OnOk, Err};
 ghost use Rattle.std.specs.List.{flat_map};
 ghost use Rattle.world_actions.specs.declared.world.TheConstants.{CELLS};
 ghost use Rattle.world_actions.specs.World.{IsWorld};
 ghost use Rattle.file_format.specs.declared.gate.TheConstants.{OPEN_GATE};
 ghost use Rattle.file_format.specs.declared.format.Format.TheVariants.{Second};
-ghost use Rattle.file_format.specs.Gate.{HasShutGate};
+ghost use Rattle.file_format.specs.Gate.{HasShutGate, HasNoShutGate};
 ghost use Rattle.file_format.specs.Number.{number_bytes};
 ghost use Rattle.disk_model.specs.Disk.{Only, Grew, IsDeviceFault, counted, overwritten};
 ghost use Rattle.image_files.specs.Image.{Closed, Open, image_of, header_bytes};
 ghost use Rattle.image_files.specs.declared.format.TheConstants.{WORD_BYTES};
+ghost use Rattle.file_readers.specs.Reading.{IsImageRead};
 ghost use Rattle.world_folder.specs.WordsImage.{LeavesNone};
 
 use disk_model::Disk;
@@ -18,8 +19,8 @@ use image_files::{WORD_BYTES, images_read_back};
 use std::alloc::{AllocError, Global};
 use world_actions::Refusal;
 
-/// Writes an image of these words at tick 0 over a file that holds none and has these bytes. The gate is opened once all
-/// else is durable: until then a crash leaves no image.
+/// Writes an image of these words at tick 0 over a file that holds none. These bytes were read of it: its first ones, which
+/// read as all of it. The gate is opened once all else is durable: until then a crash leaves no image.
 pub fn write_words<D: Disk>(
     alloc: Global,
     words: &[u64],
@@ -27,7 +28,7 @@ pub fn write_words<D: Disk>(
     image: &mut D,
 ) -> Result<(), Refusal>
     requires world { IsWorld words.now }
-    requires bytes { IsTrue D.honest → D.content image.old ≡ bytes.now }
+    requires read { IsTrue D.honest → IsImageRead (D.content image.old) bytes.now }
     requires closed { image_of bytes.now ≡ Closed }
     ensures made { IsTrue D.honest → OnOk result (image_of (D.content image.new) ≡ Open 0 words.now) }
     ensures durable { IsTrue D.honest → OnOk result (Only (D.content image.new) (D.may_leave image.new)) }
@@ -40,16 +41,17 @@ pub fn write_words<D: Disk>(
     ensures no_fault { OnOk result (D.faults image.new ≡ D.faults image.old) }
 {
     let body = image_body(alloc, 0, words)?;
-    shut_gate(bytes, image)?;
+    shut_gate(is_shut(bytes), image)?;
     write_body(&body, image)?;
     open_gate(image)
 }
 
 // Writes a closed gate over a file that holds no image, unless its gate is shut already. A file of which a write may
 // leave an open gate is too short for an image.
-fn shut_gate<D: Disk>(bytes: &[u8], image: &mut D) -> Result<(), Refusal>
-    requires bytes { IsTrue D.honest → D.content image.old ≡ bytes.now }
-    requires closed { image_of bytes.now ≡ Closed }
+fn shut_gate<D: Disk>(already_shut: bool, image: &mut D) -> Result<(), Refusal>
+    requires closed { IsTrue D.honest → image_of (D.content image.old) ≡ Closed }
+    requires has_shut { IsTrue D.honest → already_shut ≡ true → HasShutGate (D.content image.old) }
+    requires has_no_shut { IsTrue D.honest → already_shut ≡ false → HasNoShutGate (D.content image.old) }
     ensures shut { IsTrue D.honest → OnOk result (HasShutGate (D.content image.new)) }
     ensures left { IsTrue D.honest → Only (D.content image.old) (D.may_leave image.old)
         → LeavesNone (D.may_leave image.new) }
@@ -59,7 +61,7 @@ fn shut_gate<D: Disk>(bytes: &[u8], image: &mut D) -> Result<(), Refusal>
     ensures faults { D.faults image.new ≡ counted (D.faults image.old) result }
 {
     images_read_back();
-    if is_shut(bytes) {
+    if already_shut {
         return Ok(());
     }
     image.write_at(0, &[CLOSED_GATE])?;

@@ -1,0 +1,211 @@
+#!/usr/bin/env python3
+"""Runs recipes of docs/OPERATIONS.md word by word, as root and as the user of a world.
+
+    scripts/recipe_trial.py crates/worldd/out/worldd
+
+The manual makes a user and a world. The world is served as that user, and a client plays. The manual takes a backup meanwhile
+and restores it. Then the files are removed under the server, and the manual saves them. What comes of both has to belong to the
+user, to be served by it, and to hold each tick that was answered before. All of it runs in a mount namespace in which the
+folders of the system are copies or empty. This needs root; else it says so and tries nothing.
+"""
+import argparse
+import collections
+import itertools
+import os
+import pathlib
+import re
+import shutil
+import signal
+import stat
+import subprocess
+import sys
+import tempfile
+import threading
+import time
+
+from surroundings_trial import NAMES, Client, Wrong, is_root, want
+
+PAGE = pathlib.Path(__file__).resolve().parent.parent / "docs" / "OPERATIONS.md"
+# The words of the manual in front of each recipe.
+MAKING, BACKUP = "**2. Make a user, its folder, and a world**", "**While it serves**"
+RESTORE, SAVING = "**Restore.**", "**Files are removed**"
+USER, PROGRAM = "world", "/usr/local/bin/worldd"
+WORLD, OTHER, COPY = (pathlib.Path(path) for path in ("/var/lib/world", "/var/lib/world2", "/var/backups/world.1"))
+ROUNDS, SECONDS, INSIDE = 3, 60, "--inside"
+CASES = (
+    "worlds made", "copies while it serves", "copies ahead of the answers", "copies restored", "lost files saved",
+    "worlds served again",
+)
+
+
+def recipe(name: str) -> str:
+    """The commands of the manual behind these words."""
+    lines = PAGE.read_text().partition(name)[2].splitlines()
+    begin = next((number for number, line in enumerate(lines) if line.startswith("    ")), None)
+    want(begin is not None, f"the manual has no recipe behind `{name}`")
+    end = next(number for number, line in enumerate(lines) if number > begin and not line.startswith("    "))
+    return "\n".join(line[4:] for line in lines[begin:end])
+
+
+def follow(name: str, **words: object) -> str:
+    """Runs the commands of a recipe as root, with these words in their places. It gives what they print."""
+    text = recipe(name)
+    for word, given in words.items():
+        want(word in text, f"the recipe behind `{name}` has no {word}")
+        text = re.sub(rf"\b{word}\b", str(given), text)
+    run = subprocess.run(["sh", "-e", "-u", "-c", text], capture_output=True, text=True, timeout=SECONDS)
+    want(run.returncode == 0, f"the recipe behind `{name}` ends with {run.returncode}: {run.stdout}{run.stderr}")
+    return run.stdout
+
+
+class Player(threading.Thread):
+    """A client that adds 1 to cell 0 in each tick, until the server is gone. It keeps the greatest tick that was answered."""
+
+    def __init__(self, address: str) -> None:
+        super().__init__(daemon=True)
+        self.client, self.answered = Client(address), 0
+        self.start()
+
+    def run(self) -> None:
+        while told := re.match(rb"tick (\d+): \+\n", self.client.play()):
+            self.answered = int(told[1])
+
+
+class Trial:
+    """A folder for sockets, and the counts so far."""
+
+    def __init__(self, room: pathlib.Path) -> None:
+        self.room, self.met, self.sockets = room, collections.Counter(), itertools.count()
+        self.servers: list[subprocess.Popen] = []
+
+    def serve(self, folder: pathlib.Path) -> tuple[subprocess.Popen, int, Player]:
+        """A server of a folder, as the user of the world: its process, the tick that it recovered, and a client that plays."""
+        place = self.room / f"socket{next(self.sockets)}"
+        command = [PROGRAM, "serve", "--dir", folder, "--method", "zigzag", "--every", "8", "--socket", place, "--clients", "10"]
+        as_user = {"user": USER, "group": USER, "extra_groups": []}
+        server = subprocess.Popen(command, stdout=subprocess.PIPE, stderr=subprocess.DEVNULL, text=True, **as_user)
+        self.servers.append(server)
+        lines = [server.stdout.readline() for _ in range(2)]
+        told = re.fullmatch(r"recovered (\d+) from \d+\n", lines[0])
+        want(bool(told) and lines[1] == f"listening {place}\n", f"the user can't serve {folder}: {lines}")
+        player = Player(str(place))
+        end = time.monotonic() + SECONDS
+        while player.answered < int(told[1]) + 50:
+            want(player.is_alive() and time.monotonic() < end, f"no answers of a server of {folder}")
+            time.sleep(0.001)
+        return server, int(told[1]), player
+
+    def holds(self, folder: pathlib.Path, floor: int) -> int:
+        """A folder has to belong to the user, and to hold each tick up to this one with its words. It gives the tick."""
+        owner = WORLD.stat()
+        for path, mode in ((folder, 0o700), *((folder / name, 0o600) for name in NAMES)):
+            found = path.stat()
+            want((found.st_uid, found.st_gid) == (owner.st_uid, owner.st_gid), f"{path} belongs to another user")
+            want(stat.S_IMODE(found.st_mode) == mode, f"{path} has the mode {stat.S_IMODE(found.st_mode):o}")
+        told = subprocess.run([PROGRAM, "inspect", "--dir", folder, "--words"], capture_output=True, text=True)
+        found = re.search(r"^recovered (\d+) from \d+ in image\.[ab]\n(\d+) ", told.stdout, re.MULTILINE)
+        want(bool(found) and found[1] == found[2], f"{folder} holds other words: {told.stdout[:300]}{told.stderr}")
+        want(int(found[1]) >= floor, f"{folder} holds tick {found[1]}, and tick {floor} was answered")
+        return int(found[1])
+
+    def end(self) -> None:
+        """Ends each server that still runs."""
+        for server in self.servers:
+            server.kill()
+            server.wait()
+
+    def serves_again(self, folder: pathlib.Path, tick: int) -> None:
+        """The user serves what a recipe made, from this tick on. Then the folder is removed."""
+        server, recovered, _ = self.serve(folder)
+        server.kill()
+        server.wait()
+        want(recovered == tick, f"a server of {folder} recovered {recovered}, and not {tick}")
+        self.met["worlds served again"] += 1
+        shutil.rmtree(folder)
+
+    def round(self) -> None:
+        """A backup under a server, its restore, and files that are removed under the server."""
+        server, _, player = self.serve(WORLD)
+        floor = player.answered
+        told = re.search(r"^backed up (\d+) from \d+$", follow(BACKUP), re.MULTILINE)
+        want(bool(told) and int(told[1]) >= floor, f"tick {floor} was answered before a copy of {told}")
+        self.met["copies while it serves"] += 1
+        self.met["copies ahead of the answers"] += int(told[1]) > floor
+        follow(RESTORE)
+        want(self.holds(OTHER, floor) == int(told[1]), "what was restored is another tick")
+        self.met["copies restored"] += 1
+        self.serves_again(OTHER, int(told[1]))
+        shutil.rmtree(COPY)
+        for name in NAMES:
+            (WORLD / name).unlink()
+        follow(SAVING, PID=server.pid)
+        server.wait()
+        player.join()
+        tick = self.holds(OTHER, player.answered)
+        self.met["lost files saved"] += 1
+        self.serves_again(OTHER, tick)
+
+    def run(self) -> str:
+        """Each round begins with a user and a world of its own."""
+        for _ in range(ROUNDS):
+            want(follow(MAKING) == "created 1000\n", "the manual made no world")
+            self.met["worlds made"] += 1
+            shutil.chown(self.room, USER, USER)
+            self.round()
+            shutil.rmtree(WORLD)
+            subprocess.run(["userdel", USER], check=True, capture_output=True)
+        missed = [case for case in CASES if not self.met[case]]
+        want(not missed, f"never met: {', '.join(missed)}")
+        return "; ".join(f"{case} {self.met[case]}" for case in CASES)
+
+
+def furnish(worldd: pathlib.Path, room: pathlib.Path) -> None:
+    """Puts a copy of /etc, an empty /var and the program alone in /usr/local/bin over those of the system, in this namespace."""
+    shutil.copytree("/etc", room / "etc", symlinks=True, ignore_dangling_symlinks=True)
+    (room / "bin").mkdir()
+    shutil.copy(worldd, room / "bin" / "worldd")
+    (room / "bin" / "worldd").chmod(0o755)
+    mounts = ("-t", "tmpfs", "tmpfs", "/var"), ("--bind", room / "etc", "/etc"), ("--bind", room / "bin", "/usr/local/bin")
+    for words in mounts:
+        subprocess.run(["mount", *words], check=True)
+    for folder in ("lib", "backups"):
+        pathlib.Path("/var", folder).mkdir()
+
+
+def inside(worldd: pathlib.Path, room: pathlib.Path) -> int:
+    """Runs the trial in this namespace."""
+    (room / "run").mkdir()
+    trial = Trial(room / "run")
+    try:
+        furnish(worldd, room)
+        print(f"recipes: {trial.run()}")
+    except (Wrong, OSError, subprocess.SubprocessError) as wrong:
+        print(f"recipes: {wrong}", file=sys.stderr)
+        return 1
+    finally:
+        trial.end()
+    return 0
+
+
+def main() -> int:
+    """Runs the trial in a namespace of its own."""
+    parser = argparse.ArgumentParser(description=__doc__.splitlines()[0])
+    parser.add_argument("worldd", type=pathlib.Path, help="the built worldd")
+    parser.add_argument(INSIDE, type=pathlib.Path, metavar="ROOM", help="with a folder for its files, in this namespace")
+    given = parser.parse_args()
+    os.environ["PATH"] += ":/usr/sbin:/sbin"
+    signal.signal(signal.SIGPIPE, signal.SIG_IGN)
+    worldd = given.worldd.resolve()
+    if given.inside:
+        return inside(worldd, given.inside)
+    lacking = [name for name in ("unshare", "useradd", "userdel", "runuser") if not shutil.which(name)]
+    if not is_root() or lacking or subprocess.run(["unshare", "--mount", "true"]).returncode:
+        print(f"recipes: not tried: {f'there is no {lacking[0]}' if lacking else 'only root can, with a mount namespace'}")
+        return 0
+    with tempfile.TemporaryDirectory(prefix="recipes") as room:
+        pathlib.Path(room).chmod(0o755)
+        return subprocess.run(["unshare", "--mount", sys.executable, __file__, worldd, INSIDE, room]).returncode
+
+
+if __name__ == "__main__":
+    sys.exit(main())
