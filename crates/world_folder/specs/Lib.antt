@@ -15,3 +15,4 @@ pub mod Forward
 pub mod Salvaging
 pub mod Served
 pub mod Texts
+pub mod Verified

@@ -5,10 +5,8 @@ use crate::copying::{Images, copy_world};
 use crate::ending::{Ending, Filled};
 use crate::fault::stands_in;
 use crate::folder::{opened, path_of, sync_names};
-use crate::found::WorldTold;
 use crate::own_file::make_file;
-use crate::reading::read_folder;
-use crate::recovering::found_in;
+use crate::verified::verify;
 use crate::world_file::WorldFile;
 use disk_model::FourFiles;
 use recovery::Slot;
@@ -19,7 +17,8 @@ use std::time::Clock;
 use world_actions::Refusal;
 
 /// Copies the world of a folder into an empty one, and prints which world the copy holds. A server may write the world
-/// meanwhile. The copy's image is written last, so a copy that was cut off holds no world.
+/// meanwhile. The copy's image is written last, so a copy that was cut off holds no world. The copy has to recover to the world
+/// that was read.
 pub fn back_up<R: Files<File = File> + Clock + Print + Eprint + AllocGlobal + Clone + Drop>(
     rt: &R,
     folder: &str,
@@ -32,16 +31,16 @@ pub fn back_up<R: Files<File = File> + Clock + Print + Eprint + AllocGlobal + Cl
         Ok(copied) => copied,
         Err(reason) => return Err(reason.ending()),
     };
-    let newest = match stands_in(rt.alloc(), &copied.files) {
-        Ok(found) => found.slot,
+    let read = match stands_in(rt.alloc(), &copied.files) {
+        Ok(read) => read,
         Err(fault) => return Err(Ending::NoWorld(fault)),
     };
-    write_files(rt, to, &copied.files, newest)?;
-    let found = found_in(rt.alloc(), to, read_folder(rt, to))?;
+    write_files(rt, to, &copied.files, read.slot)?;
+    let verified = verify(rt, to, &read)?;
     if copied.tries > 1 {
         let _ = eprintln!(rt; "worldd: it was begun {} times", copied.tries);
     }
-    println!(rt; "backed up {}", WorldTold::of(&found))?;
+    println!(rt; "backed up {verified}")?;
     Ok(())
 }
 

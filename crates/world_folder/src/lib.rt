@@ -35,6 +35,7 @@ mod served;
 mod system_error;
 mod told;
 mod unfinished;
+mod verified;
 mod whole;
 mod words_image;
 mod words_text;

@@ -10,10 +10,9 @@ use crate::counted::Counted;
 use crate::ending::Ending;
 use crate::fault::Fault;
 use crate::folder::{opened, sync_names};
-use crate::found::WorldTold;
 use crate::own_file::make_file;
 use crate::reading::read_folder;
-use crate::recovering::found_in;
+use crate::verified::verify;
 use crate::words_image::image_body;
 use crate::world_file::{Named, WorldFile};
 use disk_model::FourFiles;
@@ -40,8 +39,8 @@ pub fn salvage_world<R: Files<File = File> + Print + AllocGlobal + Clone + Drop>
     let salvaged = salvaged_of(rt.alloc(), &files)?;
     print_parts(rt, &salvaged)?;
     write_world(rt, to, &salvaged.found)?;
-    let found = found_in(rt.alloc(), to, read_folder(rt, to))?;
-    println!(rt; "salvaged {}", WorldTold::of(&found))?;
+    let verified = verify(rt, to, &salvaged.found)?;
+    println!(rt; "salvaged {verified}")?;
     Ok(())
 }
 
