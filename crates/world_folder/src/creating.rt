@@ -9,7 +9,7 @@ use crate::folder::{failure_of, failure_of_present, opened, path_of, sync_names}
 use crate::forward::read_forward;
 use crate::making::{Made, make_in, make_of_words};
 use crate::present::{FolderFiles, open_present};
-use crate::words_text::{BadWords, TEXT_BYTES, read_words};
+use crate::words_text::{BadWords, Listed, TEXT_BYTES};
 use disk_model::FourFiles;
 use file_disk::FileDisk;
 use std::alloc::Global;
@@ -62,9 +62,9 @@ pub fn create_of_words<R: Files<File = File> + Clock + Print + AllocGlobal>(
 ) -> Result<Made, Ending>
     ensures fault { IfErr result IsFault }
 {
-    let words = listed_words(rt, list)?;
+    let listed = read_list(rt, list)?;
     let mut maker = FolderFiles::new(rt, folder);
-    match create_of(rt, folder, &words, &mut maker) {
+    match create_of(rt, folder, &listed, &mut maker) {
         Ok(made) => print_made(rt, made),
         Err(ending) => Err(maker.unfinished(ending)),
     }
@@ -73,15 +73,15 @@ pub fn create_of_words<R: Files<File = File> + Clock + Print + AllocGlobal>(
 fn create_of<R: Files<File = File> + Clock + AllocGlobal>(
     rt: &R,
     folder: &str,
-    words: &[u64],
+    listed: &Listed,
     maker: &mut FolderFiles<'_, R>,
 ) -> Result<Made, Ending>
-    requires { IsWorld words.now }
-    ensures made { IfOk result (λ made. made.cells ≡ length words.now) }
+    requires { IsWorld listed.now.words.items }
+    ensures made { IfOk result (λ made. made.cells ≡ length listed.now.words.items) }
     ensures fault { IfErr result IsFault }
 {
     let files = four_files(rt, folder, maker)?;
-    match make_of_words(rt.alloc(), folder, words, files) {
+    match make_of_words(rt.alloc(), folder, listed.words(), files) {
         Ok((_, made)) => Ok(made),
         Err((files, ending)) => Err(not_made(rt.alloc(), folder, files, ending)),
     }
@@ -113,13 +113,13 @@ fn four_files<R: Files<File = File> + Clock + AllocGlobal>(
 }
 
 // The words that a file lists.
-fn listed_words<R: Files<File = File> + AllocGlobal>(rt: &R, list: &str) -> Result<Vec<u64>, Ending>
-    ensures world { IfOk result (λ words. IsWorld words.items) }
+fn read_list<R: Files<File = File> + AllocGlobal>(rt: &R, list: &str) -> Result<Listed, Ending>
+    ensures world { IfOk result (λ listed. IsWorld listed.words.items) }
     ensures fault { IfErr result IsFault }
 {
     let text = opened(rt.alloc(), "", list, read_text(rt, list))?;
-    match read_words(rt.alloc(), &text) {
-        Ok(words) => Ok(words),
+    match Listed::read(rt.alloc(), &text) {
+        Ok(listed) => Ok(listed),
         Err(why) => Err(unlisted(rt.alloc(), list, why)),
     }
 }

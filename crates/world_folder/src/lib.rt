@@ -61,5 +61,5 @@ pub use salvaging::salvage_world;
 pub use system_error::Reason;
 pub use unfinished::{MadeFiles, Unfinished, Why};
 pub use whole::{NotRecovered, Whole, recover_whole};
-pub use words_text::{BadWords, read_words};
+pub use words_text::{BadWords, Listed};
 pub use world_file::{IMAGE_A, IMAGE_B, LOG_A, LOG_B, WorldFile};

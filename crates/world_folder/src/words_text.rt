@@ -69,19 +69,34 @@ impl fmt::Display for BadLine {
     }
 }
 
-/// Reads the words of a world from a text. Each word is in decimal, with a space or a newline behind it, which the last
-/// one may lack.
-pub fn read_words(alloc: Global, text: &[u8]) -> Result<Vec<u64>, BadWords>
-    ensures listed { IfOk result (λ words. Lists words.items text.now) }
-    ensures world { IfOk result (λ words. IsWorld words.items) }
-    ensures empty { result ≡ Err BadWords.Empty → text.now ≡ [] }
-    ensures too_many { result ≡ Err BadWords.TooMany → HasTooMany text.now }
-    ensures line { (line : ℕ) → result ≡ Err (BadWords.Line line) → IsUnreadAt line text.now }
-{
-    let mut words = Vec::new(alloc);
-    match list_words(text, &mut words) {
-        Ok(()) => Ok(words),
-        Err(bad) => Err(bad),
+/// The words of a world as a text lists them. Only `Listed::read` gives them, so a world is made of no others.
+#[derive(Debug, Drop)]
+pub struct Listed {
+    words: Vec<u64>,
+}
+
+impl Listed {
+    /// Reads the words of a world from a text. Each word is in decimal, with a space or a newline after it, which the last
+    /// one may lack.
+    pub fn read(alloc: Global, text: &[u8]) -> Result<Self, BadWords>
+        ensures listed { IfOk result (λ listed. Lists listed.words.items text.now) }
+        ensures world { IfOk result (λ listed. IsWorld listed.words.items) }
+        ensures empty { result ≡ Err BadWords.Empty → text.now ≡ [] }
+        ensures too_many { result ≡ Err BadWords.TooMany → HasTooMany text.now }
+        ensures line { (line : ℕ) → result ≡ Err (BadWords.Line line) → IsUnreadAt line text.now }
+    {
+        let mut words = Vec::new(alloc);
+        match list_words(text, &mut words) {
+            Ok(()) => Ok(Listed { words }),
+            Err(bad) => Err(bad),
+        }
+    }
+
+    /// The words, in the order of their cells.
+    pub fn words(&self) -> &[u64]
+        ensures { result.now ≡ self.now.words.items }
+    {
+        &self.words
     }
 }
 
