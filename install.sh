@@ -7,8 +7,10 @@
 # Where PREFIX is root's: sudo env "PATH=$PATH" ./install.sh /usr/local
 set -eu
 
+# Says why it ends. Control characters of a path aren't printed: a terminal would obey them.
 fail() {
-    echo "install.sh: $2" >&2
+    printf 'install.sh: %s' "$2" | LC_ALL=C tr '[:cntrl:]' '?' >&2
+    echo >&2
     exit "$1"
 }
 
@@ -24,6 +26,7 @@ esac
 case $prefix in
 *[\"\'\\\`\$%\&\|[:cntrl:]]*) fail 2 "a unit can't have the path $prefix: choose one without quotes, control characters and \\ \` \$ % & |" ;;
 esac
+printf '%s' "$prefix" | iconv -f UTF-8 -t UTF-8 >/dev/null 2>&1 || fail 2 "a unit can't have the path $prefix: it isn't UTF-8"
 command -v rt >/dev/null || fail 1 "there is no rt: put the bin folder of the Rattle kit on the PATH"
 
 # What can't be written is told before hours of proof.

@@ -15,6 +15,7 @@ import subprocess
 import sys
 import tempfile
 import threading
+import time
 
 SECONDS = 60
 LINES = 2
@@ -23,6 +24,15 @@ WRONG = "a wrong answer after tick "
 CLOSED = "the server closed a connection: it has ended, or had no thread or memory for this client"
 CUT_OFF = "the server closed a connection in the midst of an answer: "
 REFUSED = "the server refused a batch: "
+
+
+# After the first of two answers that come so late, a second has passed.
+PAUSE, PROGRESS = 0.7, "1 s: 1 tick, 1 of them since 0 s\n"
+
+
+def counted(count: int, noun: str) -> str:
+    """A count with its noun."""
+    return f"{count} {noun}" + "s" * (count != 1)
 
 
 class Server:
@@ -55,8 +65,8 @@ class Server:
             self.path.unlink()
 
 
-def giving(answers):
-    """A server's work: it takes a client, and answers its batches so."""
+def giving(answers, pause: float = 0):
+    """A server's work: it takes a client, and answers its batches so, each after a pause."""
 
     def serve(server: Server) -> None:
         client, _ = server.listener.accept()
@@ -64,6 +74,7 @@ def giving(answers):
             for answer in answers:
                 if not server.read_batch(reader):
                     return
+                time.sleep(pause)
                 client.sendall(answer.encode())
 
     return serve
@@ -105,20 +116,22 @@ class Trial:
             self.wrong += 1
             print(f"WRONG: {what}:\n  got  {got!r}\n  want {want!r}", file=sys.stderr)
 
-    def load(self, what: str, serve, want: str, kind: str, lines: int = LINES, more: tuple[str, ...] = ("--batches", "2")) -> None:
+    def load(self, what: str, serve, want: str | int, kind: str, lines: int = LINES, more: tuple[str, ...] = ("--batches", "2")) -> None:
         """Loads a server at a port and one at a socket."""
         for path in (None, self.path):
             self.load_at(path, what, serve, want, kind, lines, more)
 
-    def load_at(self, path, what: str, serve, want: str, kind: str, lines: int, more: tuple[str, ...]) -> None:
-        """Loads a server, and compares the error, or the count of ticks where the load ends well."""
+    def load_at(self, path, what: str, serve, want: str | int, kind: str, lines: int, more: tuple[str, ...]) -> None:
+        """Loads a server, and compares the error, or what is printed of so many ticks where the load ends well."""
         server = Server(serve, lines, path)
         run = self.run(*server.flags, "--lines", str(lines), "--cells", str(CELLS), *more)
         server.end()
         self.seen[kind] += 1
-        if want.endswith(" ticks"):
-            ticks = re.search(r"^(\d+ ticks), \d+ a second$", run.stdout, re.M)
-            self.check(what, (ticks and ticks[1], run.stderr, run.returncode), (want, "", 0))
+        if isinstance(want, int):
+            head = re.match(r"(.*), (.*) a batch, \d+\.\d{3} s\n(.*), \d+ a second\n(.*), \d+ a second\nmilliseconds: p50 ", run.stdout)
+            told = "1 connection", counted(lines, "line"), counted(want, "tick"), counted(want * lines, "action")
+            self.check(what, (head and head.groups(), run.returncode), (told, 0))
+            self.check(f"{what}: its progress", run.stderr, PROGRESS if kind == "slow" else "")
             for batch in server.batches:
                 cells = [re.fullmatch(rb"set (\d+) \d+\n", line) for line in batch[:-1]]
                 self.check(f"{what}: a batch", [bool(cell and int(cell[1]) < CELLS) for cell in cells], [True] * lines)
@@ -129,13 +142,15 @@ class Trial:
 def try_answers(trial: Trial) -> None:
     """Answers that are right, wrong, cut off, or refusals."""
     for answers, want, kind in (
-        (("tick 1: + +\n", "tick 5: + +\n"), "2 ticks", "right"),
+        (("tick 1: + +\n", "tick 5: + +\n"), 2, "right"),
         (("tick 2: + +\n", "tick 2: + +\n"), f"{WRONG}2: tick 2: + +", "wrong"),
         (("tick 0: + +\n",), f"{WRONG}0: tick 0: + +", "wrong"),
         (("tick 1: +\n",), f"{WRONG}0: tick 1: +", "wrong"),
         (("tick 1: + -12\n",), f"{WRONG}0: tick 1: + -12", "wrong"),
         (("tick 01: + +\n",), f"{WRONG}0: tick 01: + +", "wrong"),
         (("fault 99\n",), f"{WRONG}0: fault 99", "wrong"),
+        (("\x1b[31m\n",), f"{WRONG}0: \\u{{1b}}[31m", "wrong"),
+        (("\x1b[31m",), f"{CUT_OFF}\\u{{1b}}[31m", "cut off"),
         (("fault 12\n",), f"{REFUSED}the log can't be written since the device failed: restart", "refused"),
         (("tick 1: + +\n", "fault 17\n"), f"{REFUSED}there is no memory left", "refused"),
         (("tick 1: + -1\n",), f"the world has fewer than {CELLS} cells: --cells is to be at most that of `worldd create`", "too few cells"),
@@ -145,7 +160,9 @@ def try_answers(trial: Trial) -> None:
         (("tick 1: + +",), f"{CUT_OFF}tick 1: + +", "cut off"),
     ):
         trial.load(f"answers {answers}", giving(answers), want, kind)
-    trial.load("batches without lines", giving(("tick 1:\n", "tick 2:\n")), "2 ticks", "right", lines=0)
+    trial.load("batches without lines", giving(("tick 1:\n", "tick 2:\n")), 2, "right", lines=0)
+    trial.load("one batch of a line", giving(("tick 1: +\n",)), 1, "right", lines=1, more=("--batches", "1"))
+    trial.load("slow answers", giving(("tick 1: + +\n", "tick 2: + +\n"), PAUSE), 2, "slow")
     trial.load("one client of two", one_wrong, f"{WRONG}0: no", "wrong", more=("--connections", "2", "--seconds", "86400"))
 
 
@@ -157,10 +174,11 @@ def try_no_server(trial: Trial) -> None:
     want = f"error: can't connect to port {port} of 127.0.0.1: Connection refused (os error 111)\n"
     trial.check("no server", (run.stdout, run.stderr, run.returncode), ("", want, 1))
     trial.seen["no server"] += 1
-    run = trial.run("--socket", str(trial.path))
-    want = f"error: can't connect to {trial.path}: No such file or directory (os error 2)\n"
-    trial.check("no socket", (run.stdout, run.stderr, run.returncode), ("", want, 1))
-    trial.seen["no server"] += 1
+    for path, shown in ((str(trial.path), str(trial.path)), (f"{trial.path}\x1b[31m", f"{trial.path}\\u{{1b}}[31m")):
+        run = trial.run("--socket", path)
+        want = f"error: can't connect to {shown}: No such file or directory (os error 2)\n"
+        trial.check("no socket", (run.stdout, run.stderr, run.returncode), ("", want, 1))
+        trial.seen["no server"] += 1
 
 
 def try_command_lines(trial: Trial) -> None:
@@ -186,7 +204,7 @@ def main() -> int:
         trial = Trial(str(program), pathlib.Path(folder) / "socket")
         for part in (try_answers, try_no_server, try_command_lines):
             part(trial)
-    kinds = ("right", "wrong", "refused", "too few cells", "closed", "cut off", "no server", "mistaken", "help")
+    kinds = ("right", "slow", "wrong", "refused", "too few cells", "closed", "cut off", "no server", "mistaken", "help")
     never = [kind for kind in kinds if not trial.seen[kind]]
     print("  " + ", ".join(f"{kind}: {trial.seen[kind]}" for kind in kinds))
     print(f"load trial: {trial.runs} runs, {trial.wrong} wrong" + (f", never seen: {never}" if never else ""))

@@ -549,6 +549,29 @@ def try_long(trial: Trial) -> None:
         trial.check("a copy of long files", files_of(to), (IMAGE_OF_3, b"\0", LOG_OF_3, LOG_OF_4))
         got = trial.run("inspect", "--dir", str(folder), memory=limit)
         trial.check("long files", (got.output.splitlines()[-1], got.status), ("recovered 4 from 3 in image.a", 0))
+    for closed, flag in itertools.product((b"", b"\7" * 20), ("--cells", "--words")):
+        try_long_closed(trial, closed, flag, limit)
+
+
+def try_long_closed(trial: Trial, closed: bytes, flag: str, limit: int) -> None:
+    """Worlds that are to be made over files that begin so, and are longer than there is memory for."""
+    what = f"create {flag} over long files of {closed!r}"
+    with new_folder(closed, closed, closed, LOG_OF_3) as folder:
+        words = folder / "words"
+        words.write_text("0 0\n")
+        for name in NAMES:
+            os.truncate(folder / name, 3 << 30)
+        command = "create", "--dir", str(folder), flag, "2" if flag == "--cells" else str(words)
+        got = trial.run(*command, memory=limit)
+        trial.ends(f"{what} and an open one", got, "", fault_of(folder, 22, "log.b", HOLDS_A_WORLD), 1)
+        (folder / "log.b").write_bytes(closed)
+        os.truncate(folder / "log.b", 3 << 30)
+        trial.ends(what, trial.run(*command, memory=limit), "created 2\n", "", 0)
+        trial.check(what, [(folder / name).stat().st_size for name in NAMES], [3 << 30] * 4)
+        with (folder / "image.a").open("rb") as file:
+            trial.check(what, file.read(len(NEW_IMAGE)), NEW_IMAGE)
+        got = trial.run("recover", "--dir", str(folder), memory=limit)
+        trial.ends(f"{what}, then recover", got, "recovered 0 from 0\n", "", 0)
 
 
 def try_missing(trial: Trial) -> None:

@@ -177,7 +177,7 @@ class Trial:
         return Outcome(run.returncode, run.stdout, run.stderr, None)
 
     def make_worlds(self) -> None:
-        """A world that was played, a new one, one whose newest image is damaged, one that lost a file, and an empty folder."""
+        """A world that was played, a new one, one whose newest log is damaged, one that lost a file, and an empty folder."""
         self.worlds.mkdir()
         (self.worlds / EMPTY).mkdir()
         server = Server(str(self.worldd), self.worlds / "played", "--every", "8", path=self.room / "socket")
@@ -186,14 +186,14 @@ class Trial:
         finally:
             server.kill()
         told = self.run("inspect", "--dir", self.worlds / "played").output
-        newest = max((int(tick), name) for name, tick in re.findall(r"(image\..): open, .*, tick (\d+),", told))[1]
+        newest = max((int(base), name) for name, base in re.findall(r"(log\..): open, format 2, base (\d+),", told))[1]
         for name in ("new", SERVED):
             (self.worlds / name).mkdir()
             want(self.run("create", "--dir", self.worlds / name, "--cells", 10).status == 0, "a new world isn't made")
         for name in ("damaged", "lost"):
             shutil.copytree(self.worlds / "played", self.worlds / name)
-        with (self.worlds / "damaged" / newest).open("r+b") as image:
-            image.write(NO_HEADER)
+        with (self.worlds / "damaged" / newest).open("r+b") as log:
+            log.write(NO_HEADER)
         (self.worlds / "lost" / "log.b").unlink()
 
     def looks(self, world: pathlib.Path) -> dict[str, Outcome]:

@@ -6,7 +6,8 @@
 The manual makes a user and a world. The world is served as that user, and a client plays. The manual takes a backup meanwhile
 and restores it. Then the files are removed under the server, and the manual saves them. What comes of both has to belong to the
 user, to be served by it, and to hold each tick that was answered before. All of it runs in a mount namespace in which the
-folders of the system are copies or empty. This needs root; else it says so and tries nothing.
+folders of the system are copies or empty. This needs root; else it says so and doesn't try it. Before that install.sh runs
+on odd prefixes, over a stand-in for the kit: each gets a unit with its path, or is refused and nothing is made.
 """
 import argparse
 import collections
@@ -25,7 +26,13 @@ import time
 
 from surroundings_trial import NAMES, Client, Wrong, is_root, want
 
-PAGE = pathlib.Path(__file__).resolve().parent.parent / "docs" / "OPERATIONS.md"
+TOP = pathlib.Path(__file__).resolve().parent.parent
+PAGE = TOP / "docs" / "OPERATIONS.md"
+# Prefixes that a unit can have, and others.
+RIGHT = "plain", "with a space", "\u00e9", "a;b#c*d~e"
+ODD = (
+    "tab\t", "new\nline", "escape\x1b[31m", "quo'te", 'quo"te', "per%cent", "dol$lar", "back\\slash", "and&", "bar|", "not \udcff text",
+)
 # The words of the manual in front of each recipe.
 MAKING, BACKUP = "**2. Make a user, its folder, and a world**", "**While it serves**"
 RESTORE, SAVING = "**Restore.**", "**Files are removed**"
@@ -159,6 +166,32 @@ class Trial:
         return "; ".join(f"{case} {self.met[case]}" for case in CASES)
 
 
+def install(worldd: pathlib.Path, room: pathlib.Path) -> str:
+    """Installs the program with each prefix, over a command `rt` that does nothing."""
+    top, kit = room / "top", room / "kit"
+    kit.mkdir()
+    (kit / "rt").write_text("#!/bin/sh\n")
+    (kit / "rt").chmod(0o755)
+    for program in ("worldd", "world_load"):
+        (top / "crates" / program / "out").mkdir(parents=True)
+        shutil.copy(worldd, top / "crates" / program / "out" / program)
+    for name in ("install.sh", "worldd.service"):
+        shutil.copy(TOP / name, top / name)
+    for name in (*RIGHT, *ODD):
+        prefix = room / "prefix" / name
+        command, path = [top / "install.sh", prefix], f"{kit}:{os.environ['PATH']}"
+        run = subprocess.run(command, capture_output=True, text=True, errors="surrogateescape", env=os.environ | {"PATH": path})
+        if name in RIGHT:
+            unit = (prefix / "share" / "worldd" / "worldd.service").read_text() if run.returncode == 0 else ""
+            want(f'\nExecStart="{prefix}/bin/worldd" serve ' in unit and "@PREFIX@" not in unit, f"no unit with {prefix}: {run}")
+            told = subprocess.run([prefix / "bin" / "worldd", "--version"], capture_output=True, text=True).stdout
+            want(told.startswith("worldd "), f"no program with {prefix}: {told}")
+        else:
+            is_told = re.fullmatch("install.sh: a unit can't have the path [^\0-\x1f]*\n", run.stderr)
+            want(run.returncode == 2 and bool(is_told) and not prefix.exists(), f"a prefix wasn't refused: {run}")
+    return f"prefixes with a unit {len(RIGHT)}; prefixes refused {len(ODD)}"
+
+
 def furnish(worldd: pathlib.Path, room: pathlib.Path) -> None:
     """Puts a copy of /etc, an empty /var and the program alone in /usr/local/bin over those of the system, in this namespace."""
     shutil.copytree("/etc", room / "etc", symlinks=True, ignore_dangling_symlinks=True)
@@ -198,6 +231,12 @@ def main() -> int:
     worldd = given.worldd.resolve()
     if given.inside:
         return inside(worldd, given.inside)
+    with tempfile.TemporaryDirectory(prefix="recipes") as room:
+        try:
+            print(f"recipes: {install(worldd, pathlib.Path(room))}", flush=True)
+        except (Wrong, OSError, subprocess.SubprocessError) as wrong:
+            print(f"recipes: {wrong}", file=sys.stderr)
+            return 1
     lacking = [name for name in ("unshare", "useradd", "userdel", "runuser") if not shutil.which(name)]
     if not is_root() or lacking or subprocess.run(["unshare", "--mount", "true"]).returncode:
         print(f"recipes: not tried: {f'there is no {lacking[0]}' if lacking else 'only root can, with a mount namespace'}")

@@ -2,6 +2,7 @@ ghost use Rattle.std.specs.Prelude.{◌≡◌, ◌++◌, ◌⊎◌, IfOk, IsErr}
 
 use crate::address::Address;
 use crate::client::play;
+use crate::counted::Counted;
 use crate::failure::{Failure, not_connected};
 use crate::load::Load;
 use crate::progress::Progress;
@@ -136,7 +137,11 @@ fn watch<R: Wait + Clock + Eprint>(
         if now > seconds {
             let batches = progress.batches();
             let more = batches.saturating_sub(before);
-            let _ = eprintln!(rt; "{now} s: {batches} ticks, {more} of them since {seconds} s");
+            let ticks = Counted {
+                count: batches,
+                noun: "tick",
+            };
+            let _ = eprintln!(rt; "{now} s: {ticks}, {more} of them since {seconds} s");
             (seconds, before) = (now, batches);
         }
     }

@@ -17,12 +17,12 @@ pub enum Failure {
     NoThread,
     #[error("can't connect to port {port} of 127.0.0.1: {error}")]
     NotConnected { port: u16, error: io::Error },
-    #[error("can't connect to {path}: {error}")]
+    #[error("can't connect to {}: {error}", .path.escape_debug())]
     NoSocket { path: String, error: io::Error },
     #[error("the server closed a connection: it has ended, or had no thread or memory for this client")]
     Closed,
     /// A connection was closed in the midst of an answer.
-    #[error("the server closed a connection in the midst of an answer: {answer}")]
+    #[error("the server closed a connection in the midst of an answer: {}", .answer.escape_debug())]
     CutOff { answer: String },
     /// The server refused a batch as a whole.
     #[error("the server refused a batch: {0}")]
@@ -30,7 +30,7 @@ pub enum Failure {
     #[error("the world has fewer than {cells} cells: --cells is to be at most that of `worldd create`")]
     TooFewCells { cells: u32 },
     /// Another answer that isn't that of the batch.
-    #[error("a wrong answer after tick {last}: {answer}")]
+    #[error("a wrong answer after tick {last}: {}", .answer.escape_debug())]
     Wrong { last: u64, answer: String },
     #[error("{0}")]
     System(io::Error),

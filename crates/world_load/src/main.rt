@@ -9,6 +9,7 @@ mod answer;
 mod arguments;
 mod checker;
 mod client;
+mod counted;
 mod crowd;
 mod failure;
 mod load;

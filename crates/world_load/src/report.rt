@@ -1,3 +1,4 @@
+use crate::counted::Counted;
 use crate::crowd::Seen;
 use crate::failure::Failure;
 use crate::load::Load;
@@ -17,16 +18,30 @@ pub fn tell<R: Print>(rt: &R, load: &Load, seen: &Seen) -> Result<(), Failure> {
     let ticks = seen.latencies.len() as u64;
     let actions = ticks.saturating_mul(u64::from(load.lines));
     let time = seen.milliseconds;
-    let (connections, lines) = (load.connections, load.lines);
     println!(rt;
-        "{connections} connections, {lines} lines a batch, {}.{:03} s",
+        "{}, {} a batch, {}.{:03} s",
+        counted(u64::from(load.connections), "connection"),
+        counted(u64::from(load.lines), "line"),
         time / 1000,
         time % 1000
     )?;
-    println!(rt; "{ticks} ticks, {} a second", per_second(ticks, time))?;
-    println!(rt; "{actions} actions, {} a second", per_second(actions, time))?;
+    tell_rate(rt, counted(ticks, "tick"), time)?;
+    tell_rate(rt, counted(actions, "action"), time)?;
     tell_latencies(rt, &seen.latencies)?;
     tell_chart(rt, &seen.latencies)
+}
+
+fn counted(count: u64, noun: &'static str) -> Counted {
+    Counted { count, noun }
+}
+
+// Tells how many things there were, and how many a second.
+fn tell_rate<R: Print>(rt: &R, things: Counted, milliseconds: u64) -> Result<(), Failure> {
+    println!(rt;
+        "{things}, {} a second",
+        per_second(things.count, milliseconds)
+    )?;
+    Ok(())
 }
 
 // How many a second, of so many in so many milliseconds.
