@@ -157,8 +157,8 @@ bases_done (OpenSegment first ticks) base mark newest later [] (Some round) e = 
 bases_done (OpenSegment first ticks) base mark newest later (one ∷ earlier) round e = (earlier, (let rest : base ∷ mark ∷ later ≡ earlier ++ newest ∷ round_tick round = cc in rest))
 
 -- the round in work is opened
-pub opened_follows : (cells : ℕ) (ticks : List (List Action)) (images : Images) (round : Round) → ImagesFollow cells ticks images → IsRoundOf cells ticks images.tick (Some round) → length round.taken ≡ cells → ImagesFollow cells ticks (with_round_opened images round)
-opened_follows cells ticks images round f r all =
+pub opened_follows : (first : List ℕ) (ticks : List (List Action)) (images : Images) (round : Round) → ImagesFollow first ticks images → IsRoundOf first ticks images.tick (Some round) → length round.taken ≡ length first → ImagesFollow first ticks (with_round_opened images round)
+opened_follows first ticks images round f r all =
     let later : images.tick ≤ round.tick = omega (arith, r.0) in
     record { newest = r.1 all; before = (later, f.newest); round = tt }
 
@@ -301,9 +301,9 @@ end_stretch ticks more base some f =
       are = f.are ∙ sym (ap (take (length some)) (drop-append-le base ticks more (omega (arith, f.ended))) ∙ take-append-le (length some) (drop base ticks) more (omega (arith, f.ended, length-drop base ticks)));
     }
 
-pub end_world : (cells : ℕ) (ticks more : List (List Action)) (tick : ℕ) (words : List ℕ) → IsWorldAt cells ticks tick words → IsWorldAt cells (ticks ++ more) tick words
-end_world cells ticks more tick words w =
-    record { ended = omega (arith, w.ended, length-append ticks more); words_are = ap (after_ticks cells) (take-append-le tick ticks more w.ended) ∙ w.words_are }
+pub end_world : (first : List ℕ) (ticks more : List (List Action)) (tick : ℕ) (words : List ℕ) → IsWorldAt first ticks tick words → IsWorldAt first (ticks ++ more) tick words
+end_world first ticks more tick words w =
+    record { ended = omega (arith, w.ended, length-append ticks more); words_are = ap (after_ticks first) (take-append-le tick ticks more w.ended) ∙ w.words_are }
 
 end_before : (ticks more : List (List Action)) (newest base : ℕ) (before : Segment) → LeadsTo ticks newest base before → LeadsTo (ticks ++ more) newest base before
 end_before ticks more newest base ClosedSegment h = tt
@@ -313,14 +313,14 @@ end_before ticks more newest base (OpenSegment earlier first) h = (h.0, end_stre
 pub end_logs : (ticks more : List (List Action)) (acknowledged newest : ℕ) (logs : Logs) → LogsFollow ticks acknowledged newest logs → LogsFollow (ticks ++ more) acknowledged newest logs
 end_logs ticks more acknowledged newest logs f = record { taken = end_stretch ticks more logs.base (logs.kept ++ logs.pending) f.taken; acknowledges = f.acknowledges; before = end_before ticks more newest logs.base logs.before f.before; switch = f.switch }
 
-end_held : (cells : ℕ) (ticks more : List (List Action)) (most : ℕ) (image : Image) → HoldsWorld cells ticks most image → HoldsWorld cells (ticks ++ more) most image
-end_held cells ticks more most Closed h = tt
-end_held cells ticks more most Bad h = h
-end_held cells ticks more most (Open tick words) h = (h.0, end_world cells ticks more tick words h.1)
+end_held : (first : List ℕ) (ticks more : List (List Action)) (most : ℕ) (image : Image) → HoldsWorld first ticks most image → HoldsWorld first (ticks ++ more) most image
+end_held first ticks more most Closed h = tt
+end_held first ticks more most Bad h = h
+end_held first ticks more most (Open tick words) h = (h.0, end_world first ticks more tick words h.1)
 
-end_round : (cells : ℕ) (ticks more : List (List Action)) (newest : ℕ) (round : Option Round) → IsRoundOf cells ticks newest round → IsRoundOf cells (ticks ++ more) newest round
-end_round cells ticks more newest None h = tt
-end_round cells ticks more newest (Some round) h = (h.0, λ all. end_world cells ticks more round.tick round.taken (h.1 all))
+end_round : (first : List ℕ) (ticks more : List (List Action)) (newest : ℕ) (round : Option Round) → IsRoundOf first ticks newest round → IsRoundOf first (ticks ++ more) newest round
+end_round first ticks more newest None h = tt
+end_round first ticks more newest (Some round) h = (h.0, λ all. end_world first ticks more round.tick round.taken (h.1 all))
 
-pub end_images : (cells : ℕ) (ticks more : List (List Action)) (images : Images) → ImagesFollow cells ticks images → ImagesFollow cells (ticks ++ more) images
-end_images cells ticks more images f = record { newest = end_world cells ticks more images.tick images.words f.newest; before = end_held cells ticks more images.tick images.before f.before; round = end_round cells ticks more images.tick images.round f.round }
+pub end_images : (first : List ℕ) (ticks more : List (List Action)) (images : Images) → ImagesFollow first ticks images → ImagesFollow first (ticks ++ more) images
+end_images first ticks more images f = record { newest = end_world first ticks more images.tick images.words f.newest; before = end_held first ticks more images.tick images.before f.before; round = end_round first ticks more images.tick images.round f.round }

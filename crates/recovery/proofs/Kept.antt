@@ -1,6 +1,5 @@
 -- Each event keeps the premises of the law of recovery.
 use Rattle.std.proofs.Common.{◌≡◌, ℕ, ◌+◌, ◌<◌, ◌≤◌, inl, inr, max, List, [], ◌∷◌, ◌++◌, length, Option, Some, None, Ok, refl, sym, ap, subst, ◌∙◌, arith}
-use Rattle.std.specs.Prelude.{replicate}
 use Rattle.std.proofs.lemmas.List.{append-nil, append_assoc, length-append, length-drop, drop-append-le}
 use Rattle.world_actions.specs.declared.action.Action.{Action}
 use Rattle.world_ticks.specs.After.{and_then, after_actions, after_ticks}
@@ -30,21 +29,21 @@ no_switch_behind [] tick = refl
 no_switch_behind (records.Tick first ∷ queue) tick = no_switch_behind queue tick
 no_switch_behind (records.Switch mark ∷ queue) tick = ap (λ l. mark ∷ l) (no_switch_behind queue tick)
 
-one_more : (cells : ℕ) (ticks : List (List Action)) (tick : List Action) (last next : List ℕ) → after_ticks cells ticks ≡ Ok last → after_actions last tick ≡ Ok next → after_ticks cells (ticks ++ tick ∷ []) ≡ Ok next
-one_more cells ticks tick last next all e =
-    words_after-append (replicate cells 0) ticks (tick ∷ [])
+one_more : (first : List ℕ) (ticks : List (List Action)) (tick : List Action) (last next : List ℕ) → after_ticks first ticks ≡ Ok last → after_actions last tick ≡ Ok next → after_ticks first (ticks ++ tick ∷ []) ≡ Ok next
+one_more first ticks tick last next all e =
+    words_after-append first ticks (tick ∷ [])
     ∙ ap (λ r. and_then r (λ n. words_after n (tick ∷ []))) all
     ∙ ap (after_actions last) (append-nil tick)
     ∙ e
 
-pub tick_ends : (cells : ℕ) (ticks : List (List Action)) (acknowledged : ℕ) (images : Images) (logs : Logs) (queue : List Record)
-    (kept : IsKept cells ticks acknowledged images logs queue) (tick : Actions) (next : List ℕ) → after_actions kept.last tick.list ≡ Ok next
-    → IsKept cells (ticks ++ tick.list ∷ []) acknowledged images logs (queue ++ records.Tick tick ∷ [])
-tick_ends cells ticks acknowledged images logs queue k tick next e =
+pub tick_ends : (first : List ℕ) (ticks : List (List Action)) (acknowledged : ℕ) (images : Images) (logs : Logs) (queue : List Record)
+    (kept : IsKept first ticks acknowledged images logs queue) (tick : Actions) (next : List ℕ) → after_actions kept.last tick.list ≡ Ok next
+    → IsKept first (ticks ++ tick.list ∷ []) acknowledged images logs (queue ++ records.Tick tick ∷ [])
+tick_ends first ticks acknowledged images logs queue k tick next e =
     let m = k.follow_marks in
     let same : switches_in queue ≡ switches_in (queue ++ records.Tick tick ∷ []) = sym (no_switch_behind queue tick) in
     record {
-      worlds = record { some_cells = k.some_cells; last = next; accepted = one_more cells ticks tick.list k.last next k.accepted e; images_follow = end_images cells ticks (tick.list ∷ []) images k.images_follow };
+      worlds = record { some_cells = k.some_cells; last = next; accepted = one_more first ticks tick.list k.last next k.accepted e; images_follow = end_images first ticks (tick.list ∷ []) images k.images_follow };
       logs_follow = end_logs ticks (tick.list ∷ []) acknowledged images.tick logs k.logs_follow;
       follow_marks = subst (λ l. FollowMarks l images logs) same m;
       queued = record {
@@ -79,10 +78,10 @@ mark_follows later images logs mark m none above taken =
       in_order = subst (BeginFrom (logs.base + length (logs.kept ++ logs.pending))) more (begin_more (logs.base + length (logs.kept ++ logs.pending)) mark (coming logs.switch later) taken m.in_order);
     }
 
-marked : (cells : ℕ) (ticks : List (List Action)) (acknowledged : ℕ) (images : Images) (logs : Logs) (queue : List Record)
-    → IsKept cells ticks acknowledged images logs queue → images.round ≡ None → images.tick < length ticks
-    → IsKept cells ticks acknowledged (with_round_begun images (length ticks)) logs (queue ++ records.Switch (length ticks) ∷ [])
-marked cells ticks acknowledged images logs queue k none above =
+marked : (first : List ℕ) (ticks : List (List Action)) (acknowledged : ℕ) (images : Images) (logs : Logs) (queue : List Record)
+    → IsKept first ticks acknowledged images logs queue → images.round ≡ None → images.tick < length ticks
+    → IsKept first ticks acknowledged (with_round_begun images (length ticks)) logs (queue ++ records.Switch (length ticks) ∷ [])
+marked first ticks acknowledged images logs queue k none above =
     let count : length ticks ≡ k.taken + length (ticks_in queue) = omega (arith, ap length k.left, length-drop k.taken ticks, k.some_taken) in
     record {
       worlds = record { some_cells = k.some_cells; last = k.last; accepted = k.accepted; images_follow = record { newest = k.images_follow.newest; before = k.images_follow.before; round = (above, λ full. absurd (omega (arith, full, k.some_cells))) } };
@@ -97,20 +96,20 @@ marked cells ticks acknowledged images logs queue k none above =
       };
     }
 
-pub mark_is_made : (cells : ℕ) (ticks : List (List Action)) (acknowledged : ℕ) (images next : Images) (logs : Logs) (queue : List Record)
-    → IsKept cells ticks acknowledged images logs queue → images.round ≡ None → images.tick < length ticks → with_round (length ticks) (Newest images) ≡ Newest next
-    → IsKept cells ticks acknowledged next logs (queue ++ records.Switch (length ticks) ∷ [])
-mark_is_made cells ticks acknowledged images next logs queue k none above is =
+pub mark_is_made : (first : List ℕ) (ticks : List (List Action)) (acknowledged : ℕ) (images next : Images) (logs : Logs) (queue : List Record)
+    → IsKept first ticks acknowledged images logs queue → images.round ≡ None → images.tick < length ticks → with_round (length ticks) (Newest images) ≡ Newest next
+    → IsKept first ticks acknowledged next logs (queue ++ records.Switch (length ticks) ∷ [])
+mark_is_made first ticks acknowledged images next logs queue k none above is =
     let same : with_round_begun images (length ticks) ≡ next = cc in
-    subst (λ i. IsKept cells ticks acknowledged i logs (queue ++ records.Switch (length ticks) ∷ [])) same (marked cells ticks acknowledged images logs queue k none above)
+    subst (λ i. IsKept first ticks acknowledged i logs (queue ++ records.Switch (length ticks) ∷ [])) same (marked first ticks acknowledged images logs queue k none above)
 
 -- ---- a step of the image keeper
 
 -- the round in work has another word, and the same tick
-pub with_words : (cells : ℕ) (ticks : List (List Action)) (acknowledged : ℕ) (images : Images) (logs : Logs) (queue : List Record) (round : Round) (taken : List ℕ)
-    → IsKept cells ticks acknowledged images logs queue → images.round ≡ Some round → IsRoundOf cells ticks images.tick (Some (record round { taken = taken }))
-    → IsKept cells ticks acknowledged (record images { round = Some (record round { taken = taken }) }) logs queue
-with_words cells ticks acknowledged images logs queue round taken k some of =
+pub with_words : (first : List ℕ) (ticks : List (List Action)) (acknowledged : ℕ) (images : Images) (logs : Logs) (queue : List Record) (round : Round) (taken : List ℕ)
+    → IsKept first ticks acknowledged images logs queue → images.round ≡ Some round → IsRoundOf first ticks images.tick (Some (record round { taken = taken }))
+    → IsKept first ticks acknowledged (record images { round = Some (record round { taken = taken }) }) logs queue
+with_words first ticks acknowledged images logs queue round taken k some of =
     let m = k.follow_marks in
     record {
       worlds = record { some_cells = k.some_cells; last = k.last; accepted = k.accepted; images_follow = record { newest = k.images_follow.newest; before = k.images_follow.before; round = of } };
@@ -119,15 +118,15 @@ with_words cells ticks acknowledged images logs queue round taken k some of =
       queued = k.queued;
     }
 
-pub opened_keeps : (cells : ℕ) (ticks : List (List Action)) (acknowledged : ℕ) (images : Images) (logs : Logs) (queue : List Record) (round : Round)
-    → IsKept cells ticks acknowledged images logs queue → images.round ≡ Some round → length round.taken ≡ cells
-    → IsKept cells ticks (max acknowledged round.tick) (with_round_opened images round) logs queue
-opened_keeps cells ticks acknowledged images logs queue round k some whole =
+pub opened_keeps : (first : List ℕ) (ticks : List (List Action)) (acknowledged : ℕ) (images : Images) (logs : Logs) (queue : List Record) (round : Round)
+    → IsKept first ticks acknowledged images logs queue → images.round ≡ Some round → length round.taken ≡ length first
+    → IsKept first ticks (max acknowledged round.tick) (with_round_opened images round) logs queue
+opened_keeps first ticks acknowledged images logs queue round k some whole =
     let m = k.follow_marks in
-    let of : IsRoundOf cells ticks images.tick (Some round) = subst (IsRoundOf cells ticks images.tick) some k.images_follow.round in
+    let of : IsRoundOf first ticks images.tick (Some round) = subst (IsRoundOf first ticks images.tick) some k.images_follow.round in
     let later : images.tick ≤ round.tick = omega (arith, of.0) in
     record {
-      worlds = record { some_cells = k.some_cells; last = k.last; accepted = k.accepted; images_follow = opened_follows cells ticks images round k.images_follow of whole };
+      worlds = record { some_cells = k.some_cells; last = k.last; accepted = k.accepted; images_follow = opened_follows first ticks images round k.images_follow of whole };
       logs_follow = logs_opened ticks acknowledged images.tick round.tick logs later k.logs_follow;
       follow_marks = record {
         earlier = m.earlier ++ images.tick ∷ [];
@@ -138,17 +137,17 @@ opened_keeps cells ticks acknowledged images logs queue round k some whole =
       queued = record { taken = k.taken; some_taken = k.some_taken; left = k.left; numbered = k.numbered; has = has_later logs k.taken images.tick round.tick (with_work logs.switch queue) later k.has };
     }
 
-module _ {S : Type 0} (took : S → Option Taken → S → Type 0) (cells : ℕ) (ticks : List (List Action)) (acknowledged : ℕ) (images : Images) (logs : Logs) (queue : List Record) where
+module _ {S : Type 0} (took : S → Option Taken → S → Type 0) (first : List ℕ) (ticks : List (List Action)) (acknowledged : ℕ) (images : Images) (logs : Logs) (queue : List Record) where
   pub image_step_keeps : (answer : ImageAnswer) (next : ImageFiles) (old new : S)
-      → IsKept cells ticks acknowledged images logs queue → StepsImages took cells (Newest images) answer next old new
-      → IsRoundOf cells ticks images.tick (round_in next) → (after : Images) × (next ≡ Newest after) × IsKept cells ticks (acknowledged_opened acknowledged answer) after logs queue
+      → IsKept first ticks acknowledged images logs queue → StepsImages took (length first) (Newest images) answer next old new
+      → IsRoundOf first ticks images.tick (round_in next) → (after : Images) × (next ≡ Newest after) × IsKept first ticks (acknowledged_opened acknowledged answer) after logs queue
   image_step_keeps answer.Idle next old new k s of = (images, s.1, k)
   image_step_keeps answer.Working next old new k (round, some, inl same) of = (images, same.0, k)
   image_step_keeps answer.Working next old new k (round, some, inr (cell, taken, is)) of =
       let grown : next ≡ Newest (record images { round = Some (with_cell cell images.words round) }) =
       is ∙ ap (λ o. with_taken cell (Newest (record images { round = o }))) some in
-      let here : IsRoundOf cells ticks images.tick (Some (with_cell cell images.words round)) = subst (λ n. IsRoundOf cells ticks images.tick (round_in n)) grown of in
-      (record images { round = Some (with_cell cell images.words round) }, grown, with_words cells ticks acknowledged images logs queue round (with_cell cell images.words round).taken k some here)
+      let here : IsRoundOf first ticks images.tick (Some (with_cell cell images.words round)) = subst (λ n. IsRoundOf first ticks images.tick (round_in n)) grown of in
+      (record images { round = Some (with_cell cell images.words round) }, grown, with_words first ticks acknowledged images logs queue round (with_cell cell images.words round).taken k some here)
   image_step_keeps (answer.Opened tick) next old new k (round, some, at, whole, is, same) of =
-      (with_round_opened images round, is, subst (λ n. IsKept cells ticks (max acknowledged n) (with_round_opened images round) logs queue) (sym at) (opened_keeps cells ticks acknowledged images logs queue round k some whole))
+      (with_round_opened images round, is, subst (λ n. IsKept first ticks (max acknowledged n) (with_round_opened images round) logs queue) (sym at) (opened_keeps first ticks acknowledged images logs queue round k some whole))
   image_step_keeps answer.Down next old new k (round, some, is, same) of = (images, is, k)

@@ -168,18 +168,18 @@ log_pair ticks acknowledged newest t logs current other f is_current is_other fr
 
 -- ---- the images
 
-pub record Picked (cells : ℕ) (ticks : List (List Action)) (t : ℕ) (image_a image_b : Image) : Type 0 where
+pub record Picked (first : List ℕ) (ticks : List (List Action)) (t : ℕ) (image_a image_b : Image) : Type 0 where
   pub image : Newest
   pub is : newest image_a image_b ≡ Some image
   pub tick_is : image.tick ≡ t
-  pub world : IsWorldAt cells ticks image.tick image.words
-  pub a_holds : HoldsWorld cells ticks image.tick image_a
-  pub b_holds : HoldsWorld cells ticks image.tick image_b
+  pub world : IsWorldAt first ticks image.tick image.words
+  pub a_holds : HoldsWorld first ticks image.tick image_a
+  pub b_holds : HoldsWorld first ticks image.tick image_b
 
-kept_left : (cells : ℕ) (ticks : List (List Action)) (tick : ℕ) (words : List ℕ) (now : Image) → IsWorldAt cells ticks tick words → HoldsWorld cells ticks tick now → Picked cells ticks tick (Open tick words) now
-kept_left cells ticks tick words Closed at h = record { image = record { slot = A; tick = tick; words = words }; is = refl; tick_is = refl; world = at; a_holds = (omega arith, at); b_holds = tt }
-kept_left cells ticks tick words Bad at h = absurd h
-kept_left cells ticks tick words (Open s v) at h = record {
+kept_left : (first : List ℕ) (ticks : List (List Action)) (tick : ℕ) (words : List ℕ) (now : Image) → IsWorldAt first ticks tick words → HoldsWorld first ticks tick now → Picked first ticks tick (Open tick words) now
+kept_left first ticks tick words Closed at h = record { image = record { slot = A; tick = tick; words = words }; is = refl; tick_is = refl; world = at; a_holds = (omega arith, at); b_holds = tt }
+kept_left first ticks tick words Bad at h = absurd h
+kept_left first ticks tick words (Open s v) at h = record {
   image = record { slot = A; tick = tick; words = words };
   is = cond-false (ltb tick s) (Some (record { slot = B; tick = s; words = v })) (Some (record { slot = A; tick = tick; words = words })) (le-ltb tick s h.0);
   tick_is = refl;
@@ -188,10 +188,10 @@ kept_left cells ticks tick words (Open s v) at h = record {
   b_holds = h;
 }
 
-kept_right : (cells : ℕ) (ticks : List (List Action)) (tick : ℕ) (words : List ℕ) (now : Image) → IsWorldAt cells ticks tick words → HoldsWorld cells ticks tick now → Picked cells ticks tick now (Open tick words)
-kept_right cells ticks tick words Closed at h = record { image = record { slot = B; tick = tick; words = words }; is = refl; tick_is = refl; world = at; a_holds = tt; b_holds = (omega arith, at) }
-kept_right cells ticks tick words Bad at h = absurd h
-kept_right cells ticks tick words (Open s v) at h =
+kept_right : (first : List ℕ) (ticks : List (List Action)) (tick : ℕ) (words : List ℕ) (now : Image) → IsWorldAt first ticks tick words → HoldsWorld first ticks tick now → Picked first ticks tick now (Open tick words)
+kept_right first ticks tick words Closed at h = record { image = record { slot = B; tick = tick; words = words }; is = refl; tick_is = refl; world = at; a_holds = tt; b_holds = (omega arith, at) }
+kept_right first ticks tick words Bad at h = absurd h
+kept_right first ticks tick words (Open s v) at h =
     elim (cases_lt s tick) [
       | inl lt ↦ record {
         image = record { slot = B; tick = tick; words = words };
@@ -211,8 +211,8 @@ kept_right cells ticks tick words (Open s v) at h =
       }
     ]
 
-passed_left : (cells : ℕ) (ticks : List (List Action)) (tick t : ℕ) (words done : List ℕ) → tick < t → IsWorldAt cells ticks tick words → IsWorldAt cells ticks t done → Picked cells ticks t (Open tick words) (Open t done)
-passed_left cells ticks tick t words done lt at later = record {
+passed_left : (first : List ℕ) (ticks : List (List Action)) (tick t : ℕ) (words done : List ℕ) → tick < t → IsWorldAt first ticks tick words → IsWorldAt first ticks t done → Picked first ticks t (Open tick words) (Open t done)
+passed_left first ticks tick t words done lt at later = record {
   image = record { slot = B; tick = t; words = done };
   is = cond-true (ltb tick t) (Some (record { slot = B; tick = t; words = done })) (Some (record { slot = A; tick = tick; words = words })) (lt-ltb tick t lt);
   tick_is = refl;
@@ -221,8 +221,8 @@ passed_left cells ticks tick t words done lt at later = record {
   b_holds = (omega arith, later);
 }
 
-passed_right : (cells : ℕ) (ticks : List (List Action)) (tick t : ℕ) (words done : List ℕ) → tick < t → IsWorldAt cells ticks tick words → IsWorldAt cells ticks t done → Picked cells ticks t (Open t done) (Open tick words)
-passed_right cells ticks tick t words done lt at later = record {
+passed_right : (first : List ℕ) (ticks : List (List Action)) (tick t : ℕ) (words done : List ℕ) → tick < t → IsWorldAt first ticks tick words → IsWorldAt first ticks t done → Picked first ticks t (Open t done) (Open tick words)
+passed_right first ticks tick t words done lt at later = record {
   image = record { slot = A; tick = t; words = done };
   is = cond-false (ltb t tick) (Some (record { slot = B; tick = tick; words = words })) (Some (record { slot = A; tick = t; words = done })) (le-ltb t tick (omega arith));
   tick_is = refl;
@@ -236,27 +236,27 @@ abbrev pub IsImageTick : ℕ → Option Round → ℕ → Type 0
 IsImageTick tick None t = t ≡ tick
 IsImageTick tick (Some round) t = (t ≡ tick) ⊎ (t ≡ round.tick)
 
-pub record ImagePair (cells : ℕ) (ticks : List (List Action)) (tick : ℕ) (words : List ℕ) (round : Option Round) (now : Image) : Type 0 where
+pub record ImagePair (first : List ℕ) (ticks : List (List Action)) (tick : ℕ) (words : List ℕ) (round : Option Round) (now : Image) : Type 0 where
   t : ℕ
-  first : Picked cells ticks t (Open tick words) now
-  second : Picked cells ticks t now (Open tick words)
+  on_left : Picked first ticks t (Open tick words) now
+  on_right : Picked first ticks t now (Open tick words)
   which : IsImageTick tick round t
 
-kept_pair : (cells : ℕ) (ticks : List (List Action)) (tick : ℕ) (words : List ℕ) (round : Option Round) (now : Image) → IsImageTick tick round tick → IsWorldAt cells ticks tick words → HoldsWorld cells ticks tick now → ImagePair cells ticks tick words round now
-kept_pair cells ticks tick words round now which at h = record { t = tick; first = kept_left cells ticks tick words now at h; second = kept_right cells ticks tick words now at h; which = which }
+kept_pair : (first : List ℕ) (ticks : List (List Action)) (tick : ℕ) (words : List ℕ) (round : Option Round) (now : Image) → IsImageTick tick round tick → IsWorldAt first ticks tick words → HoldsWorld first ticks tick now → ImagePair first ticks tick words round now
+kept_pair first ticks tick words round now which at h = record { t = tick; on_left = kept_left first ticks tick words now at h; on_right = kept_right first ticks tick words now at h; which = which }
 
-image_pair : (cells : ℕ) (ticks : List (List Action)) (tick : ℕ) (words : List ℕ) (before : Image) (round : Option Round) (now : Image) → IsWorldAt cells ticks tick words → HoldsWorld cells ticks tick before → IsRoundOf cells ticks tick round → IsTarget cells before round now → ImagePair cells ticks tick words round now
-image_pair cells ticks tick words before None now at h r e = subst (λ i. ImagePair cells ticks tick words None i) (sym e) (kept_pair cells ticks tick words None before refl at h)
-image_pair cells ticks tick words before (Some round) now at h r (inl e) = subst (λ i. ImagePair cells ticks tick words (Some round) i) (sym e) (kept_pair cells ticks tick words (Some round) before (inl refl) at h)
-image_pair cells ticks tick words before (Some round) now at h r (inr (inl e)) = subst (λ i. ImagePair cells ticks tick words (Some round) i) (sym e) (kept_pair cells ticks tick words (Some round) Closed (inl refl) at tt)
-image_pair cells ticks tick words before (Some round) now at h r (inr (inr e)) =
-    let pair : ImagePair cells ticks tick words (Some round) (Open round.tick round.taken) = record {
+image_pair : (first : List ℕ) (ticks : List (List Action)) (tick : ℕ) (words : List ℕ) (before : Image) (round : Option Round) (now : Image) → IsWorldAt first ticks tick words → HoldsWorld first ticks tick before → IsRoundOf first ticks tick round → IsTarget (length first) before round now → ImagePair first ticks tick words round now
+image_pair first ticks tick words before None now at h r e = subst (λ i. ImagePair first ticks tick words None i) (sym e) (kept_pair first ticks tick words None before refl at h)
+image_pair first ticks tick words before (Some round) now at h r (inl e) = subst (λ i. ImagePair first ticks tick words (Some round) i) (sym e) (kept_pair first ticks tick words (Some round) before (inl refl) at h)
+image_pair first ticks tick words before (Some round) now at h r (inr (inl e)) = subst (λ i. ImagePair first ticks tick words (Some round) i) (sym e) (kept_pair first ticks tick words (Some round) Closed (inl refl) at tt)
+image_pair first ticks tick words before (Some round) now at h r (inr (inr e)) =
+    let pair : ImagePair first ticks tick words (Some round) (Open round.tick round.taken) = record {
       t = round.tick;
-      first = passed_left cells ticks tick round.tick words round.taken r.0 at (r.1 e.1);
-      second = passed_right cells ticks tick round.tick words round.taken r.0 at (r.1 e.1);
+      on_left = passed_left first ticks tick round.tick words round.taken r.0 at (r.1 e.1);
+      on_right = passed_right first ticks tick round.tick words round.taken r.0 at (r.1 e.1);
       which = inr refl;
     } in
-    subst (λ i. ImagePair cells ticks tick words (Some round) i) (sym e.0) pair
+    subst (λ i. ImagePair first ticks tick words (Some round) i) (sym e.0) pair
 
 -- ---- together
 
@@ -264,24 +264,24 @@ or_false : (x y : Bool) → x ≡ false → y ≡ false → (x || y) ≡ false
 or_false true y h k = absurd cc
 or_false false y h k = k
 
-well_formed : (cells : ℕ) (ticks : List (List Action)) (most : ℕ) (image : Image) → HoldsWorld cells ticks most image → is_bad_image image ≡ false
-well_formed cells ticks most Closed h = refl
-well_formed cells ticks most Bad h = absurd h
-well_formed cells ticks most (Open s v) h = refl
+well_formed : (first : List ℕ) (ticks : List (List Action)) (most : ℕ) (image : Image) → HoldsWorld first ticks most image → is_bad_image image ≡ false
+well_formed first ticks most Closed h = refl
+well_formed first ticks most Bad h = absurd h
+well_formed first ticks most (Open s v) h = refl
 
-still_holds : (cells : ℕ) (ticks : List (List Action)) (most more : ℕ) (image : Image) → most ≤ more → HoldsWorld cells ticks most image → HoldsWorld cells ticks more image
-still_holds cells ticks most more Closed le h = tt
-still_holds cells ticks most more Bad le h = h
-still_holds cells ticks most more (Open s v) le h = (omega (arith, h.0), h.1)
+still_holds : (first : List ℕ) (ticks : List (List Action)) (most more : ℕ) (image : Image) → most ≤ more → HoldsWorld first ticks most image → HoldsWorld first ticks more image
+still_holds first ticks most more Closed le h = tt
+still_holds first ticks most more Bad le h = h
+still_holds first ticks most more (Open s v) le h = (omega (arith, h.0), h.1)
 
 -- the replay on the picked image is a sound reading
-pub picked_reading : (cells : ℕ) (ticks : List (List Action)) (acknowledged t : ℕ) (image_a image_b : Image) (log_a log_b : Segment) (p : Picked cells ticks t image_a image_b) → is_bad_segment log_a ≡ false → is_bad_segment log_b ≡ false
+pub picked_reading : (first : List ℕ) (ticks : List (List Action)) (acknowledged t : ℕ) (image_a image_b : Image) (log_a log_b : Segment) (p : Picked first ticks t image_a image_b) → is_bad_segment log_a ≡ false → is_bad_segment log_b ≡ false
     → (more : ℕ) (words : List ℕ) → recovery_from (Some p.image) log_a log_b ≡ Ok (record { tick = p.image.tick + more; from = p.image.tick; slot = p.image.slot; words = words })
-    → acknowledged ≤ p.image.tick + more → IsWorldAt cells ticks (p.image.tick + more) words → BeginsUpTo (p.image.tick + more) log_a → BeginsUpTo (p.image.tick + more) log_b
-    → IsSoundReading image_a image_b log_a log_b cells ticks acknowledged
-picked_reading cells ticks acknowledged t image_a image_b log_a log_b p fa fb more words is reaches world begins_a begins_b =
+    → acknowledged ≤ p.image.tick + more → IsWorldAt first ticks (p.image.tick + more) words → BeginsUpTo (p.image.tick + more) log_a → BeginsUpTo (p.image.tick + more) log_b
+    → IsSoundReading image_a image_b log_a log_b first ticks acknowledged
+picked_reading first ticks acknowledged t image_a image_b log_a log_b p fa fb more words is reaches world begins_a begins_b =
     let n = p.image in
-    let images_formed : (is_bad_image image_a || is_bad_image image_b) ≡ false = or_false (is_bad_image image_a) (is_bad_image image_b) (well_formed cells ticks n.tick image_a p.a_holds) (well_formed cells ticks n.tick image_b p.b_holds) in
+    let images_formed : (is_bad_image image_a || is_bad_image image_b) ≡ false = or_false (is_bad_image image_a) (is_bad_image image_b) (well_formed first ticks n.tick image_a p.a_holds) (well_formed first ticks n.tick image_b p.b_holds) in
     let logs_formed : (is_bad_segment log_a || is_bad_segment log_b) ≡ false = or_false (is_bad_segment log_a) (is_bad_segment log_b) fa fb in
     let later : n.tick ≤ n.tick + more = omega arith in
     record {
@@ -293,20 +293,20 @@ picked_reading cells ticks acknowledged t image_a image_b log_a log_b p fa fb mo
           ∙ is;
       keeps = reaches;
       world = world;
-      image_a_holds = still_holds cells ticks n.tick (n.tick + more) image_a later p.a_holds;
-      image_b_holds = still_holds cells ticks n.tick (n.tick + more) image_b later p.b_holds;
+      image_a_holds = still_holds first ticks n.tick (n.tick + more) image_a later p.a_holds;
+      image_b_holds = still_holds first ticks n.tick (n.tick + more) image_b later p.b_holds;
       log_a_begins = begins_a;
       log_b_begins = begins_b;
     }
 
-pub sound_reading : (cells : ℕ) (ticks : List (List Action)) (acknowledged t : ℕ) (last : List ℕ) (image_a image_b : Image) (log_a log_b : Segment) → after_ticks cells ticks ≡ Ok last → Picked cells ticks t image_a image_b → IsTail ticks acknowledged t log_a log_b → is_bad_segment log_a ≡ false → is_bad_segment log_b ≡ false → IsSoundReading image_a image_b log_a log_b cells ticks acknowledged
-sound_reading cells ticks acknowledged t last image_a image_b log_a log_b all p from fa fb =
+pub sound_reading : (first : List ℕ) (ticks : List (List Action)) (acknowledged t : ℕ) (last : List ℕ) (image_a image_b : Image) (log_a log_b : Segment) → after_ticks first ticks ≡ Ok last → Picked first ticks t image_a image_b → IsTail ticks acknowledged t log_a log_b → is_bad_segment log_a ≡ false → is_bad_segment log_b ≡ false → IsSoundReading image_a image_b log_a log_b first ticks acknowledged
+sound_reading first ticks acknowledged t last image_a image_b log_a log_b all p from fa fb =
     let n = p.image in
     let at : IsTail ticks acknowledged n.tick log_a log_b = subst (λ m. IsTail ticks acknowledged m log_a log_b) (sym p.tick_is) from in
-    let on = world_on cells ticks n.tick at.more n.words last all at.ended p.world in
+    let on = world_on first ticks n.tick at.more n.words last all at.ended p.world in
     let rest : List (List Action) = take at.more (drop n.tick ticks) in
     let len : length rest ≡ at.more = omega (arith, length-take at.more (drop n.tick ticks), length-drop n.tick ticks, at.ended) in
-    picked_reading cells ticks acknowledged t image_a image_b log_a log_b p fa fb at.more on.later_words
+    picked_reading first ticks acknowledged t image_a image_b log_a log_b p fa fb at.more on.later_words
     (ap (replayed n) at.is ∙ ap (recovery_with n rest) on.replays ∙ ap (λ m. Ok (record { tick = n.tick + m; from = n.tick; slot = n.slot; words = on.later_words })) len)
     at.reaches on.world at.a_begins at.b_begins
 
@@ -363,30 +363,30 @@ image_leads ticks later images logs m (Some round) t is (inr e) =
     subst (λ n. LeadsOn ticks logs n) (sym e) (place_leads ticks logs round.tick later logs.before (m.earlier ++ images.tick ∷ []) [] refl (bases ∙ sym (append_assoc m.earlier (images.tick ∷ []) (round.tick ∷ []))) (omega arith) m.rising m.in_order)
 
 -- the picked image is no older than the newest image
-not_older : (cells : ℕ) (ticks : List (List Action)) (newest : ℕ) (round : Option Round) (t : ℕ) → IsRoundOf cells ticks newest round → IsImageTick newest round t → newest ≤ t
-not_older cells ticks newest None t of e = omega (arith, e)
-not_older cells ticks newest (Some round) t of (inl e) = omega (arith, e)
-not_older cells ticks newest (Some round) t of (inr e) = omega (arith, e, of.0)
+not_older : (first : List ℕ) (ticks : List (List Action)) (newest : ℕ) (round : Option Round) (t : ℕ) → IsRoundOf first ticks newest round → IsImageTick newest round t → newest ≤ t
+not_older first ticks newest None t of e = omega (arith, e)
+not_older first ticks newest (Some round) t of (inl e) = omega (arith, e)
+not_older first ticks newest (Some round) t of (inr e) = omega (arith, e, of.0)
 
 -- ---- the two slots
 
-pub record ReadImages (cells : ℕ) (ticks : List (List Action)) (tick : ℕ) (round : Option Round) (image_a image_b : Image) : Type 0 where
+pub record ReadImages (first : List ℕ) (ticks : List (List Action)) (tick : ℕ) (round : Option Round) (image_a image_b : Image) : Type 0 where
   pub t : ℕ
-  pub picked : Picked cells ticks t image_a image_b
+  pub picked : Picked first ticks t image_a image_b
   pub which : IsImageTick tick round t
 
-pub read_images : (cells : ℕ) (ticks : List (List Action)) (slot : Slot) (tick : ℕ) (words : List ℕ) (before : Image) (round : Option Round) (may_a may_b : List ℕ → Type 0) → IsWorldAt cells ticks tick words → HoldsWorld cells ticks tick before → IsRoundOf cells ticks tick round
+pub read_images : (first : List ℕ) (ticks : List (List Action)) (slot : Slot) (tick : ℕ) (words : List ℕ) (before : Image) (round : Option Round) (may_a may_b : List ℕ → Type 0) → IsWorldAt first ticks tick words → HoldsWorld first ticks tick before → IsRoundOf first ticks tick round
     → ((bytes : List ℕ) → in_slot slot may_a may_b bytes → image_of bytes ≡ Open tick words)
-    → ((bytes : List ℕ) → beside_slot slot may_a may_b bytes → IsTarget cells before round (image_of bytes))
-    → (a b : List ℕ) → may_a a → may_b b → ReadImages cells ticks tick round (image_of a) (image_of b)
-read_images cells ticks A tick words before round may_a may_b at h r newest_is target_is a b ha hb =
-    let pair = image_pair cells ticks tick words before round (image_of b) at h r (target_is b hb) in
-    let read : ReadImages cells ticks tick round (Open tick words) (image_of b) = record { t = pair.t; picked = pair.first; which = pair.which } in
-    subst (λ i. ReadImages cells ticks tick round i (image_of b)) (sym (newest_is a ha)) read
-read_images cells ticks B tick words before round may_a may_b at h r newest_is target_is a b ha hb =
-    let pair = image_pair cells ticks tick words before round (image_of a) at h r (target_is a ha) in
-    let read : ReadImages cells ticks tick round (image_of a) (Open tick words) = record { t = pair.t; picked = pair.second; which = pair.which } in
-    subst (λ i. ReadImages cells ticks tick round (image_of a) i) (sym (newest_is b hb)) read
+    → ((bytes : List ℕ) → beside_slot slot may_a may_b bytes → IsTarget (length first) before round (image_of bytes))
+    → (a b : List ℕ) → may_a a → may_b b → ReadImages first ticks tick round (image_of a) (image_of b)
+read_images first ticks A tick words before round may_a may_b at h r newest_is target_is a b ha hb =
+    let pair = image_pair first ticks tick words before round (image_of b) at h r (target_is b hb) in
+    let read : ReadImages first ticks tick round (Open tick words) (image_of b) = record { t = pair.t; picked = pair.on_left; which = pair.which } in
+    subst (λ i. ReadImages first ticks tick round i (image_of b)) (sym (newest_is a ha)) read
+read_images first ticks B tick words before round may_a may_b at h r newest_is target_is a b ha hb =
+    let pair = image_pair first ticks tick words before round (image_of a) at h r (target_is a ha) in
+    let read : ReadImages first ticks tick round (image_of a) (Open tick words) = record { t = pair.t; picked = pair.on_right; which = pair.which } in
+    subst (λ i. ReadImages first ticks tick round (image_of a) i) (sym (newest_is b hb)) read
 
 record ReadLogs (ticks : List (List Action)) (acknowledged t : ℕ) (log_a log_b : Segment) : Type 0 where
   tail_is : IsTail ticks acknowledged t log_a log_b
@@ -411,14 +411,14 @@ read_logs ticks acknowledged newest t logs B may_a may_b f from ended leads curr
 -- ---- the law
 
 pub files_are_sound : (image_a image_b log_a log_b : List ℕ → Type 0)
-    → (cells : ℕ) (ticks : List (List Action)) (acknowledged : ℕ) (last : List ℕ) (images : Images) (logs : Logs) (later : List ℕ)
-    → after_ticks cells ticks ≡ Ok last → ImagesFollow cells ticks images → LogsFollow ticks acknowledged images.tick logs → FollowMarks later images logs
-    → ImagesAre cells images image_a image_b → LogsAre logs log_a log_b
-    → IsSound image_a image_b log_a log_b cells ticks acknowledged
-files_are_sound image_a image_b log_a log_b cells ticks acknowledged last images logs later all fi fl m ai al a b la lb ha hb hla hlb =
-    let i = read_images cells ticks images.slot images.tick images.words images.before images.round image_a image_b fi.newest fi.before fi.round ai.newest ai.target a b ha hb in
+    → (first : List ℕ) (ticks : List (List Action)) (acknowledged : ℕ) (last : List ℕ) (images : Images) (logs : Logs) (later : List ℕ)
+    → after_ticks first ticks ≡ Ok last → ImagesFollow first ticks images → LogsFollow ticks acknowledged images.tick logs → FollowMarks later images logs
+    → ImagesAre (length first) images image_a image_b → LogsAre logs log_a log_b
+    → IsSound image_a image_b log_a log_b first ticks acknowledged
+files_are_sound image_a image_b log_a log_b first ticks acknowledged last images logs later all fi fl m ai al a b la lb ha hb hla hlb =
+    let i = read_images first ticks images.slot images.tick images.words images.before images.round image_a image_b fi.newest fi.before fi.round ai.newest ai.target a b ha hb in
     let ended : i.t ≤ length ticks = subst (λ n. n ≤ length ticks) i.picked.tick_is i.picked.world.ended in
     let leads = image_leads ticks later images logs m images.round i.t refl i.which in
-    let from = not_older cells ticks images.tick images.round i.t fi.round i.which in
+    let from = not_older first ticks images.tick images.round i.t fi.round i.which in
     let l = read_logs ticks acknowledged images.tick i.t logs logs.slot log_a log_b fl from ended leads al.current al.other la lb hla hlb in
-    record { a = l.a; b = l.b; reads_a = l.reads_a; reads_b = l.reads_b; holds = sound_reading cells ticks acknowledged i.t last (image_of a) (image_of b) l.a l.b all i.picked l.holds.tail_is l.holds.a_formed l.holds.b_formed }
+    record { a = l.a; b = l.b; reads_a = l.reads_a; reads_b = l.reads_b; holds = sound_reading first ticks acknowledged i.t last (image_of a) (image_of b) l.a l.b all i.picked l.holds.tail_is l.holds.a_formed l.holds.b_formed }

@@ -1,6 +1,6 @@
 -- Each event of a start keeps the premises of its law.
 use Rattle.std.proofs.Common.{◌≡◌, ℕ, ◌<◌, ◌≤◌, ◌⊎◌, inl, inr, true, max, List, [], ◌∷◌, length, Option, Some, None, Ok, refl, sym, ap, subst, ◌∙◌, arith}
-use Rattle.std.specs.Prelude.{replicate, option_map}
+use Rattle.std.specs.Prelude.{option_map}
 use Rattle.std.proofs.lemmas.List.{drop_all}
 use Rattle.world_actions.specs.declared.action.Action.{Action}
 use Rattle.capture_core.specs.declared.taker.Taken.{Taken}
@@ -20,32 +20,32 @@ use Rattle.recovery.specs.Start.{IsStarting, IsFirstRound, FirstFollows}
 use Rattle.recovery.specs.Events.{IsKept, acknowledged_opened}
 use Rattle.recovery.proofs.Starting.{IsStartRound, start_is_sound}
 use Rattle.recovery.proofs.Events.{with_round_begun, with_round_opened, opened_follows}
-use Rattle.recovery.proofs.Restart.{zeros_at}
+use Rattle.recovery.proofs.Restart.{first_at}
 
 pub starting_is_sound : (image_a image_b log_a log_b : List ℕ → Type 0)
-    → (cells : ℕ) (ticks : List (List Action)) (acknowledged : ℕ) (images : Images) (from : ℕ) (start : Start)
-    → IsStarting cells ticks acknowledged images from start → ImagesAre cells images image_a image_b → StartLogsAre start log_a log_b → IsSound image_a image_b log_a log_b cells ticks acknowledged
-starting_is_sound image_a image_b log_a log_b cells ticks acknowledged images from start s ai al =
-    start_is_sound image_a image_b log_a log_b cells ticks acknowledged s.last images from start s.accepted s.images_follow s.start_follows ai al
+    → (first : List ℕ) (ticks : List (List Action)) (acknowledged : ℕ) (images : Images) (from : ℕ) (start : Start)
+    → IsStarting first ticks acknowledged images from start → ImagesAre (length first) images image_a image_b → StartLogsAre start log_a log_b → IsSound image_a image_b log_a log_b first ticks acknowledged
+starting_is_sound image_a image_b log_a log_b first ticks acknowledged images from start s ai al =
+    start_is_sound image_a image_b log_a log_b first ticks acknowledged s.last images from start s.accepted s.images_follow s.start_follows ai al
 
-pub start_round_begins : (cells : ℕ) (ticks : List (List Action)) (acknowledged : ℕ) (images next : Images) (from : ℕ) (start : Start)
-    → 1 ≤ cells → IsStarting cells ticks acknowledged images from start → images.tick < start.tick → with_round start.tick (Newest images) ≡ Newest next → IsStarting cells ticks acknowledged next from start
-start_round_begins cells ticks acknowledged images next from start some s below is =
+pub start_round_begins : (first : List ℕ) (ticks : List (List Action)) (acknowledged : ℕ) (images next : Images) (from : ℕ) (start : Start)
+    → 1 ≤ length first → IsStarting first ticks acknowledged images from start → images.tick < start.tick → with_round start.tick (Newest images) ≡ Newest next → IsStarting first ticks acknowledged next from start
+start_round_begins first ticks acknowledged images next from start some s below is =
     let f = s.start_follows in
     let same : with_round_begun images start.tick ≡ next = cc in
-    let begun : IsStarting cells ticks acknowledged (with_round_begun images start.tick) from start = record {
+    let begun : IsStarting first ticks acknowledged (with_round_begun images start.tick) from start = record {
       last = s.last;
       accepted = s.accepted;
       images_follow = record { newest = s.images_follow.newest; before = s.images_follow.before; round = (below, λ full. absurd (omega (arith, full, some))) };
       start_follows = record { whole = f.whole; ahead = f.ahead; ends = f.ends; replays = f.replays; a_formed = f.a_formed; b_formed = f.b_formed; a_begins = f.a_begins; b_begins = f.b_begins; acknowledges = f.acknowledges; image = f.image; round = refl };
     } in
-    subst (λ i. IsStarting cells ticks acknowledged i from start) same begun
+    subst (λ i. IsStarting first ticks acknowledged i from start) same begun
 
 -- the round in work has another word, and the same tick
-start_words : (cells : ℕ) (ticks : List (List Action)) (acknowledged : ℕ) (images : Images) (from : ℕ) (start : Start) (round : Round) (taken : List ℕ)
-    → IsStarting cells ticks acknowledged images from start → images.round ≡ Some round → IsRoundOf cells ticks images.tick (Some (record round { taken = taken }))
-    → IsStarting cells ticks acknowledged (record images { round = Some (record round { taken = taken }) }) from start
-start_words cells ticks acknowledged images from start round taken s some of =
+start_words : (first : List ℕ) (ticks : List (List Action)) (acknowledged : ℕ) (images : Images) (from : ℕ) (start : Start) (round : Round) (taken : List ℕ)
+    → IsStarting first ticks acknowledged images from start → images.round ≡ Some round → IsRoundOf first ticks images.tick (Some (record round { taken = taken }))
+    → IsStarting first ticks acknowledged (record images { round = Some (record round { taken = taken }) }) from start
+start_words first ticks acknowledged images from start round taken s some of =
     let f = s.start_follows in
     let at : IsStartRound start.tick (Some round) = subst (IsStartRound start.tick) some f.round in
     record {
@@ -55,40 +55,40 @@ start_words cells ticks acknowledged images from start round taken s some of =
       start_follows = record { whole = f.whole; ahead = f.ahead; ends = f.ends; replays = f.replays; a_formed = f.a_formed; b_formed = f.b_formed; a_begins = f.a_begins; b_begins = f.b_begins; acknowledges = f.acknowledges; image = f.image; round = at };
     }
 
-start_opened : (cells : ℕ) (ticks : List (List Action)) (acknowledged : ℕ) (images : Images) (from : ℕ) (start : Start) (round : Round)
-    → IsStarting cells ticks acknowledged images from start → images.round ≡ Some round → length round.taken ≡ cells
-    → IsStarting cells ticks (max acknowledged round.tick) (with_round_opened images round) from start
-start_opened cells ticks acknowledged images from start round s some whole =
+start_opened : (first : List ℕ) (ticks : List (List Action)) (acknowledged : ℕ) (images : Images) (from : ℕ) (start : Start) (round : Round)
+    → IsStarting first ticks acknowledged images from start → images.round ≡ Some round → length round.taken ≡ length first
+    → IsStarting first ticks (max acknowledged round.tick) (with_round_opened images round) from start
+start_opened first ticks acknowledged images from start round s some whole =
     let f = s.start_follows in
     let at : IsStartRound start.tick (Some round) = subst (IsStartRound start.tick) some f.round in
-    let of : IsRoundOf cells ticks images.tick (Some round) = subst (IsRoundOf cells ticks images.tick) some s.images_follow.round in
+    let of : IsRoundOf first ticks images.tick (Some round) = subst (IsRoundOf first ticks images.tick) some s.images_follow.round in
     record {
       last = s.last;
       accepted = s.accepted;
-      images_follow = opened_follows cells ticks images round s.images_follow of whole;
+      images_follow = opened_follows first ticks images round s.images_follow of whole;
       start_follows = record { whole = f.whole; ahead = f.ahead; ends = f.ends; replays = f.replays; a_formed = f.a_formed; b_formed = f.b_formed; a_begins = f.a_begins; b_begins = f.b_begins; acknowledges = omega (arith, f.acknowledges, at); image = inl at; round = tt };
     }
 
 module _ {S : Type 0} (took : S → Option Taken → S → Type 0) where
-  pub start_image_step_keeps : (cells : ℕ) (ticks : List (List Action)) (acknowledged : ℕ) (images : Images) (from : ℕ) (start : Start)
+  pub start_image_step_keeps : (first : List ℕ) (ticks : List (List Action)) (acknowledged : ℕ) (images : Images) (from : ℕ) (start : Start)
       (answer : ImageAnswer) (next : ImageFiles) (old new : S)
-      → IsStarting cells ticks acknowledged images from start → StepsImages took cells (Newest images) answer next old new
-      → IsRoundOf cells ticks images.tick (round_in next)
-      → (after : Images) × (next ≡ Newest after) × IsStarting cells ticks (acknowledged_opened acknowledged answer) after from start
-  start_image_step_keeps cells ticks acknowledged images from start answer.Idle next old new s step of = (images, step.1, s)
-  start_image_step_keeps cells ticks acknowledged images from start answer.Working next old new s (round, some, inl same) of = (images, same.0, s)
-  start_image_step_keeps cells ticks acknowledged images from start answer.Working next old new s (round, some, inr (cell, taken, is)) of =
+      → IsStarting first ticks acknowledged images from start → StepsImages took (length first) (Newest images) answer next old new
+      → IsRoundOf first ticks images.tick (round_in next)
+      → (after : Images) × (next ≡ Newest after) × IsStarting first ticks (acknowledged_opened acknowledged answer) after from start
+  start_image_step_keeps first ticks acknowledged images from start answer.Idle next old new s step of = (images, step.1, s)
+  start_image_step_keeps first ticks acknowledged images from start answer.Working next old new s (round, some, inl same) of = (images, same.0, s)
+  start_image_step_keeps first ticks acknowledged images from start answer.Working next old new s (round, some, inr (cell, taken, is)) of =
       let grown : next ≡ Newest (record images { round = Some (with_cell cell images.words round) }) =
       is ∙ ap (λ o. with_taken cell (Newest (record images { round = o }))) some in
-      let here : IsRoundOf cells ticks images.tick (Some (with_cell cell images.words round)) = subst (λ n. IsRoundOf cells ticks images.tick (round_in n)) grown of in
-      (record images { round = Some (with_cell cell images.words round) }, grown, start_words cells ticks acknowledged images from start round (with_cell cell images.words round).taken s some here)
-  start_image_step_keeps cells ticks acknowledged images from start (answer.Opened tick) next old new s (round, some, at, whole, is, same) of =
-      (with_round_opened images round, is, subst (λ n. IsStarting cells ticks (max acknowledged n) (with_round_opened images round) from start) (sym at) (start_opened cells ticks acknowledged images from start round s some whole))
-  start_image_step_keeps cells ticks acknowledged images from start answer.Down next old new s (round, some, is, same) of = (images, is, s)
+      let here : IsRoundOf first ticks images.tick (Some (with_cell cell images.words round)) = subst (λ n. IsRoundOf first ticks images.tick (round_in n)) grown of in
+      (record images { round = Some (with_cell cell images.words round) }, grown, start_words first ticks acknowledged images from start round (with_cell cell images.words round).taken s some here)
+  start_image_step_keeps first ticks acknowledged images from start (answer.Opened tick) next old new s (round, some, at, whole, is, same) of =
+      (with_round_opened images round, is, subst (λ n. IsStarting first ticks (max acknowledged n) (with_round_opened images round) from start) (sym at) (start_opened first ticks acknowledged images from start round s some whole))
+  start_image_step_keeps first ticks acknowledged images from start answer.Down next old new s (round, some, is, same) of = (images, is, s)
 
-start_log_begins : (cells : ℕ) (ticks : List (List Action)) (acknowledged : ℕ) (images : Images) (from : ℕ) (start : Start)
-    → IsStarting cells ticks acknowledged images from start → images.tick ≡ start.tick → IsStarting cells ticks acknowledged images from (record start { begun = true })
-start_log_begins cells ticks acknowledged images from start s at =
+start_log_begins : (first : List ℕ) (ticks : List (List Action)) (acknowledged : ℕ) (images : Images) (from : ℕ) (start : Start)
+    → IsStarting first ticks acknowledged images from start → images.tick ≡ start.tick → IsStarting first ticks acknowledged images from (record start { begun = true })
+start_log_begins first ticks acknowledged images from start s at =
     let f = s.start_follows in
     record {
       last = s.last;
@@ -97,13 +97,13 @@ start_log_begins cells ticks acknowledged images from start s at =
       start_follows = record { whole = f.whole; ahead = f.ahead; ends = f.ends; replays = f.replays; a_formed = f.a_formed; b_formed = f.b_formed; a_begins = f.a_begins; b_begins = f.b_begins; acknowledges = f.acknowledges; image = inl at; round = f.round };
     }
 
-start_ends : (cells : ℕ) (ticks : List (List Action)) (acknowledged : ℕ) (images : Images) (from : ℕ) (start : Start)
-    → 1 ≤ cells → IsStarting cells ticks acknowledged images from start → images.tick ≡ start.tick → images.round ≡ None
-    → IsKept cells ticks acknowledged images (started start.tick) []
-start_ends cells ticks acknowledged images from start some s at none =
+start_ends : (first : List ℕ) (ticks : List (List Action)) (acknowledged : ℕ) (images : Images) (from : ℕ) (start : Start)
+    → 1 ≤ length first → IsStarting first ticks acknowledged images from start → images.tick ≡ start.tick → images.round ≡ None
+    → IsKept first ticks acknowledged images (started start.tick) []
+start_ends first ticks acknowledged images from start some s at none =
     let f = s.start_follows in
     let whole : length ticks ≡ images.tick = f.whole ∙ sym at in
-    let kept : IsKept cells ticks acknowledged images (started images.tick) [] = record {
+    let kept : IsKept first ticks acknowledged images (started images.tick) [] = record {
       worlds = record { some_cells = some; last = s.last; accepted = s.accepted; images_follow = s.images_follow };
       logs_follow = record { taken = record { ended = omega (arith, whole); are = refl }; acknowledges = inr (omega (arith, f.acknowledges, at)); before = tt; switch = tt };
       follow_marks = record { earlier = []; bases = ap (λ r. images.tick ∷ round_tick r) (sym none); rising = tt; in_order = tt };
@@ -115,67 +115,67 @@ start_ends cells ticks acknowledged images from start some s at none =
         has = inl (omega arith);
       };
     } in
-    subst (λ t. IsKept cells ticks acknowledged images (started t) []) at kept
+    subst (λ t. IsKept first ticks acknowledged images (started t) []) at kept
 
-module _ (cells : ℕ) (ticks : List (List Action)) (acknowledged : ℕ) (images : Images) (from : ℕ) (start : Start) where
+module _ (first : List ℕ) (ticks : List (List Action)) (acknowledged : ℕ) (images : Images) (from : ℕ) (start : Start) where
   abbrev Keeps : LogPlace → Type 0
   Keeps next =
-      ((after : Start) × (next.journal ≡ InStart after) × IsStarting cells ticks acknowledged images from after)
-      ⊎ ((next.journal ≡ Writing (started start.tick)) × IsKept cells ticks acknowledged images (started start.tick) [])
+      ((after : Start) × (next.journal ≡ InStart after) × IsStarting first ticks acknowledged images from after)
+      ⊎ ((next.journal ≡ Writing (started start.tick)) × IsKept first ticks acknowledged images (started start.tick) [])
 
   pub start_log_step_keeps : (left : ℕ) (given : LogAnswer) (next : LogPlace)
-      → 1 ≤ cells → IsStarting cells ticks acknowledged images from start → images.tick ≡ start.tick → images.round ≡ None
+      → 1 ≤ length first → IsStarting first ticks acknowledged images from start → images.tick ≡ start.tick → images.round ≡ None
       → StartStep start left given next → Keeps next
   start_log_step_keeps left log_answer.Idle next some s at none step = absurd step
   start_log_step_keeps left log_answer.Working next some s at none (inl on) =
-      inl (record start { begun = true }, ap (λ (place : LogPlace). place.journal) on.1, start_log_begins cells ticks acknowledged images from start s at)
+      inl (record start { begun = true }, ap (λ (place : LogPlace). place.journal) on.1, start_log_begins first ticks acknowledged images from start s at)
   start_log_step_keeps left log_answer.Working next some s at none (inr end) =
-      inr (ap (λ (place : LogPlace). place.journal) end.1, start_ends cells ticks acknowledged images from start some s at none)
+      inr (ap (λ (place : LogPlace). place.journal) end.1, start_ends first ticks acknowledged images from start some s at none)
   start_log_step_keeps left (log_answer.Acked tick) next some s at none step = absurd step
   start_log_step_keeps left log_answer.Down next some s at none step =
-      inl (record start { begun = true }, ap (λ (place : LogPlace). place.journal) step.1, start_log_begins cells ticks acknowledged images from start s at)
+      inl (record start { begun = true }, ap (λ (place : LogPlace). place.journal) step.1, start_log_begins first ticks acknowledged images from start s at)
 
 -- ---- a fresh world
 
-first_starting : (cells : ℕ) (images : FirstImages) (start : Start) (round : Round) → FirstFollows cells images start → images.round ≡ Some round → length round.taken ≡ cells
-    → IsStarting cells [] 0 (record { slot = A; tick = round.tick; words = round.taken; before = Closed; round = None }) 0 start
-first_starting cells images start round f some whole =
-    let first : IsFirstRound cells (Some round) = subst (IsFirstRound cells) some f.round in
-    let zeros : round.taken ≡ replicate cells 0 = first.1 whole in
+first_starting : (first : List ℕ) (images : FirstImages) (start : Start) (round : Round) → FirstFollows first images start → images.round ≡ Some round → length round.taken ≡ length first
+    → IsStarting first [] 0 (record { slot = A; tick = round.tick; words = round.taken; before = Closed; round = None }) 0 start
+first_starting first images start round f some whole =
+    let begins : IsFirstRound first (Some round) = subst (IsFirstRound first) some f.round in
+    let is_first : round.taken ≡ first = begins.1 whole in
     let none : tail 0 start.before_a start.before_b ≡ [] = rw (f.a_closed, f.b_closed) refl in
     record {
       last = round.taken;
-      accepted = ap Ok (sym zeros);
-      images_follow = record { newest = subst (λ t. IsWorldAt cells [] t round.taken) (sym first.0) (zeros_at cells round.taken zeros); before = tt; round = tt };
+      accepted = ap Ok (sym is_first);
+      images_follow = record { newest = subst (λ t. IsWorldAt first [] t round.taken) (sym begins.0) (first_at first round.taken is_first); before = tt; round = tt };
       start_follows = record {
         whole = sym f.at_zero;
         ahead = omega arith;
         ends = omega (arith, ap length none, f.at_zero);
-        replays = λ words at. (words, ap (words_after words) none, subst (λ t. IsWorldAt cells [] t words) (sym f.at_zero) at);
+        replays = λ words at. (words, ap (words_after words) none, subst (λ t. IsWorldAt first [] t words) (sym f.at_zero) at);
         a_formed = ap is_bad_segment f.a_closed;
         b_formed = ap is_bad_segment f.b_closed;
         a_begins = subst (BeginsUpTo start.tick) (sym f.a_closed) tt;
         b_begins = subst (BeginsUpTo start.tick) (sym f.b_closed) tt;
         acknowledges = omega arith;
-        image = inl (first.0 ∙ sym f.at_zero);
+        image = inl (begins.0 ∙ sym f.at_zero);
         round = tt;
       };
     }
 
-first_words : (cells : ℕ) (images : FirstImages) (start : Start) (round : Option Round) → FirstFollows cells images start → IsFirstRound cells round → FirstFollows cells (record { round = round }) start
-first_words cells images start round f of = record { round = of; untouched = f.untouched; at_zero = f.at_zero; a_closed = f.a_closed; b_closed = f.b_closed }
+first_words : (first : List ℕ) (images : FirstImages) (start : Start) (round : Option Round) → FirstFollows first images start → IsFirstRound first round → FirstFollows first (record { round = round }) start
+first_words first images start round f of = record { round = of; untouched = f.untouched; at_zero = f.at_zero; a_closed = f.a_closed; b_closed = f.b_closed }
 
 module _ {S : Type 0} (took : S → Option Taken → S → Type 0) where
-  pub first_image_step_keeps : (cells : ℕ) (images : FirstImages) (start : Start) (answer : ImageAnswer) (next : ImageFiles) (old new : S)
-      → FirstFollows cells images start → StepsImages took cells (NoneYet images) answer next old new → IsFirstRound cells (round_in next)
-      → ((after : FirstImages) × (next ≡ NoneYet after) × FirstFollows cells after start)
-      ⊎ ((after : Images) × (next ≡ Newest after) × (after.tick ≡ 0) × (after.round ≡ None) × IsStarting cells [] (acknowledged_opened 0 answer) after 0 start)
-  first_image_step_keeps cells images start answer.Idle next old new f step of = inl (images, step.1, f)
-  first_image_step_keeps cells images start answer.Working next old new f (round, some, inl same) of = inl (images, same.0, f)
-  first_image_step_keeps cells images start answer.Working next old new f (round, some, inr (cell, taken, is)) of =
-      let here : IsFirstRound cells (option_map (with_cell cell []) images.round) = subst (λ n. IsFirstRound cells (round_in n)) is of in
-      inl (record { round = option_map (with_cell cell []) images.round }, is, first_words cells images start (option_map (with_cell cell []) images.round) f here)
-  first_image_step_keeps cells images start (answer.Opened tick) next old new f (round, some, at, whole, is, same) of =
-      let first : IsFirstRound cells (Some round) = subst (IsFirstRound cells) some f.round in
-      inr (record { slot = A; tick = round.tick; words = round.taken; before = Closed; round = None }, is, first.0, refl, subst (λ n. IsStarting cells [] n (record { slot = A; tick = round.tick; words = round.taken; before = Closed; round = None }) 0 start) (let none : 0 ≡ max 0 tick = omega (arith, at, first.0) in none) (first_starting cells images start round f some whole))
-  first_image_step_keeps cells images start answer.Down next old new f (round, some, is, same) of = inl (images, is, f)
+  pub first_image_step_keeps : (first : List ℕ) (images : FirstImages) (start : Start) (answer : ImageAnswer) (next : ImageFiles) (old new : S)
+      → FirstFollows first images start → StepsImages took (length first) (NoneYet images) answer next old new → IsFirstRound first (round_in next)
+      → ((after : FirstImages) × (next ≡ NoneYet after) × FirstFollows first after start)
+      ⊎ ((after : Images) × (next ≡ Newest after) × (after.tick ≡ 0) × (after.round ≡ None) × IsStarting first [] (acknowledged_opened 0 answer) after 0 start)
+  first_image_step_keeps first images start answer.Idle next old new f step of = inl (images, step.1, f)
+  first_image_step_keeps first images start answer.Working next old new f (round, some, inl same) of = inl (images, same.0, f)
+  first_image_step_keeps first images start answer.Working next old new f (round, some, inr (cell, taken, is)) of =
+      let here : IsFirstRound first (option_map (with_cell cell []) images.round) = subst (λ n. IsFirstRound first (round_in n)) is of in
+      inl (record { round = option_map (with_cell cell []) images.round }, is, first_words first images start (option_map (with_cell cell []) images.round) f here)
+  first_image_step_keeps first images start (answer.Opened tick) next old new f (round, some, at, whole, is, same) of =
+      let begins : IsFirstRound first (Some round) = subst (IsFirstRound first) some f.round in
+      inr (record { slot = A; tick = round.tick; words = round.taken; before = Closed; round = None }, is, begins.0, refl, subst (λ n. IsStarting first [] n (record { slot = A; tick = round.tick; words = round.taken; before = Closed; round = None }) 0 start) (let none : 0 ≡ max 0 tick = omega (arith, at, begins.0) in none) (first_starting first images start round f some whole))
+  first_image_step_keeps first images start answer.Down next old new f (round, some, is, same) of = inl (images, is, f)

@@ -22,8 +22,8 @@ idle_count : (logs : Logs) → logs.pending ≡ [] → logs.base + length (logs.
 idle_count logs none = ap (λ l. logs.base + length (logs.kept ++ l)) none ∙ ap (λ l. logs.base + length l) (append-nil logs.kept)
 
 -- fewer are acknowledged
-pub keeps_fewer : (cells : ℕ) (ticks : List (List Action)) (acknowledged fewer : ℕ) (images : Images) (logs : Logs) (queue : List Record) → fewer ≤ acknowledged → IsKept cells ticks acknowledged images logs queue → IsKept cells ticks fewer images logs queue
-keeps_fewer cells ticks acknowledged fewer images logs queue le k =
+pub keeps_fewer : (first : List ℕ) (ticks : List (List Action)) (acknowledged fewer : ℕ) (images : Images) (logs : Logs) (queue : List Record) → fewer ≤ acknowledged → IsKept first ticks acknowledged images logs queue → IsKept first ticks fewer images logs queue
+keeps_fewer first ticks acknowledged fewer images logs queue le k =
     let f = k.logs_follow in
     record {
       worlds = k.worlds;
@@ -32,21 +32,21 @@ keeps_fewer cells ticks acknowledged fewer images logs queue le k =
       queued = k.queued;
     }
 
-module _ (cells : ℕ) (ticks : List (List Action)) (acknowledged : ℕ) (images : Images) (logs : Logs) where
+module _ (first : List ℕ) (ticks : List (List Action)) (acknowledged : ℕ) (images : Images) (logs : Logs) where
   -- with no job in work the queue is all that is left
-  idle_numbered : (queue : List Record) (k : IsKept cells ticks acknowledged images logs queue) → is_idle logs → AreNumbered k.taken queue
+  idle_numbered : (queue : List Record) (k : IsKept first ticks acknowledged images logs queue) → is_idle logs → AreNumbered k.taken queue
   idle_numbered queue k idle = subst (λ o. AreNumbered k.taken (with_work o queue)) idle.1 k.numbered
 
-  idle_has : (queue : List Record) (k : IsKept cells ticks acknowledged images logs queue) → is_idle logs → HasUpTo logs k.taken images.tick queue
+  idle_has : (queue : List Record) (k : IsKept first ticks acknowledged images logs queue) → is_idle logs → HasUpTo logs k.taken images.tick queue
   idle_has queue k idle = subst (λ o. HasUpTo logs k.taken images.tick (with_work o queue)) idle.1 k.has
 
-  idle_bases : (queue : List Record) (k : IsKept cells ticks acknowledged images logs queue) → is_idle logs → base_in logs.before ++ logs.base ∷ switches_in queue ≡ k.follow_marks.earlier ++ images.tick ∷ round_tick images.round
+  idle_bases : (queue : List Record) (k : IsKept first ticks acknowledged images logs queue) → is_idle logs → base_in logs.before ++ logs.base ∷ switches_in queue ≡ k.follow_marks.earlier ++ images.tick ∷ round_tick images.round
   idle_bases queue k idle = subst (λ o. base_in logs.before ++ logs.base ∷ coming o (switches_in queue) ≡ k.follow_marks.earlier ++ images.tick ∷ round_tick images.round) idle.1 k.follow_marks.bases
 
-  idle_rising : (queue : List Record) (k : IsKept cells ticks acknowledged images logs queue) → is_idle logs → RiseFrom logs.base (switches_in queue)
+  idle_rising : (queue : List Record) (k : IsKept first ticks acknowledged images logs queue) → is_idle logs → RiseFrom logs.base (switches_in queue)
   idle_rising queue k idle = subst (λ o. RiseFrom logs.base (coming o (switches_in queue))) idle.1 k.follow_marks.rising
 
-  pub keeps_group : (group : List (List Action)) (queue left : List Record) → StandBefore group queue left → 1 ≤ length group → IsKept cells ticks acknowledged images logs queue → is_idle logs → IsKept cells ticks acknowledged images (with_group logs group) left
+  pub keeps_group : (group : List (List Action)) (queue left : List Record) → StandBefore group queue left → 1 ≤ length group → IsKept first ticks acknowledged images logs queue → is_idle logs → IsKept first ticks acknowledged images (with_group logs group) left
   keeps_group group queue left stand some k idle =
       let f = k.logs_follow in
       let m = k.follow_marks in
@@ -80,7 +80,7 @@ module _ (cells : ℕ) (ticks : List (List Action)) (acknowledged : ℕ) (images
   switch_reaches mark taken newest queue e none (inl h) = inl (sym (idle_count logs none) ∙ h ∙ sym e)
   switch_reaches mark taken newest queue e none (inr h) = inr (omega (arith, e, h.1), omega (arith, e, h.2))
 
-  pub keeps_switch_begun : (mark : ℕ) (left : List Record) → IsKept cells ticks acknowledged images logs (records.Switch mark ∷ left) → is_idle logs → IsKept cells ticks acknowledged images (with_switch logs mark) left
+  pub keeps_switch_begun : (mark : ℕ) (left : List Record) → IsKept first ticks acknowledged images logs (records.Switch mark ∷ left) → is_idle logs → IsKept first ticks acknowledged images (with_switch logs mark) left
   keeps_switch_begun mark left k idle =
       let f = k.logs_follow in
       let m = k.follow_marks in
@@ -115,7 +115,7 @@ module _ (cells : ℕ) (ticks : List (List Action)) (acknowledged : ℕ) (images
   switch_kept mark newest (inr r) (inl h) = inl (omega (arith, r.0, h))
   switch_kept mark newest r (inr h) = inr h
 
-  pub keeps_switched : (mark : ℕ) (queue : List Record) → IsKept cells ticks acknowledged images logs queue → logs.switch ≡ Some mark → IsKept cells ticks acknowledged images (switched_to logs mark) queue
+  pub keeps_switched : (mark : ℕ) (queue : List Record) → IsKept first ticks acknowledged images logs queue → logs.switch ≡ Some mark → IsKept first ticks acknowledged images (switched_to logs mark) queue
   keeps_switched mark queue k is =
       let f = k.logs_follow in
       let m = k.follow_marks in
@@ -148,23 +148,23 @@ module _ (cells : ℕ) (ticks : List (List Action)) (acknowledged : ℕ) (images
         };
       }
 
-  going_on_keeps : (queue : List Record) (next : Logs) (left : List Record) → IsKept cells ticks acknowledged images logs queue → GoesOn logs queue next left → IsKept cells ticks acknowledged images next left
+  going_on_keeps : (queue : List Record) (next : Logs) (left : List Record) → IsKept first ticks acknowledged images logs queue → GoesOn logs queue next left → IsKept first ticks acknowledged images next left
   going_on_keeps queue next left k (inl same) =
-      subst (λ l. IsKept cells ticks acknowledged images l left) (sym same.0) (subst (λ q. IsKept cells ticks acknowledged images logs q) (sym same.1) k)
+      subst (λ l. IsKept first ticks acknowledged images l left) (sym same.0) (subst (λ q. IsKept first ticks acknowledged images logs q) (sym same.1) k)
   going_on_keeps queue next left k (inr (inl t)) =
-      subst (λ l. IsKept cells ticks acknowledged images l left) (sym t.is) (keeps_group t.group queue left t.in_front t.some k t.idle)
+      subst (λ l. IsKept first ticks acknowledged images l left) (sym t.is) (keeps_group t.group queue left t.in_front t.some k t.idle)
   going_on_keeps queue next left k (inr (inr t)) =
-      subst (λ l. IsKept cells ticks acknowledged images l left) (sym t.is) (keeps_switch_begun t.tick left (subst (λ q. IsKept cells ticks acknowledged images logs q) t.in_front k) t.idle)
+      subst (λ l. IsKept first ticks acknowledged images l left) (sym t.is) (keeps_switch_begun t.tick left (subst (λ q. IsKept first ticks acknowledged images logs q) t.in_front k) t.idle)
 
-  switching_keeps : (queue : List Record) (next : Logs) (left : List Record) → IsKept cells ticks acknowledged images logs queue → EndsSwitch logs queue next left → IsKept cells ticks acknowledged images next left
+  switching_keeps : (queue : List Record) (next : Logs) (left : List Record) → IsKept first ticks acknowledged images logs queue → EndsSwitch logs queue next left → IsKept first ticks acknowledged images next left
   switching_keeps queue next left k s =
-      subst (λ l. IsKept cells ticks acknowledged images l left) (sym s.is) (subst (λ q. IsKept cells ticks acknowledged images (switched_to logs s.tick) q) (sym s.queue_is) (keeps_switched s.tick queue k s.in_work))
+      subst (λ l. IsKept first ticks acknowledged images l left) (sym s.is) (subst (λ q. IsKept first ticks acknowledged images (switched_to logs s.tick) q) (sym s.queue_is) (keeps_switched s.tick queue k s.in_work))
 
   -- if a group is in work, the segment has with it all ticks before the queue
-  group_taken : (queue : List Record) (k : IsKept cells ticks acknowledged images logs queue) → 1 ≤ length logs.pending → logs.base + length (logs.kept ++ logs.pending) ≡ k.taken
+  group_taken : (queue : List Record) (k : IsKept first ticks acknowledged images logs queue) → 1 ≤ length logs.pending → logs.base + length (logs.kept ++ logs.pending) ≡ k.taken
   group_taken queue k some = elim k.has [ inl e ↦ e | inr h ↦ absurd (omega (arith, some, ap length h.0)) ]
 
-  acknowledging_keeps : (queue : List Record) (next : Logs) (left : List Record) (tick : ℕ) → IsKept cells ticks acknowledged images logs queue → Acknowledges logs queue next left tick → IsKept cells ticks (max acknowledged tick) images next left
+  acknowledging_keeps : (queue : List Record) (next : Logs) (left : List Record) (tick : ℕ) → IsKept first ticks acknowledged images logs queue → Acknowledges logs queue next left tick → IsKept first ticks (max acknowledged tick) images next left
   acknowledging_keeps queue next left tick k a =
       let f = k.logs_follow in
       let m = k.follow_marks in
@@ -172,7 +172,7 @@ module _ (cells : ℕ) (ticks : List (List Action)) (acknowledged : ℕ) (images
       let same : logs.kept ++ logs.pending ≡ (logs.kept ++ logs.pending) ++ [] = sym (append-nil (logs.kept ++ logs.pending)) in
       let count : logs.base + length (logs.kept ++ logs.pending) ≡ logs.base + length ((logs.kept ++ logs.pending) ++ []) = ap (λ l. logs.base + length l) same in
       let more : logs.base + length logs.kept ≤ logs.base + length (logs.kept ++ logs.pending) = omega (arith, length-append logs.kept logs.pending) in
-      let after : IsKept cells ticks (max acknowledged tick) images (with_group_kept logs) queue = record {
+      let after : IsKept first ticks (max acknowledged tick) images (with_group_kept logs) queue = record {
         worlds = k.worlds;
         logs_follow = record {
           taken = subst (FollowsFrom ticks logs.base) same f.taken;
@@ -189,9 +189,9 @@ module _ (cells : ℕ) (ticks : List (List Action)) (acknowledged : ℕ) (images
           has = inl (sym count ∙ group_taken queue k a.some);
         };
       } in
-      subst (λ l. IsKept cells ticks (max acknowledged tick) images l left) (sym a.is) (subst (λ q. IsKept cells ticks (max acknowledged tick) images (with_group_kept logs) q) (sym a.queue_is) after)
+      subst (λ l. IsKept first ticks (max acknowledged tick) images l left) (sym a.is) (subst (λ q. IsKept first ticks (max acknowledged tick) images (with_group_kept logs) q) (sym a.queue_is) after)
 
-  pub log_step_keeps : (queue : List Record) (given : LogAnswer) (next : Logs) (left : List Record) → IsKept cells ticks acknowledged images logs queue → LogsStep logs queue given next left → IsKept cells ticks (acknowledged_after acknowledged given) images next left
+  pub log_step_keeps : (queue : List Record) (given : LogAnswer) (next : Logs) (left : List Record) → IsKept first ticks acknowledged images logs queue → LogsStep logs queue given next left → IsKept first ticks (acknowledged_after acknowledged given) images next left
   log_step_keeps queue answer.Idle next left k s = going_on_keeps queue next left k (inl (s.2, s.3))
   log_step_keeps queue answer.Working next left k (inl s) = going_on_keeps queue next left k s
   log_step_keeps queue answer.Working next left k (inr s) = switching_keeps queue next left k s
@@ -200,8 +200,8 @@ module _ (cells : ℕ) (ticks : List (List Action)) (acknowledged : ℕ) (images
 
   -- ---- a cover
 
-  keeps_covered : (tick : ℕ) (front behind : List Record) → IsKept cells ticks acknowledged images logs (front ++ records.Switch tick ∷ behind) → tick ≤ images.tick → is_idle logs
-      → IsKept cells ticks (max acknowledged tick) images logs (records.Switch tick ∷ behind)
+  keeps_covered : (tick : ℕ) (front behind : List Record) → IsKept first ticks acknowledged images logs (front ++ records.Switch tick ∷ behind) → tick ≤ images.tick → is_idle logs
+      → IsKept first ticks (max acknowledged tick) images logs (records.Switch tick ∷ behind)
   keeps_covered tick front behind k opened idle =
       let queue : List Record = front ++ records.Switch tick ∷ behind in
       let f = k.logs_follow in
@@ -238,23 +238,23 @@ module _ (cells : ℕ) (ticks : List (List Action)) (acknowledged : ℕ) (images
       }
 
   -- with the queue as it was before the cover
-  at_switch : (queue : List Record) (tick : ℕ) (taken left : List Record) → IsKept cells ticks acknowledged images logs queue → (c : Covers logs queue tick taken left) → IsKept cells ticks acknowledged images logs (taken ++ records.Switch tick ∷ c.behind)
-  at_switch queue tick taken left k c = subst (λ q. IsKept cells ticks acknowledged images logs q) (c.in_front ∙ ap (λ l. taken ++ l) c.next) k
+  at_switch : (queue : List Record) (tick : ℕ) (taken left : List Record) → IsKept first ticks acknowledged images logs queue → (c : Covers logs queue tick taken left) → IsKept first ticks acknowledged images logs (taken ++ records.Switch tick ∷ c.behind)
+  at_switch queue tick taken left k c = subst (λ q. IsKept first ticks acknowledged images logs q) (c.in_front ∙ ap (λ l. taken ++ l) c.next) k
 
-  covers_keep : (queue : List Record) (tick : ℕ) (taken left : List Record) → IsKept cells ticks acknowledged images logs queue → tick ≤ images.tick → Covers logs queue tick taken left → IsKept cells ticks (max acknowledged tick) images logs left
+  covers_keep : (queue : List Record) (tick : ℕ) (taken left : List Record) → IsKept first ticks acknowledged images logs queue → tick ≤ images.tick → Covers logs queue tick taken left → IsKept first ticks (max acknowledged tick) images logs left
   covers_keep queue tick taken left k opened c =
-      subst (λ q. IsKept cells ticks (max acknowledged tick) images logs q) (sym c.next) (keeps_covered tick taken c.behind (at_switch queue tick taken left k c) opened c.idle)
+      subst (λ q. IsKept first ticks (max acknowledged tick) images logs q) (sym c.next) (keeps_covered tick taken c.behind (at_switch queue tick taken left k c) opened c.idle)
 
-  pub cover_keeps : (queue : List Record) (tick : ℕ) (given : LogAnswer) (left : List Record) → IsKept cells ticks acknowledged images logs queue → tick ≤ images.tick → CoverStep logs queue tick given left
-      → IsKept cells ticks (acknowledged_after acknowledged given) images logs left
-  cover_keeps queue tick answer.Idle left k opened s = subst (λ q. IsKept cells ticks acknowledged images logs q) (sym s) k
+  pub cover_keeps : (queue : List Record) (tick : ℕ) (given : LogAnswer) (left : List Record) → IsKept first ticks acknowledged images logs queue → tick ≤ images.tick → CoverStep logs queue tick given left
+      → IsKept first ticks (acknowledged_after acknowledged given) images logs left
+  cover_keeps queue tick answer.Idle left k opened s = subst (λ q. IsKept first ticks acknowledged images logs q) (sym s) k
   cover_keeps queue tick answer.Working left k opened s =
-      keeps_fewer cells ticks (max acknowledged tick) acknowledged images logs left (omega arith) (covers_keep queue tick s.0 left k opened s.1)
+      keeps_fewer first ticks (max acknowledged tick) acknowledged images logs left (omega arith) (covers_keep queue tick s.0 left k opened s.1)
   cover_keeps queue tick (answer.Acked number) left k opened s =
-      subst (λ n. IsKept cells ticks (max acknowledged n) images logs left) (sym s.3) (covers_keep queue tick s.0 left k opened s.1)
-  cover_keeps queue tick answer.Down left k opened s = subst (λ q. IsKept cells ticks acknowledged images logs q) (sym s) k
+      subst (λ n. IsKept first ticks (max acknowledged n) images logs left) (sym s.3) (covers_keep queue tick s.0 left k opened s.1)
+  cover_keeps queue tick answer.Down left k opened s = subst (λ q. IsKept first ticks acknowledged images logs q) (sym s) k
 
-  pub cover_receipt_is_exact : (queue : List Record) (tick : ℕ) (given : LogAnswer) (left : List Record) → IsKept cells ticks acknowledged images logs queue → CoverStep logs queue tick given left → ReceiptIs given ticks left
+  pub cover_receipt_is_exact : (queue : List Record) (tick : ℕ) (given : LogAnswer) (left : List Record) → IsKept first ticks acknowledged images logs queue → CoverStep logs queue tick given left → ReceiptIs given ticks left
   cover_receipt_is_exact queue tick answer.Idle left k s = tt
   cover_receipt_is_exact queue tick answer.Working left k s = tt
   cover_receipt_is_exact queue tick (answer.Acked number) left k s =
@@ -278,7 +278,7 @@ module _ (cells : ℕ) (ticks : List (List Action)) (acknowledged : ℕ) (images
 
   -- ---- the number in a receipt
 
-  pub receipt_is_exact : (queue : List Record) (given : LogAnswer) (next : Logs) (left : List Record) → IsKept cells ticks acknowledged images logs queue → LogsStep logs queue given next left → ReceiptIs given ticks left
+  pub receipt_is_exact : (queue : List Record) (given : LogAnswer) (next : Logs) (left : List Record) → IsKept first ticks acknowledged images logs queue → LogsStep logs queue given next left → ReceiptIs given ticks left
   receipt_is_exact queue answer.Idle next left k s = tt
   receipt_is_exact queue answer.Working next left k s = tt
   receipt_is_exact queue (answer.Acked tick) next left k a =

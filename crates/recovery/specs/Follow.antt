@@ -13,15 +13,15 @@ pub record FollowsFrom (ticks : List (List Action)) (base : ℕ) (some : List (L
   pub are : some ≡ take (length some) (drop base ticks)
 
 -- the round is of a later tick than the newest image, and its words are the world after its tick once all are taken
-abbrev pub IsRoundOf : ℕ → List (List Action) → ℕ → Option Round → Type 0
-IsRoundOf cells ticks newest None = Unit {0}
-IsRoundOf cells ticks newest (Some round) = (newest < round.tick) × (length round.taken ≡ cells → IsWorldAt cells ticks round.tick round.taken)
+abbrev pub IsRoundOf : List ℕ → List (List Action) → ℕ → Option Round → Type 0
+IsRoundOf first ticks newest None = Unit {0}
+IsRoundOf first ticks newest (Some round) = (newest < round.tick) × (length round.taken ≡ length first → IsWorldAt first ticks round.tick round.taken)
 
 -- the newest image, the other image and the round in work are worlds after ticks that have ended
-pub record ImagesFollow (cells : ℕ) (ticks : List (List Action)) (images : Images) : Type 0 where
-  pub newest : IsWorldAt cells ticks images.tick images.words
-  pub before : HoldsWorld cells ticks images.tick images.before
-  pub round : IsRoundOf cells ticks images.tick images.round
+pub record ImagesFollow (first : List ℕ) (ticks : List (List Action)) (images : Images) : Type 0 where
+  pub newest : IsWorldAt first ticks images.tick images.words
+  pub before : HoldsWorld first ticks images.tick images.before
+  pub round : IsRoundOf first ticks images.tick images.round
 
 -- a segment that ends at this tick leads to the next one's base: no tick is between, or those between are in the newest
 -- image
@@ -80,7 +80,7 @@ pub record FollowMarks (later : List ℕ) (images : Images) (logs : Logs) : Type
 -- keepers claim are sound.
 abbrev pub LawOfRecovery : (image_a image_b log_a log_b : List ℕ → Type 0) → Type 0
 LawOfRecovery image_a image_b log_a log_b =
-    (cells : ℕ) (ticks : List (List Action)) (acknowledged : ℕ) (last : List ℕ) (images : Images) (logs : Logs) (later : List ℕ)
-    → after_ticks cells ticks ≡ Ok last → ImagesFollow cells ticks images → LogsFollow ticks acknowledged images.tick logs → FollowMarks later images logs
-    → ImagesAre cells images image_a image_b → LogsAre logs log_a log_b
-    → IsSound image_a image_b log_a log_b cells ticks acknowledged
+    (first : List ℕ) (ticks : List (List Action)) (acknowledged : ℕ) (last : List ℕ) (images : Images) (logs : Logs) (later : List ℕ)
+    → after_ticks first ticks ≡ Ok last → ImagesFollow first ticks images → LogsFollow ticks acknowledged images.tick logs → FollowMarks later images logs
+    → ImagesAre (length first) images image_a image_b → LogsAre logs log_a log_b
+    → IsSound image_a image_b log_a log_b first ticks acknowledged

@@ -1,7 +1,7 @@
 -- A start begins in step with the ticks that it keeps.
-use Rattle.std.proofs.Common.{◌≡◌, ℕ, ◌≤◌, inl, inr, Bool, true, false, nat_lt, lt-ltb, ltb-true, List, [], length, take, replicate, Some, None, refl, sym, ap, ◌∙◌, arith}
+use Rattle.std.proofs.Common.{◌≡◌, ℕ, ◌≤◌, inl, inr, Bool, true, false, nat_lt, lt-ltb, ltb-true, List, [], length, take, Some, None, refl, sym, ap, ◌∙◌, arith}
 use Rattle.std.proofs.lemmas.Bool.{cases_lt}
-use Rattle.std.proofs.lemmas.List.{take_all, length-take-le, length-replicate}
+use Rattle.std.proofs.lemmas.List.{take_all, length-take-le}
 use Rattle.world_actions.specs.declared.action.Action.{Action}
 use Rattle.world_ticks.specs.After.{after_ticks}
 use Rattle.capture_core.specs.Content.{Content, Takes}
@@ -20,20 +20,20 @@ use Rattle.restart.proofs.Begun.{built_follows}
 no_less : (from tick : ℕ) → nat_lt from tick ≡ false → tick ≤ from
 no_less from tick e = elim (cases_lt from tick) [ inl lt ↦ (let h : nat_lt from tick ≡ true = lt-ltb from tick lt in absurd (let g : true ≡ false = sym h ∙ e in cc)) | inr ge ↦ ge ]
 
-recovered_phase : StartEventsKeep Takes → (cells : ℕ) (ticks : List (List Action)) (acknowledged : ℕ) (r : Recovery) (image_a image_b : Image) (log_a log_b : Segment) → 1 ≤ cells
-    → Restarts cells ticks acknowledged r image_a image_b log_a log_b → (round : Bool) → nat_lt r.from r.tick ≡ round
-    → HasPhase cells (take r.tick ticks) acknowledged (images_begun round r.tick (Newest (recovered_images r image_a image_b))) (InStart (recovered_start r log_a log_b)) []
-recovered_phase begins cells ticks acknowledged r image_a image_b log_a log_b some s true e = (
+recovered_phase : StartEventsKeep Takes → (first : List ℕ) (ticks : List (List Action)) (acknowledged : ℕ) (r : Recovery) (image_a image_b : Image) (log_a log_b : Segment) → 1 ≤ length first
+    → Restarts first ticks acknowledged r image_a image_b log_a log_b → (round : Bool) → nat_lt r.from r.tick ≡ round
+    → HasPhase first (take r.tick ticks) acknowledged (images_begun round r.tick (Newest (recovered_images r image_a image_b))) (InStart (recovered_start r log_a log_b)) []
+recovered_phase begins first ticks acknowledged r image_a image_b log_a log_b some s true e = (
   record {
     from = r.from;
-    starting = begins.round_begins cells (take r.tick ticks) acknowledged (recovered_images r image_a image_b)
+    starting = begins.round_begins first (take r.tick ticks) acknowledged (recovered_images r image_a image_b)
         (record (recovered_images r image_a image_b) { round = Some (record { tick = r.tick; taken = [] }) })
         r.from (recovered_start r log_a log_b) some s.starting (ltb-true r.from r.tick e) refl;
     caught_up = λ none. absurd (let g = none in cc);
   },
   refl,
 )
-recovered_phase begins cells ticks acknowledged r image_a image_b log_a log_b some s false e = (
+recovered_phase begins first ticks acknowledged r image_a image_b log_a log_b some s false e = (
   record {
     from = r.from;
     starting = s.starting;
@@ -42,28 +42,28 @@ recovered_phase begins cells ticks acknowledged r image_a image_b log_a log_b so
   refl,
 )
 
-pub recovery_begins : StartEventsKeep Takes → (cells : ℕ) (ticks : List (List Action)) (acknowledged : ℕ) (r : Recovery) (image_a image_b : Image) (log_a log_b : Segment) (content : Content)
-    → 1 ≤ cells → Restarts cells ticks acknowledged r image_a image_b log_a log_b → IsBuilt r.words (nat_lt r.from r.tick) content
-    → InStep cells (take r.tick ticks) acknowledged content
+pub recovery_begins : StartEventsKeep Takes → (first : List ℕ) (ticks : List (List Action)) (acknowledged : ℕ) (r : Recovery) (image_a image_b : Image) (log_a log_b : Segment) (content : Content)
+    → 1 ≤ length first → Restarts first ticks acknowledged r image_a image_b log_a log_b → IsBuilt r.words (nat_lt r.from r.tick) content
+    → InStep first (take r.tick ticks) acknowledged content
     (images_begun (nat_lt r.from r.tick) r.tick (Newest (recovered_images r image_a image_b))) (InStart (recovered_start r log_a log_b)) []
-recovery_begins begins cells ticks acknowledged r image_a image_b log_a log_b content some s built =
+recovery_begins begins first ticks acknowledged r image_a image_b log_a log_b content some s built =
     let count : length (take r.tick ticks) ≡ r.tick = length-take-le r.tick ticks s.world.ended in
-    let at : IsWorldAt cells (take r.tick ticks) r.tick r.words = record { ended = omega (arith, count); words_are = ap (after_ticks cells) (take_all r.tick (take r.tick ticks) (omega (arith, count))) ∙ s.world.words_are } in
+    let at : IsWorldAt first (take r.tick ticks) r.tick r.words = record { ended = omega (arith, count); words_are = ap (after_ticks first) (take_all r.tick (take r.tick ticks) (omega (arith, count))) ∙ s.world.words_are } in
     record {
-      store = built_follows cells (take r.tick ticks) r.tick r.words (nat_lt r.from r.tick) content (Newest (recovered_images r image_a image_b)) s.whole at refl built;
-      phase = recovered_phase begins cells ticks acknowledged r image_a image_b log_a log_b some s (nat_lt r.from r.tick) refl;
+      store = built_follows first (take r.tick ticks) r.tick r.words (nat_lt r.from r.tick) content (Newest (recovered_images r image_a image_b)) s.whole at refl built;
+      phase = recovered_phase begins first ticks acknowledged r image_a image_b log_a log_b some s (nat_lt r.from r.tick) refl;
     }
 
-pub fresh_begins : (cells : ℕ) (content : Content) → 1 ≤ cells → IsBuilt (replicate cells 0) true content
-    → InStep cells [] 0 content (images_begun true 0 (NoneYet (record { round = None })))
+pub fresh_begins : (first : List ℕ) (content : Content) → 1 ≤ length first → IsBuilt first true content
+    → InStep first [] 0 content (images_begun true 0 (NoneYet (record { round = None })))
     (InStart (record { tick = 0; before_a = ClosedSegment; before_b = ClosedSegment; begun = false })) []
-fresh_begins cells content some built = record {
-  store = built_follows cells [] 0 (replicate cells 0) true content (NoneYet (record { round = None })) (length-replicate cells 0) (record { ended = omega arith; words_are = refl }) refl built;
+fresh_begins first content some built = record {
+  store = built_follows first [] 0 first true content (NoneYet (record { round = None })) refl (record { ended = omega arith; words_are = refl }) refl built;
   phase = (
     record {
       no_ticks = refl;
       none_acknowledged = refl;
-      follows = record { round = (refl, λ full. absurd (let g : 0 ≡ cells = full in omega (arith, g, some))); untouched = refl; at_zero = refl; a_closed = refl; b_closed = refl };
+      follows = record { round = (refl, λ full. absurd (let g : 0 ≡ length first = full in omega (arith, g, some))); untouched = refl; at_zero = refl; a_closed = refl; b_closed = refl };
       in_work = (record { tick = 0; taken = [] }, refl);
     },
     refl,

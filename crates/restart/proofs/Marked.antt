@@ -35,9 +35,9 @@ mark_words (entry ∷ left) (word ∷ live) newest l h =
     (λ i w at. elim (h (suc i) w at) [ inl e ↦ inl e | inr e ↦ inr (e.0, sym (get_past_one newest i) ∙ e.1) ]) in
     ap (λ w. w ∷ words_left left (drop 1 newest)) (first_word entry newest word (h 0 word refl)) ∙ ap (λ l. word ∷ l) rest
 
-pub mark_follows : (cells : ℕ) (ticks : List (List Action)) (tick : ℕ) (newest : List ℕ) (old new : Content) → length old.live ≡ cells → IsWorldAt cells ticks tick old.live → Covers newest old → Marks old new
-    → StoreFollows cells ticks new newest (Some (record { tick = tick; taken = [] }))
-mark_follows cells ticks tick newest old new all at covers m = (
+pub mark_follows : (first : List ℕ) (ticks : List (List Action)) (tick : ℕ) (newest : List ℕ) (old new : Content) → length old.live ≡ length first → IsWorldAt first ticks tick old.live → Covers newest old → Marks old new
+    → StoreFollows first ticks new newest (Some (record { tick = tick; taken = [] }))
+mark_follows first ticks tick newest old new all at covers m = (
   old.live,
   at,
   record {
@@ -49,22 +49,22 @@ mark_follows cells ticks tick newest old new all at covers m = (
 
 -- ---- writes
 
-writes_store : (cells : ℕ) (ticks : List (List Action)) (old new : Content) (newest : List ℕ) (round : Option Round) → new.left ≡ old.left → ((image : List ℕ) → Covers image old → Covers image new)
-    → StoreFollows cells ticks old newest round → StoreFollows cells ticks new newest round
-writes_store cells ticks old new newest None left covers s = (left ∙ s.0, covers newest s.1)
-writes_store cells ticks old new newest (Some round) left covers s =
+writes_store : (first : List ℕ) (ticks : List (List Action)) (old new : Content) (newest : List ℕ) (round : Option Round) → new.left ≡ old.left → ((image : List ℕ) → Covers image old → Covers image new)
+    → StoreFollows first ticks old newest round → StoreFollows first ticks new newest round
+writes_store first ticks old new newest None left covers s = (left ∙ s.0, covers newest s.1)
+writes_store first ticks old new newest (Some round) left covers s =
     (s.0, s.1, record { whole = s.2.whole; words = ap (λ l. round.taken ++ words_left l (drop (length round.taken) newest)) left ∙ s.2.words; covers = covers s.0 s.2.covers })
 
-pub writes_follow : (cells : ℕ) (ticks : List (List Action)) (old new : Content) (images : ImageFiles) → new.left ≡ old.left → ((image : List ℕ) → Covers image old → Covers image new)
-    → StoreFollowsImages cells ticks old images → StoreFollowsImages cells ticks new images
-writes_follow cells ticks old new images = writes_store cells ticks old new (words_of images) (round_in images)
+pub writes_follow : (first : List ℕ) (ticks : List (List Action)) (old new : Content) (images : ImageFiles) → new.left ≡ old.left → ((image : List ℕ) → Covers image old → Covers image new)
+    → StoreFollowsImages first ticks old images → StoreFollowsImages first ticks new images
+writes_follow first ticks old new images = writes_store first ticks old new (words_of images) (round_in images)
 
 -- ---- ticks
 
-ticks_store : (cells : ℕ) (ticks more : List (List Action)) (content : Content) (newest : List ℕ) (round : Option Round) → StoreFollows cells ticks content newest round → StoreFollows cells (ticks ++ more) content newest round
-ticks_store cells ticks more content newest None s = s
-ticks_store cells ticks more content newest (Some round) s =
-    (s.0, record { ended = omega (arith, s.1.ended, length-append ticks more); words_are = ap (after_ticks cells) (take-append-le round.tick ticks more s.1.ended) ∙ s.1.words_are }, s.2)
+ticks_store : (first : List ℕ) (ticks more : List (List Action)) (content : Content) (newest : List ℕ) (round : Option Round) → StoreFollows first ticks content newest round → StoreFollows first (ticks ++ more) content newest round
+ticks_store first ticks more content newest None s = s
+ticks_store first ticks more content newest (Some round) s =
+    (s.0, record { ended = omega (arith, s.1.ended, length-append ticks more); words_are = ap (after_ticks first) (take-append-le round.tick ticks more s.1.ended) ∙ s.1.words_are }, s.2)
 
-pub ticks_follow : (cells : ℕ) (ticks more : List (List Action)) (content : Content) (images : ImageFiles) → StoreFollowsImages cells ticks content images → StoreFollowsImages cells (ticks ++ more) content images
-ticks_follow cells ticks more content images = ticks_store cells ticks more content (words_of images) (round_in images)
+pub ticks_follow : (first : List ℕ) (ticks more : List (List Action)) (content : Content) (images : ImageFiles) → StoreFollowsImages first ticks content images → StoreFollowsImages first (ticks ++ more) content images
+ticks_follow first ticks more content images = ticks_store first ticks more content (words_of images) (round_in images)

@@ -1,5 +1,5 @@
 -- The steps of the keepers keep a world in step.
-use Rattle.std.proofs.Common.{◌≡◌, ℕ, ◌≤◌, inl, inr, Bool, true, false, List, [], Option, Some, None, option_map, refl, sym, ap, subst, ◌∙◌}
+use Rattle.std.proofs.Common.{◌≡◌, ℕ, ◌≤◌, inl, inr, Bool, true, false, List, [], Option, Some, None, option_map, refl, sym, ap, subst, ◌∙◌, length}
 use Rattle.std.specs.Prelude.{IfSome}
 use Rattle.world_actions.specs.declared.action.Action.{Action}
 use Rattle.capture_core.specs.declared.taker.Taken.{Taken}
@@ -66,15 +66,15 @@ start_tick : {tick : ℕ} {round : Option Round} {r : Round} → IfSome round (�
 start_tick {tick} {round} {r} h e = (let g : r.tick ≡ tick = subst (λ (o : Option Round). IfSome o (λ (some : Round). some.tick ≡ tick)) e h in g)
 
 -- with no round in work the newest image is of the start's tick
-caught : (cells : ℕ) (ticks : List (List Action)) (acknowledged from : ℕ) (old new : Content) (given : ImageAnswer) (images : Images) (start : Start) (next : ImageFiles) (after : Images) → StepsImages Takes cells (Newest images) given next old new → next ≡ Newest after
-    → after.round ≡ None → IsStarting cells ticks acknowledged images from start → (images.round ≡ None → images.tick ≡ start.tick) → after.tick ≡ start.tick
-caught cells ticks acknowledged from old new image_answer.Idle images start next after s e none f h = tick_same after images (sym e ∙ s.1) ∙ h (sym (ap round_in (sym e ∙ s.1)) ∙ none)
-caught cells ticks acknowledged from old new image_answer.Working images start next after s e none f h = elim s.2 [
+caught : (first : List ℕ) (ticks : List (List Action)) (acknowledged from : ℕ) (old new : Content) (given : ImageAnswer) (images : Images) (start : Start) (next : ImageFiles) (after : Images) → StepsImages Takes (length first) (Newest images) given next old new → next ≡ Newest after
+    → after.round ≡ None → IsStarting first ticks acknowledged images from start → (images.round ≡ None → images.tick ≡ start.tick) → after.tick ≡ start.tick
+caught first ticks acknowledged from old new image_answer.Idle images start next after s e none f h = tick_same after images (sym e ∙ s.1) ∙ h (sym (ap round_in (sym e ∙ s.1)) ∙ none)
+caught first ticks acknowledged from old new image_answer.Working images start next after s e none f h = elim s.2 [
   | inl same ↦ tick_same after images (sym e ∙ same.0) ∙ h (sym (ap round_in (sym e ∙ same.0)) ∙ none)
   | inr cell ↦ absurd (none_open cell.0 images.words images.round s.0 s.1 (sym (ap round_in (sym e ∙ cell.2)) ∙ none))
 ]
-caught cells ticks acknowledged from old new (image_answer.Opened tick) images start next after s e none f h = tick_same after (record { slot = other_slot images.slot; tick = s.0.tick; words = s.0.taken; before = Open images.tick images.words; round = None }) (sym e ∙ s.4) ∙ start_tick f.start_follows.round s.1
-caught cells ticks acknowledged from old new image_answer.Down images start next after s e none f h = tick_same after images (sym e ∙ s.2) ∙ h (sym (ap round_in (sym e ∙ s.2)) ∙ none)
+caught first ticks acknowledged from old new (image_answer.Opened tick) images start next after s e none f h = tick_same after (record { slot = other_slot images.slot; tick = s.0.tick; words = s.0.taken; before = Open images.tick images.words; round = None }) (sym e ∙ s.4) ∙ start_tick f.start_follows.round s.1
+caught first ticks acknowledged from old new image_answer.Down images start next after s e none f h = tick_same after images (sym e ∙ s.2) ∙ h (sym (ap round_in (sym e ∙ s.2)) ∙ none)
 
 -- until the first image is opened nothing is acknowledged
 still_none : (cells : ℕ) (old new : Content) (acknowledged : ℕ) (given : ImageAnswer) (images : FirstImages) (next : ImageFiles) (after : FirstImages) → StepsImages Takes cells (NoneYet images) given next old new → next ≡ NoneYet after
@@ -85,51 +85,51 @@ still_none cells old new acknowledged (image_answer.Opened tick) images next aft
     absurd (let g : true ≡ false = sym (opened_newest s.0 images) ∙ ap is_newest (sym s.4 ∙ e) ∙ newest_none after in cc)
 still_none cells old new acknowledged image_answer.Down images next after s e = refl
 
-module _ (kept_by : EventsKeep Takes) (started_by : StartEventsKeep Takes) (cells : ℕ) (ticks : List (List Action)) (acknowledged : ℕ) where
-  image_phase : (images : ImageFiles) (journal : Journal) (queue : List Record) (given : ImageAnswer) (next : ImageFiles) (old new : Content) → StepsImages Takes cells images given next old new
-      → StoreFollowsImages cells ticks new next → HasPhase cells ticks acknowledged images journal queue → HasPhase cells ticks (acknowledged_opened acknowledged given) next journal queue
+module _ (kept_by : EventsKeep Takes) (started_by : StartEventsKeep Takes) (first : List ℕ) (ticks : List (List Action)) (acknowledged : ℕ) where
+  image_phase : (images : ImageFiles) (journal : Journal) (queue : List Record) (given : ImageAnswer) (next : ImageFiles) (old new : Content) → StepsImages Takes (length first) images given next old new
+      → StoreFollowsImages first ticks new next → HasPhase first ticks acknowledged images journal queue → HasPhase first ticks (acknowledged_opened acknowledged given) next journal queue
   image_phase (NoneYet images) (Writing logs) queue given next old new s store phase = absurd phase
   image_phase (Newest images) (Writing logs) queue given next old new s store phase =
-      let round = round_follows cells ticks images given next old new s phase.images_follow.round store in
-      let k = kept_by.image_step cells ticks acknowledged images logs queue given next old new phase s round in
-      subst (λ i. HasPhase cells ticks (acknowledged_opened acknowledged given) i (Writing logs) queue) (sym k.1) k.2
+      let round = round_follows first ticks images given next old new s phase.images_follow.round store in
+      let k = kept_by.image_step first ticks acknowledged images logs queue given next old new phase s round in
+      subst (λ i. HasPhase first ticks (acknowledged_opened acknowledged given) i (Writing logs) queue) (sym k.1) k.2
   image_phase (Newest images) (InStart start) queue given next old new s store phase =
       let p = phase.0 in
-      let round = round_follows cells ticks images given next old new s p.starting.images_follow.round store in
-      let k = started_by.image_step cells ticks acknowledged images p.from start given next old new p.starting s round in
-      let on : IsInStart cells ticks (acknowledged_opened acknowledged given) k.0 start = record {
+      let round = round_follows first ticks images given next old new s p.starting.images_follow.round store in
+      let k = started_by.image_step first ticks acknowledged images p.from start given next old new p.starting s round in
+      let on : IsInStart first ticks (acknowledged_opened acknowledged given) k.0 start = record {
         from = p.from;
         starting = k.2;
-        caught_up = λ none. caught cells ticks acknowledged p.from old new given images start next k.0 s k.1 none p.starting p.caught_up;
+        caught_up = λ none. caught first ticks acknowledged p.from old new given images start next k.0 s k.1 none p.starting p.caught_up;
       } in
-      subst (λ i. HasPhase cells ticks (acknowledged_opened acknowledged given) i (InStart start) queue) (sym k.1) (on, phase.1)
+      subst (λ i. HasPhase first ticks (acknowledged_opened acknowledged given) i (InStart start) queue) (sym k.1) (on, phase.1)
   image_phase (NoneYet images) (InStart start) queue given next old new s store phase =
       let p = phase.0 in
-      let first = first_round_follows cells images given next old new s p.follows.round (subst (λ t. StoreFollowsImages cells t new next) p.no_ticks store) in
-      elim (started_by.first_image_step cells images start given next old new p.follows s first) [
-        | inl k ↦ subst (λ i. HasPhase cells ticks (acknowledged_opened acknowledged given) i (InStart start) queue) (sym k.1) (
+      let begins = first_round_follows first images given next old new s p.follows.round (subst (λ t. StoreFollowsImages first t new next) p.no_ticks store) in
+      elim (started_by.first_image_step first images start given next old new p.follows s begins) [
+        | inl k ↦ subst (λ i. HasPhase first ticks (acknowledged_opened acknowledged given) i (InStart start) queue) (sym k.1) (
           record {
             no_ticks = p.no_ticks;
-            none_acknowledged = still_none cells old new acknowledged given images next k.0 s k.1 ∙ p.none_acknowledged;
+            none_acknowledged = still_none (length first) old new acknowledged given images next k.0 s k.1 ∙ p.none_acknowledged;
             follows = k.2;
-            in_work = still_in_work cells old new given images next k.0 s k.1 p.in_work;
+            in_work = still_in_work (length first) old new given images next k.0 s k.1 p.in_work;
           },
           phase.1,
         )
-        | inr k ↦ subst (λ i. HasPhase cells ticks (acknowledged_opened acknowledged given) i (InStart start) queue) (sym k.1) (
+        | inr k ↦ subst (λ i. HasPhase first ticks (acknowledged_opened acknowledged given) i (InStart start) queue) (sym k.1) (
           record {
             from = 0;
-            starting = subst (λ t. IsStarting cells t (acknowledged_opened acknowledged given) k.0 0 start) (sym p.no_ticks) (subst (λ a. IsStarting cells [] (acknowledged_opened a given) k.0 0 start) (sym p.none_acknowledged) k.4);
+            starting = subst (λ t. IsStarting first t (acknowledged_opened acknowledged given) k.0 0 start) (sym p.no_ticks) (subst (λ a. IsStarting first [] (acknowledged_opened a given) k.0 0 start) (sym p.none_acknowledged) k.4);
             caught_up = λ none. k.2 ∙ sym p.follows.at_zero;
           },
           phase.1,
         )
       ]
 
-  pub image_step : (images : ImageFiles) (journal : Journal) (queue : List Record) (given : ImageAnswer) (next : ImageFiles) (old new : Content) → StepsImages Takes cells images given next old new
-      → InStep cells ticks acknowledged old images journal queue → InStep cells ticks (acknowledged_opened acknowledged given) new next journal queue
+  pub image_step : (images : ImageFiles) (journal : Journal) (queue : List Record) (given : ImageAnswer) (next : ImageFiles) (old new : Content) → StepsImages Takes (length first) images given next old new
+      → InStep first ticks acknowledged old images journal queue → InStep first ticks (acknowledged_opened acknowledged given) new next journal queue
   image_step images journal queue given next old new s w =
-      let store = step_follows cells ticks images given next old new s w.store in
+      let store = step_follows first ticks images given next old new s w.store in
       record { store = store; phase = image_phase images journal queue given next old new s store w.phase }
 
 -- ---- a step of the log keeper
@@ -156,47 +156,47 @@ start_unacknowledged acknowledged start left log_answer.Working next s = refl
 start_unacknowledged acknowledged start left (log_answer.Acked tick) next s = absurd s
 start_unacknowledged acknowledged start left log_answer.Down next s = refl
 
-module _ (kept_by : EventsKeep Takes) (started_by : StartEventsKeep Takes) (cells : ℕ) (ticks : List (List Action)) (acknowledged : ℕ) where
+module _ (kept_by : EventsKeep Takes) (started_by : StartEventsKeep Takes) (first : List ℕ) (ticks : List (List Action)) (acknowledged : ℕ) where
   -- in the start, once the newest image is of its tick
-  started_phase : (images : Images) (start : Start) (left : ℕ) (given : LogAnswer) (next : LogPlace) (queue : List Record) → 1 ≤ cells → images.round ≡ None → StartStep start left given next
-      → queue ≡ [] → IsInStart cells ticks acknowledged images start → HasPhase cells ticks (acknowledged_after acknowledged given) (Newest images) next.journal queue
+  started_phase : (images : Images) (start : Start) (left : ℕ) (given : LogAnswer) (next : LogPlace) (queue : List Record) → 1 ≤ length first → images.round ≡ None → StartStep start left given next
+      → queue ≡ [] → IsInStart first ticks acknowledged images start → HasPhase first ticks (acknowledged_after acknowledged given) (Newest images) next.journal queue
   started_phase images start left given next queue some none s empty p =
       let none_more = start_unacknowledged acknowledged start left given next s in
-      elim (started_by.log_step cells ticks acknowledged images p.from start left given next some p.starting (p.caught_up none) none s) [
-        | inl k ↦ subst (λ j. HasPhase cells ticks (acknowledged_after acknowledged given) (Newest images) j queue) (sym k.1) (
+      elim (started_by.log_step first ticks acknowledged images p.from start left given next some p.starting (p.caught_up none) none s) [
+        | inl k ↦ subst (λ j. HasPhase first ticks (acknowledged_after acknowledged given) (Newest images) j queue) (sym k.1) (
           record {
             from = p.from;
-            starting = subst (λ a. IsStarting cells ticks a images p.from k.0) (sym none_more) k.2;
+            starting = subst (λ a. IsStarting first ticks a images p.from k.0) (sym none_more) k.2;
             caught_up = λ e. p.caught_up e ∙ sym (start_same start left given next k.0 s k.1);
           },
           empty,
         )
-        | inr k ↦ subst (λ j. HasPhase cells ticks (acknowledged_after acknowledged given) (Newest images) j queue) (sym k.0)
-            (subst (λ q. IsKept cells ticks (acknowledged_after acknowledged given) images (started start.tick) q) (sym empty)
-            (subst (λ a. IsKept cells ticks a images (started start.tick) []) (sym none_more) k.1))
+        | inr k ↦ subst (λ j. HasPhase first ticks (acknowledged_after acknowledged given) (Newest images) j queue) (sym k.0)
+            (subst (λ q. IsKept first ticks (acknowledged_after acknowledged given) images (started start.tick) q) (sym empty)
+            (subst (λ a. IsKept first ticks a images (started start.tick) []) (sym none_more) k.1))
       ]
 
-  log_phase : (images : ImageFiles) (journal : Journal) (left : ℕ) (queue : List Record) (given : LogAnswer) (next : LogPlace) (queue_left : List Record) → 1 ≤ cells → NoneWaitedFor journal images
-      → StepIn journal left queue given next queue_left → HasPhase cells ticks acknowledged images journal queue → HasPhase cells ticks (acknowledged_after acknowledged given) images next.journal queue_left
+  log_phase : (images : ImageFiles) (journal : Journal) (left : ℕ) (queue : List Record) (given : LogAnswer) (next : LogPlace) (queue_left : List Record) → 1 ≤ length first → NoneWaitedFor journal images
+      → StepIn journal left queue given next queue_left → HasPhase first ticks acknowledged images journal queue → HasPhase first ticks (acknowledged_after acknowledged given) images next.journal queue_left
   log_phase (NoneYet images) (Writing logs) left queue given next queue_left some waits s phase = absurd phase
   log_phase (NoneYet images) (InStart start) left queue given next queue_left some waits s phase =
       absurd (let g : None ≡ Some phase.0.in_work.0 = sym waits ∙ phase.0.in_work.1 in cc)
   log_phase (Newest images) (InStart start) left queue given next queue_left some waits s phase =
       started_phase images start left given next queue_left some waits s.0 (s.1 ∙ phase.1) phase.0
   log_phase (Newest images) (Writing logs) left queue given next queue_left some waits s phase =
-      subst (λ (p : LogPlace). HasPhase cells ticks (acknowledged_after acknowledged given) (Newest images) p.journal queue_left) (sym s.1)
-      (kept_by.log_step cells ticks acknowledged images logs queue given s.0 queue_left phase s.2)
+      subst (λ (p : LogPlace). HasPhase first ticks (acknowledged_after acknowledged given) (Newest images) p.journal queue_left) (sym s.1)
+      (kept_by.log_step first ticks acknowledged images logs queue given s.0 queue_left phase s.2)
 
-  pub log_step : (content : Content) (images : ImageFiles) (place : LogPlace) (queue : List Record) (given : LogAnswer) (next : LogPlace) (queue_left : List Record) → 1 ≤ cells → NoneWaitedFor place.journal images
-      → JournalStep place queue given next queue_left → InStep cells ticks acknowledged content images place.journal queue
-      → InStep cells ticks (acknowledged_after acknowledged given) content images next.journal queue_left
+  pub log_step : (content : Content) (images : ImageFiles) (place : LogPlace) (queue : List Record) (given : LogAnswer) (next : LogPlace) (queue_left : List Record) → 1 ≤ length first → NoneWaitedFor place.journal images
+      → JournalStep place queue given next queue_left → InStep first ticks acknowledged content images place.journal queue
+      → InStep first ticks (acknowledged_after acknowledged given) content images next.journal queue_left
   log_step content images place queue given next queue_left some waits s w =
       record { store = w.store; phase = log_phase images place.journal place.left queue given next queue_left some waits s w.phase }
 
 -- ---- a cover
 
-pub cover : EventsKeep Takes → (cells : ℕ) (ticks : List (List Action)) (acknowledged : ℕ) (content : Content) (images : Images) (logs : Logs) (queue : List Record) (tick : ℕ) (given : LogAnswer) (left : List Record)
-    → tick ≤ images.tick → CoverStep logs queue tick given left → InStep cells ticks acknowledged content (Newest images) (Writing logs) queue
-    → InStep cells ticks (acknowledged_after acknowledged given) content (Newest images) (Writing logs) left
-cover kept_by cells ticks acknowledged content images logs queue tick given left opened s w =
-    record { store = w.store; phase = kept_by.cover cells ticks acknowledged images logs queue tick given left w.phase opened s }
+pub cover : EventsKeep Takes → (first : List ℕ) (ticks : List (List Action)) (acknowledged : ℕ) (content : Content) (images : Images) (logs : Logs) (queue : List Record) (tick : ℕ) (given : LogAnswer) (left : List Record)
+    → tick ≤ images.tick → CoverStep logs queue tick given left → InStep first ticks acknowledged content (Newest images) (Writing logs) queue
+    → InStep first ticks (acknowledged_after acknowledged given) content (Newest images) (Writing logs) left
+cover kept_by first ticks acknowledged content images logs queue tick given left opened s w =
+    record { store = w.store; phase = kept_by.cover first ticks acknowledged images logs queue tick given left w.phase opened s }

@@ -24,10 +24,10 @@ pub record IsRoundOver (cells : ℕ) (newest taken marked : List ℕ) (content :
 
 -- With no round in work nothing is left, and the newest image has the words of untouched cells. The words at the mark of
 -- a round in work are the world at its tick.
-abbrev pub StoreFollows : (cells : ℕ) → List (List Action) → Content → (newest : List ℕ) → Option Round → Type 0
-StoreFollows cells ticks content newest None = (content.left ≡ []) × Covers newest content
-StoreFollows cells ticks content newest (Some round) =
-    (marked : List ℕ) × IsWorldAt cells ticks round.tick marked × IsRoundOver cells newest round.taken marked content
+abbrev pub StoreFollows : (first : List ℕ) → List (List Action) → Content → (newest : List ℕ) → Option Round → Type 0
+StoreFollows first ticks content newest None = (content.left ≡ []) × Covers newest content
+StoreFollows first ticks content newest (Some round) =
+    (marked : List ℕ) × IsWorldAt first ticks round.tick marked × IsRoundOver (length first) newest round.taken marked content
 
 -- the words of the newest image, or none before the first
 abbrev pub words_of : ImageFiles → List ℕ
@@ -35,63 +35,63 @@ words_of (NoneYet images) = []
 words_of (Newest images) = images.words
 
 -- the same relation for the images as they are
-abbrev pub StoreFollowsImages : (cells : ℕ) → List (List Action) → Content → ImageFiles → Type 0
-StoreFollowsImages cells ticks content images = StoreFollows cells ticks content (words_of images) (round_in images)
+abbrev pub StoreFollowsImages : (first : List ℕ) → List (List Action) → Content → ImageFiles → Type 0
+StoreFollowsImages first ticks content images = StoreFollows first ticks content (words_of images) (round_in images)
 
 -- ---- the events that keep it
 
 -- a mark begins the round of the live words
 abbrev pub MarkFollows : Type 0
 MarkFollows =
-    (cells : ℕ) (ticks : List (List Action)) (tick : ℕ) (newest : List ℕ) (old new : Content)
-    → length old.live ≡ cells → IsWorldAt cells ticks tick old.live → Covers newest old → Marks old new
-    → StoreFollows cells ticks new newest (Some (record { tick = tick; taken = [] }))
+    (first : List ℕ) (ticks : List (List Action)) (tick : ℕ) (newest : List ℕ) (old new : Content)
+    → length old.live ≡ length first → IsWorldAt first ticks tick old.live → Covers newest old → Marks old new
+    → StoreFollows first ticks new newest (Some (record { tick = tick; taken = [] }))
 
 -- a store that was built for a start follows its images, with the start's round or with none
 abbrev pub BuiltFollows : Type 0
 BuiltFollows =
-    (cells : ℕ) (ticks : List (List Action)) (tick : ℕ) (words : List ℕ) (round : Bool) (content : Content) (images : ImageFiles)
-    → length words ≡ cells → IsWorldAt cells ticks tick words → round_in images ≡ None → IsBuilt words round content
-    → StoreFollowsImages cells ticks content (images_begun round tick images)
+    (first : List ℕ) (ticks : List (List Action)) (tick : ℕ) (words : List ℕ) (round : Bool) (content : Content) (images : ImageFiles)
+    → length words ≡ length first → IsWorldAt first ticks tick words → round_in images ≡ None → IsBuilt words round content
+    → StoreFollowsImages first ticks content (images_begun round tick images)
 
 -- a store still follows its images after writes; these keep the rest of the round, and each image that covers the store
 abbrev pub WritesFollow : Type 0
 WritesFollow =
-    (cells : ℕ) (ticks : List (List Action)) (old new : Content) (images : ImageFiles)
+    (first : List ℕ) (ticks : List (List Action)) (old new : Content) (images : ImageFiles)
     → new.left ≡ old.left → ((image : List ℕ) → Covers image old → Covers image new)
-    → StoreFollowsImages cells ticks old images → StoreFollowsImages cells ticks new images
+    → StoreFollowsImages first ticks old images → StoreFollowsImages first ticks new images
 
 -- a store still follows its images after more ticks end
 abbrev pub TicksFollow : Type 0
 TicksFollow =
-    (cells : ℕ) (ticks more : List (List Action)) (content : Content) (images : ImageFiles)
-    → StoreFollowsImages cells ticks content images → StoreFollowsImages cells (ticks ++ more) content images
+    (first : List ℕ) (ticks more : List (List Action)) (content : Content) (images : ImageFiles)
+    → StoreFollowsImages first ticks content images → StoreFollowsImages first (ticks ++ more) content images
 
 -- a step of the image keeper takes a cell, opens the image of the round, or leaves both
 abbrev pub StepFollows : Type 0
 StepFollows =
-    (cells : ℕ) (ticks : List (List Action)) (images : ImageFiles) (answer : ImageAnswer) (next : ImageFiles) (old new : Content)
-    → StepsImages Takes cells images answer next old new
-    → StoreFollowsImages cells ticks old images → StoreFollowsImages cells ticks new next
+    (first : List ℕ) (ticks : List (List Action)) (images : ImageFiles) (answer : ImageAnswer) (next : ImageFiles) (old new : Content)
+    → StepsImages Takes (length first) images answer next old new
+    → StoreFollowsImages first ticks old images → StoreFollowsImages first ticks new next
 
 -- ---- its consequences
 
 -- after that step the round is as recovery's law requires
 abbrev pub RoundFollows : Type 0
 RoundFollows =
-    (cells : ℕ) (ticks : List (List Action)) (images : Images) (answer : ImageAnswer) (next : ImageFiles) (old new : Content)
-    → StepsImages Takes cells (Newest images) answer next old new → IsRoundOf cells ticks images.tick images.round
-    → StoreFollowsImages cells ticks new next → IsRoundOf cells ticks images.tick (round_in next)
+    (first : List ℕ) (ticks : List (List Action)) (images : Images) (answer : ImageAnswer) (next : ImageFiles) (old new : Content)
+    → StepsImages Takes (length first) (Newest images) answer next old new → IsRoundOf first ticks images.tick images.round
+    → StoreFollowsImages first ticks new next → IsRoundOf first ticks images.tick (round_in next)
 
 -- the same before there is an image
 abbrev pub FirstRoundFollows : Type 0
 FirstRoundFollows =
-    (cells : ℕ) (images : FirstImages) (answer : ImageAnswer) (next : ImageFiles) (old new : Content)
-    → StepsImages Takes cells (NoneYet images) answer next old new → IsFirstRound cells images.round
-    → StoreFollowsImages cells [] new next → IsFirstRound cells (round_in next)
+    (first : List ℕ) (images : FirstImages) (answer : ImageAnswer) (next : ImageFiles) (old new : Content)
+    → StepsImages Takes (length first) (NoneYet images) answer next old new → IsFirstRound first images.round
+    → StoreFollowsImages first [] new next → IsFirstRound first (round_in next)
 
 -- if nothing is left of a round, all its cells are taken
 abbrev pub AllAreTaken : Type 0
 AllAreTaken =
-    (cells : ℕ) (ticks : List (List Action)) (content : Content) (images : ImageFiles) (round : Round)
-    → round_in images ≡ Some round → content.left ≡ [] → StoreFollowsImages cells ticks content images → length round.taken ≡ cells
+    (first : List ℕ) (ticks : List (List Action)) (content : Content) (images : ImageFiles) (round : Round)
+    → round_in images ≡ Some round → content.left ≡ [] → StoreFollowsImages first ticks content images → length round.taken ≡ length first

@@ -1,4 +1,4 @@
-ghost use Rattle.std.specs.Prelude.{ℕ, List};
+ghost use Rattle.std.specs.Prelude.{ℕ, List, length};
 ghost use Rattle.world_actions.specs.declared.action.Action.{Action};
 ghost use Rattle.capture_core.specs.Content.{Content};
 ghost use Rattle.image_files.specs.Images.{ImageFiles, ImageFilesAre};
@@ -27,13 +27,13 @@ pub fn worlds_go_on()
 /// the first n ticks, and n is at least the acknowledged count. Each open image is the world after its tick. Before there
 /// is an image, the files are those of a fresh world.
 pub fn worlds_are_safe<D: Disk>()
-    ensures { (image_a image_b log_a log_b : D) (cells : ℕ) (ticks : List (List Action)) (acknowledged : ℕ)
+    ensures { (image_a image_b log_a log_b : D) (first : List ℕ) (ticks : List (List Action)) (acknowledged : ℕ)
         (content : Content) (images : ImageFiles) (journal : Journal) (queue : List Record)
-        → InStep cells ticks acknowledged content images journal queue
-        → ImageFilesAre cells images (D.may_leave image_a) (D.may_leave image_b)
+        → InStep first ticks acknowledged content images journal queue
+        → ImageFilesAre (length first) images (D.may_leave image_a) (D.may_leave image_b)
         → JournalIs journal (D.may_leave log_a) (D.may_leave log_b)
         → IsSafe images (D.may_leave image_a) (D.may_leave image_b) (D.may_leave log_a) (D.may_leave log_b)
-        cells ticks acknowledged }
+        first ticks acknowledged }
 {
     law_of_recovery::<D>();
     law_of_start::<D>();

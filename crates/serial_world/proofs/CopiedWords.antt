@@ -38,14 +38,15 @@ same_rests content file honest engine store files same r =
     }
 
 -- the engine follows its ticks
-pub same_follows : {C D : Type 0} (content : C → Content) (file : D → List ℕ) (leaves : D → List ℕ → Type 0) (engine : Engine C) (store : C) (files : FourFiles D) (ticks : List (List Action)) (acknowledged : ℕ)
-    → content store ≡ content engine.store → Follows content file leaves engine files ticks acknowledged → Follows content file leaves (record engine { store = store }) files ticks acknowledged
-same_follows content file leaves engine store files ticks acknowledged same f =
-    image_follows content file leaves engine files store engine.images files.image_a files.image_b ticks acknowledged refl (ap (λ (c : Content). c.live) same)
-    (λ ticks acknowledged journal queue r. record {
+pub same_follows : {C D : Type 0} (content : C → Content) (file : D → List ℕ) (leaves : D → List ℕ → Type 0) (engine : Engine C) (store : C) (files : FourFiles D) (first : List ℕ) (ticks : List (List Action)) (acknowledged : ℕ)
+    → content store ≡ content engine.store → Follows content file leaves engine files first ticks acknowledged → Follows content file leaves (record engine { store = store }) files first ticks acknowledged
+same_follows content file leaves engine store files first ticks acknowledged same f =
+    image_follows content file leaves engine files store engine.images files.image_a files.image_b first ticks acknowledged refl (ap (λ (c : Content). c.live) same)
+    (λ first ticks acknowledged journal queue r. record {
       images = r.images;
+      cells = r.cells;
       stands = r.stands;
       count = r.count;
       at_least = r.at_least;
-      in_step = subst (λ (c : Content). InStep engine.images.cells ticks r.count c r.images journal queue) (sym same) r.in_step;
+      in_step = subst (λ (c : Content). InStep first ticks r.count c r.images journal queue) (sym same) r.in_step;
     }) f

@@ -1,8 +1,8 @@
 -- A world that is made and opened at once is one of zeros.
+use Rattle.std.proofs.lemmas.List.{length-replicate}
 use Rattle.std.proofs.Common.{◌≡◌, ℕ, zero, suc, Bool, List, [], take, replicate, Result, Ok, refl, sym, subst, ◌∙◌}
 use Rattle.world_actions.specs.declared.action.Action.{Action}
 use Rattle.world_actions.specs.declared.refusal.Refusal.{Refusal}
-use Rattle.world_ticks.specs.After.{after_ticks}
 use Rattle.capture_core.specs.Content.{Content}
 use Rattle.disk_model.specs.declared.four_files.FourFiles.{FourFiles}
 use Rattle.serial_world.specs.declared.state.SerialState.{SerialState}
@@ -22,12 +22,12 @@ module _ {C D : Type 0} (content : C → Content) (file : D → List ℕ) (leave
   pub served_fresh : (files made : FourFiles D) (cells : ℕ) (s : SerialState C D) → AreMade file leaves files cells made → AreSynced file leaves files → IsOpened content file leaves honest made s
       → IsServedFresh content file leaves honest cells s
   served_fresh files made cells s m synced opened =
-      let on = opened.serves cells [] 0 (m.synced synced) (m.sound synced) in
-      let serves : Serves content file leaves honest s [] = subst (λ (ticks : List (List Action)). Serves content file leaves honest s ticks) (none_taken opened.recovery.tick [] refl) on.1 in
+      let on = opened.serves (replicate cells 0) [] 0 (m.synced synced) (m.sound synced) in
+      let serves : Serves content file leaves honest s (replicate cells 0) [] = subst (λ (ticks : List (List Action)). Serves content file leaves honest s (replicate cells 0) ticks) (none_taken opened.recovery.tick [] refl) on in
       let words = words_of content file leaves honest s in
       record {
-        cells_are = on.0;
-        words = sym (same_words (replicate cells 0) words (subst (λ (n : ℕ). after_ticks n [] ≡ Ok words) on.0 serves.follows.world));
+        cells_are = serves.follows.cells ∙ length-replicate cells 0;
+        words = sym (same_words (replicate cells 0) words serves.follows.world);
         ended = serves.follows.ended;
         acked = opened.acked ∙ sym opened.ended ∙ serves.follows.ended;
         serves = serves;

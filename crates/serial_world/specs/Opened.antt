@@ -20,15 +20,15 @@ pub record IsOpened {C D : Type 0} (content : C → Content) (file : D → List 
   pub words : words_of content file leaves honest s ≡ recovery.words
   pub ended : s.engine.ended ≡ recovery.tick
   pub acked : s.acked ≡ recovery.tick
-  pub serves : (cells : ℕ) (ticks : List (List Action)) (acknowledged : ℕ) → AreSynced file leaves files → AreSound file leaves files cells ticks acknowledged
-      → (s.engine.images.cells ≡ cells) × Serves content file leaves honest s (take recovery.tick ticks)
+  pub serves : (first : List ℕ) (ticks : List (List Action)) (acknowledged : ℕ) → AreSynced file leaves files → AreSound file leaves files first ticks acknowledged
+      → Serves content file leaves honest s first (take recovery.tick ticks)
 
 module _ {D : Type 0} (file : D → List ℕ) (leaves : D → List ℕ → Type 0) where
   -- No world is opened. The files were only read, except if a device failed, and sound files stay sound.
   pub record IsNotOpened (files : FourFiles D) (refusal : Refusal) (left : FourFiles D) : Type 0 where
     pub kept : refusal ≢ Device → EachFile files left (KeepsFile file leaves)
-    pub sound : (cells : ℕ) (ticks : List (List Action)) (acknowledged : ℕ) → AreSynced file leaves files → AreSound file leaves files cells ticks acknowledged
-        → AreSound file leaves left cells ticks acknowledged
+    pub sound : (first : List ℕ) (ticks : List (List Action)) (acknowledged : ℕ) → AreSynced file leaves files → AreSound file leaves files first ticks acknowledged
+        → AreSound file leaves left first ticks acknowledged
 
 -- a world of zeros at tick 0 is served, with no tick ended
 pub record IsServedFresh {C D : Type 0} (content : C → Content) (file : D → List ℕ) (leaves : D → List ℕ → Type 0) (honest : Bool) (cells : ℕ) (s : SerialState C D) : Type 0 where
@@ -36,4 +36,4 @@ pub record IsServedFresh {C D : Type 0} (content : C → Content) (file : D → 
   pub words : words_of content file leaves honest s ≡ replicate cells 0
   pub ended : s.engine.ended ≡ 0
   pub acked : s.acked ≡ 0
-  pub serves : Serves content file leaves honest s []
+  pub serves : Serves content file leaves honest s (replicate cells 0) []

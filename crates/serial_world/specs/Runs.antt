@@ -25,10 +25,11 @@ module _ {C D : Type 0} (content : C → Content) (file : D → List ℕ) (leave
   abbrev pub words_of : SerialState C D → List ℕ
   words_of s = (content s.engine.store).live
 
-  -- The start is over, and these ticks have ended, of which `acked` are acknowledged. The world and its files follow them.
-  pub record Serves (s : SerialState C D) (ticks : List (List Action)) : Type 0 where
+  -- The start is over, and from these first words these ticks have ended, of which `acked` are acknowledged. The world and
+  -- its files follow them.
+  pub record Serves (s : SerialState C D) (first : List ℕ) (ticks : List (List Action)) : Type 0 where
     pub started : s.engine.log.starting ≡ false
-    pub follows : Follows content file leaves s.engine s.files ticks s.acked
+    pub follows : Follows content file leaves s.engine s.files first ticks s.acked
 
   -- a batch ended as one tick, even if nothing of it was accepted
   pub record PlaysTick (old : SerialState C D) (requests : List Request) (new : SerialState C D) : Type 0 where
@@ -36,7 +37,7 @@ module _ {C D : Type 0} (content : C → Content) (file : D → List ℕ) (leave
     pub ended : new.engine.ended ≡ old.engine.ended + 1
     pub words : words_of new ≡ words_after requests (words_of old)
     pub same : (new.every ≡ old.every) × (new.recovered ≡ old.recovered) × (new.engine.images.cells ≡ old.engine.images.cells)
-    pub serves : IsTrue honest → (ticks : List (List Action)) → Serves old ticks → Serves new (ticks ++ accepted_of requests (words_of old) ∷ [])
+    pub serves : IsTrue honest → (first : List ℕ) (ticks : List (List Action)) → Serves old first ticks → Serves new first (ticks ++ accepted_of requests (words_of old) ∷ [])
 
   -- A batch was answered with this text, and its tick is acknowledged. If `every` ticks ended since the last mark or start,
   -- there is an image of this tick or the image keeper is down. No mark is made before.
@@ -45,7 +46,7 @@ module _ {C D : Type 0} (content : C → Content) (file : D → List ℕ) (leave
     pub text_is : text ≡ answer requests (words_of old) (old.engine.ended + 1)
     pub acked : new.acked ≡ new.engine.ended
     pub since : (new.engine.since ≡ old.engine.since + 1) ⊎ ((new.engine.since ≡ 0) × (old.every ≤ old.engine.since + 1))
-    pub image : IsTrue honest → (ticks : List (List Action)) → Serves old ticks → old.every ≤ old.engine.since + 1
+    pub image : IsTrue honest → (first : List ℕ) (ticks : List (List Action)) → Serves old first ticks → old.every ≤ old.engine.since + 1
         → (new.engine.images.phase ≡ Down) ⊎ HasImageOf leaves new.files new.engine.ended
 
   -- the log went down before the tick of a batch was acknowledged

@@ -42,5 +42,5 @@ module _ {C D : Type 0} (content : C → Content) (file : D → List ℕ) (leave
   pub record IsStarted (files : FourFiles D) (engine : Engine C) (from : ℕ) (left : FourFiles D) : Type 0 where
     pub matches : MatchesRecovery content file files engine from
     pub open matches use *
-    pub follows : (cells : ℕ) (ticks : List (List Action)) (acknowledged : ℕ) → AreSynced file leaves files → AreSound file leaves files cells ticks acknowledged
-        → (engine.images.cells ≡ cells) × Follows content file leaves engine left (take recovery.tick ticks) recovery.tick
+    pub follows : (first : List ℕ) (ticks : List (List Action)) (acknowledged : ℕ) → AreSynced file leaves files → AreSound file leaves files first ticks acknowledged
+        → Follows content file leaves engine left first (take recovery.tick ticks) recovery.tick

@@ -1,4 +1,4 @@
-ghost use Rattle.std.specs.Prelude.{List, IsTrue};
+ghost use Rattle.std.specs.Prelude.{List, IsTrue, ℕ};
 ghost use Rattle.world_actions.specs.declared.action.Action.{Action};
 ghost use Rattle.world_start.specs.Opening.{AreSound};
 ghost use Rattle.serial_world.specs.declared.state.SerialState.{SerialState as State};
@@ -12,9 +12,9 @@ use world_start::followed_files_are_sound;
 /// recovery gives the world after the first n ticks, for some n not below that count. Each open image is the world after
 /// its tick.
 pub fn served_worlds_are_safe<C: Capture, D: Disk>()
-    ensures { IsTrue D.honest → (s : State C D) (ticks : List (List Action))
-        → Serves C.content D.content D.may_leave D.honest s ticks
-        → AreSound D.content D.may_leave s.files s.engine.images.cells ticks s.acked }
+    ensures { IsTrue D.honest → (s : State C D) (first : List ℕ) (ticks : List (List Action))
+        → Serves C.content D.content D.may_leave D.honest s first ticks
+        → AreSound D.content D.may_leave s.files first ticks s.acked }
 {
     followed_files_are_sound::<C, D>();
 }

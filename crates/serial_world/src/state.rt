@@ -67,11 +67,11 @@ impl<C: Capture, D: Disk> SerialState<C, D> {
         ensures cells { self.new.engine.images.cells ≡ self.old.engine.images.cells }
         ensures live { (C.content self.new.engine.store).live ≡ (C.content self.old.engine.store).live }
         ensures same { self.new ≡ record self.old { engine = self.new.engine; files = self.new.files } }
-        ensures serves { IsTrue D.honest → (ticks : List (List Action))
-            → Serves C.content D.content D.may_leave D.honest self.old ticks
-            → Serves C.content D.content D.may_leave D.honest self.new ticks }
-        ensures image { IsTrue D.honest → (ticks : List (List Action))
-            → Serves C.content D.content D.may_leave D.honest self.old ticks
+        ensures serves { IsTrue D.honest → (first : List ℕ) (ticks : List (List Action))
+            → Serves C.content D.content D.may_leave D.honest self.old first ticks
+            → Serves C.content D.content D.may_leave D.honest self.new first ticks }
+        ensures image { IsTrue D.honest → (first : List ℕ) (ticks : List (List Action))
+            → Serves C.content D.content D.may_leave D.honest self.old first ticks
             → self.old.every ≤ self.old.engine.since
             → (self.new.engine.images.phase ≡ Down) ⊎ HasImageOf D.may_leave self.new.files self.new.engine.ended }
     {

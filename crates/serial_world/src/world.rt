@@ -1,4 +1,4 @@
-ghost use Rattle.std.specs.Prelude.{◌≡◌, [], List, false, IsTrue, IfOk, IfErr};
+ghost use Rattle.std.specs.Prelude.{◌≡◌, [], List, false, IsTrue, IfOk, IfErr, ℕ};
 ghost use Rattle.world_actions.specs.declared.action.Action.{Action};
 ghost use Rattle.serial_world.specs.Runs.{Runs, Serves};
 ghost use Rattle.image_files.specs.declared.phase.Phase.TheVariants.{Idle};
@@ -99,8 +99,9 @@ impl<C: Capture, D: Disk> SerialWorld<C, D> {
         ensures none_queued { IfOk result (λ parts. parts.log.down ≡ false → self.engine.queue.items ≡ []) }
         ensures rest { IfOk result (AreAtRest D.content D.honest) }
         ensures settled { IfOk result (λ parts. parts.log.down ≡ false → parts.images.phase ≡ Idle → parts.since ≡ 0
-            → (ticks : List (List Action)) → Serves C.content D.content D.may_leave D.honest self ticks
-            → AreSettled D.content D.may_leave parts ticks) }
+            → (first : List ℕ) (ticks : List (List Action))
+            → Serves C.content D.content D.may_leave D.honest self first ticks
+            → AreSettled D.content D.may_leave parts first ticks) }
         ensures refused { IfErr result (λ refused. (refused.0 ≡ self.files) × (refused.1 ≡ Refusal.NoMemory)) }
     {
         let SerialWorld { state } = self;
@@ -121,7 +122,8 @@ impl<C: Capture, D: Disk> SerialWorld<C, D> {
     pub fn into_files(self) -> FourFiles<D>
         ensures files { result ≡ self.files }
         ensures synced { IsTrue D.honest → self.engine.log.down ≡ false → self.engine.images.phase ≡ Idle
-            → (ticks : List (List Action)) → Serves C.content D.content D.may_leave D.honest self ticks
+            → (first : List ℕ) (ticks : List (List Action))
+            → Serves C.content D.content D.may_leave D.honest self first ticks
             → AreSynced D.content D.may_leave result }
     {
         images_stay::<D>();

@@ -14,5 +14,5 @@ use Rattle.worker_threads.specs.Opening.{IsRecovered}
 abbrev pub GoesOnFrom : {D : Type 0} → (file : D → List ℕ) → (leaves : D → List ℕ → Type 0) → FourFiles D → Playing → Imaging D → Logging D → Type 0
 GoesOnFrom file leaves files m c w =
     (ended from : ℕ) × IsRecovered file files m.opening ended from
-    × ((cells : ℕ) (ticks : List (List Action)) (acknowledged : ℕ) → AreSynced file leaves files → AreSound file leaves files cells ticks acknowledged
-    → LeaveSound file leaves cells (take ended ticks) m c w)
+    × ((first : List ℕ) (ticks : List (List Action)) (acknowledged : ℕ) → AreSynced file leaves files → AreSound file leaves files first ticks acknowledged
+    → LeaveSound file leaves first (take ended ticks) m c w)

@@ -13,4 +13,4 @@ pub record Laws : Type 0 where
   pub whole : WholeEventsKeep
   pub accepted : (requests : List Request) (words : List ℕ) → after_actions words (accepted_of requests words) ≡ Ok (words_after requests words)
   pub append : (world : List ℕ) (before after : List Action) → after_actions world (before ++ after) ≡ and_then (after_actions world before) (λ next. after_actions next after)
-  pub cells : (cells : ℕ) (after : List ℕ) (ticks : List (List Action)) → after_ticks cells ticks ≡ Ok after → length after ≡ cells
+  pub cells : (first after : List ℕ) (ticks : List (List Action)) → after_ticks first ticks ≡ Ok after → length after ≡ length first

@@ -31,14 +31,14 @@ module _ {D : Type 0} (file : D → List ℕ) (leaves : D → List ℕ → Type 
     (m : Playing) (c : Imaging D) (w : Logging D) where
   pub ended : LawOfRecovery (leaves c.images.image_a) (leaves c.images.image_b) (leaves w.log.a) (leaves w.log.b)
       → IsTrue honest → IsMutator m → IsCheckpointer honest file leaves c → IsLogging file leaves honest w → HaveMet m c w → AreSound file leaves m c w
-  ended law sure is_m is_c is_w met cells ticks stands begin =
+  ended law sure is_m is_c is_w met first ticks stands begin =
       let image_a = leaves c.images.image_a in
       let image_b = leaves c.images.image_b in
       let same_records : records_of m.to.items ≡ records_of begin.0 = ap records_of begin.1 in
-      let back_cells : c.back.cells ≡ cells = sym is_c.cells ∙ stands.cells_are in
-      let now_cells : c.images.keeper.cells ≡ cells = is_c.step.cells ∙ back_cells in
+      let back_cells : c.back.cells ≡ length first = sym is_c.cells ∙ stands.cells_are in
+      let now_cells : c.images.keeper.cells ≡ length first = is_c.step.cells ∙ back_cells in
       let played = was_played m (length ticks) begin is_m met.numbered in
-      let taken = was_taken cells m.front c.back m.front.closed back_cells is_c.follows.whole met.agree met.level in
+      let taken = was_taken (length first) m.front c.back m.front.closed back_cells is_c.follows.whole met.agree met.level in
       let images = images_end file leaves stands.images c.images c.back (files.left c.images) (files.newest c.images) (files.idle c.images) is_c.step
       (is_c.follows.stands sure (Newest stands.images) stands.has_images) in
       let writes = is_w.writes sure stands.logs stands.has_log in
@@ -47,8 +47,8 @@ module _ {D : Type 0} (file : D → List ℕ) (leaves : D → List ℕ → Type 
       let logged = was_logged file leaves w.log w.ring.items w.covers.ticks w.acked w.down stands.logs (records_of w.from.items) writes in
       let reached = was_acknowledged file leaves w.log w.ring.items w.covers.ticks w.acked w.down stands.logs (records_of w.from.items) writes (newest_tick c.images.keeper.newest) few in
       let order = popped_first w.from.items met.waiting m.to.items met.order ∙ same_records in (
-        subst (λ r. IsSound image_a image_b (leaves w.log.a) (leaves w.log.b) cells (ticks ++ ticks_in r) (acknowledged_by c w)) (sym same_records)
-            (sound laws cells ticks m.opening stands.images images.images stands.logs writes.logs begin.0 m.front.rounds c.back.done (now_in c.back.working c.back.now) law
+        subst (λ r. IsSound image_a image_b (leaves w.log.a) (leaves w.log.b) first (ticks ++ ticks_in r) (acknowledged_by c w)) (sym same_records)
+            (sound laws first ticks m.opening stands.images images.images stands.logs writes.logs begin.0 m.front.rounds c.back.done (now_in c.back.working c.back.now) law
             (records_of w.from.items) (records_of met.waiting) w.covers.ticks (acknowledged_by c w) stands.settled played taken images.are_those order few_images logged
             (subst (λ n. Reached (acknowledged_by c w) (writes.logs.base + length writes.logs.kept) n) images.tick reached)
             (subst (λ n. ImagesAre n images.images image_a image_b) now_cells images.left)

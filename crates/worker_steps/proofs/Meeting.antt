@@ -38,23 +38,23 @@ all_ticks items late is =
     ap ticks_in (records_behind items late) ∙ ticks_behind (records_of items) (records_of late)
     ∙ ap (λ l. ticks_in (records_of items) ++ l) is ∙ append-nil (ticks_in (records_of items))
 
-module _ (laws : Laws) (cells : ℕ) (ticks : List (List Action)) (words : List ℕ) (first images : Images) (start logs : Logs) (items : List Item) (rounds : List Round) (done : List Snapshot) (now : Option Snapshot) where
+module _ (laws : Laws) (origin : List ℕ) (ticks : List (List Action)) (words : List ℕ) (first images : Images) (start logs : Logs) (items : List Item) (rounds : List Round) (done : List Snapshot) (now : Option Snapshot) where
   -- the items are played
-  played : IsSettled cells ticks words first start → (p : IsPlayed words (length ticks) items rounds) → IsTaken cells rounds done now
-      → Played laws cells start (ticks ++ ticks_in (records_of (items ++ p.late))) p.told.words (records_of (items ++ p.late)) first done now
+  played : IsSettled origin ticks words first start → (p : IsPlayed words (length ticks) items rounds) → IsTaken (length origin) rounds done now
+      → Played laws origin start (ticks ++ ticks_in (records_of (items ++ p.late))) p.told.words (records_of (items ++ p.late)) first done now
   played o p t =
       let end : QueueEnd = record { base = length ticks; count = 0 } in
       let opened : List Round = marked (begun words) (items ++ p.late) p.told p.leads in
       let are : p.told.rounds ≡ opened = marked_rounds (begun words) (items ++ p.late) p.told p.leads in
       let same : rounds ≡ opened = p.rounds ∙ are in
-      let rest : AtRest laws cells start end ticks words first = record { none = o.none; tick = o.tick; words = o.image; count = omega arith } in
-      plays laws cells start (items ++ p.late) end ticks words [] first done now (begun words) p.told (o.acknowledged, o.kept, o.world) rest p.numbered p.leads
+      let rest : AtRest laws origin start end ticks words first = record { none = o.none; tick = o.tick; words = o.image; count = omega arith } in
+      plays laws origin start (items ++ p.late) end ticks words [] first done now (begun words) p.told (o.acknowledged, o.kept, o.world) rest p.numbered p.leads
       (subst (AreUnchanged words) same p.unchanged) (subst (λ r. Agree r (done ++ one_or_none now)) same t.agree) (ap length (sym same) ∙ t.all) t.whole
 
-  taken_logs : (all : List (List Action)) (popped rest : List Record) (covers : List ℕ) → (acknowledged : ℕ) → IsKept cells all acknowledged images start (popped ++ rest)
+  taken_logs : (all : List (List Action)) (popped rest : List Record) (covers : List ℕ) → (acknowledged : ℕ) → IsKept origin all acknowledged images start (popped ++ rest)
       → (opened : (tick : ℕ) → Contains covers tick → tick ≤ images.tick) → start.pending ≡ [] → start.switch ≡ None → (l : IsLogged (told_in start) popped covers logs)
-      → TakenUp laws cells all images covers opened start l.given logs.switch
-  taken_logs all popped rest covers acknowledged k opened none idle l = taken_up laws cells all images covers opened l.given popped l.more rest start logs.switch (acknowledged, k) (none, idle) l.order
+      → TakenUp laws origin all images covers opened start l.given logs.switch
+  taken_logs all popped rest covers acknowledged k opened none idle l = taken_up laws origin all images covers opened l.given popped l.more rest start logs.switch (acknowledged, k) (none, idle) l.order
 
   -- the segments have the same content, with or without the group in work
   same_told : (given : List Record) (a : Logs) → told_kept a ≡ after_records (told_kept start) given → start.pending ≡ [] → a.pending ≡ [] → a.switch ≡ logs.switch
@@ -71,28 +71,28 @@ module _ (laws : Laws) (cells : ℕ) (ticks : List (List Action)) (words : List 
       }
 
   pub sound : {image_a image_b log_a log_b : List ℕ → Type 0} → LawOfRecovery image_a image_b log_a log_b → (popped rest : List Record) (covers : List ℕ) (acknowledged : ℕ)
-      → IsSettled cells ticks words first start → IsPlayed words (length ticks) items rounds → IsTaken cells rounds done now
+      → IsSettled origin ticks words first start → IsPlayed words (length ticks) items rounds → IsTaken (length origin) rounds done now
       → images_with (Newest first) done now ≡ Newest images → popped ++ rest ≡ records_of items
       → ((tick : ℕ) → Contains covers tick → tick ≤ images.tick) → IsLogged (told_in start) popped covers logs
       → (acknowledged ≤ logs.base + length logs.kept) ⊎ (acknowledged ≤ images.tick)
-      → ImagesAre cells images image_a image_b → LogsAre logs log_a log_b
-      → IsSound image_a image_b log_a log_b cells (ticks ++ ticks_in (records_of items)) acknowledged
+      → ImagesAre (length origin) images image_a image_b → LogsAre logs log_a log_b
+      → IsSound image_a image_b log_a log_b origin (ticks ++ ticks_in (records_of items)) acknowledged
   sound {image_a = image_a} {image_b = image_b} {log_a = log_a} {log_b = log_b} law popped rest covers acknowledged o p t is order opened l reached images_are logs_are =
       let end = played o p t in
       let after : end.0 ≡ images = (let e : Newest images ≡ Newest end.0 = sym is ∙ end.1 in cc) in
       let late : List Record = records_of p.late in
       let all : List (List Action) = ticks ++ ticks_in (records_of items) in
-      let kept : IsKept cells (ticks ++ ticks_in (records_of (items ++ p.late))) end.2.0 images start (records_of (items ++ p.late)) =
-      subst (λ i. IsKept cells (ticks ++ ticks_in (records_of (items ++ p.late))) end.2.0 i start (records_of (items ++ p.late))) after end.2.1 in
+      let kept : IsKept origin (ticks ++ ticks_in (records_of (items ++ p.late))) end.2.0 images start (records_of (items ++ p.late)) =
+      subst (λ i. IsKept origin (ticks ++ ticks_in (records_of (items ++ p.late))) end.2.0 i start (records_of (items ++ p.late))) after end.2.1 in
       let ticks_same : ticks ++ ticks_in (records_of (items ++ p.late)) ≡ all = ap (λ m. ticks ++ m) (all_ticks items p.late p.no_ticks) in
       let queue_same : records_of (items ++ p.late) ≡ popped ++ (rest ++ late) =
       records_behind items p.late ∙ ap (λ q. q ++ late) (sym order) ∙ append_assoc popped rest late in
-      let from : IsKept cells all end.2.0 images start (popped ++ (rest ++ late)) =
-      subst (λ m. IsKept cells m end.2.0 images start (popped ++ (rest ++ late))) ticks_same
-      (subst (λ q. IsKept cells (ticks ++ ticks_in (records_of (items ++ p.late))) end.2.0 images start q) queue_same kept) in
+      let from : IsKept origin all end.2.0 images start (popped ++ (rest ++ late)) =
+      subst (λ m. IsKept origin m end.2.0 images start (popped ++ (rest ++ late))) ticks_same
+      (subst (λ q. IsKept origin (ticks ++ ticks_in (records_of (items ++ p.late))) end.2.0 images start q) queue_same kept) in
       let up = taken_logs all popped (rest ++ late) covers end.2.0 from opened o.idle.0 o.idle.1 l in
       let k = up.keeps.1 in
       let told : SameTold up.next logs = same_told l.given up.next up.told o.idle.0 up.none up.switch_is l.told l.one_job in
-      law cells all acknowledged k.last images logs (switches_in up.queue) k.accepted k.images_follow
+      law origin all acknowledged k.last images logs (switches_in up.queue) k.accepted k.images_follow
       (follows_same all up.keeps.0 acknowledged images.tick up.next logs told k.logs_follow reached)
       (marks_same (switches_in up.queue) images up.next logs told k.follow_marks) images_are logs_are

@@ -1,7 +1,7 @@
 -- The mutator's pushed items, played on the keepers' data: each tick ends, and each round is marked, and opened if the back
 -- has done it.
 use Rattle.std.proofs.Common.{arith, ◌≡◌, ℕ, suc, ◌+◌, ◌≤◌, All, List, [], ◌∷◌, ◌++◌, length, drop, Option, Some, None, Ok, refl, sym, ap, ◌∙◌, subst}
-use Rattle.std.specs.Prelude.{replicate, max}
+use Rattle.std.specs.Prelude.{max}
 use Rattle.std.specs.List.{flat_map}
 use Rattle.std.proofs.Common.{append-nil}
 use Rattle.std.proofs.lemmas.List.{append_assoc, length-append, take_all}
@@ -75,18 +75,17 @@ no_more : {X : Type 0} (xs : List X) → length xs ≡ 0 → xs ≡ []
 no_more [] e = refl
 no_more (x ∷ xs) e = absurd (omega (arith, e))
 
-module _ (laws : Laws) (cells : ℕ) (logs : Logs) where
+module _ (laws : Laws) (origin : List ℕ) (logs : Logs) where
   -- these ticks lead to these words, and the keepers' data follow them
   abbrev pub Keeps : List (List Action) → List ℕ → Images → List Record → Type 0
-  Keeps ticks words images queue = (acknowledged : ℕ) × IsKept cells ticks acknowledged images logs queue × (after_ticks cells ticks ≡ Ok words)
+  Keeps ticks words images queue = (acknowledged : ℕ) × IsKept origin ticks acknowledged images logs queue × (after_ticks origin ticks ≡ Ok words)
 
-  world_more : (ticks : List (List Action)) (tick : List Action) (words next : List ℕ) → after_ticks cells ticks ≡ Ok words → after_actions words tick ≡ Ok next
-      → after_ticks cells (ticks ++ tick ∷ []) ≡ Ok next
+  world_more : (ticks : List (List Action)) (tick : List Action) (words next : List ℕ) → after_ticks origin ticks ≡ Ok words → after_actions words tick ≡ Ok next
+      → after_ticks origin (ticks ++ tick ∷ []) ≡ Ok next
   world_more ticks tick words next world done =
-      let zeros = replicate cells 0 in
       let front : List Action = flat_map (λ (t : List Action). t) ticks in
-      ap (after_actions zeros) (flat_map-append (λ (t : List Action). t) ticks (tick ∷ []))
-      ∙ laws.append zeros front (tick ++ [])
+      ap (after_actions origin) (flat_map-append (λ (t : List Action). t) ticks (tick ∷ []))
+      ∙ laws.append origin front (tick ++ [])
       ∙ ap (λ r. and_then r (λ n. after_actions n (tick ++ []))) world
       ∙ ap (after_actions words) (append-nil tick)
       ∙ done
@@ -100,7 +99,7 @@ module _ (laws : Laws) (cells : ℕ) (logs : Logs) where
       let same : Ok k.1.last ≡ Ok w.words = sym k.1.accepted ∙ k.2 in
       let last : k.1.last ≡ w.words = cc in (
         k.0,
-        laws.events.tick_ends cells ticks k.0 images logs queue k.1 ended.tick v.words (ap (λ l. after_actions l ended.tick.list) last ∙ done),
+        laws.events.tick_ends origin ticks k.0 images logs queue k.1 ended.tick v.words (ap (λ l. after_actions l ended.tick.list) last ∙ done),
         world_more ticks ended.tick.list w.words v.words k.2 done,
       )
 
@@ -141,44 +140,44 @@ module _ (laws : Laws) (cells : ℕ) (logs : Logs) where
     pub words : images.words ≡ before
     pub count : length ticks ≡ end.base + end.count
 
-  world_now : (ticks : List (List Action)) (number : ℕ) (words : List ℕ) → number ≡ length ticks → after_ticks cells ticks ≡ Ok words → IsWorldAt cells ticks number words
+  world_now : (ticks : List (List Action)) (number : ℕ) (words : List ℕ) → number ≡ length ticks → after_ticks origin ticks ≡ Ok words → IsWorldAt origin ticks number words
   world_now ticks number words all world = record {
     ended = omega (arith, all);
-    words_are = ap (after_ticks cells) (take_all number ticks (omega (arith, all))) ∙ world;
+    words_are = ap (after_ticks origin) (take_all number ticks (omega (arith, all))) ∙ world;
   }
 
   -- the round of these words is marked, and these of its cells were taken
   begins : (end : QueueEnd) (ticks : List (List Action)) (before : List ℕ) (queue : List Record) (images : Images) (w : World) (number : ℕ) (s : Snapshot)
       → Keeps ticks w.words images queue → AtRest end ticks before images → number ≡ end.base + end.count → 1 ≤ end.count → s.tick ≡ number
-      → (length s.taken ≡ cells → filled_words s.taken images.words ≡ w.words)
+      → (length s.taken ≡ length origin → filled_words s.taken images.words ≡ w.words)
       → Keeps ticks w.words (begun_by s images) (queue ++ records.Switch number ∷ [])
   begins end ticks before queue images w number s k rest is some tick words =
       let all : length ticks ≡ s.tick = omega (arith, rest.count, is, tick) in
       let empty : ImageRound = record { tick = s.tick; taken = [] } in
-      let more : IsKept cells ticks k.0 (record images { round = Some (record { tick = length ticks; taken = [] }) }) logs (queue ++ records.Switch (length ticks) ∷ []) =
-      laws.events.mark cells ticks k.0 images (record images { round = Some (record { tick = length ticks; taken = [] }) }) logs queue k.1 rest.none (omega (arith, rest.tick, rest.count, some)) refl in
-      let begun : IsKept cells ticks k.0 (record images { round = Some empty }) logs (queue ++ records.Switch s.tick ∷ []) =
-      subst (λ n. IsKept cells ticks k.0 (record images { round = Some (record { tick = n; taken = [] }) }) logs (queue ++ records.Switch n ∷ [])) all more in
+      let more : IsKept origin ticks k.0 (record images { round = Some (record { tick = length ticks; taken = [] }) }) logs (queue ++ records.Switch (length ticks) ∷ []) =
+      laws.events.mark origin ticks k.0 images (record images { round = Some (record { tick = length ticks; taken = [] }) }) logs queue k.1 rest.none (omega (arith, rest.tick, rest.count, some)) refl in
+      let begun : IsKept origin ticks k.0 (record images { round = Some empty }) logs (queue ++ records.Switch s.tick ∷ []) =
+      subst (λ n. IsKept origin ticks k.0 (record images { round = Some (record { tick = n; taken = [] }) }) logs (queue ++ records.Switch n ∷ [])) all more in
       let filled : List ℕ = filled_words s.taken images.words in
-      let whole : length filled ≡ cells → IsWorldAt cells ticks s.tick filled =
-      λ long. subst (IsWorldAt cells ticks s.tick) (sym (words (sym (length_filled s.taken images.words) ∙ long))) (world_now ticks s.tick w.words (sym all) k.2) in
-      let taken : IsKept cells ticks k.0 (begun_by s images) logs (queue ++ records.Switch s.tick ∷ []) =
-      laws.whole.taken cells ticks k.0 (record images { round = Some empty }) logs (queue ++ records.Switch s.tick ∷ []) empty filled begun refl whole in
-      (k.0, subst (λ n. IsKept cells ticks k.0 (begun_by s images) logs (queue ++ records.Switch n ∷ [])) tick taken, k.2)
+      let whole : length filled ≡ length origin → IsWorldAt origin ticks s.tick filled =
+      λ long. subst (IsWorldAt origin ticks s.tick) (sym (words (sym (length_filled s.taken images.words) ∙ long))) (world_now ticks s.tick w.words (sym all) k.2) in
+      let taken : IsKept origin ticks k.0 (begun_by s images) logs (queue ++ records.Switch s.tick ∷ []) =
+      laws.whole.taken origin ticks k.0 (record images { round = Some empty }) logs (queue ++ records.Switch s.tick ∷ []) empty filled begun refl whole in
+      (k.0, subst (λ n. IsKept origin ticks k.0 (begun_by s images) logs (queue ++ records.Switch n ∷ [])) tick taken, k.2)
 
   -- the image of the round is opened
   opens : (ticks : List (List Action)) (words : List ℕ) (queue : List Record) (images : Images) (s : Snapshot)
-      → Keeps ticks words (begun_by s images) queue → length s.taken ≡ cells → Keeps ticks words (opened_by s images) queue
+      → Keeps ticks words (begun_by s images) queue → length s.taken ≡ length origin → Keeps ticks words (opened_by s images) queue
   opens ticks words queue images s k whole =
       let taken : ImageRound = record { tick = s.tick; taken = filled_words s.taken images.words } in
-      (max k.0 s.tick, laws.whole.opened cells ticks k.0 (begun_by s images) (opened_by s images) logs queue taken k.1 refl (length_filled s.taken images.words ∙ whole) refl, k.2)
+      (max k.0 s.tick, laws.whole.opened origin ticks k.0 (begun_by s images) (opened_by s images) logs queue taken k.1 refl (length_filled s.taken images.words ∙ whole) refl, k.2)
 
   -- if all cells of a round are taken, they give the words of the round
   taken_words : (ticks : List (List Action)) (queue : List Record) (before : List ℕ) (images : Images) (w : World) (r : Round) (s : Snapshot)
       → Keeps ticks w.words images queue → images.words ≡ before → r.words ≡ w.words → IsTakenOf r s → IsUnchanged before r
-      → length s.taken ≡ cells → filled_words s.taken images.words ≡ w.words
+      → length s.taken ≡ length origin → filled_words s.taken images.words ≡ w.words
   taken_words ticks queue before images w r s k words same taken unchanged whole =
-      let long : length s.taken ≡ length r.words = whole ∙ sym (laws.cells cells w.words ticks k.2) ∙ ap length (sym same) in
+      let long : length s.taken ≡ length r.words = whole ∙ sym (laws.cells origin w.words ticks k.2) ∙ ap length (sym same) in
       ap (filled_words s.taken) words ∙ filled_is_marked r s before taken unchanged long ∙ same
 
   abbrev pub Played : List (List Action) → List ℕ → List Record → Images → List Snapshot → Option Snapshot → Type 0
@@ -188,7 +187,7 @@ module _ (laws : Laws) (cells : ℕ) (logs : Logs) where
   pub plays : (items : List Item) (end : QueueEnd) (ticks : List (List Action)) (before : List ℕ) (queue : List Record) (images : Images) (done : List Snapshot) (now : Option Snapshot) (w v : World)
       → Keeps ticks w.words images queue → AtRest end ticks before images → GoAll end items → (leads : Leads w items v)
       → AreUnchanged before (marked w items v leads) → Agree (marked w items v leads) (done ++ one_or_none now) → length (marked w items v leads) ≡ length (done ++ one_or_none now)
-      → All (λ (s : Snapshot). length s.taken ≡ cells) done
+      → All (λ (s : Snapshot). length s.taken ≡ length origin) done
       → Played (ticks ++ ticks_in (records_of items)) v.words (queue ++ records_of items) images done now
   plays [] end ticks before queue images [] None w v k rest go leads unchanged agree long whole =
       (images, refl, none_moved ticks queue w.words v.words images (ap (λ (u : World). u.words) (sym leads)) k)
@@ -213,8 +212,8 @@ module _ (laws : Laws) (cells : ℕ) (logs : Logs) where
   plays (Switch number ∷ items) end ticks before queue images (s ∷ done) now w v k rest go leads unchanged agree long whole =
       let r = round number w.words leads.1.1.0 in
       let others = marked leads.0 items v leads.2 in
-      let P = λ (x : Snapshot). length x.taken ≡ cells in
-      let all : length s.taken ≡ cells = All-head P s done whole in
+      let P = λ (x : Snapshot). length x.taken ≡ length origin in
+      let all : length s.taken ≡ length origin = All-head P s done whole in
       let taken : IsTakenOf r s = agree_first r others s (done ++ one_or_none now) agree in
       let words = taken_words ticks queue before images w r s k rest.words refl taken unchanged.0 in
       let begun = begins end ticks before queue images w number s k rest go.0.0 go.0.1 taken.0 words in

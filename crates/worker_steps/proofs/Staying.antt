@@ -11,7 +11,7 @@ use Rattle.worker_steps.specs.Stopped.{WorldStands, BeginAt, AreSound, StaysSoun
 
 pub stays_sound : {D : Type 0} (file : D → List ℕ) (leaves : D → List ℕ → Type 0) (words : List ℕ) (writer : ImageWriter D) (log : Log D) (ended : ℕ) (m : Playing) (c : Imaging D) (w : Logging D)
     → m.opening ≡ words → c.opening ≡ writer → w.opening ≡ log → BeginAt ended m.to.items → AreSound file leaves m c w → StaysSound file leaves words writer log ended m c w
-stays_sound {D} file leaves words writer log ended m c w words_are writer_is log_is begin sound cells ticks stands all =
-    sound cells ticks
-    (subst (λ (x : List ℕ × ImageWriter D × Log D). WorldStands file leaves cells ticks x.0 x.1 x.2) (λ i. (sym words_are i, sym writer_is i, sym log_is i)) stands)
+stays_sound {D} file leaves words writer log ended m c w words_are writer_is log_is begin sound first ticks stands all =
+    sound first ticks
+    (subst (λ (x : List ℕ × ImageWriter D × Log D). WorldStands file leaves first ticks x.0 x.1 x.2) (λ i. (sym words_are i, sym writer_is i, sym log_is i)) stands)
     (begin.0, begin.1 ∙ ap (λ (n : ℕ). Start n ∷ begin.0) all)

@@ -43,18 +43,18 @@ told_kept logs = record { before = logs.before; base = logs.base; ticks = logs.k
 pub told_idle : (logs : Logs) → logs.pending ≡ [] → told_in logs ≡ told_kept logs
 told_idle logs none = ap (λ l. record { before = logs.before; base = logs.base; ticks = l }) (ap (λ p. logs.kept ++ p) none ∙ append-nil logs.kept)
 
-module _ (laws : Laws) (cells : ℕ) (ticks : List (List Action)) (images : Images) (covers : List ℕ) (opened : (tick : ℕ) → Contains covers tick → tick ≤ images.tick) where
+module _ (laws : Laws) (origin : List ℕ) (ticks : List (List Action)) (images : Images) (covers : List ℕ) (opened : (tick : ℕ) → Contains covers tick → tick ≤ images.tick) where
   abbrev pub KeepsLog : Logs → List Record → Type 0
-  KeepsLog logs queue = (acknowledged : ℕ) × IsKept cells ticks acknowledged images logs queue
+  KeepsLog logs queue = (acknowledged : ℕ) × IsKept origin ticks acknowledged images logs queue
 
   covered_by : (logs : Logs) (run : List Record) (tick : ℕ) (behind : List Record) (some : Bool) → has_tick run ≡ some → tick ≤ images.tick → is_idle logs
       → KeepsLog logs (run ++ records.Switch tick ∷ behind) → KeepsLog logs (records.Switch tick ∷ behind)
   covered_by logs run tick behind false has le idle k =
       let covers_it : Covers logs (run ++ records.Switch tick ∷ behind) tick run (records.Switch tick ∷ behind) = record { idle = idle; in_front = refl; behind = behind; next = refl } in
-      (k.0, laws.events.cover cells ticks k.0 images logs (run ++ records.Switch tick ∷ behind) tick answer.Working (records.Switch tick ∷ behind) k.1 le (run, covers_it, has))
+      (k.0, laws.events.cover origin ticks k.0 images logs (run ++ records.Switch tick ∷ behind) tick answer.Working (records.Switch tick ∷ behind) k.1 le (run, covers_it, has))
   covered_by logs run tick behind true has le idle k =
       let covers_it : Covers logs (run ++ records.Switch tick ∷ behind) tick run (records.Switch tick ∷ behind) = record { idle = idle; in_front = refl; behind = behind; next = refl } in
-      (max k.0 tick, laws.events.cover cells ticks k.0 images logs (run ++ records.Switch tick ∷ behind) tick (answer.Acked tick) (records.Switch tick ∷ behind) k.1 le (run, covers_it, has, refl))
+      (max k.0 tick, laws.events.cover origin ticks k.0 images logs (run ++ records.Switch tick ∷ behind) tick (answer.Acked tick) (records.Switch tick ∷ behind) k.1 le (run, covers_it, has, refl))
 
   covered : (logs : Logs) (run : List Record) (first : Record) (logged behind : List Record) → is_idle logs → (run ≡ []) ⊎ BeginsAt covers (first ∷ logged)
       → KeepsLog logs (run ++ first ∷ behind) → KeepsLog logs (first ∷ behind)
@@ -84,7 +84,7 @@ module _ (laws : Laws) (cells : ℕ) (ticks : List (List Action)) (images : Imag
       let n = next_of covers all (records.Tick tick) (given ++ more) leaves in
       let first = brought logs all rest (records.Tick tick) (given ++ more) idle n k in
       let after : Logs = record logs { kept = logs.kept ++ tick.list ∷ [] } in
-      let on = written given n.behind more rest after (first.0, laws.whole.written cells ticks first.0 images logs tick (n.behind ++ rest) first.1 idle) idle n.left in
+      let on = written given n.behind more rest after (first.0, laws.whole.written origin ticks first.0 images logs tick (n.behind ++ rest) first.1 idle) idle n.left in
       record { next = on.next; left = on.left; keeps = on.keeps; idle = on.idle; leaves = on.leaves; told = on.told }
   written (records.Switch tick ∷ given) all more rest logs k idle leaves =
       let n = next_of covers all (records.Switch tick) (given ++ more) leaves in
@@ -92,7 +92,7 @@ module _ (laws : Laws) (cells : ℕ) (ticks : List (List Action)) (images : Imag
       let begun : Logs = record logs { switch = Some tick } in
       let after : Logs = switched_to begun tick in
       let on = written given n.behind more rest after
-      (first.0, laws.whole.switched cells ticks first.0 images begun tick (n.behind ++ rest) (laws.whole.switch cells ticks first.0 images logs tick (n.behind ++ rest) first.1 idle) refl) (refl, refl) n.left in
+      (first.0, laws.whole.switched origin ticks first.0 images begun tick (n.behind ++ rest) (laws.whole.switch origin ticks first.0 images logs tick (n.behind ++ rest) first.1 idle) refl) (refl, refl) n.left in
       record { next = on.next; left = on.left; keeps = on.keeps; idle = on.idle; leaves = on.leaves; told = on.told }
 
   -- the same with the switch in work taken
@@ -115,7 +115,7 @@ module _ (laws : Laws) (cells : ℕ) (ticks : List (List Action)) (images : Imag
       record {
         next = record on.next { switch = Some tick };
         queue = n.behind ++ rest;
-        keeps = (first.0, laws.whole.switch cells ticks first.0 images on.next tick (n.behind ++ rest) first.1 on.idle);
+        keeps = (first.0, laws.whole.switch origin ticks first.0 images on.next tick (n.behind ++ rest) first.1 on.idle);
         none = on.idle.0;
         switch_is = refl;
         told = on.told;

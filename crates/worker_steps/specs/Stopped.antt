@@ -19,12 +19,13 @@ use Rattle.workers.specs.Meeting.{HaveMet}
 
 -- ---- the world with which the workers began
 
--- After these ticks the files hold a world at rest with these words. Both keepers with their files represent it.
-pub record WorldStands {D : Type 0} (file : D → List ℕ) (leaves : D → List ℕ → Type 0) (cells : ℕ) (ticks : List (List Action)) (words : List ℕ) (writer : ImageWriter D) (log : Log D) : Type 0 where
+-- From these first words, after these ticks, the files hold a world at rest with these words. Both keepers with their files
+-- represent it.
+pub record WorldStands {D : Type 0} (file : D → List ℕ) (leaves : D → List ℕ → Type 0) (first : List ℕ) (ticks : List (List Action)) (words : List ℕ) (writer : ImageWriter D) (log : Log D) : Type 0 where
   pub images : Images
   pub logs : Logs
-  pub settled : IsSettled cells ticks words images logs
-  pub cells_are : writer.keeper.cells ≡ cells
+  pub settled : IsSettled first ticks words images logs
+  pub cells_are : writer.keeper.cells ≡ length first
   pub has_images : ImagesStand file leaves writer (Newest images)
   pub has_log : LogStands file leaves log logs
 
@@ -42,22 +43,22 @@ module _ {D : Type 0} (file : D → List ℕ) (leaves : D → List ℕ → Type 
   -- All ticks are these, followed by those that the mutator pushed. Whatever a crash leaves of the four files, recovery
   -- gives the world after the first n of them, for some n not below the greatest acknowledged tick. Each open image is the
   -- world after its tick. The mutator counts as many ticks.
-  abbrev pub LeaveSound : (cells : ℕ) → (ticks : List (List Action)) → Playing → Imaging D → Logging D → Type 0
-  LeaveSound cells ticks m c w =
+  abbrev pub LeaveSound : (first : List ℕ) → (ticks : List (List Action)) → Playing → Imaging D → Logging D → Type 0
+  LeaveSound first ticks m c w =
       let all : List (List Action) = ticks ++ ticks_in (records_of m.to.items) in
-      IsSound (leaves c.images.image_a) (leaves c.images.image_b) (leaves w.log.a) (leaves w.log.b) cells all (acknowledged_by c w) × (m.ended ≡ length all)
+      IsSound (leaves c.images.image_a) (leaves c.images.image_b) (leaves w.log.a) (leaves w.log.b) first all (acknowledged_by c w) × (m.ended ≡ length all)
 
   -- the files are sound, if these workers began with a world in their files and the first item is its start
   abbrev pub AreSound : Playing → Imaging D → Logging D → Type 0
   AreSound m c w =
-      (cells : ℕ) (ticks : List (List Action)) → WorldStands file leaves cells ticks m.opening c.opening w.opening → BeginAt (length ticks) m.to.items
-      → LeaveSound cells ticks m c w
+      (first : List ℕ) (ticks : List (List Action)) → WorldStands file leaves first ticks m.opening c.opening w.opening → BeginAt (length ticks) m.to.items
+      → LeaveSound first ticks m c w
 
   -- If the workers began with a world after these ticks in their files, the files are sound for those ticks and all that
   -- were played.
   abbrev pub StaysSound : (words : List ℕ) → ImageWriter D → Log D → (ended : ℕ) → Playing → Imaging D → Logging D → Type 0
   StaysSound words writer log ended m c w =
-      (cells : ℕ) (ticks : List (List Action)) → WorldStands file leaves cells ticks words writer log → ended ≡ length ticks → LeaveSound cells ticks m c w
+      (first : List ℕ) (ticks : List (List Action)) → WorldStands file leaves first ticks words writer log → ended ≡ length ticks → LeaveSound first ticks m c w
 
   -- the files of workers that have met are sound, on disks that keep to the disk model
   abbrev pub StopsAreSound : (honest : Bool) → Type 0

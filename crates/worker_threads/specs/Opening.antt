@@ -20,5 +20,5 @@ pub record IsRecovered {D : Type 0} (file : D → List ℕ) (files : FourFiles D
 -- the recovered ones.
 abbrev pub StandsOpened : {D : Type 0} → (file : D → List ℕ) → (leaves : D → List ℕ → Type 0) → FourFiles D → (words : List ℕ) → ImageWriter D → Log D → (ended : ℕ) → Type 0
 StandsOpened file leaves files words writer log ended =
-    (cells : ℕ) (ticks : List (List Action)) (acknowledged : ℕ) → AreSynced file leaves files → AreSound file leaves files cells ticks acknowledged
-    → WorldStands file leaves cells (take ended ticks) words writer log × (ended ≡ length (take ended ticks))
+    (first : List ℕ) (ticks : List (List Action)) (acknowledged : ℕ) → AreSynced file leaves files → AreSound file leaves files first ticks acknowledged
+    → WorldStands file leaves first (take ended ticks) words writer log × (ended ≡ length (take ended ticks))

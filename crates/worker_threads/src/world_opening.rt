@@ -81,9 +81,9 @@ pub fn start_world<M: Seats, C: Capture, D: Disk + Drop>(
         IsWhole D.honest D.content opened.front opened.back opened.images opened.log opened.ended) }
     ensures words { IfOk result (λ opened. opened.front.live ≡ begun.words.items) }
     ensures ended { IfOk result (λ opened. opened.ended ≡ begun.engine.ended) }
-    ensures stands { IsTrue D.honest → IfOk result (λ opened. (ticks : List (List Action)) (acknowledged : ℕ)
-        → Follows C.content D.content D.may_leave begun.engine files ticks acknowledged
-        → WorldStands D.content D.may_leave begun.engine.images.cells ticks opened.front.live opened.images opened.log
+    ensures stands { IsTrue D.honest → IfOk result (λ opened. (first : List ℕ) (ticks : List (List Action)) (acknowledged : ℕ)
+        → Follows C.content D.content D.may_leave begun.engine files first ticks acknowledged
+        → WorldStands D.content D.may_leave first ticks opened.front.live opened.images opened.log
         × (opened.ended ≡ length ticks)) }
     ensures refused { IfErr result (λ refused. (refused.1 ≡ Refusal.NoMemory) ⊎ (refused.1 ≡ Refusal.Device)) }
     ensures device { IfErr result (λ refused. refused.1 ≡ Refusal.Device
@@ -114,8 +114,8 @@ fn seated<M: Seats, D: Disk + Drop>(
         IsWhole D.honest D.content opened.front opened.back opened.images opened.log opened.ended) }
     ensures words { IfOk result (λ opened. opened.front.live ≡ parts.words.items) }
     ensures ended { IfOk result (λ opened. opened.ended ≡ parts.ended) }
-    ensures settled { IfOk result (λ opened. (ticks : List (List Action)) → AreSettled D.content D.may_leave parts ticks
-        → WorldStands D.content D.may_leave parts.images.cells ticks opened.front.live opened.images opened.log
+    ensures settled { IfOk result (λ opened. (first : List ℕ) (ticks : List (List Action))
+        → AreSettled D.content D.may_leave parts first ticks → WorldStands D.content D.may_leave first ticks opened.front.live opened.images opened.log
         × (opened.ended ≡ length ticks)) }
     ensures refused { IfErr result (λ refused. (refused.0 ≡ parts.files) × (refused.1 ≡ Refusal.NoMemory)) }
 {

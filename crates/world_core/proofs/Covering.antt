@@ -1,5 +1,5 @@
 -- A cover keeps the invariant of a core, and its answer is exact.
-use Rattle.std.proofs.Common.{◌≡◌, ℕ, ◌+◌, ◌≤◌, inl, inr, Bool, true, false, nat_lt, if◌then◌else◌, List, [], ◌∷◌, ◌++◌, length, map, Option, Some, None, refl, sym, ap, subst, ◌∙◌, arith, append_assoc, lt-ltb}
+use Rattle.std.proofs.Common.{◌≡◌, ℕ, ◌+◌, ◌≤◌, inl, inr, Bool, true, false, nat_lt, if◌then◌else◌, List, [], ◌∷◌, ◌++◌, length, map, Option, Some, None, refl, sym, ap, subst, ◌∙◌, arith, append_assoc, lt-ltb, replicate}
 use Rattle.std.proofs.lemmas.List.{map-append}
 use Rattle.std.proofs.lemmas.Bool.{cases_lt}
 use Rattle.world_actions.specs.declared.action.Action.{Action}
@@ -65,8 +65,8 @@ cover_refusal_is laws past state tick c =
 -- ---- the event
 
 -- after the start, with an image, the journal is that of a log, and the tick is covered in step
-record IsCovered (cells : ℕ) (ticks : List (List Action)) (acknowledged : ℕ) (state : State) (images : ImageFiles) (journal : Journal) (given : LogAnswer) (left : List Record) : Type 0 where
-  in_step : InStep cells ticks acknowledged state.content images journal left
+record IsCovered (first : List ℕ) (ticks : List (List Action)) (acknowledged : ℕ) (state : State) (images : ImageFiles) (journal : Journal) (given : LogAnswer) (left : List Record) : Type 0 where
+  in_step : InStep first ticks acknowledged state.content images journal left
   receipt : (number : ℕ) → given ≡ given_.Acked number → number + length (ticks_in left) ≡ length ticks
 
 receipt_of : (ticks : List (List Action)) (given : LogAnswer) (left : List Record) (number : ℕ) → given ≡ given_.Acked number → ReceiptIs given ticks left → number + length (ticks_in left) ≡ length ticks
@@ -75,20 +75,20 @@ receipt_of ticks given left number is r = (let same : ReceiptIs (given_.Acked nu
 covers_in : EventLaws → KeeperLaws → (past : Past) (old : State) (tick : ℕ) (given : LogAnswer) (left : List Record) (images : ImageFiles) (journal : Journal) (waits : ℕ)
     → HasLog old (record { journal = journal; left = waits }) → old.log.starting ≡ false → tick ≤ newest_tick (newest_in images)
     → ((logs : Logs) → (old.log.phase ≡ Ready → is_idle logs) → CoverStep logs old.queue tick given left)
-    → InStep old.cells past.history.ticks past.acknowledged old.content images journal old.queue
-    → IsCovered old.cells past.history.ticks (past_after past (move.Cover tick) (answer.Log given)).acknowledged old images journal given left
+    → InStep (replicate old.cells 0) past.history.ticks past.acknowledged old.content images journal old.queue
+    → IsCovered (replicate old.cells 0) past.history.ticks (past_after past (move.Cover tick) (answer.Log given)).acknowledged old images journal given left
 covers_in laws keepers past old tick given left images (InStart start) waits stands started opened step w = absurd (let g : true ≡ false = sym stands.in_work ∙ started in cc)
 covers_in laws keepers past old tick given left (NoneYet images) (Writing logs) waits stands started opened step w = absurd w.phase
 covers_in laws keepers past old tick given left (Newest images) (Writing logs) waits stands started opened step w =
     let s = step logs (λ ready. keepers.ready old.log old.log_a old.log_b logs waits stands ready) in
-    let kept = laws.goes_on.cover old.cells past.history.ticks past.acknowledged old.content images logs old.queue tick given left opened s w in
+    let kept = laws.goes_on.cover (replicate old.cells 0) past.history.ticks past.acknowledged old.content images logs old.queue tick given left opened s w in
     record {
-      in_step = subst (λ a. InStep old.cells past.history.ticks a old.content (Newest images) (Writing logs) left) (sym (counts past.acknowledged given)) kept;
-      receipt = λ number is. receipt_of past.history.ticks given left number is (laws.keeps.cover_receipt old.cells past.history.ticks past.acknowledged images logs old.queue tick given left w.phase s);
+      in_step = subst (λ a. InStep (replicate old.cells 0) past.history.ticks a old.content (Newest images) (Writing logs) left) (sym (counts past.acknowledged given)) kept;
+      receipt = λ number is. receipt_of past.history.ticks given left number is (laws.keeps.cover_receipt (replicate old.cells 0) past.history.ticks past.acknowledged images logs old.queue tick given left w.phase s);
     }
 
 covered_from : EventLaws → KeeperLaws → (past : Past) (old new : State) (tick : ℕ) (given : LogAnswer) (c : IsCoreAt past old) → None ≡ refusal_in old tick → CoversBy tick old given new
-    → IsCovered old.cells past.history.ticks (past_after past (move.Cover tick) (answer.Log given)).acknowledged old c.images c.place.journal given new.queue
+    → IsCovered (replicate old.cells 0) past.history.ticks (past_after past (move.Cover tick) (answer.Log given)).acknowledged old c.images c.place.journal given new.queue
 covered_from laws keepers past old new tick given c e d =
     let may = may_cover old tick e in
     covers_in laws keepers past old tick given new.queue c.images c.place.journal c.place.left c.has_log may.has_started (subst (λ n. tick ≤ n) (newest_is keepers past old c) may.opened) d.step c.in_step

@@ -1,4 +1,5 @@
 -- A start begins with the invariant of a core, for a fresh world and after a crash.
+use Rattle.std.specs.Prelude.{replicate}
 use Rattle.std.proofs.Common.{◌≡◌, ℕ, ◌-◌, ◌≤◌, Bool, true, false, if◌then◌else◌, List, [], length, map, Option, None, option_map, Ok, refl, sym, ap, subst, ◌∙◌, arith}
 use Rattle.world_actions.specs.declared.world.TheConstants.{CELLS}
 use Rattle.world_ticks.specs.declared.tick.TheConstants.{TICK_MAX}
@@ -97,9 +98,9 @@ pub begins_core : QueueLaws → KeeperLaws → (cells : ℕ) (newest : Option (S
     → Begins cells newest tick words round image_a image_b log_a log_b new → 1 ≤ cells → cells ≤ CELLS → tick ≤ TICK_MAX
     → (images : ImageFiles) → IsTold cells newest images image_a image_b → round_in images ≡ None
     → (before_a before_b : Segment) → IsSegment log_a before_a → IsSegment log_b before_b
-    → length past.history.ticks ≡ tick → past.history.running ≡ [] → length words ≡ cells → after_ticks cells past.history.ticks ≡ Ok words
+    → length past.history.ticks ≡ tick → past.history.running ≡ [] → length words ≡ cells → after_ticks (replicate cells 0) past.history.ticks ≡ Ok words
     → past.standing ≡ standing_at (newest_tick newest) tick round (is_shut log_a) (is_shut log_b) → past.has_image ≡ is_known images → newest_in images ≡ newest
-    → InStep cells past.history.ticks past.acknowledged new.content (images_begun round tick images) (InStart (start_at tick before_a before_b)) []
+    → InStep (replicate cells 0) past.history.ticks past.acknowledged new.content (images_begun round tick images) (InStart (start_at tick before_a before_b)) []
     → IsCoreAt past new
 begins_core queues keepers cells newest tick words round image_a image_b log_a log_b past new b some few numbered images told no_round before_a before_b reads_a reads_b count idle whole after standing known newest_is in_step =
     let live = built_live words round new.content b.store in
@@ -113,7 +114,7 @@ begins_core queues keepers cells newest tick words round image_a image_b log_a l
       };
       live = record {
         last = words;
-        after_ended = ap (λ n. after_ticks n past.history.ticks) b.cells_are ∙ after;
+        after_ended = ap (λ n. after_ticks (replicate n 0) past.history.ticks) b.cells_are ∙ after;
         live = ap (λ r. after_actions words r) idle ∙ ap (λ w. Ok w) (sym live);
         all = ap length live ∙ whole ∙ sym b.cells_are;
         running = b.running ∙ sym idle;
@@ -136,8 +137,8 @@ begins_core queues keepers cells newest tick words round image_a image_b log_a l
       place = start_of tick before_a before_b (start_moves (is_shut log_a) (is_shut log_b));
       has_images = has_images keepers cells newest tick words round image_a image_b log_a log_b new b some few numbered images told;
       has_log = has_log keepers cells newest tick words round image_a image_b log_a log_b new b some few numbered images told before_a before_b reads_a reads_b;
-      in_step = subst (λ n. InStep n past.history.ticks past.acknowledged new.content (images_begun round tick images) (InStart (start_at tick before_a before_b)) new.queue) (sym b.cells_are)
-          (subst (InStep cells past.history.ticks past.acknowledged new.content (images_begun round tick images) (InStart (start_at tick before_a before_b))) (sym b.queue) in_step);
+      in_step = subst (λ n. InStep (replicate n 0) past.history.ticks past.acknowledged new.content (images_begun round tick images) (InStart (start_at tick before_a before_b)) new.queue) (sym b.cells_are)
+          (subst (InStep (replicate cells 0) past.history.ticks past.acknowledged new.content (images_begun round tick images) (InStart (start_at tick before_a before_b))) (sym b.queue) in_step);
       at_rest = b.running;
       told = record {
         is_image_known = known ∙ sym (with_round_known round tick images);

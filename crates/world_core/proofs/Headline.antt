@@ -1,5 +1,5 @@
 -- The folds of the headline are those of the past.
-use Rattle.std.proofs.Common.{◌≡◌, ℕ, inl, inr, List, [], ◌∷◌, ◌++◌, length, Ok, refl, sym, ap, subst, ◌∙◌, arith}
+use Rattle.std.proofs.Common.{◌≡◌, ℕ, inl, inr, List, [], ◌∷◌, ◌++◌, length, Ok, refl, sym, ap, subst, ◌∙◌, arith, replicate}
 use Rattle.std.proofs.lemmas.List.{length-append}
 use Rattle.world_ticks.specs.After.{after_ticks}
 use Rattle.action_log.specs.declared.answer.LogAnswer.{LogAnswer}
@@ -49,11 +49,11 @@ headline : SafetyLaws → (cells : ℕ) (moves : List Move) (answers : List Answ
 headline laws cells moves answers state e same c =
     let past = past_of fresh_past moves answers in
     let files = files_in state in
-    let safe = subst (λ n. AreSafe past.has_image files n past.history.ticks past.acknowledged) same (core_is_safe laws past state c) in (
+    let safe = subst (λ n. AreSafe past.has_image files (replicate n 0) past.history.ticks past.acknowledged) same (core_is_safe laws past state c) in (
       e,
-      subst (λ h. AreSafe h files cells (ended moves answers) (acked answers)) (past_of-opened fresh_past moves answers e)
-          (subst (λ k. AreSafe past.has_image files cells (ended moves answers) k) (past_of-acknowledged fresh_past moves answers e)
-          (subst (λ (h : History). AreSafe past.has_image files cells h.ticks past.acknowledged) (past_of-history fresh_past moves answers) safe)),
+      subst (λ h. AreSafe h files (replicate cells 0) (ended moves answers) (acked answers)) (past_of-opened fresh_past moves answers e)
+          (subst (λ k. AreSafe past.has_image files (replicate cells 0) (ended moves answers) k) (past_of-acknowledged fresh_past moves answers e)
+          (subst (λ (h : History). AreSafe past.has_image files (replicate cells 0) h.ticks past.acknowledged) (past_of-history fresh_past moves answers) safe)),
     )
 
 one_longer : {A B : Type 0} (xs : List A) (ys : List B) (x : A) (y : B) → length xs ≡ length ys → length (xs ++ x ∷ []) ≡ length (ys ++ y ∷ [])
@@ -71,7 +71,7 @@ runs-more past first mid last (other ∷ moves) (said ∷ answers) asked given r
 -- ---- the plain answers
 
 words_are : (cells : ℕ) (past : Past) (state : State) → IsCoreAt past state → state.cells ≡ cells → AreWords cells past.history state.content.live
-words_are cells past state c same = (c.live.last, subst (λ n. after_ticks n past.history.ticks ≡ Ok c.live.last) same c.live.after_ended, c.live.live)
+words_are cells past state c same = (c.live.last, subst (λ n. after_ticks (replicate n 0) past.history.ticks ≡ Ok c.live.last) same c.live.after_ended, c.live.live)
 
 plain_log : (past : Past) (state : State) (given : LogAnswer) → IsLogAnswer past state given → IsPlainLogAnswer past given
 plain_log past state log_answer.Idle (inl waits) = inl waits
@@ -91,7 +91,7 @@ plain_is laws cells past state c same (move.Log fate) (answer.Log given) e = pla
 plain_is laws cells past state c same (move.Log fate) given e = absurd e
 plain_is laws cells past state c same (move.Cover tick) given e = (cover_answer state.log tick state.queue, e.is)
 plain_is laws cells past state c same (move.Crash left) given e =
-    (files_in state, subst (λ n. AreSafe past.has_image (files_in state) n past.history.ticks past.acknowledged) same (core_is_safe laws past state c), e)
+    (files_in state, subst (λ n. AreSafe past.has_image (files_in state) (replicate n 0) past.history.ticks past.acknowledged) same (core_is_safe laws past state c), e)
 
 -- one more move
 answered-more : (cells : ℕ) (past : Past) (moves : List Move) (answers : List Answer) (asked : Move) (given : Answer) → AreAnswered cells past moves answers → IsPlainAnswer cells (past_of past moves answers) asked given

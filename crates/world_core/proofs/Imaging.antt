@@ -1,5 +1,6 @@
 -- The steps of the image keeper keep the invariant of a core.
-use Rattle.std.proofs.Common.{◌≡◌, ◌↔◌, ℕ, ◌<◌, inl, inr, Bool, true, false, ◌||◌, List, [], ◌∷◌, length, Option, Some, None, is_some, option_map, Ok, refl, sym, ap, subst, ◌∙◌, arith}
+use Rattle.std.proofs.lemmas.List.{length-replicate}
+use Rattle.std.proofs.Common.{◌≡◌, ◌↔◌, ℕ, ◌<◌, inl, inr, Bool, true, false, ◌||◌, List, [], ◌∷◌, length, Option, Some, None, is_some, option_map, Ok, refl, sym, ap, subst, ◌∙◌, arith, replicate}
 use Rattle.world_actions.specs.declared.action.Action.{Action}
 use Rattle.capture_core.specs.declared.taker.Taken.{Taken}
 use Rattle.capture_core.specs.Content.{Content, Takes}
@@ -132,6 +133,7 @@ image_keeps laws past old new fate given c d =
     let moved : State = record old { content = new.content; images = new.images; image_a = new.image_a; image_b = new.image_b } in
     let s = d.stands c.images c.has_images in
     let steps : StepsImages Takes old.cells c.images given s.0 old.content new.content = subst (λ n. StepsImages Takes n c.images given s.0 old.content new.content) c.keeper_cells s.2 in
+    let steps_zeros : StepsImages Takes (length (replicate old.cells 0)) c.images given s.0 old.content new.content = subst (λ n. StepsImages Takes n c.images given s.0 old.content new.content) (sym (length-replicate old.cells 0)) steps in
     let round = round_after old.cells old.content new.content past.standing past.history.running fate c.images given s.0 steps c.told.round in
     let newest = newest_after old.cells old.content new.content past.standing past.history.running fate c.images given s.0 steps c.told.newest in
     let st = image_standing past.standing past.history.running fate given in
@@ -145,7 +147,7 @@ image_keeps laws past old new fate given c d =
       place = c.place;
       has_images = s.1;
       has_log = c.has_log;
-      in_step = laws.goes_on.image_step old.cells past.history.ticks past.acknowledged c.images c.place.journal old.queue given s.0 old.content new.content steps c.in_step;
+      in_step = laws.goes_on.image_step (replicate old.cells 0) past.history.ticks past.acknowledged c.images c.place.journal old.queue given s.0 old.content new.content steps_zeros c.in_step;
       at_rest = c.at_rest;
       told = record {
         is_image_known = known_after old.cells old.content new.content past.has_image c.images given s.0 steps c.told.is_image_known;
@@ -168,7 +170,7 @@ gave_none (entry ∷ left) e = absurd (let g = e in cc)
 no_empty_take : EventLaws → KeeperLaws → (past : Past) (old new : State) (c : IsCoreAt past old) (round : Round) → round_in c.images ≡ Some round → cells_taken old.images < old.images.cells → Takes old.content None new.content → ⊥
 no_empty_take laws keepers past old new c round is fewer t =
     let r = keepers.round old.images c.images old.image_a old.image_b c.has_images (λ e. (let g : None ≡ Some round = sym (keepers.idle old.images c.images old.image_a old.image_b c.has_images e) ∙ is in absurd (let h = g in cc))) in
-    let full : length r.0.taken ≡ old.cells = laws.goes_on.all_taken old.cells past.history.ticks old.content c.images r.0 r.1 (gave_none old.content.left t.gives) c.in_step.store in
+    let full : length r.0.taken ≡ old.cells = laws.goes_on.all_taken (replicate old.cells 0) past.history.ticks old.content c.images r.0 r.1 (gave_none old.content.left t.gives) c.in_step.store ∙ length-replicate old.cells 0 in
     omega (arith, fewer, full, r.3, c.keeper_cells)
 
 -- a keeper in a round that isn't down has moves left

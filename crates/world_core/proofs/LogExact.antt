@@ -1,5 +1,5 @@
 -- The answer to a step of the log keeper is exact, and the step leaves less to do.
-use Rattle.std.proofs.Common.{◌≡◌, ℕ, ◌+◌, ◌<◌, inr, Bool, true, false, nat_lt, List, [], ◌∷◌, length, refl, sym, ap, ◌∙◌, arith}
+use Rattle.std.proofs.Common.{◌≡◌, ℕ, ◌+◌, ◌<◌, inr, Bool, true, false, nat_lt, List, [], ◌∷◌, length, refl, sym, ap, ◌∙◌, arith, replicate}
 use Rattle.image_files.specs.Images.{ImageFiles, NoneYet, Newest}
 use Rattle.action_log.specs.declared.phase.Phase.{Phase}
 use Rattle.action_log.specs.declared.phase.Phase.TheVariants.{Retiring, RetiringSync, Ready}
@@ -62,12 +62,12 @@ log_progress old new fate given_.Down d = tt
 
 -- a receipt comes after the start
 receipt_in : EventLaws → (past : Past) (old new : State) (tick : ℕ) (images : ImageFiles) (journal : Journal) (left : ℕ) (next : LogPlace) → HasLog old (record { journal = journal; left = left })
-    → HasPhase old.cells past.history.ticks past.acknowledged images journal old.queue → StepIn journal left old.queue (given_.Acked tick) next new.queue → (left ≡ 0) × (tick + length (ticks_in old.queue) ≡ length past.history.ticks)
+    → HasPhase (replicate old.cells 0) past.history.ticks past.acknowledged images journal old.queue → StepIn journal left old.queue (given_.Acked tick) next new.queue → (left ≡ 0) × (tick + length (ticks_in old.queue) ≡ length past.history.ticks)
 receipt_in laws past old new tick images (InStart start) left next stands phase s = absurd s.0
 receipt_in laws past old new tick (NoneYet images) (Writing logs) left next stands phase s = absurd phase
 receipt_in laws past old new tick (Newest images) (Writing logs) left next stands phase s = (
   stands.1,
-  ap (λ q. tick + length (ticks_in q)) (sym s.2.queue_is) ∙ laws.keeps.receipt old.cells past.history.ticks past.acknowledged images logs old.queue (given_.Acked tick) s.0 new.queue phase s.2,
+  ap (λ q. tick + length (ticks_in q)) (sym s.2.queue_is) ∙ laws.keeps.receipt (replicate old.cells 0) past.history.ticks past.acknowledged images logs old.queue (given_.Acked tick) s.0 new.queue phase s.2,
 )
 
 pub log_exact : EventLaws → (past : Past) (old new : State) (fate : Fate) (given : LogAnswer) → IsCoreAt past old → is_log_waiting past.standing ≡ false → StepsLogKeeper fate old given new → IsLogAnswer past old given

@@ -1,5 +1,6 @@
 -- The steps of the log keeper keep the invariant of a core.
-use Rattle.std.proofs.Common.{◌≡◌, ◌↔◌, ℕ, ◌-◌, inl, inr, Bool, true, false, List, [], ◌++◌, map, None, refl, sym, ap, subst, ◌∙◌, append_assoc}
+use Rattle.world_core.proofs.Safe.{some_zeros}
+use Rattle.std.proofs.Common.{◌≡◌, ◌↔◌, ℕ, ◌-◌, inl, inr, Bool, true, false, List, [], ◌++◌, map, None, refl, sym, ap, subst, ◌∙◌, append_assoc, replicate}
 use Rattle.std.proofs.lemmas.List.{map-append}
 use Rattle.world_actions.specs.declared.action.Action.{Action}
 use Rattle.image_files.specs.Images.{ImageFiles, round_in}
@@ -120,8 +121,8 @@ log_keeps laws past old new fate given c waits d =
       place = s.0;
       has_images = c.has_images;
       has_log = s.1;
-      in_step = subst (λ a. InStep old.cells past.history.ticks a old.content c.images s.0.journal new.queue) (sym (counts past.acknowledged given))
-          (laws.goes_on.log_step old.cells past.history.ticks past.acknowledged old.content c.images c.place old.queue given s.0 new.queue c.some_cells
+      in_step = subst (λ a. InStep (replicate old.cells 0) past.history.ticks a old.content c.images s.0.journal new.queue) (sym (counts past.acknowledged given))
+          (laws.goes_on.log_step (replicate old.cells 0) past.history.ticks past.acknowledged old.content c.images c.place old.queue given s.0 new.queue (some_zeros old.cells c.some_cells)
           (none_waited old c.images c.place.journal c.place.left c.has_log waits) s.2 c.in_step);
       at_rest = log_rests old.running c.place.journal c.place.left old.queue given s.0 new.queue s.2 c.at_rest;
       told = record {

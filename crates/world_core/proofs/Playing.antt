@@ -2,7 +2,7 @@
 use Rattle.std.proofs.Common.{◌≡◌, ℕ, ◌+◌, ◌-◌, ◌<◌, ◌≤◌, Bool, true, false, nat_le, if◌then◌else◌, List, [], ◌∷◌, ◌++◌, length, map, replicate, None, Result, Ok, Err, refl, sym, ap, subst, ◌∙◌, append_assoc, arith}
 use Rattle.std.specs.List.{flat_map}
 use Rattle.std.proofs.lemmas.Grind.{flat_map-append}
-use Rattle.std.proofs.lemmas.List.{length-append, map-append, append-nil}
+use Rattle.std.proofs.lemmas.List.{length-append, map-append, append-nil, length-replicate}
 use Rattle.world_actions.specs.declared.action.Action.{Action}
 use Rattle.world_actions.specs.declared.refusal.Refusal.{Refusal}
 use Rattle.world_actions.specs.declared.refusal.Refusal.TheVariants.{TickFull}
@@ -40,10 +40,10 @@ record HasStarted (past : Past) (state : State) (images : ImageFiles) (journal :
   logs : Logs
   is_newest : images ≡ Newest newest
   is_writing : journal ≡ Writing logs
-  in_step : InStep state.cells past.history.ticks past.acknowledged state.content (Newest newest) (Writing logs) state.queue
+  in_step : InStep (replicate state.cells 0) past.history.ticks past.acknowledged state.content (Newest newest) (Writing logs) state.queue
 
 has_started_by : (past : Past) (state : State) (images : ImageFiles) (journal : Journal) (left : ℕ) → state.log.starting ≡ false → HasLog state (record { journal = journal; left = left })
-    → InStep state.cells past.history.ticks past.acknowledged state.content images journal state.queue → HasStarted past state images journal
+    → InStep (replicate state.cells 0) past.history.ticks past.acknowledged state.content images journal state.queue → HasStarted past state images journal
 has_started_by past state images (InStart start) left none stands w = absurd (let h = sym none ∙ stands.in_work in cc)
 has_started_by past state (NoneYet images) (Writing logs) left none stands w = absurd w.phase
 has_started_by past state (Newest images) (Writing logs) left none stands w = record { newest = images; logs = logs; is_newest = refl; is_writing = refl; in_step = w }
@@ -81,7 +81,7 @@ action_keeps laws past old new action c none d =
       place = c.place;
       has_images = c.has_images;
       has_log = c.has_log;
-      in_step = record { store = laws.goes_on.writes old.cells past.history.ticks old.content new.content c.images (ap (λ (n : Content). n.left) d.content) d.covers c.in_step.store; phase = c.in_step.phase };
+      in_step = record { store = laws.goes_on.writes (replicate old.cells 0) past.history.ticks old.content new.content c.images (ap (λ (n : Content). n.left) d.content) d.covers c.in_step.store; phase = c.in_step.phase };
       at_rest = subst (λ j. IsAtRest j (old.running ++ action ∷ [])) (sym s.is_writing) tt;
       told = c.told;
     } in
@@ -89,10 +89,10 @@ action_keeps laws past old new action c none d =
 
 -- ---- a tick ends
 
-world_ended : EventLaws → (cells : ℕ) (ticks : List (List Action)) (running : List Action) (last live : List ℕ) → after_ticks cells ticks ≡ Ok last → after_actions last running ≡ Ok live → after_ticks cells (ticks ++ running ∷ []) ≡ Ok live
-world_ended laws cells ticks running last live e h =
-    ap (after_actions (replicate cells 0)) (flat_map-append (λ tick. tick) ticks (running ∷ []) ∙ ap (λ l. flat_map (λ tick. tick) ticks ++ l) (append-nil running))
-    ∙ laws.append (replicate cells 0) (flat_map (λ tick. tick) ticks) running
+world_ended : EventLaws → (first : List ℕ) (ticks : List (List Action)) (running : List Action) (last live : List ℕ) → after_ticks first ticks ≡ Ok last → after_actions last running ≡ Ok live → after_ticks first (ticks ++ running ∷ []) ≡ Ok live
+world_ended laws first ticks running last live e h =
+    ap (after_actions first) (flat_map-append (λ tick. tick) ticks (running ∷ []) ∙ ap (λ l. flat_map (λ tick. tick) ticks ++ l) (append-nil running))
+    ∙ laws.append first (flat_map (λ tick. tick) ticks) running
     ∙ ap (λ r. and_then r (λ next. after_actions next running)) e ∙ h
 
 pub end_keeps : EventLaws → QueueLaws → (past : Past) (old new : State) (number : ℕ) → IsCoreAt past old → old.log.starting ≡ false → old.ended < TICK_MAX → old.since < SEGMENT_TICKS → EndsTick old new
@@ -108,10 +108,10 @@ end_keeps laws queues past old new number c none numbered few d =
     let kept = s.in_step.phase in
     let lasts : kept.last ≡ c.live.last = ok_injective kept.last c.live.last (sym kept.accepted ∙ c.live.after_ended) in
     let goes : after_actions kept.last tick.list ≡ Ok old.content.live = ap (λ w. after_actions w tick.list) lasts ∙ ap (after_actions c.live.last) same ∙ c.live.live in
-    let in_step : InStep old.cells (ticks ++ past.history.running ∷ []) past.acknowledged old.content (Newest s.newest) (Writing s.logs) (old.queue ++ records.Tick tick ∷ []) = record {
-      store = laws.goes_on.ticks old.cells ticks (past.history.running ∷ []) old.content (Newest s.newest) s.in_step.store;
-      phase = subst (λ t. IsKept old.cells (ticks ++ t ∷ []) past.acknowledged s.newest s.logs (old.queue ++ records.Tick tick ∷ [])) same
-          (laws.keeps.tick_ends old.cells ticks past.acknowledged s.newest s.logs old.queue kept tick old.content.live goes);
+    let in_step : InStep (replicate old.cells 0) (ticks ++ past.history.running ∷ []) past.acknowledged old.content (Newest s.newest) (Writing s.logs) (old.queue ++ records.Tick tick ∷ []) = record {
+      store = laws.goes_on.ticks (replicate old.cells 0) ticks (past.history.running ∷ []) old.content (Newest s.newest) s.in_step.store;
+      phase = subst (λ t. IsKept (replicate old.cells 0) (ticks ++ t ∷ []) past.acknowledged s.newest s.logs (old.queue ++ records.Tick tick ∷ [])) same
+          (laws.keeps.tick_ends (replicate old.cells 0) ticks past.acknowledged s.newest s.logs old.queue kept tick old.content.live goes);
     } in
     let count : (end_of old.log old.queue).count ≡ old.since = ap (λ (e : QueueEnd). e.count) k.queue_end in
     let base : (end_of old.log old.queue).base ≡ old.ended - old.since = ap (λ (e : QueueEnd). e.base) k.queue_end in
@@ -120,7 +120,7 @@ end_keeps laws queues past old new number c none numbered few d =
       cells = c.cells;
       live = record {
         last = old.content.live;
-        after_ended = world_ended laws old.cells ticks past.history.running c.live.last old.content.live c.live.after_ended c.live.live;
+        after_ended = world_ended laws (replicate old.cells 0) ticks past.history.running c.live.last old.content.live c.live.after_ended c.live.live;
         live = refl;
         all = c.live.all;
         running = refl;
@@ -137,8 +137,8 @@ end_keeps laws queues past old new number c none numbered few d =
       place = c.place;
       has_images = c.has_images;
       has_log = c.has_log;
-      in_step = subst (λ i. InStep old.cells (ticks ++ past.history.running ∷ []) past.acknowledged old.content i c.place.journal (old.queue ++ records.Tick tick ∷ [])) (sym s.is_newest)
-          (subst (λ j. InStep old.cells (ticks ++ past.history.running ∷ []) past.acknowledged old.content (Newest s.newest) j (old.queue ++ records.Tick tick ∷ [])) (sym s.is_writing) in_step);
+      in_step = subst (λ i. InStep (replicate old.cells 0) (ticks ++ past.history.running ∷ []) past.acknowledged old.content i c.place.journal (old.queue ++ records.Tick tick ∷ [])) (sym s.is_newest)
+          (subst (λ j. InStep (replicate old.cells 0) (ticks ++ past.history.running ∷ []) past.acknowledged old.content (Newest s.newest) j (old.queue ++ records.Tick tick ∷ [])) (sym s.is_writing) in_step);
       at_rest = empty_rests c.place.journal [] refl;
       told = c.told;
     } in
@@ -171,9 +171,9 @@ mark_keeps laws queues keepers past old new number c none idle at_rest news is_n
     let count : (end_of old.log old.queue).count ≡ old.since = ap (λ (e : QueueEnd). e.count) k.queue_end in
     let base : (end_of old.log old.queue).base ≡ old.ended - old.since = ap (λ (e : QueueEnd). e.base) k.queue_end in
     let q = queues.switch old.log old.queue old.ended k.queue_follows (omega (arith, count, base, k.within)) k.numbered in
-    let in_step : InStep old.cells ticks past.acknowledged new.content (with_round old.ended (Newest s.newest)) (Writing s.logs) (old.queue ++ records.Switch old.ended ∷ []) =
-    subst (λ n. InStep old.cells ticks past.acknowledged new.content (with_round n (Newest s.newest)) (Writing s.logs) (old.queue ++ records.Switch n ∷ [])) (sym k.ended)
-    (laws.goes_on.mark old.cells ticks past.acknowledged s.newest s.logs old.queue old.content new.content no_round above (c.live.after_ended ∙ ap (λ w. Ok w) same) c.live.all d.0 s.in_step) in
+    let in_step : InStep (replicate old.cells 0) ticks past.acknowledged new.content (with_round old.ended (Newest s.newest)) (Writing s.logs) (old.queue ++ records.Switch old.ended ∷ []) =
+    subst (λ n. InStep (replicate old.cells 0) ticks past.acknowledged new.content (with_round n (Newest s.newest)) (Writing s.logs) (old.queue ++ records.Switch n ∷ [])) (sym k.ended)
+    (laws.goes_on.mark (replicate old.cells 0) ticks past.acknowledged s.newest s.logs old.queue old.content new.content no_round above (c.live.after_ended ∙ ap (λ w. Ok w) same) (c.live.all ∙ sym (length-replicate old.cells 0)) d.0 s.in_step) in
     let is : IsCoreAt after next = record {
       cells = c.cells;
       live = record { last = c.live.last; after_ended = c.live.after_ended; live = c.live.live ∙ ap (λ w. Ok w) (sym d.0.live); all = ap length d.0.live ∙ c.live.all; running = c.live.running };
@@ -189,7 +189,7 @@ mark_keeps laws queues keepers past old new number c none idle at_rest news is_n
       place = c.place;
       has_images = keepers.begun old.images old.ended (Newest s.newest) old.image_a old.image_b at_rest k.numbered has;
       has_log = c.has_log;
-      in_step = subst (λ j. InStep old.cells ticks past.acknowledged new.content (with_round old.ended (Newest s.newest)) j (old.queue ++ records.Switch old.ended ∷ [])) (sym s.is_writing) in_step;
+      in_step = subst (λ j. InStep (replicate old.cells 0) ticks past.acknowledged new.content (with_round old.ended (Newest s.newest)) j (old.queue ++ records.Switch old.ended ∷ [])) (sym s.is_writing) in_step;
       at_rest = c.at_rest;
       told = record {
         is_image_known = c.told.is_image_known ∙ ap is_known s.is_newest;

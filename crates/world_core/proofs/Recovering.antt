@@ -29,7 +29,7 @@ use Rattle.world_core.specs.declared.moves.Answer.{Answer}
 use Rattle.world_core.specs.declared.moves.Answer.TheVariants as answer
 use Rattle.world_core.specs.Facts.{IsCoreAt}
 use Rattle.image_files.proofs.SlotImages.{by_slot, by_other}
-use Rattle.world_core.proofs.Safe.{AreSafeFor, core_is_safe_for}
+use Rattle.world_core.proofs.Safe.{AreSafeFor, core_is_safe_for, some_zeros}
 use Rattle.world_core.proofs.Crashing.{start_at, begins_core}
 
 ok_not_err : (r : Recovery) (refusal : Refusal) → ◌≡◌ {A = Result Recovery Refusal} (Ok r) (Err refusal) → ⊥
@@ -40,27 +40,27 @@ err_same a b e = cc
 
 -- ---- the world that files hold
 
-module _ (safety : SafetyLaws) (cells : ℕ) (ticks : List (List Action)) (acknowledged : ℕ) (ia ib la lb : List ℕ) (a b : Segment) (reads_a : IsSegment la a) (reads_b : IsSegment lb b) where
+module _ (safety : SafetyLaws) (first : List ℕ) (ticks : List (List Action)) (acknowledged : ℕ) (ia ib la lb : List ℕ) (a b : Segment) (reads_a : IsSegment la a) (reads_b : IsSegment lb b) where
   -- these segments have what holds for some reading of the files, since each file has only one reading
   of_these : (Holds : Segment → Segment → Type 0) → BothRead la lb Holds → Holds a b
   of_these Holds s = subst (λ x. Holds x b) (safety.once la s.a a s.reads_a reads_a) (subst (Holds s.a) (safety.once lb s.b b s.reads_b reads_b) s.holds)
 
-  is_sound : (image_a image_b log_a log_b : List ℕ → Type 0) → IsSound image_a image_b log_a log_b cells ticks acknowledged → image_a ia → image_b ib → log_a la → log_b lb → IsSoundReading (image_of ia) (image_of ib) a b cells ticks acknowledged
-  is_sound image_a image_b log_a log_b safe ha hb hla hlb = of_these (λ first second. IsSoundReading (image_of ia) (image_of ib) first second cells ticks acknowledged) (safe ia ib la lb ha hb hla hlb)
+  is_sound : (image_a image_b log_a log_b : List ℕ → Type 0) → IsSound image_a image_b log_a log_b first ticks acknowledged → image_a ia → image_b ib → log_a la → log_b lb → IsSoundReading (image_of ia) (image_of ib) a b first ticks acknowledged
+  is_sound image_a image_b log_a log_b safe ha hb hla hlb = of_these (λ segment_a segment_b. IsSoundReading (image_of ia) (image_of ib) segment_a segment_b first ticks acknowledged) (safe ia ib la lb ha hb hla hlb)
 
-  is_fresh : (image_a image_b log_a log_b : List ℕ → Type 0) → IsFresh image_a image_b log_a log_b cells → image_a ia → image_b ib → log_a la → log_b lb → IsFreshReading (image_of ia) (image_of ib) a b cells
-  is_fresh image_a image_b log_a log_b safe ha hb hla hlb = of_these (λ first second. IsFreshReading (image_of ia) (image_of ib) first second cells) (safe ia ib la lb ha hb hla hlb)
+  is_fresh : (image_a image_b log_a log_b : List ℕ → Type 0) → IsFresh image_a image_b log_a log_b first → image_a ia → image_b ib → log_a la → log_b lb → IsFreshReading (image_of ia) (image_of ib) a b first
+  is_fresh image_a image_b log_a log_b safe ha hb hla hlb = of_these (λ segment_a segment_b. IsFreshReading (image_of ia) (image_of ib) segment_a segment_b first) (safe ia ib la lb ha hb hla hlb)
 
   -- the answer of recovery on files that are safe
-  pub restarts : (image_a image_b log_a log_b : List ℕ → Type 0) (has_image : Bool) → AreSafeFor has_image image_a image_b log_a log_b cells ticks acknowledged → image_a ia → image_b ib → log_a la → log_b lb
-      → (r : Recovery) → recovery_of (image_of ia) (image_of ib) a b ≡ Ok r → Restarts cells ticks acknowledged r (image_of ia) (image_of ib) a b
-  restarts image_a image_b log_a log_b true safe ha hb hla hlb r e = safety.restarts.sound cells ticks acknowledged (image_of ia) (image_of ib) a b r (is_sound image_a image_b log_a log_b safe ha hb hla hlb) e
+  pub restarts : (image_a image_b log_a log_b : List ℕ → Type 0) (has_image : Bool) → AreSafeFor has_image image_a image_b log_a log_b first ticks acknowledged → image_a ia → image_b ib → log_a la → log_b lb
+      → (r : Recovery) → recovery_of (image_of ia) (image_of ib) a b ≡ Ok r → Restarts first ticks acknowledged r (image_of ia) (image_of ib) a b
+  restarts image_a image_b log_a log_b true safe ha hb hla hlb r e = safety.restarts.sound first ticks acknowledged (image_of ia) (image_of ib) a b r (is_sound image_a image_b log_a log_b safe ha hb hla hlb) e
   restarts image_a image_b log_a log_b false safe ha hb hla hlb r e =
-      elim (safety.restarts.fresh cells (image_of ia) (image_of ib) a b (is_fresh image_a image_b log_a log_b safe.0 ha hb hla hlb)) [
+      elim (safety.restarts.fresh first (image_of ia) (image_of ib) a b (is_fresh image_a image_b log_a log_b safe.0 ha hb hla hlb)) [
         | inl none ↦ absurd (ok_not_err r NoImage (sym e ∙ none.2))
-        | inr f ↦ subst (λ t. Restarts cells t acknowledged r (image_of ia) (image_of ib) a b) (sym safe.1)
-            (subst (λ n. Restarts cells [] n r (image_of ia) (image_of ib) a b) (sym safe.2)
-            (safety.restarts.sound cells [] 0 (image_of ia) (image_of ib) a b r f.3 e))
+        | inr f ↦ subst (λ t. Restarts first t acknowledged r (image_of ia) (image_of ib) a b) (sym safe.1)
+            (subst (λ n. Restarts first [] n r (image_of ia) (image_of ib) a b) (sym safe.2)
+            (safety.restarts.sound first [] 0 (image_of ia) (image_of ib) a b r f.3 e))
       ]
 
   -- with no image both image files and both segments are closed
@@ -72,22 +72,22 @@ module _ (safety : SafetyLaws) (cells : ℕ) (ticks : List (List Action)) (ackno
     unknown : has_image ≡ false
     none_acknowledged : acknowledged ≡ 0
 
-  blank : (image_a image_b log_a log_b : List ℕ → Type 0) (has_image : Bool) → AreSafeFor has_image image_a image_b log_a log_b cells ticks acknowledged → image_a ia → image_b ib → log_a la → log_b lb
+  blank : (image_a image_b log_a log_b : List ℕ → Type 0) (has_image : Bool) → AreSafeFor has_image image_a image_b log_a log_b first ticks acknowledged → image_a ia → image_b ib → log_a la → log_b lb
       → recovery_of (image_of ia) (image_of ib) a b ≡ Err NoImage → IsBlank has_image
   blank image_a image_b log_a log_b true safe ha hb hla hlb e = (let s = is_sound image_a image_b log_a log_b safe ha hb hla hlb in absurd (ok_not_err s.recovery NoImage (sym s.stands ∙ e)))
   blank image_a image_b log_a log_b false safe ha hb hla hlb e =
       let f = is_fresh image_a image_b log_a log_b safe.0 ha hb hla hlb in
-      elim (safety.restarts.fresh cells (image_of ia) (image_of ib) a b f) [
+      elim (safety.restarts.fresh first (image_of ia) (image_of ib) a b f) [
         | inl none ↦ record { image_a_closed = none.0; image_b_closed = none.1; log_a_closed = f.log_a_closed; log_b_closed = f.log_b_closed; unknown = refl; none_acknowledged = safe.2 }
         | inr s ↦ absurd (ok_not_err s.0 NoImage (sym s.1 ∙ e))
       ]
 
   -- recovery of safe files is refused only because there is no image
-  only_none : (image_a image_b log_a log_b : List ℕ → Type 0) (has_image : Bool) → AreSafeFor has_image image_a image_b log_a log_b cells ticks acknowledged → image_a ia → image_b ib → log_a la → log_b lb
+  only_none : (image_a image_b log_a log_b : List ℕ → Type 0) (has_image : Bool) → AreSafeFor has_image image_a image_b log_a log_b first ticks acknowledged → image_a ia → image_b ib → log_a la → log_b lb
       → (refusal : Refusal) → recovery_of (image_of ia) (image_of ib) a b ≡ Err refusal → refusal ≡ NoImage
   only_none image_a image_b log_a log_b true safe ha hb hla hlb refusal e = (let s = is_sound image_a image_b log_a log_b safe ha hb hla hlb in absurd (ok_not_err s.recovery refusal (sym s.stands ∙ e)))
   only_none image_a image_b log_a log_b false safe ha hb hla hlb refusal e =
-      elim (safety.restarts.fresh cells (image_of ia) (image_of ib) a b (is_fresh image_a image_b log_a log_b safe.0 ha hb hla hlb)) [
+      elim (safety.restarts.fresh first (image_of ia) (image_of ib) a b (is_fresh image_a image_b log_a log_b safe.0 ha hb hla hlb)) [
         | inl none ↦ err_same refusal NoImage (sym e ∙ none.2)
         | inr s ↦ absurd (ok_not_err s.0 refusal (sym s.1 ∙ e))
       ]
@@ -109,11 +109,11 @@ pub recovered_keeps : EventLaws → QueueLaws → KeeperLaws → SafetyLaws → 
     → IsCoreAt (recovered_past past r la lb) new
 recovered_keeps events queues keepers safety past old new c r ia ib la lb oa ob ola olb e numbered b =
     let ticks = past.history.ticks in
-    let s = restarts safety old.cells ticks past.acknowledged ia ib la lb e.a e.b e.reads_a e.reads_b (IsCrashOutcome old.image_a.inner) (IsCrashOutcome old.image_b.inner) (IsCrashOutcome old.log_a.inner) (IsCrashOutcome old.log_b.inner) past.has_image (core_is_safe_for safety past old c) oa ob ola olb r e.holds in
+    let s = restarts safety (replicate old.cells 0) ticks past.acknowledged ia ib la lb e.a e.b e.reads_a e.reads_b (IsCrashOutcome old.image_a.inner) (IsCrashOutcome old.image_b.inner) (IsCrashOutcome old.log_a.inner) (IsCrashOutcome old.log_b.inner) past.has_image (core_is_safe_for safety past old c) oa ob ola olb r e.holds in
     begins_core queues keepers old.cells (Some (r.slot, r.from)) r.tick r.words (nat_lt r.from r.tick) ia ib la lb (recovered_past past r la lb) new b c.some_cells c.few_cells numbered
-    (Newest (recovered_images r (image_of ia) (image_of ib))) (refl, refl, s.newest_whole, by_slot r.slot ia ib ∙ s.chosen, by_other r.slot ia ib) refl e.a e.b e.reads_a e.reads_b
-    (length-take-le r.tick ticks s.world.ended) refl s.whole s.world.words_are refl refl refl
-    (events.goes_on.recovery old.cells ticks past.acknowledged r (image_of ia) (image_of ib) e.a e.b new.content c.some_cells s b.store)
+    (Newest (recovered_images r (image_of ia) (image_of ib))) (refl, refl, s.newest_whole ∙ length-replicate old.cells 0, by_slot r.slot ia ib ∙ s.chosen, by_other r.slot ia ib) refl e.a e.b e.reads_a e.reads_b
+    (length-take-le r.tick ticks s.world.ended) refl (s.whole ∙ length-replicate old.cells 0) s.world.words_are refl refl refl
+    (events.goes_on.recovery (replicate old.cells 0) ticks past.acknowledged r (image_of ia) (image_of ib) e.a e.b new.content (some_zeros old.cells c.some_cells) s b.store)
 
 -- ---- no image
 
@@ -127,15 +127,15 @@ begins_blank events queues keepers cells past new ia ib la lb some few unknown u
     begins_core queues keepers cells None 0 (replicate cells 0) true ia ib la lb (blank_past past la lb) new begins some few (omega arith)
     (NoneYet (record { round = None })) (refl, refl, closed_a, closed_b) refl ClosedSegment ClosedSegment reads_a reads_b
     refl refl (length-replicate cells 0) refl refl unknown refl
-    (subst (λ n. InStep cells [] n new.content (images_begun true 0 (NoneYet (record { round = None }))) (InStart (start_at 0 ClosedSegment ClosedSegment)) []) (sym unacknowledged)
-    (events.goes_on.fresh cells new.content some begins.store))
+    (subst (λ n. InStep (replicate cells 0) [] n new.content (images_begun true 0 (NoneYet (record { round = None }))) (InStart (start_at 0 ClosedSegment ClosedSegment)) []) (sym unacknowledged)
+    (events.goes_on.fresh (replicate cells 0) new.content (some_zeros cells some) begins.store))
 
 pub blank_keeps : EventLaws → QueueLaws → KeeperLaws → SafetyLaws → (past : Past) (old new : State) (c : IsCoreAt past old) (ia ib la lb : List ℕ)
     → IsCrashOutcome old.image_a.inner ia → IsCrashOutcome old.image_b.inner ib → IsCrashOutcome old.log_a.inner la → IsCrashOutcome old.log_b.inner lb → Recovers ia ib la lb (Err NoImage)
     → Begins old.cells None 0 (replicate old.cells 0) true ia ib la lb new
     → IsCoreAt (blank_past past la lb) new
 blank_keeps events queues keepers safety past old new c ia ib la lb oa ob ola olb e b =
-    let s = blank safety old.cells past.history.ticks past.acknowledged ia ib la lb e.a e.b e.reads_a e.reads_b (IsCrashOutcome old.image_a.inner) (IsCrashOutcome old.image_b.inner) (IsCrashOutcome old.log_a.inner) (IsCrashOutcome old.log_b.inner) past.has_image (core_is_safe_for safety past old c) oa ob ola olb e.holds in
+    let s = blank safety (replicate old.cells 0) past.history.ticks past.acknowledged ia ib la lb e.a e.b e.reads_a e.reads_b (IsCrashOutcome old.image_a.inner) (IsCrashOutcome old.image_b.inner) (IsCrashOutcome old.log_a.inner) (IsCrashOutcome old.log_b.inner) past.has_image (core_is_safe_for safety past old c) oa ob ola olb e.holds in
     begins_blank events queues keepers old.cells past new ia ib la lb c.some_cells c.few_cells s.unknown s.none_acknowledged s.image_a_closed s.image_b_closed
     (subst (IsSegment la) s.log_a_closed e.reads_a) (subst (IsSegment lb) s.log_b_closed e.reads_b) b
 
@@ -143,7 +143,7 @@ blank_keeps events queues keepers safety past old new c ia ib la lb oa ob ola ol
 pub crash_refuses : SafetyLaws → (past : Past) (old : State) (c : IsCoreAt past old) (ia ib la lb : List ℕ) → IsCrashOutcome old.image_a.inner ia → IsCrashOutcome old.image_b.inner ib → IsCrashOutcome old.log_a.inner la → IsCrashOutcome old.log_b.inner lb
     → (refusal : Refusal) → Recovers ia ib la lb (Err refusal) → refusal ≡ NoImage
 crash_refuses safety past old c ia ib la lb oa ob ola olb refusal e =
-    only_none safety old.cells past.history.ticks past.acknowledged ia ib la lb e.a e.b e.reads_a e.reads_b (IsCrashOutcome old.image_a.inner) (IsCrashOutcome old.image_b.inner) (IsCrashOutcome old.log_a.inner) (IsCrashOutcome old.log_b.inner) past.has_image (core_is_safe_for safety past old c) oa ob ola olb refusal e.holds
+    only_none safety (replicate old.cells 0) past.history.ticks past.acknowledged ia ib la lb e.a e.b e.reads_a e.reads_b (IsCrashOutcome old.image_a.inner) (IsCrashOutcome old.image_b.inner) (IsCrashOutcome old.log_a.inner) (IsCrashOutcome old.log_b.inner) past.has_image (core_is_safe_for safety past old c) oa ob ola olb refusal e.holds
 
 -- ---- a fresh world
 

@@ -248,15 +248,15 @@ newest_same cells images (image_given.Opened tick) next old new s = inr (s.0, s.
 newest_same cells images image_given.Down next old new s = inl (ap newest_in s.2)
 
 -- the first image is of tick 0
-first_tick : (cells : ℕ) (ticks : List (List Action)) (acknowledged : ℕ) (images : FirstImages) (journal : Journal) (queue : List Record) (round : Round) → HasPhase cells ticks acknowledged (NoneYet images) journal queue → images.round ≡ Some round → round.tick ≡ 0
-first_tick cells ticks acknowledged images (InStart start) queue round h some = (let first = subst (IsFirstRound cells) some h.0.follows.round in first.0)
-first_tick cells ticks acknowledged images (Writing logs) queue round h some = absurd h
+first_tick : (first : List ℕ) (ticks : List (List Action)) (acknowledged : ℕ) (images : FirstImages) (journal : Journal) (queue : List Record) (round : Round) → HasPhase first ticks acknowledged (NoneYet images) journal queue → images.round ≡ Some round → round.tick ≡ 0
+first_tick first ticks acknowledged images (InStart start) queue round h some = (let begins = subst (IsFirstRound first) some h.0.follows.round in begins.0)
+first_tick first ticks acknowledged images (Writing logs) queue round h some = absurd h
 
 -- a round that ends leaves two images that are written, except the first one
-opened_written : OutcomeLaws → (past : Past) (old new : State) (images : ImageFiles) (journal : Journal) (round : Round) → HasPhase old.cells past.history.ticks past.acknowledged images journal old.queue → round_in images ≡ Some round
+opened_written : OutcomeLaws → (past : Past) (old new : State) (images : ImageFiles) (journal : Journal) (round : Round) → HasPhase (replicate old.cells 0) past.history.ticks past.acknowledged images journal old.queue → round_in images ≡ Some round
     → HasImages new (with_opened round images) → 0 < newest_tick (newest_in (with_opened round images)) → IsWritten new.image_a.inner × IsWritten new.image_b.inner
 opened_written outcomes past old new (NoneYet images) journal round phase some has after_first =
-    absurd (omega (arith, after_first, first_tick old.cells past.history.ticks past.acknowledged images journal old.queue round phase some))
+    absurd (omega (arith, after_first, first_tick (replicate old.cells 0) past.history.ticks past.acknowledged images journal old.queue round phase some))
 opened_written outcomes past old new (Newest images) journal round phase some has after_first =
     let left = outcomes.images new.images (with_opened round (Newest images)) new.image_a new.image_b has in
     both_open (other_slot images.slot) new.image_a.inner new.image_b.inner round.tick images.tick round.taken images.words left.newest left.target
@@ -281,7 +281,7 @@ image_step_written keepers outcomes past fate old given new c s w after_first =
 -- ---- a tick's end
 
 -- a record is queued only after the start
-queued_by : (past : Past) (state : State) (images : ImageFiles) (journal : Journal) (left : ℕ) → HasPhase state.cells past.history.ticks past.acknowledged images journal state.queue → HasLog state (record { journal = journal; left = left })
+queued_by : (past : Past) (state : State) (images : ImageFiles) (journal : Journal) (left : ℕ) → HasPhase (replicate state.cells 0) past.history.ticks past.acknowledged images journal state.queue → HasLog state (record { journal = journal; left = left })
     → 0 < length state.queue → state.log.starting ≡ false
 queued_by past state (NoneYet images) (InStart start) left h has some = absurd (omega (arith, some, ap length h.1))
 queued_by past state (Newest images) (InStart start) left h has some = absurd (omega (arith, some, ap length h.1))
@@ -393,7 +393,7 @@ images_left A a b tick from words older ia ib chosen newest written oa ob is som
 images_left B a b tick from words older ia ib chosen newest written oa ob is some =
     (beside_left a tick from ia oa (λ t. (written t).0) some (taken_or_open ib ia tick from words older (newest ib ob) (beside_or chosen B (image_of ia) (image_of ib) (Open from older) is)), nonempty_image ib tick words (newest ib ob))
 
-images_left_by : KeeperLaws → OutcomeLaws → (past : Past) (state : State) (images : ImageFiles) (journal : Journal) → HasImages state images → HasPhase state.cells past.history.ticks past.acknowledged images journal state.queue → AreWritten past state
+images_left_by : KeeperLaws → OutcomeLaws → (past : Past) (state : State) (images : ImageFiles) (journal : Journal) → HasImages state images → HasPhase (replicate state.cells 0) past.history.ticks past.acknowledged images journal state.queue → AreWritten past state
     → (r : Recovery) (ia ib : List ℕ) (la lb : Segment) → IsBuilt r (image_of ia) (image_of ib) la lb → r.tick ≤ length past.history.ticks → IsCrashOutcome state.image_a.inner ia → IsCrashOutcome state.image_b.inner ib
     → 0 < r.from → (0 < length ia) × (0 < length ib)
 images_left_by keepers outcomes past state (NoneYet images) (InStart start) has phase w r ia ib la lb built within oa ob some = absurd (omega (arith, some, within, built.ends, ap length phase.0.no_ticks))
@@ -406,7 +406,7 @@ images_left_by keepers outcomes past state (Newest images) journal has phase w r
 
 pub none_is_empty : KeeperLaws → OutcomeLaws → SafetyLaws → (past : Past) (state : State) → IsCoreAt past state → AreWritten past state → NoneIsEmpty (files_in state)
 none_is_empty keepers outcomes safety past state c w ia ib la lb r may e =
-    let again = restarts safety state.cells past.history.ticks past.acknowledged ia ib la lb e.a e.b e.reads_a e.reads_b (IsCrashOutcome state.image_a.inner) (IsCrashOutcome state.image_b.inner) (IsCrashOutcome state.log_a.inner) (IsCrashOutcome state.log_b.inner)
+    let again = restarts safety (replicate state.cells 0) past.history.ticks past.acknowledged ia ib la lb e.a e.b e.reads_a e.reads_b (IsCrashOutcome state.image_a.inner) (IsCrashOutcome state.image_b.inner) (IsCrashOutcome state.log_a.inner) (IsCrashOutcome state.log_b.inner)
         past.has_image (core_is_safe_for safety past state c) may.0 may.1 may.2 may.3 r e.holds in
     let built = safety.restarts.built (image_of ia) (image_of ib) e.a e.b r e.holds in (
       λ some. (

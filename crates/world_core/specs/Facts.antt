@@ -1,5 +1,5 @@
 -- The invariant of a core: its state agrees with its moves and their answers.
-use Rattle.std.specs.Prelude.{◌≡◌, ℕ, ◌-◌, ◌≤◌, List, [], ◌++◌, length, map, Bool, true, false, option_map, Ok}
+use Rattle.std.specs.Prelude.{◌≡◌, ℕ, ◌-◌, ◌≤◌, List, [], ◌++◌, length, map, Bool, true, false, option_map, Ok, replicate}
 use Rattle.world_actions.specs.declared.action.Action.{Action}
 use Rattle.world_actions.specs.declared.world.TheConstants.{CELLS}
 use Rattle.world_ticks.specs.declared.tick.TheConstants.{TICK_MAX}
@@ -50,7 +50,7 @@ pub record IsCounted (past : Past) (state : State) : Type 0 where
 -- the words: those after the ended ticks and the running one
 pub record IsLive (cells : ℕ) (history : History) (words : List ℕ) (actions : List Action) : Type 0 where
   pub last : List ℕ
-  pub after_ended : after_ticks cells history.ticks ≡ Ok last
+  pub after_ended : after_ticks (replicate cells 0) history.ticks ≡ Ok last
   pub live : after_actions last history.running ≡ Ok words
   pub all : length words ≡ cells
   pub running : actions ≡ history.running
@@ -76,6 +76,6 @@ pub record IsCoreAt (past : Past) (state : State) : Type 0 where
   pub place : LogPlace
   pub has_images : HasImages state images
   pub has_log : HasLog state place
-  pub in_step : InStep state.cells past.history.ticks past.acknowledged state.content images place.journal state.queue
+  pub in_step : InStep (replicate state.cells 0) past.history.ticks past.acknowledged state.content images place.journal state.queue
   pub at_rest : IsAtRest place.journal state.running
   pub told : AreTold past state images place

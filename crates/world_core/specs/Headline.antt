@@ -18,27 +18,27 @@ use Rattle.world_core.specs.Facts.{IsCoreAt}
 
 -- Whatever a crash leaves of four files, recovery gives the world after the first n of these ticks, for some n not below the
 -- acknowledged count. Each open image is the world after its tick. Before the first image no tick has ended, and recovery
--- gives zeros at tick 0 or finds no image.
-abbrev pub AreSafe : (has_image : Bool) → FourFiles FileState → (cells : ℕ) → List (List Action) → (acknowledged : ℕ) → Type 0
-AreSafe true files cells ticks acknowledged = IsSound (IsCrashOutcome files.image_a) (IsCrashOutcome files.image_b) (IsCrashOutcome files.log_a) (IsCrashOutcome files.log_b) cells ticks acknowledged
-AreSafe false files cells ticks acknowledged = IsFresh (IsCrashOutcome files.image_a) (IsCrashOutcome files.image_b) (IsCrashOutcome files.log_a) (IsCrashOutcome files.log_b) cells × (ticks ≡ []) × (acknowledged ≡ 0)
+-- gives the first words at tick 0 or finds no image.
+abbrev pub AreSafe : (has_image : Bool) → FourFiles FileState → (first : List ℕ) → List (List Action) → (acknowledged : ℕ) → Type 0
+AreSafe true files first ticks acknowledged = IsSound (IsCrashOutcome files.image_a) (IsCrashOutcome files.image_b) (IsCrashOutcome files.log_a) (IsCrashOutcome files.log_b) first ticks acknowledged
+AreSafe false files first ticks acknowledged = IsFresh (IsCrashOutcome files.image_a) (IsCrashOutcome files.image_b) (IsCrashOutcome files.log_a) (IsCrashOutcome files.log_b) first × (ticks ≡ []) × (acknowledged ≡ 0)
 
--- one answer for each move, and the files are safe for the ticks that ended and the acknowledged count
+-- one answer for each move, and the files are safe for the ticks that ended and the acknowledged count, from zeros
 abbrev pub Headline : (cells : ℕ) → List Move → List Answer → FourFiles FileState → Type 0
-Headline cells moves answers files = (length answers ≡ length moves) × AreSafe (has_opened answers) files cells (ended moves answers) (acked answers)
+Headline cells moves answers files = (length answers ≡ length moves) × AreSafe (has_opened answers) files (replicate cells 0) (ended moves answers) (acked answers)
 
 -- the files of each core that agrees with its moves and answers are safe
 abbrev pub CoresAreSafe : Type 0
 CoresAreSafe =
-    (past : Past) (state : State) → IsCoreAt past state → AreSafe past.has_image (files_in state) state.cells past.history.ticks past.acknowledged
+    (past : Past) (state : State) → IsCoreAt past state → AreSafe past.has_image (files_in state) (replicate state.cells 0) past.history.ticks past.acknowledged
 
--- before the first image recovery finds no image, or gives zeros at tick 0
+-- before the first image recovery finds no image, or gives the first words at tick 0
 abbrev pub FreshAreRecovered : Type 0
 FreshAreRecovered =
-    (files : FourFiles FileState) (cells : ℕ) (ticks : List (List Action)) (acknowledged : ℕ) → AreSafe false files cells ticks acknowledged
+    (files : FourFiles FileState) (first : List ℕ) (ticks : List (List Action)) (acknowledged : ℕ) → AreSafe false files first ticks acknowledged
     → (image_a image_b log_a log_b : List ℕ) → MayLeave files image_a image_b log_a log_b
     → Recovers image_a image_b log_a log_b (Err NoImage)
-    ⊎ ((r : Recovery) × Recovers image_a image_b log_a log_b (Ok r) × (r.tick ≡ 0) × (r.words ≡ replicate cells 0))
+    ⊎ ((r : Recovery) × Recovers image_a image_b log_a log_b (Ok r) × (r.tick ≡ 0) × (r.words ≡ first))
 
 -- a move is answered exactly, and does what its answer says
 pub record Answers (past : Past) (old : State) (asked : Move) (given : Answer) (new : State) : Type 0 where

@@ -74,9 +74,9 @@ pub record OutcomeLaws : Type 0 where
       → JournalIs place.journal (IsCrashOutcome log_a.inner) (IsCrashOutcome log_b.inner)
 
 pub record SafetyLaws : Type 0 where
-  pub safe : (state : State) (ticks : List (List Action)) (acknowledged : ℕ) (images : ImageFiles) (place : LogPlace) → state.images.cells ≡ state.cells → HasImages state images → HasLog state place
-      → InStep state.cells ticks acknowledged state.content images place.journal state.queue
-      → IsSafe images (IsCrashOutcome state.image_a.inner) (IsCrashOutcome state.image_b.inner) (IsCrashOutcome state.log_a.inner) (IsCrashOutcome state.log_b.inner) state.cells ticks acknowledged
+  pub safe : (first : List ℕ) (state : State) (ticks : List (List Action)) (acknowledged : ℕ) (images : ImageFiles) (place : LogPlace) → state.images.cells ≡ length first → HasImages state images → HasLog state place
+      → InStep first ticks acknowledged state.content images place.journal state.queue
+      → IsSafe images (IsCrashOutcome state.image_a.inner) (IsCrashOutcome state.image_b.inner) (IsCrashOutcome state.log_a.inner) (IsCrashOutcome state.log_b.inner) first ticks acknowledged
   pub restarts : CrashRestarts
   pub once : ReadsOnce
 

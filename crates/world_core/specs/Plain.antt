@@ -1,5 +1,5 @@
 -- The answer to each move, as far as the moves and answers before it decide it: its refusal, or its plain answer.
-use Rattle.std.specs.Prelude.{◌≡◌, ◌⊎◌, ◌≤◌, ℕ, List, [], ◌∷◌, length, true, false, Ok}
+use Rattle.std.specs.Prelude.{◌≡◌, ◌⊎◌, ◌≤◌, ℕ, List, [], ◌∷◌, length, true, false, Ok, replicate}
 use Rattle.world_ticks.specs.After.{after_actions, after_ticks}
 use Rattle.disk_model.specs.FileState.{FileState}
 use Rattle.disk_model.specs.declared.four_files.FourFiles.{FourFiles}
@@ -21,7 +21,7 @@ use Rattle.world_core.specs.Written.{AreWritten}
 
 -- these are the words after the ended ticks and the running one
 abbrev pub AreWords : (cells : ℕ) → History → (words : List ℕ) → Type 0
-AreWords cells history words = (last : List ℕ) × (after_ticks cells history.ticks ≡ Ok last) × (after_actions last history.running ≡ Ok words)
+AreWords cells history words = (last : List ℕ) × (after_ticks (replicate cells 0) history.ticks ≡ Ok last) × (after_actions last history.running ≡ Ok words)
 
 -- the answer to a step of the log keeper; a receipt is of an ended tick
 abbrev pub IsPlainLogAnswer : Past → LogAnswer → Type 0
@@ -46,7 +46,7 @@ IsPlainAnswer cells past (move.Log fate) (answer.Log given) = IsPlainLogAnswer p
 IsPlainAnswer cells past (move.Log fate) given = ⊥
 IsPlainAnswer cells past (move.Cover tick) given = (told : LogAnswer) × (given ≡ unless_refused (cover_refusal_at past.standing tick) (answer.Log told))
 IsPlainAnswer cells past (move.Crash left) given =
-    (files : FourFiles FileState) × AreSafe past.has_image files cells past.history.ticks past.acknowledged
+    (files : FourFiles FileState) × AreSafe past.has_image files (replicate cells 0) past.history.ticks past.acknowledged
     × IsCrashAnswer files left.image_a.items left.image_b.items left.log_a.items left.log_b.items given
 
 -- each move is answered so, one after another

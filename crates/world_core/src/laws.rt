@@ -59,7 +59,7 @@ pub fn safety_laws()
 }
 
 /// Laws: the files of a core are safe for the ended ticks and the acknowledged count. So `Core::step` keeps the promise of
-/// `run`, move by move. Before the first image, recovery of safe files finds no image, or zeros at tick 0.
+/// `run`, move by move. Before the first image, recovery of safe files finds no image, or the first words at tick 0.
 pub fn cores_are_safe()
     ensures safe { CoresAreSafe }
     ensures fresh { FreshAreRecovered }

@@ -1,14 +1,15 @@
 -- Why no world is made.
-use Rattle.std.proofs.Common.{◌≡◌, ◌⊎◌, inl, inr, ⊎_elim, Ok, Err, ℕ, List, refl, sym, ap, subst, ◌∙◌}
+use Rattle.std.proofs.Common.{◌≡◌, ◌⊎◌, inl, inr, ⊎_elim, Ok, Err, ℕ, List, [], refl, sym, ap, subst, ◌∙◌, arith}
 use Rattle.std.specs.Path.{path_buf_bytes, path_join}
 use Rattle.world_actions.specs.declared.refusal.Refusal.{Refusal}
 use Rattle.world_actions.specs.declared.refusal.Refusal.TheVariants.{NoMemory, Device, NotEmpty, NoImage}
 use Rattle.disk_model.specs.Disk.{Only}
 use Rattle.disk_model.specs.declared.four_files.FourFiles.{FourFiles}
 use Rattle.disk_model.specs.FourFiles.{EachFile, KeepsFile}
-use Rattle.image_files.specs.Image.{Closed, Open, image_of}
+use Rattle.image_files.specs.Image.{Image, Closed, Open, image_of}
 use Rattle.action_log.specs.Segment.{ClosedSegment, IsSegment}
 use Rattle.recovery.specs.Recovery.{Recovers}
+use Rattle.recovery.specs.Sound.{HoldsWorld, IsFreshImage}
 use Rattle.file_readers.specs.Reading.{AreFilesRead}
 use Rattle.world_start.specs.Fresh.{AreClosed, AreNotMade, FilesAreClosed}
 use Rattle.world_folder.specs.declared.ending.Ending.{Ending}
@@ -116,24 +117,72 @@ words_stand a b la lb words image image_b log_a log_b = record {
   holds = rw (image, image_b) refl;
 }
 
+-- an image of the words at tick 0 holds the world after no tick
+holds_words : (image : Image) (words : List ℕ) → image ≡ Open 0 words → HoldsWorld words [] 0 image
+holds_words image words is = subst (HoldsWorld words [] 0) (sym is) (omega arith, record { ended = omega arith; words_are = refl })
+
+-- a closed image, or one of the words at tick 0, is that of a fresh world
+fresh_image : (image : Image) (words : List ℕ) → (image ≡ Closed) ⊎ (image ≡ Open 0 words) → IsFreshImage words image
+fresh_image image words (inl closed) = subst (IsFreshImage words) (sym closed) tt
+fresh_image image words (inr is) = subst (IsFreshImage words) (sym is) (refl, refl)
+
 module _ {D : Type 0} (file : D → List ℕ) (leaves : D → List ℕ → Type 0) where
-  -- an image of words was made durable over the first of four closed files, which were read before
+  -- a crash leaves of a synced file that was only read what it held
+  left_as : (old new : D) (left : List ℕ) → KeepsFile file leaves old new → Only (file old) (leaves old) → leaves new left → left ≡ file old
+  left_as old new left kept only may = only left (kept.crash left may)
+
+  still_synced : (old new : D) → KeepsFile file leaves old new → Only (file old) (leaves old) → Only (file new) (leaves new)
+  still_synced old new kept only = λ left may. left_as old new left kept only may ∙ sym kept.same_content
+
+  -- a durable image of the words beside three closed files that were only read
+  words_are_made : (words : List ℕ) (files made : FourFiles D) → FilesAreClosed file files → image_of (file made.image_a) ≡ Open 0 words → Only (file made.image_a) (leaves made.image_a)
+      → KeepsFile file leaves files.image_b made.image_b → KeepsFile file leaves files.log_a made.log_a → KeepsFile file leaves files.log_b made.log_b
+      → HoldsWords file leaves files words made
+  words_are_made words files made closed image durable kept_b kept_la kept_lb = record {
+    closed = closed;
+    image = image;
+    durable = durable;
+    image_b = kept_b;
+    log_a = kept_la;
+    log_b = kept_lb;
+    recovers = words_stand (file made.image_a) (file made.image_b) (file made.log_a) (file made.log_b) words image (ap image_of kept_b.same_content ∙ closed.image_b_closed)
+        (subst (λ (l : List ℕ). IsSegment l ClosedSegment) (sym kept_la.same_content) closed.log_a_closed) (subst (λ (l : List ℕ). IsSegment l ClosedSegment) (sym kept_lb.same_content) closed.log_b_closed);
+    sound = λ synced a b la lb left_a left_b left_la left_lb.
+        let a_is : image_of a ≡ Open 0 words = ap image_of (durable a left_a) ∙ image in
+        let b_closed : image_of b ≡ Closed = ap image_of (left_as files.image_b made.image_b b kept_b synced.image_b left_b) ∙ closed.image_b_closed in
+        let stand = words_stand a b la lb words a_is b_closed
+        (subst (λ (l : List ℕ). IsSegment l ClosedSegment) (sym (left_as files.log_a made.log_a la kept_la synced.log_a left_la)) closed.log_a_closed)
+        (subst (λ (l : List ℕ). IsSegment l ClosedSegment) (sym (left_as files.log_b made.log_b lb kept_lb synced.log_b left_lb)) closed.log_b_closed) in
+        record {
+          a = ClosedSegment;
+          b = ClosedSegment;
+          reads_a = stand.reads_a;
+          reads_b = stand.reads_b;
+          holds = record {
+            recovery = recovery_of_words words;
+            stands = stand.holds;
+            keeps = omega arith;
+            world = record { ended = omega arith; words_are = refl };
+            image_a_holds = holds_words (image_of a) words a_is;
+            image_b_holds = subst (HoldsWorld words [] 0) (sym b_closed) tt;
+            log_a_begins = tt;
+            log_b_begins = tt;
+          };
+        };
+    synced = λ synced. record {
+      image_a = durable;
+      image_b = still_synced files.image_b made.image_b kept_b synced.image_b;
+      log_a = still_synced files.log_a made.log_a kept_la synced.log_a;
+      log_b = still_synced files.log_b made.log_b kept_lb synced.log_b;
+    };
+  }
+
+  -- the same over the first of four files that were read before
   pub words_made : (files read : FourFiles D) (image : D) (words : List ℕ) → FilesAreClosed file files → EachFile files read (KeepsFile file leaves)
       → image_of (file image) ≡ Open 0 words → Only (file image) (leaves image)
       → HoldsWords file leaves files words (record { image_a = image; image_b = read.image_b; log_a = read.log_a; log_b = read.log_b })
-  words_made files read image words closed kept is only = record {
-    closed = closed;
-    image = is;
-    durable = only;
-    image_b = kept.image_b;
-    log_a = kept.log_a;
-    log_b = kept.log_b;
-    recovers =
-        (let b_closed : image_of (file read.image_b) ≡ Closed = ap image_of kept.image_b.same_content ∙ closed.image_b_closed in
-        let la_closed : IsSegment (file read.log_a) ClosedSegment = subst (λ (l : List ℕ). IsSegment l ClosedSegment) (sym kept.log_a.same_content) closed.log_a_closed in
-        let lb_closed : IsSegment (file read.log_b) ClosedSegment = subst (λ (l : List ℕ). IsSegment l ClosedSegment) (sym kept.log_b.same_content) closed.log_b_closed in
-        words_stand (file image) (file read.image_b) (file read.log_a) (file read.log_b) words is b_closed la_closed lb_closed);
-  }
+  words_made files read image words closed kept is only =
+      words_are_made words files (record { image_a = image; image_b = read.image_b; log_a = read.log_a; log_b = read.log_b }) closed is only kept.image_b kept.log_a kept.log_b
 
   -- no image is written over files of which one isn't closed
   pub not_closed_unmade : (folder words : List ℕ) (files left : FourFiles D) (ending : Ending) → ¬ FilesAreClosed file files
@@ -142,6 +191,7 @@ module _ {D : Type 0} (file : D → List ℕ) (leaves : D → List ℕ → Type 
     told = told;
     kept = λ other. kept;
     safe = λ synced closed. absurd (not_closed closed);
+    fresh = λ synced closed. absurd (not_closed closed);
   }
 
   -- no image is known to be written over the first of four closed files, which were read before
@@ -167,4 +217,19 @@ module _ {D : Type 0} (file : D → List ℕ) (leaves : D → List ℕ → Type 
         (λ a_closed. inl (none_stands a b la lb (record { image_a_closed = a_closed; image_b_closed = b_closed; log_a_closed = la_closed; log_b_closed = lb_closed })))
         (λ is. inr (words_stand a b la lb words is b_closed la_closed lb_closed))
         (leaves_so only a left_a);
+    fresh = λ synced _ a b la lb left_a left_b left_la left_lb.
+        let only : Only (file read.image_a) (leaves read.image_a) = still_synced files.image_a read.image_a kept.image_a synced.image_a in
+        let b_closed : image_of b ≡ Closed = ap image_of (left_as files.image_b read.image_b b kept.image_b synced.image_b left_b) ∙ closed.image_b_closed in
+        record {
+          a = ClosedSegment;
+          b = ClosedSegment;
+          reads_a = subst (λ (l : List ℕ). IsSegment l ClosedSegment) (sym (left_as files.log_a read.log_a la kept.log_a synced.log_a left_la)) closed.log_a_closed;
+          reads_b = subst (λ (l : List ℕ). IsSegment l ClosedSegment) (sym (left_as files.log_b read.log_b lb kept.log_b synced.log_b left_lb)) closed.log_b_closed;
+          holds = record {
+            image_a_fresh = fresh_image (image_of a) words (leaves_so only a left_a);
+            image_b_fresh = subst (IsFreshImage words) (sym b_closed) tt;
+            log_a_closed = refl;
+            log_b_closed = refl;
+          };
+        };
   }

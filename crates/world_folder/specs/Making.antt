@@ -1,5 +1,5 @@
 -- The results of making a world in a folder.
-use Rattle.std.specs.Prelude.{◌≡◌, ◌≢◌, ◌⊎◌, ℕ, Bool, List, [], Ok, Err}
+use Rattle.std.specs.Prelude.{◌≡◌, ◌≢◌, ◌⊎◌, ℕ, Bool, List, [], Ok, Err, replicate}
 use Rattle.std.specs.Path.{path_buf_bytes, path_join}
 use Rattle.world_actions.specs.declared.refusal.Refusal.TheVariants.{NoMemory, Device, NotEmpty, NoImage}
 use Rattle.file_format.specs.declared.slot.Slot.TheVariants.{A}
@@ -14,7 +14,7 @@ use Rattle.file_readers.specs.Asking.{OnlyAsked}
 use Rattle.recovery.specs.Recovery.{Recovery, Recovers}
 use Rattle.recovery.specs.Sound.{IsFresh}
 use Rattle.world_start.specs.Opening.{AreSynced, AreSound, RecoversFiles}
-use Rattle.world_start.specs.Fresh.{FilesAreClosed}
+use Rattle.world_start.specs.Fresh.{FilesAreClosed, AreFreshOrSound}
 use Rattle.world_folder.specs.declared.ending.Ending.{Ending}
 use Rattle.world_folder.specs.declared.ending.Ending.TheVariants.{Fault, Occupied}
 use Rattle.world_folder.specs.declared.world_file.TheConstants.{IMAGE_A, IMAGE_B, LOG_A, LOG_B}
@@ -43,8 +43,7 @@ module _ {D : Type 0} (file : D → List ℕ) (leaves : D → List ℕ → Type 
   pub record IsUnmade (folder : List ℕ) (files : FourFiles D) (cells : ℕ) (ending : Ending) (left : FourFiles D) : Type 0 where
     pub told : TellsUnmade file folder files ending
     pub kept : ending ≢ Fault Device → EachFile files left (KeepsFile file leaves)
-    pub safe : AreSynced file leaves files → FilesAreClosed file files
-        → IsFresh (leaves left.image_a) (leaves left.image_b) (leaves left.log_a) (leaves left.log_b) cells ⊎ AreSound file leaves left cells [] 0
+    pub safe : AreSynced file leaves files → FilesAreClosed file files → AreFreshOrSound file leaves left (replicate cells 0)
 
 -- the files beside image.a are asked for no byte behind the greatest length of their format, and for nothing else
 pub record OthersOnlyAsked {D : Type 0} (called : D → Call → Bool → D → Type 0) (files left : FourFiles D) : Type 0 where
@@ -58,7 +57,7 @@ recovery_of_words words = record { tick = 0; from = 0; slot = A; words = words }
 
 module _ {D : Type 0} (file : D → List ℕ) (leaves : D → List ℕ → Type 0) where
   -- The files held no world, and recovery finds these words in them at tick 0. image.a has them, and is durable. The other
-  -- files were only read.
+  -- files were only read. If the files were synced, they are sound from these words, and synced again.
   pub record HoldsWords (files : FourFiles D) (words : List ℕ) (made : FourFiles D) : Type 0 where
     pub closed : FilesAreClosed file files
     pub image : image_of (file made.image_a) ≡ Open 0 words
@@ -67,12 +66,15 @@ module _ {D : Type 0} (file : D → List ℕ) (leaves : D → List ℕ → Type 
     pub log_a : KeepsFile file leaves files.log_a made.log_a
     pub log_b : KeepsFile file leaves files.log_b made.log_b
     pub recovers : RecoversFiles file made (recovery_of_words words)
+    pub sound : AreSynced file leaves files → AreSound file leaves made words [] 0
+    pub synced : AreSynced file leaves files → AreSynced file leaves made
 
   -- No world was made, and the program ends so. The files were only read, except if a device failed. If they held no world,
-  -- a crash leaves none in them, or that of these words at tick 0.
+  -- a crash leaves none in them, or that of these words at tick 0. So they are those of a fresh world of these words.
   pub record HoldsNoOther (folder : List ℕ) (files : FourFiles D) (words : List ℕ) (ending : Ending) (left : FourFiles D) : Type 0 where
     pub told : TellsUnmade file folder files ending
     pub kept : ending ≢ Fault Device → EachFile files left (KeepsFile file leaves)
     pub safe : AreSynced file leaves files → FilesAreClosed file files
         → (a b la lb : List ℕ) → leaves left.image_a a → leaves left.image_b b → leaves left.log_a la → leaves left.log_b lb
         → Recovers a b la lb (Err NoImage) ⊎ Recovers a b la lb (Ok (recovery_of_words words))
+    pub fresh : AreSynced file leaves files → FilesAreClosed file files → IsFresh (leaves left.image_a) (leaves left.image_b) (leaves left.log_a) (leaves left.log_b) words

@@ -18,8 +18,8 @@ pub fn copies_are_of_a_moment()
 /// Law: no segment of a sound world begins after the tick that is recovered from its files. A crash leaves sound files, so
 /// files that a crash left are never refused for a gap.
 pub fn sound_files_have_no_gap()
-    ensures { (image_a image_b : Image) (log_a log_b : List ℕ) (a b : Segment) (cells : ℕ)
+    ensures { (image_a image_b : Image) (log_a log_b : List ℕ) (a b : Segment) (first : List ℕ)
         (ticks : List (List Action)) (acknowledged : ℕ) → IsSegment log_a a → IsSegment log_b b
-        → (sound : IsSoundReading image_a image_b a b cells ticks acknowledged)
+        → (sound : IsSoundReading image_a image_b a b first ticks acknowledged)
         → (begins_after sound.recovery.tick log_a ≡ false) × (begins_after sound.recovery.tick log_b ≡ false) }
 {}

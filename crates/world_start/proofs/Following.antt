@@ -78,12 +78,12 @@ pub logs_of_place : (keeper : LogProgress) (a b : List ℕ) (leaves_a leaves_b :
 logs_of_place keeper a b leaves_a leaves_b place over stands = logs_in keeper a b leaves_a leaves_b place.journal place.left over stands
 
 -- after the start there is an image
-newest_in_phase : (cells : ℕ) (ticks : List (List Action)) (acknowledged : ℕ) (images : ImageFiles) (logs : Logs) (queue : List Record) → HasPhase cells ticks acknowledged images (Writing logs) queue → (newest : Images) × (images ≡ Newest newest)
-newest_in_phase cells ticks acknowledged (NoneYet images) logs queue phase = absurd phase
-newest_in_phase cells ticks acknowledged (Newest images) logs queue phase = (images, refl)
+newest_in_phase : (first : List ℕ) (ticks : List (List Action)) (acknowledged : ℕ) (images : ImageFiles) (logs : Logs) (queue : List Record) → HasPhase first ticks acknowledged images (Writing logs) queue → (newest : Images) × (images ≡ Newest newest)
+newest_in_phase first ticks acknowledged (NoneYet images) logs queue phase = absurd phase
+newest_in_phase first ticks acknowledged (Newest images) logs queue phase = (images, refl)
 
-pub newest_of : (cells : ℕ) (ticks : List (List Action)) (acknowledged : ℕ) (content : Content) (images : ImageFiles) (logs : Logs) (queue : List Record) → InStep cells ticks acknowledged content images (Writing logs) queue → (newest : Images) × (images ≡ Newest newest)
-newest_of cells ticks acknowledged content images logs queue w = newest_in_phase cells ticks acknowledged images logs queue w.phase
+pub newest_of : (first : List ℕ) (ticks : List (List Action)) (acknowledged : ℕ) (content : Content) (images : ImageFiles) (logs : Logs) (queue : List Record) → InStep first ticks acknowledged content images (Writing logs) queue → (newest : Images) × (images ≡ Newest newest)
+newest_of first ticks acknowledged content images logs queue w = newest_in_phase first ticks acknowledged images logs queue w.phase
 
 -- two equal lists have the same last item
 last_same : (xs ys : List ℕ) (x y : ℕ) → xs ++ x ∷ [] ≡ ys ++ y ∷ [] → x ≡ y
@@ -93,8 +93,8 @@ last_same (a ∷ xs) [] x y e = absurd (omega (arith, ap length e, length-append
 last_same (a ∷ xs) (b ∷ ys) x y e = last_same xs ys x y cc
 
 -- with nothing queued and no round in work, the log continues from the tick of the newest image
-pub newest_is_base : (cells : ℕ) (ticks : List (List Action)) (acknowledged : ℕ) (images : Images) (logs : Logs) → IsKept cells ticks acknowledged images logs [] → images.round ≡ None → logs.switch ≡ None → images.tick ≡ logs.base
-newest_is_base cells ticks acknowledged images logs k none no_switch =
+pub newest_is_base : (first : List ℕ) (ticks : List (List Action)) (acknowledged : ℕ) (images : Images) (logs : Logs) → IsKept first ticks acknowledged images logs [] → images.round ≡ None → logs.switch ≡ None → images.tick ≡ logs.base
+newest_is_base first ticks acknowledged images logs k none no_switch =
     let m = k.follow_marks in
     let bases : base_in logs.before ++ logs.base ∷ [] ≡ m.earlier ++ images.tick ∷ [] =
     ap (λ s. base_in logs.before ++ logs.base ∷ coming s []) (sym no_switch) ∙ (m.bases ∙ ap (λ r. m.earlier ++ images.tick ∷ round_tick r) none) in
@@ -115,37 +115,38 @@ module _ {C D : Type 0} (content : C → Content) (file : D → List ℕ) (leave
   HasLog place = LogStands engine.log (file files.log_a) (file files.log_b) (leaves files.log_a) (leaves files.log_b) place
 
   -- the engine holds a world at rest
-  pub record Settles (ticks : List (List Action)) : Type 0 where
+  pub record Settles (first : List ℕ) (ticks : List (List Action)) : Type 0 where
+    pub cells : engine.images.cells ≡ length first
     pub images : Images
     pub logs : Logs
-    pub settled : IsSettled engine.images.cells ticks (content engine.store).live images logs
+    pub settled : IsSettled first ticks (content engine.store).live images logs
     pub has_images : HasImages (Newest images)
     pub has_log : HasLog (record { journal = Writing logs; left = 0 })
     pub ended : engine.ended ≡ length ticks
 
-  pub settles : (ticks : List (List Action)) (acknowledged : ℕ) → (f : Follows content file leaves engine files ticks acknowledged) → engine.log.starting ≡ false → engine.queue.items ≡ [] → engine.log.base ≡ engine.ended
+  pub settles : (first : List ℕ) (ticks : List (List Action)) (acknowledged : ℕ) → (f : Follows content file leaves engine files first ticks acknowledged) → engine.log.starting ≡ false → engine.queue.items ≡ [] → engine.log.base ≡ engine.ended
       → ((place : LogPlace) → HasLog place → place.left ≡ 0)
       → ((logs : Logs) → HasLog (record { journal = Writing logs; left = 0 }) → (logs.pending ≡ []) × (logs.switch ≡ None) × (logs.base ≡ engine.log.base))
-      → ((images : ImageFiles) → HasImages images → round_in images ≡ None) → Settles ticks
-  settles ticks acknowledged f over none base left ready idle =
-      let cells = engine.images.cells in
+      → ((images : ImageFiles) → HasImages images → round_in images ≡ None) → Settles first ticks
+  settles first ticks acknowledged f over none base left ready idle =
       let now = content engine.store in
       let in_log = logs_of_place engine.log (file files.log_a) (file files.log_b) (leaves files.log_a) (leaves files.log_b) f.place over f.has_log in
       let logs : Logs = in_log.0 in
       let has_log : HasLog (record { journal = Writing logs; left = 0 }) = subst HasLog (λ i. record { journal = in_log.1 i; left = left f.place f.has_log i }) f.has_log in
       let log = ready logs has_log in
-      let step : InStep cells ticks f.count now f.images (Writing logs) [] =
-      subst (λ q. InStep cells ticks f.count now f.images (Writing logs) q) none (subst (λ j. InStep cells ticks f.count now f.images j engine.queue.items) in_log.1 f.in_step) in
-      let newest = newest_of cells ticks f.count now f.images logs [] step in
+      let step : InStep first ticks f.count now f.images (Writing logs) [] =
+      subst (λ q. InStep first ticks f.count now f.images (Writing logs) q) none (subst (λ j. InStep first ticks f.count now f.images j engine.queue.items) in_log.1 f.in_step) in
+      let newest = newest_of first ticks f.count now f.images logs [] step in
       let images : Images = newest.0 in
       let has_images : HasImages (Newest images) = subst HasImages newest.1 f.has_images in
-      let kept : IsKept cells ticks f.count images logs [] = subst (λ i. HasPhase cells ticks f.count i (Writing logs) []) newest.1 step.phase in
+      let kept : IsKept first ticks f.count images logs [] = subst (λ i. HasPhase first ticks f.count i (Writing logs) []) newest.1 step.phase in
       let no_round : images.round ≡ None = idle (Newest images) has_images in
-      let tick : images.tick ≡ length ticks = newest_is_base cells ticks f.count images logs kept no_round log.1 ∙ (log.2 ∙ (base ∙ f.ended)) in
+      let tick : images.tick ≡ length ticks = newest_is_base first ticks f.count images logs kept no_round log.1 ∙ (log.2 ∙ (base ∙ f.ended)) in
       let world = kept.images_follow.newest in
-      let same : Ok images.words ≡ Ok now.live = sym world.words_are ∙ (ap (after_ticks cells) (take_all images.tick ticks (omega (arith, tick))) ∙ f.world) in
+      let same : Ok images.words ≡ Ok now.live = sym world.words_are ∙ (ap (after_ticks first) (take_all images.tick ticks (omega (arith, tick))) ∙ f.world) in
       record {
         images = images;
+        cells = f.cells;
         logs = logs;
         settled = record { acknowledged = f.count; kept = kept; world = f.world; none = no_round; tick = tick; image = cc; idle = (log.0, log.1) };
         has_images = has_images;
@@ -157,31 +158,33 @@ module _ {C D : Type 0} (content : C → Content) (file : D → List ℕ) (leave
 
 module _ {C D : Type 0} (content : C → Content) (file : D → List ℕ) (leaves : D → List ℕ → Type 0) where
   -- a round was run
-  pub image_follows : (old : Engine C) (files : FourFiles D) (store : C) (images : ImageProgress) (a b : D) (ticks : List (List Action)) (acknowledged : ℕ)
+  pub image_follows : (old : Engine C) (files : FourFiles D) (store : C) (images : ImageProgress) (a b : D) (first : List ℕ) (ticks : List (List Action)) (acknowledged : ℕ)
       → images.cells ≡ old.images.cells → (content store).live ≡ (content old.store).live
       → RoundGoes content file leaves old.images images old.store store files.image_a a files.image_b b
-      → Follows content file leaves old files ticks acknowledged
-      → Follows content file leaves (record old { store = store; images = images }) (record files { image_a = a; image_b = b }) ticks acknowledged
-  image_follows old files store images a b ticks acknowledged cells live goes f =
-      let on = goes ticks acknowledged f.place.journal old.queue.items (record { images = f.images; stands = f.has_images; count = f.count; at_least = f.at_least; in_step = f.in_step }) in
+      → Follows content file leaves old files first ticks acknowledged
+      → Follows content file leaves (record old { store = store; images = images }) (record files { image_a = a; image_b = b }) first ticks acknowledged
+  image_follows old files store images a b first ticks acknowledged same live goes f =
+      let on = goes first ticks acknowledged f.place.journal old.queue.items (record { images = f.images; cells = f.cells; stands = f.has_images; count = f.count; at_least = f.at_least; in_step = f.in_step }) in
       record {
         images = on.images;
+        cells = on.cells;
         has_images = on.stands;
         log = record { place = f.place; stands = f.has_log; count = on.count; at_least = on.at_least; in_step = on.in_step };
-        world = ap (λ n. after_ticks n ticks) cells ∙ (f.world ∙ ap (λ (w : List ℕ). Ok w) (sym live));
+        world = f.world ∙ ap (λ (w : List ℕ). Ok w) (sym live);
         ended = f.ended;
       }
 
   -- the log was run
-  pub log_follows : (old : Engine C) (files : FourFiles D) (log : LogProgress) (queue : Buffer Record) (a b : D) (ticks : List (List Action)) (acknowledged : ℕ)
+  pub log_follows : (old : Engine C) (files : FourFiles D) (log : LogProgress) (queue : Buffer Record) (a b : D) (first : List ℕ) (ticks : List (List Action)) (acknowledged : ℕ)
       → LogGoes file leaves old.log log old.queue.items queue.items files.log_a a files.log_b b
-      → (f : Follows content file leaves old files ticks acknowledged) → (old.log.starting ≡ false) ⊎ (round_in f.images ≡ None)
-      → Follows content file leaves (record old { log = log; queue = queue }) (record files { log_a = a; log_b = b }) ticks acknowledged
-  log_follows old files log queue a b ticks acknowledged goes f waits =
+      → (f : Follows content file leaves old files first ticks acknowledged) → (old.log.starting ≡ false) ⊎ (round_in f.images ≡ None)
+      → Follows content file leaves (record old { log = log; queue = queue }) (record files { log_a = a; log_b = b }) first ticks acknowledged
+  log_follows old files log queue a b first ticks acknowledged goes f waits =
       record {
         images = f.images;
+        cells = f.cells;
         has_images = f.has_images;
-        log = goes old.images.cells ticks acknowledged (content old.store) f.images f.has_images.fits.in_order.some waits f.log;
+        log = goes first ticks acknowledged (content old.store) f.images (omega (arith, f.cells, f.has_images.fits.in_order.some)) waits f.log;
         world = f.world;
         ended = f.ended;
       }
@@ -190,25 +193,26 @@ module _ {C D : Type 0} (content : C → Content) (file : D → List ℕ) (leave
   pub all_follows : WorldsGoOn
       → ((keeper : LogProgress) (a b : D) (logs : Logs) (left : ℕ) → LogStands keeper (file a) (file b) (leaves a) (leaves b) (record { journal = Writing logs; left = left }) → keeper.phase ≡ Ready
       → (logs.pending ≡ []) × (logs.switch ≡ None) × (logs.base ≡ keeper.base))
-      → (s : Engine C) (files : FourFiles D) (ticks : List (List Action)) (acknowledged : ℕ) → s.log.starting ≡ false → work_of s.log s.queue.items ≡ 0
-      → Follows content file leaves s files ticks acknowledged → Follows content file leaves s files ticks s.ended
-  all_follows goes ready s files ticks acknowledged over rests f =
+      → (s : Engine C) (files : FourFiles D) (first : List ℕ) (ticks : List (List Action)) (acknowledged : ℕ) → s.log.starting ≡ false → work_of s.log s.queue.items ≡ 0
+      → Follows content file leaves s files first ticks acknowledged → Follows content file leaves s files first ticks s.ended
+  all_follows goes ready s files first ticks acknowledged over rests f =
       let idle = none_waits s.log s.queue.items rests in
       let logs = logs_of_place s.log (file files.log_a) (file files.log_b) (leaves files.log_a) (leaves files.log_b) f.place over f.has_log in
       let is_ready = ready s.log files.log_a files.log_b logs.0 f.place.left (subst (λ j. LogStands s.log (file files.log_a) (file files.log_b) (leaves files.log_a) (leaves files.log_b) (record { journal = j; left = f.place.left })) logs.1 f.has_log) idle.0 in
-      let empty = subst (λ q. InStep s.images.cells ticks f.count (content s.store) f.images (Writing logs.0) q) idle.1
-      (subst (λ j. InStep s.images.cells ticks f.count (content s.store) f.images j s.queue.items) logs.1 f.in_step) in
-      let on = goes.all_acknowledged s.images.cells ticks f.count (content s.store) f.images logs.0 is_ready.0 empty in
+      let empty = subst (λ q. InStep first ticks f.count (content s.store) f.images (Writing logs.0) q) idle.1
+      (subst (λ j. InStep first ticks f.count (content s.store) f.images j s.queue.items) logs.1 f.in_step) in
+      let on = goes.all_acknowledged first ticks f.count (content s.store) f.images logs.0 is_ready.0 empty in
       record {
         images = f.images;
+        cells = f.cells;
         has_images = f.has_images;
         log = record {
           place = f.place;
           stands = f.has_log;
           count = length ticks;
           at_least = omega (arith, f.ended);
-          in_step = subst (λ j. InStep s.images.cells ticks (length ticks) (content s.store) f.images j s.queue.items) (sym logs.1)
-              (subst (λ q. InStep s.images.cells ticks (length ticks) (content s.store) f.images (Writing logs.0) q) (sym idle.1) on);
+          in_step = subst (λ j. InStep first ticks (length ticks) (content s.store) f.images j s.queue.items) (sym logs.1)
+              (subst (λ q. InStep first ticks (length ticks) (content s.store) f.images (Writing logs.0) q) (sym idle.1) on);
         };
         world = f.world;
         ended = f.ended;

@@ -49,7 +49,7 @@ module _ {D : Type 0} (file : D → List ℕ) (leaves : D → List ℕ → Type 
       → ((place : LogPlace) → Stands keeper (file a) (file b) (leaves a) (leaves b) place
       → (after : LogPlace) × Stands next (file next_a) (file next_b) (leaves next_a) (leaves next_b) after × JournalStep place queue given after left)
       → LogGoes file leaves keeper next queue left a next_a b next_b
-  log_steps goes_on keeper next queue left a next_a b next_b given stands cells ticks acknowledged content images some waits g =
+  log_steps goes_on keeper next queue left a next_a b next_b given stands first ticks acknowledged content images some waits g =
       let after = stands g.place g.stands in
       let none = waits_not keeper (file a) (file b) (leaves a) (leaves b) g.place.journal g.place.left images g.stands waits in
       let more = no_less g.count given in
@@ -58,7 +58,7 @@ module _ {D : Type 0} (file : D → List ℕ) (leaves : D → List ℕ → Type 
         stands = after.1;
         count = acknowledged_after g.count given;
         at_least = omega (arith, g.at_least, more);
-        in_step = goes_on.log_step cells ticks g.count content images g.place queue given after.0 left some none after.2 g.in_step;
+        in_step = goes_on.log_step first ticks g.count content images g.place queue given after.0 left some none after.2 g.in_step;
       }
 
   -- a log that waits for nothing still waits for nothing
@@ -68,5 +68,5 @@ module _ {D : Type 0} (file : D → List ℕ) (leaves : D → List ℕ → Type 
 
   pub log_then : (k0 k1 k2 : Progress) (q0 q1 q2 : List Record) (a0 a1 a2 b0 b1 b2 : D) → (k0.starting ≡ false → k1.starting ≡ false)
       → LogGoes file leaves k0 k1 q0 q1 a0 a1 b0 b1 → LogGoes file leaves k1 k2 q1 q2 a1 a2 b1 b2 → LogGoes file leaves k0 k2 q0 q2 a0 a2 b0 b2
-  log_then k0 k1 k2 q0 q1 q2 a0 a1 a2 b0 b1 b2 stays one two cells ticks acknowledged content images some waits g =
-      two cells ticks acknowledged content images some (still_waits k0 k1 images stays waits) (one cells ticks acknowledged content images some waits g)
+  log_then k0 k1 k2 q0 q1 q2 a0 a1 a2 b0 b1 b2 stays one two first ticks acknowledged content images some waits g =
+      two first ticks acknowledged content images some (still_waits k0 k1 images stays waits) (one first ticks acknowledged content images some waits g)

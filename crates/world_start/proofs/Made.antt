@@ -1,4 +1,5 @@
 -- The files of a new world are made.
+use Rattle.std.proofs.lemmas.List.{length-replicate}
 use Rattle.std.proofs.Common.{◌≡◌, ◌≤◌, ◌⊎◌, ℕ, false, inl, inr, List, [], ◌∷◌, length, replicate, None, Result, Ok, Err, refl, sym, ap, subst, ◌∙◌, arith}
 use Rattle.std.specs.Prelude.{IfOk, IfErr, OnOk}
 use Rattle.world_actions.specs.declared.refusal.Refusal.{Refusal}
@@ -16,7 +17,7 @@ use Rattle.restart.specs.InStep.{WorldsGoOn, IsSafe}
 use Rattle.world_start.specs.declared.engine.Engine.{Engine}
 use Rattle.world_start.specs.Steps.{Begins, StartLaws, IsBegunFresh}
 use Rattle.world_start.specs.Engine.{Follows}
-use Rattle.world_start.specs.Opening.{AreRead, AreSynced, AreSound}
+use Rattle.world_start.specs.Opening.{AreRead, AreSynced}
 use Rattle.world_start.specs.Fresh.{AreClosed, AreNotMade}
 use Rattle.world_start.proofs.Beginning.{start_follows}
 use Rattle.world_start.proofs.Recovered.{synced_on}
@@ -56,12 +57,10 @@ module _ {C D : Type 0} (content : C → Content) (file : D → List ℕ) (leave
         starting = ap (λ (k : LogProgress). k.starting) b.log;
         queue = b.queue;
         follows = λ synced.
-            (let s = synced_on content file leaves files left kept synced in (
-              ap (λ (k : ImageProgress). k.cells) begun.images,
-              start_follows content file leaves false laws cells None 0 (replicate cells 0) engine left begun some few (omega arith) s.image_a s.image_b s.log_a s.log_b
+            (let s = synced_on content file leaves files left kept synced in
+              start_follows content file leaves false laws cells (replicate cells 0) (length-replicate cells 0) None 0 (replicate cells 0) engine left begun some few (omega arith) s.image_a s.image_b s.log_a s.log_b
                   (NoneYet (record { round = None })) (refl, refl, here.image_a_closed, here.image_b_closed) ClosedSegment ClosedSegment here.log_a_closed here.log_b_closed
-                  [] 0 (begins.fresh cells (content engine.store) some begun.store) refl refl,
-            ));
+                  [] 0 (begins.fresh (replicate cells 0) (content engine.store) (omega (arith, some, length-replicate {A = ℕ} cells 0)) begun.store) refl refl);
       }
     where
       closed_on : {a b c d a2 b2 c2 d2 : List ℕ} → a ≡ a2 → b ≡ b2 → c ≡ c2 → d ≡ d2 → AreClosed a b c d → AreClosed a2 b2 c2 d2
@@ -75,20 +74,18 @@ module _ {C D : Type 0} (content : C → Content) (file : D → List ℕ) (leave
           (subst (λ f. Begins content cells None 0 words a b f d2 engine) ec (subst (λ f. Begins content cells None 0 words a b c f engine) ed e)))
 
 -- safe files of no ticks hold no world yet, or one at tick 0
-safe_fresh : (images : ImageFiles) (a b la lb : List ℕ → Type 0) (cells count : ℕ) → IsSafe images a b la lb cells [] count → IsFresh a b la lb cells ⊎ IsSound a b la lb cells [] 0
-safe_fresh (NoneYet images) a b la lb cells count s = inl s.0
-safe_fresh (Newest images) a b la lb cells count s = inr (fewer_sound a b la lb cells [] 0 count (omega arith) s)
+safe_fresh : (images : ImageFiles) (a b la lb : List ℕ → Type 0) (first : List ℕ) (count : ℕ) → IsSafe images a b la lb first [] count → IsFresh a b la lb first ⊎ IsSound a b la lb first [] 0
+safe_fresh (NoneYet images) a b la lb first count s = inl s.0
+safe_fresh (Newest images) a b la lb first count s = inr (fewer_sound a b la lb first [] 0 count (omega arith) s)
 
 -- the files of a new world after a start that a device ended
 pub start_failed : {C D : Type 0} (content : C → Content) (file : D → List ℕ) (leaves : D → List ℕ → Type 0) (files left : FourFiles D) (cells : ℕ) (last : Engine C) (refusal : Refusal) → refusal ≡ Device
-    → (AreSynced file leaves files → (last.images.cells ≡ cells) × Follows content file leaves last left [] 0)
-    → ((f : Follows content file leaves last left [] 0) → IsSafe f.images (leaves left.image_a) (leaves left.image_b) (leaves left.log_a) (leaves left.log_b) last.images.cells [] f.count)
+    → (AreSynced file leaves files → Follows content file leaves last left (replicate cells 0) [] 0)
+    → ((f : Follows content file leaves last left (replicate cells 0) [] 0) → IsSafe f.images (leaves left.image_a) (leaves left.image_b) (leaves left.log_a) (leaves left.log_b) (replicate cells 0) [] f.count)
     → AreNotMade file leaves files cells refusal left
 start_failed content file leaves files left cells last refusal is follows safe = record {
   not_empty = λ other. absurd (let e : Device ≡ NotEmpty = sym is ∙ other in let h = e in cc);
   kept = λ other. absurd (other is);
   safe = λ synced closed.
-      (let f = follows synced in
-      subst (λ n. IsFresh (leaves left.image_a) (leaves left.image_b) (leaves left.log_a) (leaves left.log_b) n ⊎ AreSound file leaves left n [] 0) f.0
-      (safe_fresh f.1.images (leaves left.image_a) (leaves left.image_b) (leaves left.log_a) (leaves left.log_b) last.images.cells f.1.count (safe f.1)));
+      (let f = follows synced in safe_fresh f.images (leaves left.image_a) (leaves left.image_b) (leaves left.log_a) (leaves left.log_b) (replicate cells 0) f.count (safe f));
 }

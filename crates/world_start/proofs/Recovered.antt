@@ -25,7 +25,7 @@ use Rattle.world_start.specs.Engine.{Follows}
 use Rattle.world_start.specs.Steps.{Begins, StartLaws}
 use Rattle.world_start.specs.Opening.{AreSynced, AreSound, AreRead, IsRead}
 use Rattle.image_files.proofs.SlotImages.{by_slot, by_other}
-use Rattle.world_start.proofs.Beginning.{start_follows, built_live, started_cells, started_newest}
+use Rattle.world_start.proofs.Beginning.{start_follows, built_live, started_newest}
 
 pub if_err : {T : Type 0} (r : Result T Refusal) (refusal : Refusal) (P : Refusal → Type 0) → IsErrAnd r (λ e. e ≡ refusal) → P refusal → IfErr r P
 if_err (Ok value) refusal P h p = tt
@@ -53,36 +53,34 @@ module _ {C D : Type 0} (content : C → Content) (file : D → List ℕ) (leave
   }
 
   -- and they stay sound
-  pub sound_on : (files left : FourFiles D) → EachFile files left (KeepsFile file leaves) → (cells : ℕ) (ticks : List (List Action)) (acknowledged : ℕ) → AreSound file leaves files cells ticks acknowledged → AreSound file leaves left cells ticks acknowledged
-  sound_on files left kept cells ticks acknowledged s a b la lb ha hb hla hlb = s a b la lb (kept.image_a.crash a ha) (kept.image_b.crash b hb) (kept.log_a.crash la hla) (kept.log_b.crash lb hlb)
+  pub sound_on : (files left : FourFiles D) → EachFile files left (KeepsFile file leaves) → (first : List ℕ) (ticks : List (List Action)) (acknowledged : ℕ) → AreSound file leaves files first ticks acknowledged → AreSound file leaves left first ticks acknowledged
+  sound_on files left kept first ticks acknowledged s a b la lb ha hb hla hlb = s a b la lb (kept.image_a.crash a ha) (kept.image_b.crash b hb) (kept.log_a.crash la hla) (kept.log_b.crash lb hlb)
 
   -- the world in sound files begins a start in step with the recovered ticks
   pub recovered_follows : StartLaws file leaves → ReadsOnce → CrashRestarts → WorldsGoOn → ((disk : D) → leaves disk (file disk))
       → (r : Recovery) (engine : Engine C) (files : FourFiles D) → IsWorld r.words → r.tick ≤ TICK_MAX
       → Recovers (file files.image_a) (file files.image_b) (file files.log_a) (file files.log_b) (Ok r)
       → Begins content (length r.words) (Some (r.slot, r.from)) r.tick r.words (file files.image_a) (file files.image_b) (file files.log_a) (file files.log_b) engine
-      → (cells : ℕ) (ticks : List (List Action)) (acknowledged : ℕ) → AreSynced file leaves files → AreSound file leaves files cells ticks acknowledged
-      → (engine.images.cells ≡ cells) × Follows content file leaves engine files (take r.tick ticks) acknowledged
-  recovered_follows laws once restarts begins stays r engine files world most e b cells ticks acknowledged synced sound =
+      → (first : List ℕ) (ticks : List (List Action)) (acknowledged : ℕ) → AreSynced file leaves files → AreSound file leaves files first ticks acknowledged
+      → Follows content file leaves engine files first (take r.tick ticks) acknowledged
+  recovered_follows laws once restarts begins stays r engine files world most e b first ticks acknowledged synced sound =
       let ia = file files.image_a in
       let ib = file files.image_b in
       let la = file files.log_a in
       let lb = file files.log_b in
       let read = sound ia ib la lb (stays files.image_a) (stays files.image_b) (stays files.log_a) (stays files.log_b) in
-      let holds : IsSoundReading (image_of ia) (image_of ib) e.a e.b cells ticks acknowledged =
-      subst (λ x. IsSoundReading (image_of ia) (image_of ib) x e.b cells ticks acknowledged) (once la read.a e.a read.reads_a e.reads_a)
-      (subst (λ x. IsSoundReading (image_of ia) (image_of ib) read.a x cells ticks acknowledged) (once lb read.b e.b read.reads_b e.reads_b) read.holds) in
-      let s : Restarts cells ticks acknowledged r (image_of ia) (image_of ib) e.a e.b = restarts.sound cells ticks acknowledged (image_of ia) (image_of ib) e.a e.b r holds e.holds in
-      let some : 1 ≤ cells = omega (arith, s.whole, world.some) in
-      let few : cells ≤ CELLS = omega (arith, s.whole, world.most) in
+      let holds : IsSoundReading (image_of ia) (image_of ib) e.a e.b first ticks acknowledged =
+      subst (λ x. IsSoundReading (image_of ia) (image_of ib) x e.b first ticks acknowledged) (once la read.a e.a read.reads_a e.reads_a)
+      (subst (λ x. IsSoundReading (image_of ia) (image_of ib) read.a x first ticks acknowledged) (once lb read.b e.b read.reads_b e.reads_b) read.holds) in
+      let s : Restarts first ticks acknowledged r (image_of ia) (image_of ib) e.a e.b = restarts.sound first ticks acknowledged (image_of ia) (image_of ib) e.a e.b r holds e.holds in
+      let some : 1 ≤ length first = omega (arith, s.whole, world.some) in
+      let few : length first ≤ CELLS = omega (arith, s.whole, world.most) in
       let here = subst (λ n. Begins content n (Some (r.slot, r.from)) r.tick r.words ia ib la lb engine) s.whole b in
-      let step = begins.recovery cells ticks acknowledged r (image_of ia) (image_of ib) e.a e.b (content engine.store) some s b.store in
-      let count : length (take r.tick ticks) ≡ r.tick = length-take-le r.tick ticks s.world.ended in (
-        ap (λ (k : ImageProgress). k.cells) here.images ∙ started_cells (nat_lt r.from r.tick) r.tick _,
-        start_follows content file leaves false laws cells (Some (r.slot, r.from)) r.tick r.words engine files here some few most synced.image_a synced.image_b synced.log_a synced.log_b
+      let step = begins.recovery first ticks acknowledged r (image_of ia) (image_of ib) e.a e.b (content engine.store) some s b.store in
+      let count : length (take r.tick ticks) ≡ r.tick = length-take-le r.tick ticks s.world.ended in
+        start_follows content file leaves false laws (length first) first refl (Some (r.slot, r.from)) r.tick r.words engine files here some few most synced.image_a synced.image_b synced.log_a synced.log_b
             (Newest (recovered_images r (image_of ia) (image_of ib))) (refl, refl, s.newest_whole, by_slot r.slot ia ib ∙ s.chosen, by_other r.slot ia ib)
-            e.a e.b e.reads_a e.reads_b (take r.tick ticks) acknowledged step s.world.words_are (sym count),
-      )
+            e.a e.b e.reads_a e.reads_b (take r.tick ticks) acknowledged step s.world.words_are (sym count)
 
   -- the result of reading the files, recovering them and beginning the start
   pub is_read : StartLaws file leaves → ReadsOnce → CrashRestarts → WorldsGoOn → ((disk : D) → leaves disk (file disk))
@@ -104,8 +102,8 @@ module _ {C D : Type 0} (content : C → Content) (file : D → List ℕ) (leave
           since = begun.since;
         };
         newest = λ none. (let e : Some (r.slot, r.from) ≡ None = sym (ap (λ (k : ImageProgress). k.newest) begun.images ∙ started_newest (nat_lt r.from r.tick) r.tick _) ∙ none in absurd (let h = e in cc));
-        follows = λ cells ticks acknowledged synced sound.
-            recovered_follows laws once restarts begins stays r engine left world most here begun cells ticks acknowledged (synced_on files left kept synced) (sound_on files left kept cells ticks acknowledged sound);
+        follows = λ first ticks acknowledged synced sound.
+            recovered_follows laws once restarts begins stays r engine left world most here begun first ticks acknowledged (synced_on files left kept synced) (sound_on files left kept first ticks acknowledged sound);
       }
     where
       begins_on : {a b c d a2 b2 c2 d2 : List ℕ} (cells : ℕ) (newest : Option (Slot × ℕ)) (tick : ℕ) (words : List ℕ) (engine : Engine C) → a ≡ a2 → b ≡ b2 → c ≡ c2 → d ≡ d2

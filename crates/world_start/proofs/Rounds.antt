@@ -14,7 +14,7 @@ use Rattle.image_files.specs.Progress.{Progress, cells_taken, left_of, moves_lef
 use Rattle.image_files.specs.Steps.{IfOpened, OnWorking}
 use Rattle.image_files.specs.Files.{Stands}
 use Rattle.recovery.specs.Events.{acknowledged_opened}
-use Rattle.restart.specs.InStep.{InStep, WorldsGoOn}
+use Rattle.restart.specs.InStep.{WorldsGoOn}
 use Rattle.restart.proofs.Stepped.{steps_content}
 use Rattle.world_start.specs.Running.{CellsLeft, RoundTick, RoundGoes}
 
@@ -44,15 +44,16 @@ module _ {S : Type 0} (content : S → Content) (took : S → Option Taken → S
         → ((images : ImageFiles) → Stands keeper images (file a) (file b) (leaves a) (leaves b)
         → (next : ImageFiles) × Stands next_keeper next (file next_a) (file next_b) (leaves next_a) (leaves next_b) × StepsImages took keeper.cells images given next old new)
         → RoundGoes content file leaves keeper next_keeper old new a next_a b next_b
-    round_steps goes_on keeper next_keeper old new a next_a b next_b given same stands ticks acknowledged journal queue r =
+    round_steps goes_on keeper next_keeper old new a next_a b next_b given same stands first ticks acknowledged journal queue r =
         let next = stands r.images r.stands in
-        let on = goes_on.image_step keeper.cells ticks r.count r.images journal queue given next.0 (content old) (content new) (steps_content content took after_take keeper.cells r.images given next.0 old new next.2) r.in_step in
+        let steps : StepsImages took (length first) r.images given next.0 old new = subst (λ n. StepsImages took n r.images given next.0 old new) r.cells next.2 in
         record {
           images = next.0;
+          cells = same ∙ r.cells;
           stands = next.1;
           count = acknowledged_opened r.count given;
           at_least = (let more = no_less r.count given in omega (arith, r.at_least, more));
-          in_step = subst (λ n. InStep n ticks (acknowledged_opened r.count given) (content new) next.0 journal queue) (sym same) on;
+          in_step = goes_on.image_step first ticks r.count r.images journal queue given next.0 (content old) (content new) (steps_content content took after_take (length first) r.images given next.0 old new steps) r.in_step;
         }
 
   -- ---- whatever the disks are

@@ -23,19 +23,19 @@ use Rattle.world_start.proofs.Following.{logs_of_place, newest_of}
 
 -- ---- of more ticks
 
-world_of_more : (cells : ℕ) (ticks : List (List Action)) (most tick : ℕ) (words : List ℕ) → IsWorldAt cells (take most ticks) tick words → IsWorldAt cells ticks tick words
-world_of_more cells ticks most tick words w =
+world_of_more : (first : List ℕ) (ticks : List (List Action)) (most tick : ℕ) (words : List ℕ) → IsWorldAt first (take most ticks) tick words → IsWorldAt first ticks tick words
+world_of_more first ticks most tick words w =
     let within : tick ≤ most = omega (arith, w.ended, length-take most ticks) in
-    record { ended = omega (arith, w.ended, length-take most ticks); words_are = ap (after_ticks cells) (sym (take-take tick most ticks within)) ∙ w.words_are }
+    record { ended = omega (arith, w.ended, length-take most ticks); words_are = ap (after_ticks first) (sym (take-take tick most ticks within)) ∙ w.words_are }
 
-holds_of_more : (cells : ℕ) (ticks : List (List Action)) (most bound : ℕ) (image : Image) → HoldsWorld cells (take most ticks) bound image → HoldsWorld cells ticks bound image
-holds_of_more cells ticks most bound Closed h = h
-holds_of_more cells ticks most bound Bad h = h
-holds_of_more cells ticks most bound (Open tick words) h = (h.0, world_of_more cells ticks most tick words h.1)
+holds_of_more : (first : List ℕ) (ticks : List (List Action)) (most bound : ℕ) (image : Image) → HoldsWorld first (take most ticks) bound image → HoldsWorld first ticks bound image
+holds_of_more first ticks most bound Closed h = h
+holds_of_more first ticks most bound Bad h = h
+holds_of_more first ticks most bound (Open tick words) h = (h.0, world_of_more first ticks most tick words h.1)
 
 -- files that are sound for the first ticks, and acknowledge as many, are sound for all of them
-pub sound_of_more : (a b la lb : List ℕ → Type 0) (cells : ℕ) (ticks : List (List Action)) (most acknowledged count : ℕ) → acknowledged ≤ count → IsSound a b la lb cells (take most ticks) count → IsSound a b la lb cells ticks acknowledged
-sound_of_more a b la lb cells ticks most acknowledged count fewer s x y z w hx hy hz hw =
+pub sound_of_more : (a b la lb : List ℕ → Type 0) (first : List ℕ) (ticks : List (List Action)) (most acknowledged count : ℕ) → acknowledged ≤ count → IsSound a b la lb first (take most ticks) count → IsSound a b la lb first ticks acknowledged
+sound_of_more a b la lb first ticks most acknowledged count fewer s x y z w hx hy hz hw =
     let r = s x y z w hx hy hz hw in
     let k = r.holds in
     record {
@@ -47,9 +47,9 @@ sound_of_more a b la lb cells ticks most acknowledged count fewer s x y z w hx h
         recovery = k.recovery;
         stands = k.stands;
         keeps = omega (arith, fewer, k.keeps);
-        world = world_of_more cells ticks most k.recovery.tick k.recovery.words k.world;
-        image_a_holds = holds_of_more cells ticks most k.recovery.tick (image_of x) k.image_a_holds;
-        image_b_holds = holds_of_more cells ticks most k.recovery.tick (image_of y) k.image_b_holds;
+        world = world_of_more first ticks most k.recovery.tick k.recovery.words k.world;
+        image_a_holds = holds_of_more first ticks most k.recovery.tick (image_of x) k.image_a_holds;
+        image_b_holds = holds_of_more first ticks most k.recovery.tick (image_of y) k.image_b_holds;
         log_a_begins = k.log_a_begins;
         log_b_begins = k.log_b_begins;
       };
@@ -57,39 +57,39 @@ sound_of_more a b la lb cells ticks most acknowledged count fewer s x y z w hx h
 
 -- ---- of a world that is followed
 
-safe_is_sound : (images : ImageFiles) (a b la lb : List ℕ → Type 0) (cells : ℕ) (ticks : List (List Action)) (acknowledged : ℕ) → (newest_in images ≡ None → ⊥) → IsSafe images a b la lb cells ticks acknowledged → IsSound a b la lb cells ticks acknowledged
-safe_is_sound (NoneYet images) a b la lb cells ticks acknowledged has s = absurd (has refl)
-safe_is_sound (Newest images) a b la lb cells ticks acknowledged has s = s
+safe_is_sound : (images : ImageFiles) (a b la lb : List ℕ → Type 0) (first : List ℕ) (ticks : List (List Action)) (acknowledged : ℕ) → (newest_in images ≡ None → ⊥) → IsSafe images a b la lb first ticks acknowledged → IsSound a b la lb first ticks acknowledged
+safe_is_sound (NoneYet images) a b la lb first ticks acknowledged has s = absurd (has refl)
+safe_is_sound (Newest images) a b la lb first ticks acknowledged has s = s
 
-pub fewer_sound : (a b la lb : List ℕ → Type 0) (cells : ℕ) (ticks : List (List Action)) (acknowledged count : ℕ) → acknowledged ≤ count → IsSound a b la lb cells ticks count → IsSound a b la lb cells ticks acknowledged
-fewer_sound a b la lb cells ticks acknowledged count fewer s =
-    sound_of_more a b la lb cells ticks (length ticks) acknowledged count fewer (subst (λ t. IsSound a b la lb cells t count) (sym (take_all (length ticks) ticks (omega arith))) s)
+pub fewer_sound : (a b la lb : List ℕ → Type 0) (first : List ℕ) (ticks : List (List Action)) (acknowledged count : ℕ) → acknowledged ≤ count → IsSound a b la lb first ticks count → IsSound a b la lb first ticks acknowledged
+fewer_sound a b la lb first ticks acknowledged count fewer s =
+    sound_of_more a b la lb first ticks (length ticks) acknowledged count fewer (subst (λ t. IsSound a b la lb first t count) (sym (take_all (length ticks) ticks (omega arith))) s)
 
 module _ {C D : Type 0} (content : C → Content) (file : D → List ℕ) (leaves : D → List ℕ → Type 0)
     (newest : (keeper : ImageProgress) (images : ImageFiles) (a b : D) → ImagesStand keeper images (file a) (file b) (leaves a) (leaves b) → keeper.newest ≡ newest_in images)
     (are : (keeper : ImageProgress) (images : ImageFiles) (a b : D) → ImagesStand keeper images (file a) (file b) (leaves a) (leaves b) → ImageFilesAre keeper.cells images (leaves a) (leaves b))
     (reads : (keeper : LogProgress) (a b : D) (place : LogPlace) → LogStands keeper (file a) (file b) (leaves a) (leaves b) place → JournalIs place.journal (leaves a) (leaves b))
-    (safe : (image_a image_b log_a log_b : D) (cells : ℕ) (ticks : List (List Action)) (acknowledged : ℕ) (content : Content) (images : ImageFiles) (journal : Journal) (queue : List Record)
-    → InStep cells ticks acknowledged content images journal queue → ImageFilesAre cells images (leaves image_a) (leaves image_b) → JournalIs journal (leaves log_a) (leaves log_b)
-    → IsSafe images (leaves image_a) (leaves image_b) (leaves log_a) (leaves log_b) cells ticks acknowledged) where
+    (safe : (image_a image_b log_a log_b : D) (first : List ℕ) (ticks : List (List Action)) (acknowledged : ℕ) (content : Content) (images : ImageFiles) (journal : Journal) (queue : List Record)
+    → InStep first ticks acknowledged content images journal queue → ImageFilesAre (length first) images (leaves image_a) (leaves image_b) → JournalIs journal (leaves log_a) (leaves log_b)
+    → IsSafe images (leaves image_a) (leaves image_b) (leaves log_a) (leaves log_b) first ticks acknowledged) where
   -- the files of a world are safe
-  pub follows_safe : (engine : Engine C) (files : FourFiles D) (ticks : List (List Action)) (acknowledged : ℕ) (f : Follows content file leaves engine files ticks acknowledged)
-      → IsSafe f.images (leaves files.image_a) (leaves files.image_b) (leaves files.log_a) (leaves files.log_b) engine.images.cells ticks f.count
-  follows_safe engine files ticks acknowledged f =
-      safe files.image_a files.image_b files.log_a files.log_b engine.images.cells ticks f.count (content engine.store) f.images f.place.journal engine.queue.items f.in_step
-      (are engine.images f.images files.image_a files.image_b f.has_images) (reads engine.log files.log_a files.log_b f.place f.has_log)
+  pub follows_safe : (engine : Engine C) (files : FourFiles D) (first : List ℕ) (ticks : List (List Action)) (acknowledged : ℕ) (f : Follows content file leaves engine files first ticks acknowledged)
+      → IsSafe f.images (leaves files.image_a) (leaves files.image_b) (leaves files.log_a) (leaves files.log_b) first ticks f.count
+  follows_safe engine files first ticks acknowledged f =
+      safe files.image_a files.image_b files.log_a files.log_b first ticks f.count (content engine.store) f.images f.place.journal engine.queue.items f.in_step
+      (subst (λ n. ImageFilesAre n f.images (leaves files.image_a) (leaves files.image_b)) f.cells (are engine.images f.images files.image_a files.image_b f.has_images)) (reads engine.log files.log_a files.log_b f.place f.has_log)
 
-  pub follows_sound : (engine : Engine C) (files : FourFiles D) (ticks : List (List Action)) (acknowledged : ℕ) → HasNewest engine.images → Follows content file leaves engine files ticks acknowledged
-      → AreSound file leaves files engine.images.cells ticks acknowledged
-  follows_sound engine files ticks acknowledged has f =
-      fewer_sound (leaves files.image_a) (leaves files.image_b) (leaves files.log_a) (leaves files.log_b) engine.images.cells ticks acknowledged f.count f.at_least
-      (safe_is_sound f.images (leaves files.image_a) (leaves files.image_b) (leaves files.log_a) (leaves files.log_b) engine.images.cells ticks f.count
-      (λ none. has (newest engine.images f.images files.image_a files.image_b f.has_images ∙ none)) (follows_safe engine files ticks acknowledged f))
+  pub follows_sound : (engine : Engine C) (files : FourFiles D) (first : List ℕ) (ticks : List (List Action)) (acknowledged : ℕ) → HasNewest engine.images → Follows content file leaves engine files first ticks acknowledged
+      → AreSound file leaves files first ticks acknowledged
+  follows_sound engine files first ticks acknowledged has f =
+      fewer_sound (leaves files.image_a) (leaves files.image_b) (leaves files.log_a) (leaves files.log_b) first ticks acknowledged f.count f.at_least
+      (safe_is_sound f.images (leaves files.image_a) (leaves files.image_b) (leaves files.log_a) (leaves files.log_b) first ticks f.count
+      (λ none. has (newest engine.images f.images files.image_a files.image_b f.has_images ∙ none)) (follows_safe engine files first ticks acknowledged f))
 
   -- after the start there is an image
-  pub started_sound : (engine : Engine C) (files : FourFiles D) (ticks : List (List Action)) (acknowledged : ℕ) → engine.log.starting ≡ false → Follows content file leaves engine files ticks acknowledged
-      → AreSound file leaves files engine.images.cells ticks acknowledged
-  started_sound engine files ticks acknowledged over f =
+  pub started_sound : (engine : Engine C) (files : FourFiles D) (first : List ℕ) (ticks : List (List Action)) (acknowledged : ℕ) → engine.log.starting ≡ false → Follows content file leaves engine files first ticks acknowledged
+      → AreSound file leaves files first ticks acknowledged
+  started_sound engine files first ticks acknowledged over f =
       let logs = logs_of_place engine.log (file files.log_a) (file files.log_b) (leaves files.log_a) (leaves files.log_b) f.place over f.has_log in
-      let images = newest_of engine.images.cells ticks f.count (content engine.store) f.images logs.0 engine.queue.items (subst (λ j. InStep engine.images.cells ticks f.count (content engine.store) f.images j engine.queue.items) logs.1 f.in_step) in
-      follows_sound engine files ticks acknowledged (λ none. (let e : Some (images.0.slot, images.0.tick) ≡ None = sym (newest engine.images f.images files.image_a files.image_b f.has_images ∙ ap newest_in images.1) ∙ none in absurd (let h = e in cc))) f
+      let images = newest_of first ticks f.count (content engine.store) f.images logs.0 engine.queue.items (subst (λ j. InStep first ticks f.count (content engine.store) f.images j engine.queue.items) logs.1 f.in_step) in
+      follows_sound engine files first ticks acknowledged (λ none. (let e : Some (images.0.slot, images.0.tick) ≡ None = sym (newest engine.images f.images files.image_a files.image_b f.has_images ∙ ap newest_in images.1) ∙ none in absurd (let h = e in cc))) f

@@ -13,18 +13,21 @@ use Rattle.world_start.specs.Running.{RoundFaults, LogFaults, LogGoesOn}
 -- ---- on files that keep to the disk model
 
 module _ {C D : Type 0} (content : C → Content) (file : D → List ℕ) (leaves : D → List ℕ → Type 0) where
-  -- these ticks have ended, so many of them at least are acknowledged, and store, keepers, queue and files follow them
-  pub record Follows (engine : Engine C) (files : FourFiles D) (ticks : List (List Action)) (acknowledged : ℕ) : Type 0 where
+  -- from these first words these ticks have ended, so many of them at least are acknowledged, and store, keepers, queue and
+  -- files follow them
+  pub record Follows (engine : Engine C) (files : FourFiles D) (first : List ℕ) (ticks : List (List Action)) (acknowledged : ℕ) : Type 0 where
     pub images : ImageFiles
+    pub cells : engine.images.cells ≡ length first
     pub has_images : ImagesStand engine.images images (file files.image_a) (file files.image_b) (leaves files.image_a) (leaves files.image_b)
-    pub log : LogGoesOn file leaves engine.log engine.queue.items files.log_a files.log_b engine.images.cells ticks acknowledged (content engine.store) images
+    pub log : LogGoesOn file leaves engine.log engine.queue.items files.log_a files.log_b first ticks acknowledged (content engine.store) images
     pub open log use {place, stands as has_log, count, at_least, in_step}
-    pub world : after_ticks engine.images.cells ticks ≡ Ok (content engine.store).live
+    pub world : after_ticks first ticks ≡ Ok (content engine.store).live
     pub ended : engine.ended ≡ length ticks
 
   -- an engine and its files still follow the ticks that they followed
   abbrev pub StillFollows : (old : Engine C) (files : FourFiles D) (new : Engine C) (left : FourFiles D) → Type 0
-  StillFollows old files new left = (ticks : List (List Action)) (acknowledged : ℕ) → Follows old files ticks acknowledged → Follows new left ticks acknowledged
+  StillFollows old files new left =
+      (first : List ℕ) (ticks : List (List Action)) (acknowledged : ℕ) → Follows old files first ticks acknowledged → Follows new left first ticks acknowledged
 
 -- ---- whatever the disks are
 

@@ -1,5 +1,5 @@
 -- The result of making the files of a new world.
-use Rattle.std.specs.Prelude.{◌≡◌, ◌≢◌, ◌⊎◌, ℕ, List, []}
+use Rattle.std.specs.Prelude.{◌≡◌, ◌≢◌, ◌⊎◌, ℕ, List, [], replicate}
 use Rattle.world_actions.specs.declared.refusal.Refusal.{Refusal}
 use Rattle.world_actions.specs.declared.refusal.Refusal.TheVariants.{Device, NotEmpty}
 use Rattle.disk_model.specs.FourFiles.{EachFile, KeepsFile}
@@ -20,11 +20,16 @@ abbrev pub FilesAreClosed : {D : Type 0} → (file : D → List ℕ) → FourFil
 FilesAreClosed file files = AreClosed (file files.image_a) (file files.image_b) (file files.log_a) (file files.log_b)
 
 module _ {D : Type 0} (file : D → List ℕ) (leaves : D → List ℕ → Type 0) where
+  -- whatever a crash leaves of the files is no world yet, or one of these first words at tick 0
+  abbrev pub AreFreshOrSound : FourFiles D → (first : List ℕ) → Type 0
+  AreFreshOrSound files first =
+      IsFresh (leaves files.image_a) (leaves files.image_b) (leaves files.log_a) (leaves files.log_b) first ⊎ AreSound file leaves files first [] 0
+
   -- The files held no world, and log.a is now open. If the files were synced, they now hold a world of zeros at tick 0 and
   -- are synced again.
   pub record AreMade (files : FourFiles D) (cells : ℕ) (made : FourFiles D) : Type 0 where
     pub closed : FilesAreClosed file files
-    pub sound : AreSynced file leaves files → AreSound file leaves made cells [] 0
+    pub sound : AreSynced file leaves files → AreSound file leaves made (replicate cells 0) [] 0
     pub synced : AreSynced file leaves files → AreSynced file leaves made
     pub log : IsSegment (file made.log_a) (OpenSegment 0 [])
 
@@ -33,5 +38,4 @@ module _ {D : Type 0} (file : D → List ℕ) (leaves : D → List ℕ → Type 
   pub record AreNotMade (files : FourFiles D) (cells : ℕ) (refusal : Refusal) (left : FourFiles D) : Type 0 where
     pub not_empty : refusal ≡ NotEmpty → ¬ FilesAreClosed file files
     pub kept : refusal ≢ Device → EachFile files left (KeepsFile file leaves)
-    pub safe : AreSynced file leaves files → FilesAreClosed file files
-        → IsFresh (leaves left.image_a) (leaves left.image_b) (leaves left.log_a) (leaves left.log_b) cells ⊎ AreSound file leaves left cells [] 0
+    pub safe : AreSynced file leaves files → FilesAreClosed file files → AreFreshOrSound left (replicate cells 0)

@@ -23,10 +23,10 @@ module _ {D : Type 0} (file : D → List ℕ) (leaves : D → List ℕ → Type 
     pub log_a : Only (file files.log_a) (leaves files.log_a)
     pub log_b : Only (file files.log_b) (leaves files.log_b)
 
-  -- Whatever a crash leaves of the files, recovery gives the world after the first n of these ticks, for some n not below
-  -- the acknowledged count. Each open image is the world after its tick.
-  abbrev pub AreSound : FourFiles D → (cells : ℕ) → List (List Action) → (acknowledged : ℕ) → Type 0
-  AreSound files cells ticks acknowledged = IsSound (leaves files.image_a) (leaves files.image_b) (leaves files.log_a) (leaves files.log_b) cells ticks acknowledged
+  -- Whatever a crash leaves of the files, recovery gives the world after the first n of these ticks from these first words,
+  -- for some n not below the acknowledged count. Each open image is the world after its tick.
+  abbrev pub AreSound : FourFiles D → (first : List ℕ) → List (List Action) → (acknowledged : ℕ) → Type 0
+  AreSound files first ticks acknowledged = IsSound (leaves files.image_a) (leaves files.image_b) (leaves files.log_a) (leaves files.log_b) first ticks acknowledged
 
 module _ {D : Type 0} (file : D → List ℕ) where
   -- recovery of the bytes that reads of the files give has this result
@@ -90,5 +90,5 @@ module _ {C D : Type 0} (content : C → Content) (file : D → List ℕ) (leave
     pub matches : MatchesRecovery content file files engine from
     pub open matches use *
     pub newest : HasNewest engine.images
-    pub follows : (cells : ℕ) (ticks : List (List Action)) (acknowledged : ℕ) → AreSynced file leaves files → AreSound file leaves files cells ticks acknowledged
-        → (engine.images.cells ≡ cells) × Follows content file leaves engine left (take recovery.tick ticks) acknowledged
+    pub follows : (first : List ℕ) (ticks : List (List Action)) (acknowledged : ℕ) → AreSynced file leaves files → AreSound file leaves files first ticks acknowledged
+        → Follows content file leaves engine left first (take recovery.tick ticks) acknowledged

@@ -35,11 +35,13 @@ module _ {D : Type 0} (file : D → List ℕ) (honest : Bool) where
     pub most : parts.ended ≤ TICK_MAX
 
 module _ {D : Type 0} (file : D → List ℕ) (leaves : D → List ℕ → Type 0) where
-  -- These ticks have ended, and the parts hold a world at rest after them. Both keepers with their files represent it.
-  pub record AreSettled (parts : Parts D) (ticks : List (List Action)) : Type 0 where
+  -- From these first words these ticks have ended, and the parts hold a world at rest after them. Both keepers with their
+  -- files represent it.
+  pub record AreSettled (parts : Parts D) (first : List ℕ) (ticks : List (List Action)) : Type 0 where
+    pub cells : parts.images.cells ≡ length first
     pub images : Images
     pub logs : Logs
-    pub settled : IsSettled parts.images.cells ticks parts.words.items images logs
+    pub settled : IsSettled first ticks parts.words.items images logs
     pub has_images : ImagesStand parts.images (Newest images) (file parts.files.image_a) (file parts.files.image_b) (leaves parts.files.image_a) (leaves parts.files.image_b)
     pub has_log : LogStands parts.log (file parts.files.log_a) (file parts.files.log_b) (leaves parts.files.log_a) (leaves parts.files.log_b) (record { journal = Writing logs; left = 0 })
     pub ended : parts.ended ≡ length ticks

@@ -50,34 +50,35 @@ IsFirst keeper queue = (queue ≡ []) × ((keeper.starting ≡ true) ⊎ ((keepe
 module _ {S D : Type 0} (content : S → Content) (file : D → List ℕ) (leaves : D → List ℕ → Type 0) where
   -- The keeper and its files represent images that are in step with these ticks, beside this log. At least so many of the
   -- ticks are acknowledged.
-  pub record RoundStands (keeper : ImageProgress) (store : S) (a b : D) (ticks : List (List Action)) (acknowledged : ℕ) (journal : Journal) (queue : List Record) : Type 0 where
+  pub record RoundStands (keeper : ImageProgress) (store : S) (a b : D) (first : List ℕ) (ticks : List (List Action)) (acknowledged : ℕ) (journal : Journal) (queue : List Record) : Type 0 where
     pub images : ImageFiles
+    pub cells : keeper.cells ≡ length first
     pub stands : ImagesStand keeper images (file a) (file b) (leaves a) (leaves b)
     pub count : ℕ
     pub at_least : acknowledged ≤ count
-    pub in_step : InStep keeper.cells ticks count (content store) images journal queue
+    pub in_step : InStep first ticks count (content store) images journal queue
 
   -- After the run they still do, for the same ticks and the same log.
   abbrev pub RoundGoes : (keeper_before keeper_after : ImageProgress) (store_before store_after : S) (a_before a_after b_before b_after : D) → Type 0
   RoundGoes keeper_before keeper_after store_before store_after a_before a_after b_before b_after =
-      (ticks : List (List Action)) (acknowledged : ℕ) (journal : Journal) (queue : List Record)
-      → RoundStands keeper_before store_before a_before b_before ticks acknowledged journal queue
-      → RoundStands keeper_after store_after a_after b_after ticks acknowledged journal queue
+      (first : List ℕ) (ticks : List (List Action)) (acknowledged : ℕ) (journal : Journal) (queue : List Record)
+      → RoundStands keeper_before store_before a_before b_before first ticks acknowledged journal queue
+      → RoundStands keeper_after store_after a_after b_after first ticks acknowledged journal queue
 
 module _ {D : Type 0} (file : D → List ℕ) (leaves : D → List ℕ → Type 0) where
   -- The log keeper and its files represent a log that is in step with these ticks, beside this store and these images. At
   -- least so many of the ticks are acknowledged.
-  pub record LogGoesOn (keeper : LogProgress) (queue : List Record) (a b : D) (cells : ℕ) (ticks : List (List Action)) (acknowledged : ℕ) (content : Content) (images : ImageFiles) : Type 0 where
+  pub record LogGoesOn (keeper : LogProgress) (queue : List Record) (a b : D) (first : List ℕ) (ticks : List (List Action)) (acknowledged : ℕ) (content : Content) (images : ImageFiles) : Type 0 where
     pub place : LogPlace
     pub stands : LogStands keeper (file a) (file b) (leaves a) (leaves b) place
     pub count : ℕ
     pub at_least : acknowledged ≤ count
-    pub in_step : InStep cells ticks count content images place.journal queue
+    pub in_step : InStep first ticks count content images place.journal queue
 
   -- After the run they still do, for the same ticks, store and images. The log of a start waits for its image.
   abbrev pub LogGoes : (keeper_before keeper_after : LogProgress) (queue_before queue_after : List Record) (a_before a_after b_before b_after : D) → Type 0
   LogGoes keeper_before keeper_after queue_before queue_after a_before a_after b_before b_after =
-      (cells : ℕ) (ticks : List (List Action)) (acknowledged : ℕ) (content : Content) (images : ImageFiles)
-      → 1 ≤ cells → (keeper_before.starting ≡ false) ⊎ (round_in images ≡ None)
-      → LogGoesOn keeper_before queue_before a_before b_before cells ticks acknowledged content images
-      → LogGoesOn keeper_after queue_after a_after b_after cells ticks acknowledged content images
+      (first : List ℕ) (ticks : List (List Action)) (acknowledged : ℕ) (content : Content) (images : ImageFiles)
+      → 1 ≤ length first → (keeper_before.starting ≡ false) ⊎ (round_in images ≡ None)
+      → LogGoesOn keeper_before queue_before a_before b_before first ticks acknowledged content images
+      → LogGoesOn keeper_after queue_after a_after b_after first ticks acknowledged content images

@@ -1,6 +1,6 @@
 -- The facts on an engine and its files between two steps, and the beginning of a start. The last part is for private
 -- functions alone.
-use Rattle.std.specs.Prelude.{◌≡◌, ◌≤◌, ◌⊎◌, ℕ, ◌-◌, Bool, true, false, IsTrue, List, [], All, length, Option}
+use Rattle.std.specs.Prelude.{◌≡◌, ◌≤◌, ◌⊎◌, ℕ, ◌-◌, Bool, true, false, IsTrue, List, [], All, length, Option, replicate}
 use Rattle.action_log.specs.Files.{FitsFiles as LogFits}
 use Rattle.action_log.specs.Logs.{start_of, start_moves}
 use Rattle.action_log.specs.Progress.{begun, QueueFollows, end_of, work_of}
@@ -103,4 +103,4 @@ pub record IsBegunFresh {C D : Type 0} (content : C → Content) (file : D → L
   pub since : engine.since ≡ 0
   pub starting : engine.log.starting ≡ true
   pub queue : engine.queue.items ≡ []
-  pub follows : AreSynced file leaves files → (engine.images.cells ≡ cells) × Follows content file leaves engine left [] 0
+  pub follows : AreSynced file leaves files → Follows content file leaves engine left (replicate cells 0) [] 0

@@ -16,12 +16,12 @@ use restart::{gates_are_told, worlds_are_safe, worlds_go_on};
 /// Laws: the files of a world that follows its ticks are sound for them and the acknowledged count, once there is an image.
 /// After a start there is an image.
 pub fn followed_files_are_sound<C: Capture, D: Disk>()
-    ensures begun { (engine : Engine C) (files : FourFiles D) (ticks : List (List Action)) (acknowledged : ℕ)
-        → HasNewest engine.images → Follows C.content D.content D.may_leave engine files ticks acknowledged
-        → AreSound D.content D.may_leave files engine.images.cells ticks acknowledged }
-    ensures started { (engine : Engine C) (files : FourFiles D) (ticks : List (List Action)) (acknowledged : ℕ)
-        → engine.log.starting ≡ false → Follows C.content D.content D.may_leave engine files ticks acknowledged
-        → AreSound D.content D.may_leave files engine.images.cells ticks acknowledged }
+    ensures begun { (engine : Engine C) (files : FourFiles D) (first : List ℕ) (ticks : List (List Action)) (acknowledged : ℕ)
+        → HasNewest engine.images → Follows C.content D.content D.may_leave engine files first ticks acknowledged
+        → AreSound D.content D.may_leave files first ticks acknowledged }
+    ensures started { (engine : Engine C) (files : FourFiles D) (first : List ℕ) (ticks : List (List Action)) (acknowledged : ℕ)
+        → engine.log.starting ≡ false → Follows C.content D.content D.may_leave engine files first ticks acknowledged
+        → AreSound D.content D.may_leave files first ticks acknowledged }
 {
     images_stay::<D>();
     log_outcomes::<D>();

@@ -40,9 +40,9 @@ impl<C: Capture> Engine<C> {
         ensures none_queued { result.log.down ≡ false → self.queue.items ≡ [] }
         ensures rest { AreAtRest D.content D.honest result }
         ensures settled { result.log.down ≡ false → result.images.phase ≡ Idle → result.since ≡ 0
-            → (ticks : List (List Action)) (acknowledged : ℕ)
-            → Follows C.content D.content D.may_leave self files ticks acknowledged
-            → AreSettled D.content D.may_leave result ticks }
+            → (first : List ℕ) (ticks : List (List Action)) (acknowledged : ℕ)
+            → Follows C.content D.content D.may_leave self files first ticks acknowledged
+            → AreSettled D.content D.may_leave result first ticks }
     {
         images_stay::<D>();
         log_outcomes::<D>();

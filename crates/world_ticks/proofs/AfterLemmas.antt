@@ -2,11 +2,11 @@
 use Rattle.std.proofs.Common.{◌+◌, ◌<◌, length, get_or, take, drop, add-one, suc, IsErr, ◌≡◌, ℕ, List, [], ◌∷◌, ◌++◌, Ok, Err, refl, ◌∙◌, ap, sym, Result, append_assoc, append-nil}
 use Rattle.world_actions.specs.declared.action.Action.{Action}
 use Rattle.world_actions.specs.declared.refusal.Refusal.{Refusal}
-use Rattle.std.specs.Prelude.{Option, Some, None, slice_set, replicate}
+use Rattle.std.specs.Prelude.{Option, Some, None, slice_set}
 use Rattle.world_actions.specs.Effect.{Write, effect, refusal_of, writes_of, written, unless}
 use Rattle.std.proofs.Math.Seq.{drop-cons, take-suc}
 use Rattle.std.specs.List.{flat_map}
-use Rattle.std.proofs.lemmas.List.{take-append-drop, length-set, length-replicate}
+use Rattle.std.proofs.lemmas.List.{take-append-drop, length-set}
 use Rattle.world_ticks.specs.After.{and_then, after_actions, after_ticks, writes_then, accepted_writes, StopsAt}
 
 -- actions one part after the other
@@ -148,6 +148,5 @@ pub length-after_actions : (world after : List ℕ) (actions : List Action) → 
 length-after_actions world after actions done =
     ap length (sym (written-accepted_writes world after actions done)) ∙ length-written world (accepted_writes world actions)
 
-pub length-after_ticks : (cells : ℕ) (after : List ℕ) (ticks : List (List Action)) → after_ticks cells ticks ≡ Ok after → length after ≡ cells
-length-after_ticks cells after ticks done =
-    length-after_actions (replicate cells 0) after (flat_map (λ tick. tick) ticks) done ∙ length-replicate cells 0
+pub length-after_ticks : (first after : List ℕ) (ticks : List (List Action)) → after_ticks first ticks ≡ Ok after → length after ≡ length first
+length-after_ticks first after ticks done = length-after_actions first after (flat_map (λ tick. tick) ticks) done

@@ -1,5 +1,5 @@
 -- The world after actions and after ticks.
-use Rattle.std.specs.Prelude.{◌≡◌, ℕ, List, [], ◌∷◌, ◌++◌, Result, Ok, Err, IsErr, replicate}
+use Rattle.std.specs.Prelude.{◌≡◌, ℕ, List, [], ◌∷◌, ◌++◌, Result, Ok, Err, IsErr}
 use Rattle.std.specs.List.{flat_map}
 use Rattle.world_actions.specs.declared.action.Action.{Action}
 use Rattle.world_actions.specs.declared.refusal.Refusal.{Refusal}
@@ -15,9 +15,9 @@ abbrev pub after_actions : List ℕ → List Action → Result (List ℕ) Refusa
 after_actions world [] = Ok world
 after_actions world (action ∷ actions) = and_then (effect world action) (λ next. after_actions next actions)
 
--- the world after these ticks, from this many zeros
-abbrev pub after_ticks : ℕ → List (List Action) → Result (List ℕ) Refusal
-after_ticks cells ticks = after_actions (replicate cells 0) (flat_map (λ tick. tick) ticks)
+-- the world after these ticks, from the words of a first world
+abbrev pub after_ticks : List ℕ → List (List Action) → Result (List ℕ) Refusal
+after_ticks first ticks = after_actions first (flat_map (λ tick. tick) ticks)
 
 -- these writes and the later ones, or none if the action was refused
 abbrev pub writes_then : Result (List ℕ) Refusal → List Write → (List ℕ → List Write) → List Write

@@ -12,6 +12,6 @@ pub fn actions_go_on()
         → written world (accepted_writes world actions) ≡ after }
     ensures lengths { (world after : List ℕ) (actions : List Action) → after_actions world actions ≡ Ok after
         → length after ≡ length world }
-    ensures cells { (cells : ℕ) (after : List ℕ) (ticks : List (List Action)) → after_ticks cells ticks ≡ Ok after
-        → length after ≡ cells }
+    ensures cells { (first after : List ℕ) (ticks : List (List Action)) → after_ticks first ticks ≡ Ok after
+        → length after ≡ length first }
 {}

@@ -31,9 +31,9 @@ impl<C: Capture> Engine<C> {
         ensures live { (C.content self.new.store).live ≡ (C.content self.old.store).live }
         ensures newest { HasNewest self.old.images → HasNewest self.new.images }
         ensures follows { IsTrue D.honest → StillFollows C.content D.content D.may_leave self.old files.old self.new files.new }
-        ensures acknowledges { IsTrue D.honest → (ticks : List (List Action)) (acknowledged : ℕ)
-            → Follows C.content D.content D.may_leave self.old files.old ticks acknowledged
-            → OnOk result (Follows C.content D.content D.may_leave self.new files.new ticks self.new.ended) }
+        ensures acknowledges { IsTrue D.honest → (first : List ℕ) (ticks : List (List Action)) (acknowledged : ℕ)
+            → Follows C.content D.content D.may_leave self.old files.old first ticks acknowledged
+            → OnOk result (Follows C.content D.content D.may_leave self.new files.new first ticks self.new.ended) }
         ensures refused { IfErr result (λ refusal. refusal ≡ Refusal.Device) }
         ensures device { (self.old.images.phase ≡ Down → ⊥) → self.old.log.down ≡ false → OnErr result
             (SomeGrew (fault_counts D.faults files.old) (fault_counts D.faults files.new)) }

@@ -7,8 +7,8 @@ returns g c = record {
   tick_ends = tick_ends;
   mark = mark_is_made;
   image_step = image_step_keeps g.T.Taker.took;
-  log_step = λ cells ticks acknowledged images logs queue. log_step_keeps cells ticks acknowledged images logs queue;
-  cover = λ cells ticks acknowledged images logs queue. cover_keeps cells ticks acknowledged images logs queue;
-  receipt = λ cells ticks acknowledged images logs queue. receipt_is_exact cells ticks acknowledged images logs queue;
-  cover_receipt = λ cells ticks acknowledged images logs queue. cover_receipt_is_exact cells ticks acknowledged images logs queue;
+  log_step = λ first ticks acknowledged images logs queue. log_step_keeps first ticks acknowledged images logs queue;
+  cover = λ first ticks acknowledged images logs queue. cover_keeps first ticks acknowledged images logs queue;
+  receipt = λ first ticks acknowledged images logs queue. receipt_is_exact first ticks acknowledged images logs queue;
+  cover_receipt = λ first ticks acknowledged images logs queue. cover_receipt_is_exact first ticks acknowledged images logs queue;
 }

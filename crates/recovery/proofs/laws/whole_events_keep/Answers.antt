@@ -7,6 +7,6 @@ returns c = record {
   taken = round_is_taken;
   opened = round_is_opened;
   written = tick_is_written;
-  switch = λ cells ticks acknowledged images logs tick queue. keeps_switch_begun cells ticks acknowledged images logs tick queue;
-  switched = λ cells ticks acknowledged images logs tick queue. keeps_switched cells ticks acknowledged images logs tick queue;
+  switch = λ first ticks acknowledged images logs tick queue. keeps_switch_begun first ticks acknowledged images logs tick queue;
+  switched = λ first ticks acknowledged images logs tick queue. keeps_switched first ticks acknowledged images logs tick queue;
 }

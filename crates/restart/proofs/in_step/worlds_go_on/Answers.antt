@@ -10,9 +10,9 @@ returns c =
     record {
       recovery = recovery_begins starts;
       fresh = fresh_begins;
-      image_step = λ cells ticks acknowledged images journal queue given next old new. image_step events starts cells ticks acknowledged images journal queue given next old new;
-      log_step = λ cells ticks acknowledged content images place queue given next left. log_step events starts cells ticks acknowledged content images place queue given next left;
-      cover = λ cells ticks acknowledged content images logs queue tick given left. cover events cells ticks acknowledged content images logs queue tick given left;
+      image_step = λ first ticks acknowledged images journal queue given next old new. image_step events starts first ticks acknowledged images journal queue given next old new;
+      log_step = λ first ticks acknowledged content images place queue given next left. log_step events starts first ticks acknowledged content images place queue given next left;
+      cover = λ first ticks acknowledged content images logs queue tick given left. cover events first ticks acknowledged content images logs queue tick given left;
       tick = tick_goes_on c.actions_go_on.ensures.append events;
       mark = mark_goes_on events;
       all_acknowledged = all_acknowledged;

@@ -1,7 +1,7 @@
 use Rattle.std.proofs.Common.{◌≡◌, ℕ, List, subst, ◌∙◌, arith, take}
 use Rattle.world_actions.specs.declared.refusal.Refusal.TheVariants.{Device}
 use Rattle.disk_model.specs.FourFiles.{fault_counts}
-use Rattle.world_start.specs.Opening.{SomeGrew, AreSound}
+use Rattle.world_start.specs.Opening.{SomeGrew}
 use Rattle.serial_world.specs.Opened.{IsNotOpened}
 use Rattle.world_start.specs.Engine.{Follows}
 use Rattle.world_start.proofs.Recovered.{if_err}
@@ -19,13 +19,12 @@ returns-in_err-start-clause-left g c = λ honest.
     if_err c.from_residual-in_err-start.result refusal (λ r. IsNotOpened file leaves files r after) c.from_residual-in_err-start.ensures.1
     (record {
       kept = λ other. absurd (other c.in_err-start.ensures.refused);
-      sound = λ cells ticks acknowledged synced sound.
-          (let f = read.follows cells ticks acknowledged synced sound in
-          let on = c.start.ensures.follows honest (take read.recovery.tick ticks) acknowledged f.1 in
+      sound = λ first ticks acknowledged synced sound.
+          (let f = read.follows first ticks acknowledged synced sound in
+          let on = c.start.ensures.follows honest first (take read.recovery.tick ticks) acknowledged f in
           let has = c.start.ensures.newest read.newest in
-          let s = c.followed_files_are_sound.ensures.begun c.start.new.self after (take read.recovery.tick ticks) acknowledged has on in
-          let named : AreSound file leaves after cells (take read.recovery.tick ticks) acknowledged = subst (λ n. AreSound file leaves after n (take read.recovery.tick ticks) acknowledged) (c.start.ensures.cells ∙ f.0) s in
-          sound_of_more (leaves after.image_a) (leaves after.image_b) (leaves after.log_a) (leaves after.log_b) cells ticks read.recovery.tick acknowledged acknowledged (omega arith) named);
+          let s = c.followed_files_are_sound.ensures.begun c.start.new.self after first (take read.recovery.tick ticks) acknowledged has on in
+          sound_of_more (leaves after.image_a) (leaves after.image_b) (leaves after.log_a) (leaves after.log_b) first ticks read.recovery.tick acknowledged acknowledged (omega arith) s);
     })
 
 pub returns-clause-started : goal.returns-clause-started
@@ -41,11 +40,9 @@ returns-clause-started g c = λ honest.
         ended = ended;
         since = c.start.ensures.ended.1 ∙ read.since;
       };
-      follows = λ cells ticks acknowledged synced sound.
-          (let f = read.follows cells ticks acknowledged synced sound in (
-            c.start.ensures.cells ∙ f.0,
-            subst (λ n. Follows g.C.Capture.content g.D.Disk.content g.D.Disk.may_leave c.start.new.self c.start.new.files (take read.recovery.tick ticks) n) ended (c.in_ok-start.ensures.acknowledges honest (take read.recovery.tick ticks) acknowledged f.1),
-          ));
+      follows = λ first ticks acknowledged synced sound.
+          (let f = read.follows first ticks acknowledged synced sound in
+          subst (λ n. Follows g.C.Capture.content g.D.Disk.content g.D.Disk.may_leave c.start.new.self c.start.new.files first (take read.recovery.tick ticks) n) ended (c.in_ok-start.ensures.acknowledges honest first (take read.recovery.tick ticks) acknowledged f));
     }
 
 pub returns-clause-recovered : goal.returns-clause-recovered

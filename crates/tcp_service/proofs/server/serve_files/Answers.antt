@@ -9,7 +9,7 @@ returns-in-Ok-serve_tcp-clause-sound g c = λ honest.
       c.in-Ok.opened.ended,
       c.in-Ok.field-0-1,
       record { recovery = is.recovery; recovers = is.recovers; words = served.began.0 ∙ is.words; tick = is.tick; image = is.image },
-      λ cells ticks acknowledged synced sound.
-          let stands = made.stands honest cells ticks acknowledged synced sound in
-          served.sound honest cells (take c.in-Ok.opened.ended ticks) stands.0 stands.1,
+      λ first ticks acknowledged synced sound.
+          let stands = made.stands honest first ticks acknowledged synced sound in
+          served.sound honest first (take c.in-Ok.opened.ended ticks) stands.0 stands.1,
     )

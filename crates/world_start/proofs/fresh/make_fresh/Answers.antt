@@ -1,4 +1,4 @@
-use Rattle.std.proofs.Common.{◌≡◌, ℕ, List, subst, ◌∙◌, [], false, arith}
+use Rattle.std.proofs.Common.{◌≡◌, ℕ, List, subst, ◌∙◌, [], false, arith, replicate}
 use Rattle.std.specs.Prelude.{OnOk, OnErr}
 use Rattle.world_actions.specs.declared.refusal.Refusal.TheVariants.{Device}
 use Rattle.file_format.specs.declared.slot.Slot.TheVariants.{A}
@@ -7,7 +7,7 @@ use Rattle.disk_model.specs.FourFiles.{fault_counts}
 use Rattle.image_files.specs.declared.phase.Phase.TheVariants.{Idle}
 use Rattle.action_log.specs.Segment.{OpenSegment, IsSegment}
 use Rattle.world_start.specs.Steps.{IsAtRest}
-use Rattle.world_start.specs.Opening.{SomeGrew, AreSound}
+use Rattle.world_start.specs.Opening.{SomeGrew}
 use Rattle.world_start.specs.Fresh.{AreMade, AreNotMade}
 use Rattle.world_start.proofs.Made.{on_ok, no_items, if_refused, start_failed}
 use Rattle.world_start.proofs.Faults.{refused_device}
@@ -32,7 +32,7 @@ returns-clause-made g c = λ honest.
     record {
       closed = begun.closed;
       synced = λ synced.
-          (let on = c.start.ensures.follows honest [] 0 (begun.follows synced).1 in
+          (let on = c.start.ensures.follows honest (replicate c.args.cells 0) [] 0 (begun.follows synced) in
           let images = c.images_stay.ensures.rests last.images on.images after.image_a after.image_b on.has_images idle in
           let log = c.log_outcomes.ensures.rests last.log after.log_a after.log_b on.place on.has_log ready.ready in
           record { image_a = images.0; image_b = images.1; log_a = log.0; log_b = log.1 });
@@ -40,10 +40,8 @@ returns-clause-made g c = λ honest.
           (subst (λ ticks. IsSegment (of_slot last.log.current (file after.log_a) (file after.log_b)) (OpenSegment 0 ticks)) (no_items settled.0 (settled.1 ∙ ready.count ∙ since))
           (subst (λ n. IsSegment (of_slot last.log.current (file after.log_a) (file after.log_b)) (OpenSegment n settled.0)) base settled.2));
       sound = λ synced.
-          (let f = begun.follows synced in
-          let on = c.start.ensures.follows honest [] 0 f.1 in
-          subst (λ n. AreSound file leaves after n [] 0) (c.start.ensures.cells ∙ f.0)
-          (started_sound g.C.Capture.content file leaves c.images_stay.ensures.newest c.images_stay.ensures.left c.log_outcomes.ensures.reads c.worlds_are_safe.ensures last after [] 0 rest.started on));
+          (let on = c.start.ensures.follows honest (replicate c.args.cells 0) [] 0 (begun.follows synced) in
+          started_sound g.C.Capture.content file leaves c.images_stay.ensures.newest c.images_stay.ensures.left c.log_outcomes.ensures.reads c.worlds_are_safe.ensures last after (replicate c.args.cells 0) [] 0 rest.started on);
     })
     c.start.ensures.rest c.start.ensures.up c.start.ensures.idle (c.start.ensures.first begun.starting begun.queue)
 
@@ -52,8 +50,8 @@ returns-clause-left g c = λ honest.
     let D = g.D.Disk in
     if_refused c.start.result (λ r. r ≡ Device) (λ r. AreNotMade D.content D.may_leave c.args.files.now c.args.cells r c.start.new.files)
     (λ r is. start_failed g.C.Capture.content D.content D.may_leave c.args.files.now c.start.new.files c.args.cells c.start.new.self r is
-    (λ synced. let f = (c.in_ok-engine.ensures.begun honest).follows synced in (c.start.ensures.cells ∙ f.0, c.start.ensures.follows honest [] 0 f.1))
-    (follows_safe g.C.Capture.content D.content D.may_leave c.images_stay.ensures.newest c.images_stay.ensures.left c.log_outcomes.ensures.reads c.worlds_are_safe.ensures c.start.new.self c.start.new.files [] 0))
+    (λ synced. c.start.ensures.follows honest (replicate c.args.cells 0) [] 0 ((c.in_ok-engine.ensures.begun honest).follows synced))
+    (follows_safe g.C.Capture.content D.content D.may_leave c.images_stay.ensures.newest c.images_stay.ensures.left c.log_outcomes.ensures.reads c.worlds_are_safe.ensures c.start.new.self c.start.new.files (replicate c.args.cells 0) [] 0))
     c.start.ensures.refused
 
 pub returns-clause-device : goal.returns-clause-device

@@ -20,10 +20,10 @@ loop-keeper-preserved g c =
       live = live_step content took after_take c.step_files.result c.loop-keeper.keeper c.step_files.new.self c.loop-keeper.store c.step_files.new.from e.taken ∙ inv.live;
       faults = round_faults c.step_files.result c.args.keeper.now.phase c.loop-keeper.keeper c.step_files.new.self.phase (g.D.Disk.faults c.args.image_a.now) (g.D.Disk.faults c.loop-keeper.image_a) (g.D.Disk.faults c.step_files.new.image_a)
           (g.D.Disk.faults c.args.image_b.now) (g.D.Disk.faults c.loop-keeper.image_b) (g.D.Disk.faults c.step_files.new.image_b) inv.faults some e.down e.cause;
-      goes = λ honest ticks acknowledged journal queue r.
+      goes = λ honest first ticks acknowledged journal queue r.
           round_steps content took after_take g.D.Disk.content g.D.Disk.may_leave c.worlds_go_on.ensures c.loop-keeper.keeper c.step_files.new.self c.loop-keeper.store c.step_files.new.from
-          c.loop-keeper.image_a c.step_files.new.image_a c.loop-keeper.image_b c.step_files.new.image_b c.step_files.result e.cells (e.stands honest) ticks acknowledged journal queue
-          (inv.goes honest ticks acknowledged journal queue r);
+          c.loop-keeper.image_a c.step_files.new.image_a c.loop-keeper.image_b c.step_files.new.image_b c.step_files.result e.cells (e.stands honest) first ticks acknowledged journal queue
+          (inv.goes honest first ticks acknowledged journal queue r);
     }
 
 pub loop-keeper-smaller : goal.loop-keeper-smaller

@@ -1,4 +1,4 @@
-use Rattle.std.proofs.Common.{◌≡◌, IsTrue, ◌+◌, refl, sym, ap, ◌∙◌, arith, inl, inr, List, ◌++◌, ◌∷◌, []}
+use Rattle.std.proofs.Common.{◌≡◌, IsTrue, ◌+◌, refl, sym, ap, ◌∙◌, arith, inl, inr, List, ◌++◌, ◌∷◌, [], ℕ}
 use Rattle.world_actions.specs.declared.action.Action.{Action}
 use Rattle.batches.specs.Answer.{accepted_of}
 use Rattle.world_start.specs.declared.engine.Engine.{Engine}
@@ -29,10 +29,10 @@ returns-then-is_down-clause-refused g c =
         ended = ap (λ (e : Engine g.row.C.Denot). e.ended) c.write_log.ensures.same ∙ ap (λ (e : Engine g.row.C.Denot). e.ended) p.is;
         words = ap (λ s. (g.C.Capture.content s).live) store ∙ p.live;
         same = (refl, refl, cells);
-        serves = λ honest ticks f. record {
+        serves = λ honest first ticks f. record {
           started = started;
-          follows = c.write_log.ensures.follows honest (ticks ++ accepted_of requests (g.C.Capture.content old.engine.store).live ∷ []) old.acked
-              (tick_follows g.C.Capture.content g.D.Disk.content g.D.Disk.may_leave c.worlds_go_on.ensures c.answers_are_ticks.ensures.accepted old.engine played old.files requests ticks old.acked c.requires.started p f.follows);
+          follows = c.write_log.ensures.follows honest first (ticks ++ accepted_of requests (g.C.Capture.content old.engine.store).live ∷ []) old.acked
+              (tick_follows g.C.Capture.content g.D.Disk.content g.D.Disk.may_leave c.worlds_go_on.ensures c.answers_are_ticks.ensures.accepted old.engine played old.files requests first ticks old.acked c.requires.started p f.follows);
         };
       };
       is = refl;
@@ -54,17 +54,17 @@ returns-clause-answered g c =
     let since : logged.since ≡ old.engine.since + 1 = ap (λ (e : Engine g.row.C.Denot). e.since) c.write_log.ensures.same ∙ ap (λ (e : Engine g.row.C.Denot). e.since) p.is in
     let started = c.write_log.ensures.started (ap (λ (e : Engine g.row.C.Denot). e.log.starting) p.is ∙ c.requires.started) in
     let rests = no_work logged.log logged.queue.items c.write_log.ensures.rests (sym c.if-is_down.ensures) in
-    let follows = λ (honest : IsTrue g.D.Disk.honest) (ticks : List (List Action)) (f : Serves g.C.Capture.content g.D.Disk.content g.D.Disk.may_leave g.D.Disk.honest old ticks).
-    all_follows g.C.Capture.content g.D.Disk.content g.D.Disk.may_leave c.worlds_go_on.ensures c.log_outcomes.ensures.ready logged c.write_log.new.files (ticks ++ accepted_of requests live ∷ []) old.acked started rests
-    (c.write_log.ensures.follows honest (ticks ++ accepted_of requests live ∷ []) old.acked
-    (tick_follows g.C.Capture.content g.D.Disk.content g.D.Disk.may_leave c.worlds_go_on.ensures c.answers_are_ticks.ensures.accepted old.engine played old.files requests ticks old.acked c.requires.started p f.follows)) in
+    let follows = λ (honest : IsTrue g.D.Disk.honest) (first : List ℕ) (ticks : List (List Action)) (f : Serves g.C.Capture.content g.D.Disk.content g.D.Disk.may_leave g.D.Disk.honest old first ticks).
+    all_follows g.C.Capture.content g.D.Disk.content g.D.Disk.may_leave c.worlds_go_on.ensures c.log_outcomes.ensures.ready logged c.write_log.new.files first (ticks ++ accepted_of requests live ∷ []) old.acked started rests
+    (c.write_log.ensures.follows honest first (ticks ++ accepted_of requests live ∷ []) old.acked
+    (tick_follows g.C.Capture.content g.D.Disk.content g.D.Disk.may_leave c.worlds_go_on.ensures c.answers_are_ticks.ensures.accepted old.engine played old.files requests first ticks old.acked c.requires.started p f.follows)) in
     record {
       plays = record {
         allowed = sym c.batch_refusal.ensures.refusal ∙ c.in_default.is;
         ended = c.checkpoint_if_due.ensures.ended ∙ ended;
         words = c.checkpoint_if_due.ensures.live ∙ (ap (λ (e : Engine g.row.C.Denot). (g.C.Capture.content e.store).live) c.write_log.ensures.same ∙ p.live);
         same = (ap (λ (s : SerialState g.row.C.Denot g.row.D.Denot). s.every) c.checkpoint_if_due.ensures.same, ap (λ (s : SerialState g.row.C.Denot g.row.D.Denot). s.recovered) c.checkpoint_if_due.ensures.same, c.checkpoint_if_due.ensures.cells ∙ (ap (λ (e : Engine g.row.C.Denot). e.images.cells) c.write_log.ensures.same ∙ ap (λ (e : Engine g.row.C.Denot). e.images.cells) p.is));
-        serves = λ honest ticks f. c.checkpoint_if_due.ensures.serves honest (ticks ++ accepted_of requests live ∷ []) (record { started = started; follows = follows honest ticks f });
+        serves = λ honest first ticks f. c.checkpoint_if_due.ensures.serves honest first (ticks ++ accepted_of requests live ∷ []) (record { started = started; follows = follows honest first ticks f });
       };
       text_is = c.in_ok-play.ensures.text;
       acked = ap (λ (s : SerialState g.row.C.Denot g.row.D.Denot). s.acked) c.checkpoint_if_due.ensures.same ∙ sym c.checkpoint_if_due.ensures.ended;
@@ -72,5 +72,5 @@ returns-clause-answered g c =
         | inl same ↦ inl (same ∙ since)
         | inr marked ↦ inr (marked.0, omega (arith, marked.1, since))
       ];
-      image = λ honest ticks f due. c.checkpoint_if_due.ensures.image honest (ticks ++ accepted_of requests live ∷ []) (record { started = started; follows = follows honest ticks f }) (omega (arith, due, since));
+      image = λ honest first ticks f due. c.checkpoint_if_due.ensures.image honest first (ticks ++ accepted_of requests live ∷ []) (record { started = started; follows = follows honest first ticks f }) (omega (arith, due, since));
     }

@@ -18,9 +18,9 @@ returns-in-Ok-clause-none_queued g c = λ up.
     ap (λ (s : SerialState g.row.C.Denot g.row.D.Denot). s.engine.queue.items) (sym c.self.view_is) ∙ c.into_parts.ensures.none_queued up
 
 pub returns-in-Ok-clause-settled : goal.returns-in-Ok-clause-settled
-returns-in-Ok-clause-settled g c = λ up idle none ticks serves.
+returns-in-Ok-clause-settled g c = λ up idle none first ticks serves.
     let D = g.D.Disk in
     let serving = c.self.inside.state in
-    let now = subst (λ s. Serves g.C.Capture.content D.content D.may_leave D.honest s ticks) (sym c.self.view_is) serves in
-    c.into_parts.ensures.settled up idle none ticks serving.acked
-    (same_follows g.C.Capture.content D.content D.may_leave serving.engine c.words_of.new.store serving.files ticks serving.acked c.in-Ok.ensures.same now.follows)
+    let now = subst (λ s. Serves g.C.Capture.content D.content D.may_leave D.honest s first ticks) (sym c.self.view_is) serves in
+    c.into_parts.ensures.settled up idle none first ticks serving.acked
+    (same_follows g.C.Capture.content D.content D.may_leave serving.engine c.words_of.new.store serving.files first ticks serving.acked c.in-Ok.ensures.same now.follows)

@@ -12,7 +12,7 @@ returns-in-Ok-clause-opened g c = λ honest.
       words = s.words;
       ended = s.ended;
       acked = s.ended;
-      serves = λ cells ticks acknowledged synced sound.
-          (let f = s.follows cells ticks acknowledged synced sound in
-          (f.0, record { started = c.in-Ok.ensures.rest.started; follows = subst (λ n. Follows g.C.Capture.content g.D.Disk.content g.D.Disk.may_leave c.in-Ok.engine c.open_engine.new.files (take s.recovery.tick ticks) n) (sym s.ended) f.1 }));
+      serves = λ first ticks acknowledged synced sound.
+          (let f = s.follows first ticks acknowledged synced sound in
+          record { started = c.in-Ok.ensures.rest.started; follows = subst (λ n. Follows g.C.Capture.content g.D.Disk.content g.D.Disk.may_leave c.in-Ok.engine c.open_engine.new.files first (take s.recovery.tick ticks) n) (sym s.ended) f });
     }

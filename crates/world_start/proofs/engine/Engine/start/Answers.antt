@@ -9,11 +9,11 @@ use Rattle.world_start.proofs.engine.Engine.start.Goals as goal
 use Rattle.world_start.proofs.engine.Engine.start.Goals.{then-is_down-2-via-then-is_down-2, then-is_down-2-via-else-is_down-2+then-starting}
 
 pub returns-clause-acknowledges : goal.returns-clause-acknowledges
-returns-clause-acknowledges g c = λ honest ticks acknowledged f.
+returns-clause-acknowledges g c = λ honest first ticks acknowledged f.
     let last = c.write_log.new.self in
-    all_follows g.C.Capture.content g.D.Disk.content g.D.Disk.may_leave c.worlds_go_on.ensures c.log_outcomes.ensures.ready last c.write_log.new.files ticks acknowledged
+    all_follows g.C.Capture.content g.D.Disk.content g.D.Disk.may_leave c.worlds_go_on.ensures c.log_outcomes.ensures.ready last c.write_log.new.files first ticks acknowledged
     (sym c.if-starting.ensures.starting) (no_work last.log last.queue.items c.write_log.ensures.rests (sym c.if-is_down-2.ensures))
-    (c.write_log.ensures.follows honest ticks acknowledged (c.write_image.ensures.follows honest ticks acknowledged f))
+    (c.write_log.ensures.follows honest first ticks acknowledged (c.write_image.ensures.follows honest first ticks acknowledged f))
 
 pub returns-clause-first : goal.returns-clause-first
 returns-clause-first g c = λ starting none.
