@@ -243,7 +243,7 @@ class Trial(Rig):
         told = world_of(self.left_here(size, share) if self.given.here else self.cut(self.running, self.reader, size, share))
         self.tally.update(["cuts", moment, way])
         if not told[0].startswith("recovered"):
-            raise Wrong(f"recovered no world: {told[0]}, {moment}, of {self.failed_now}")
+            raise Wrong(f"recovered no world: {told[0]}, {moment}" + (f", of {self.failed_now}" if self.failed_now else ""))
         found = found_in(told[0], told)
         judge(self.before, found, self.answered, frozenset([*self.waiting.values(), *self.dead]))
         return found

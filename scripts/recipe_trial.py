@@ -27,7 +27,7 @@ import time
 from surroundings_trial import NAMES, Client, Wrong, is_root, want
 
 TOP = pathlib.Path(__file__).resolve().parent.parent
-PAGE = TOP / "docs" / "OPERATIONS.md"
+MANUAL = (TOP / "docs" / "OPERATIONS.md").read_text()
 # Prefixes that a unit can have, and others.
 RIGHT = "plain", "with a space", "\u00e9", "a;b#c*d~e"
 ODD = (
@@ -38,6 +38,8 @@ MAKING, BACKUP = "**2. Make a user, its folder, and a world**", "**While it serv
 RESTORE, SAVING = "**Restore.**", "**Files are removed**"
 USER, PROGRAM = "world", "/usr/local/bin/worldd"
 WORLD, OTHER, COPY = (pathlib.Path(path) for path in ("/var/lib/world", "/var/lib/world2", "/var/backups/world.1"))
+# The folder of the sockets, in the namespace.
+SOCKETS = pathlib.Path("/var/sockets")
 ROUNDS, SECONDS, INSIDE = 3, 60, "--inside"
 CASES = (
     "worlds made", "copies while it serves", "copies ahead of the answers", "copies restored", "lost files saved",
@@ -47,7 +49,7 @@ CASES = (
 
 def recipe(name: str) -> str:
     """The commands of the manual behind these words."""
-    lines = PAGE.read_text().partition(name)[2].splitlines()
+    lines = MANUAL.partition(name)[2].splitlines()
     begin = next((number for number, line in enumerate(lines) if line.startswith("    ")), None)
     want(begin is not None, f"the manual has no recipe behind `{name}`")
     end = next(number for number, line in enumerate(lines) if number > begin and not line.startswith("    "))
@@ -79,15 +81,15 @@ class Player(threading.Thread):
 
 
 class Trial:
-    """A folder for sockets, and the counts so far."""
+    """The servers and the counts so far."""
 
-    def __init__(self, room: pathlib.Path) -> None:
-        self.room, self.met, self.sockets = room, collections.Counter(), itertools.count()
+    def __init__(self) -> None:
+        self.met, self.sockets = collections.Counter(), itertools.count()
         self.servers: list[subprocess.Popen] = []
 
     def serve(self, folder: pathlib.Path) -> tuple[subprocess.Popen, int, Player]:
         """A server of a folder, as the user of the world: its process, the tick that it recovered, and a client that plays."""
-        place = self.room / f"socket{next(self.sockets)}"
+        place = SOCKETS / str(next(self.sockets))
         command = [PROGRAM, "serve", "--dir", folder, "--method", "zigzag", "--every", "8", "--socket", place, "--clients", "10"]
         as_user = {"user": USER, "group": USER, "extra_groups": []}
         server = subprocess.Popen(command, stdout=subprocess.PIPE, stderr=subprocess.DEVNULL, text=True, **as_user)
@@ -157,7 +159,7 @@ class Trial:
         for _ in range(ROUNDS):
             want(follow(MAKING) == "created 1000\n", "the manual made no world")
             self.met["worlds made"] += 1
-            shutil.chown(self.room, USER, USER)
+            shutil.chown(SOCKETS, USER, USER)
             self.round()
             shutil.rmtree(WORLD)
             subprocess.run(["userdel", USER], check=True, capture_output=True)
@@ -198,17 +200,16 @@ def furnish(worldd: pathlib.Path, room: pathlib.Path) -> None:
     (room / "bin").mkdir()
     shutil.copy(worldd, room / "bin" / "worldd")
     (room / "bin" / "worldd").chmod(0o755)
-    mounts = ("-t", "tmpfs", "tmpfs", "/var"), ("--bind", room / "etc", "/etc"), ("--bind", room / "bin", "/usr/local/bin")
+    mounts = ("--bind", room / "etc", "/etc"), ("--bind", room / "bin", "/usr/local/bin"), ("-t", "tmpfs", "tmpfs", "/var")
     for words in mounts:
         subprocess.run(["mount", *words], check=True)
-    for folder in ("lib", "backups"):
-        pathlib.Path("/var", folder).mkdir()
+    for folder in (WORLD.parent, COPY.parent, SOCKETS):
+        folder.mkdir()
 
 
 def inside(worldd: pathlib.Path, room: pathlib.Path) -> int:
     """Runs the trial in this namespace."""
-    (room / "run").mkdir()
-    trial = Trial(room / "run")
+    trial = Trial()
     try:
         furnish(worldd, room)
         print(f"recipes: {trial.run()}")

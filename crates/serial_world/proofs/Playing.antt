@@ -1,5 +1,5 @@
 -- Batches and checkpoints keep the world in step with its ticks.
-use Rattle.std.proofs.Common.{◌≡◌, ℕ, Bool, ◌+◌, ◌-◌, ◌<◌, ◌≤◌, List, [], ◌∷◌, ◌++◌, length, true, false, Option, Some, None, Ok, if◌then◌else◌, sym, ap, subst, ◌∙◌, arith}
+use Rattle.std.proofs.Common.{◌≡◌, ◌⊎◌, ℕ, Bool, ◌+◌, ◌-◌, ◌<◌, ◌≤◌, List, [], ◌∷◌, ◌++◌, length, true, false, Option, Some, None, Ok, if◌then◌else◌, sym, ap, subst, ◌∙◌, arith}
 use Rattle.std.proofs.lemmas.List.{length-append}
 use Rattle.world_actions.specs.declared.action.Action.{Action}
 use Rattle.world_ticks.specs.declared.tick.TheConstants.{TICK_MAX}
@@ -8,11 +8,11 @@ use Rattle.capture_core.specs.Content.{Content}
 use Rattle.disk_model.specs.declared.four_files.FourFiles.{FourFiles}
 use Rattle.file_format.specs.declared.slot.Slot.{Slot}
 use Rattle.file_format.specs.Slot.{in_slot}
-use Rattle.image_files.specs.declared.phase.Phase.TheVariants.{Idle, Closing, Header}
+use Rattle.image_files.specs.declared.phase.Phase.TheVariants.{Idle, Down, Closing, Header}
 use Rattle.image_files.specs.Image.{image_of, Open}
 use Rattle.image_files.specs.Images.{ImageFiles, NoneYet, Newest, ImageFilesAre, newest_in, round_in, with_round}
-use Rattle.image_files.specs.Progress.{Progress as ImageProgress, begun_keeper}
-use Rattle.image_files.specs.Files.{Stands as ImagesStand}
+use Rattle.image_files.specs.Progress.{Progress as ImageProgress, begun_keeper, cells_taken}
+use Rattle.image_files.specs.Files.{Stands as ImagesStand, FitsFiles as ImagesFit}
 use Rattle.action_log.specs.declared.record.Record.TheVariants as records
 use Rattle.action_log.specs.declared.phase.Phase.TheVariants.{Ready}
 use Rattle.action_log.specs.declared.progress.Progress.{Progress as LogProgress}
@@ -24,6 +24,8 @@ use Rattle.batches.specs.declared.batch.Request.{Request}
 use Rattle.batches.specs.Answer.{accepted_of, words_after}
 use Rattle.world_start.specs.declared.engine.Engine.{Engine}
 use Rattle.world_start.specs.Engine.{Follows}
+use Rattle.world_start.specs.Running.{CellsLeft}
+use Rattle.world_start.specs.Steps.{IsAtRest, LogInOrder}
 use Rattle.serial_world.specs.Runs.{HasImageOf}
 use Rattle.world_start.proofs.Following.{none_waits, stands_at, logs_of_place, newest_of, newest_is_base}
 use Rattle.serial_world.specs.Steps.{Plays, BeginsRound}
@@ -80,6 +82,34 @@ module _ {C D : Type 0} (content : C → Content) (file : D → List ℕ) (leave
         ended = omega (arith, f.ended, length-append ticks (p.tick.list ∷ []));
       } in
       subst (λ l. Follows content file leaves new files first (ticks ++ l ∷ []) acknowledged) p.list (subst (λ e. Follows content file leaves e files first (ticks ++ p.tick.list ∷ []) acknowledged) (sym p.is) after)
+
+  -- an engine at rest that played a batch and wrote its log is at rest again
+  pub played_rests : (honest : Bool) (old played logged : Engine C) (files after : FourFiles D) (requests : List Request) → IsAtRest content file honest old files → Plays content old played requests
+      → logged ≡ record played { log = logged.log; queue = logged.queue } → after ≡ record files { log_a = after.log_a; log_b = after.log_b }
+      → LogInOrder content file honest logged after → logged.log.starting ≡ false → (logged.log.down ≡ true) ⊎ (work_of logged.log logged.queue.items ≡ 0)
+      → IsAtRest content file honest logged after
+  played_rests honest old played logged files after requests r p same same_files log started rests =
+      let images : logged.images ≡ old.images = ap (λ (e : Engine C). e.images) same ∙ ap (λ (e : Engine C). e.images) p.is in
+      let store : logged.store ≡ played.store = ap (λ (e : Engine C). e.store) same in
+      let left : (content logged.store).left ≡ (content old.store).left = ap (λ (s : C). (content s).left) store ∙ p.left in
+      let cells : length (content logged.store).live ≡ length (content old.store).live = ap (λ (s : C). length (content s).live) store ∙ p.cells in
+      let still : CellsLeft old.images (content logged.store) = record {
+        in_round = λ not. ap (λ l. cells_taken old.images + length l) left ∙ r.images.left.in_round not;
+        idle = λ idle. left ∙ r.images.left.idle idle;
+      } in
+      let file_a : after.image_a ≡ files.image_a = ap (λ (f : FourFiles D). f.image_a) same_files in
+      let file_b : after.image_b ≡ files.image_b = ap (λ (f : FourFiles D). f.image_b) same_files in
+      record {
+        images = record {
+          cells = ap (λ (k : ImageProgress). k.cells) images ∙ (r.images.cells ∙ sym cells);
+          left = subst (λ (k : ImageProgress). CellsLeft k (content logged.store)) (sym images) still;
+          fits = λ sure. subst (λ (x : ImageProgress × D × D). ImagesFit x.0 (file x.1) (file x.2)) (λ i. (sym images i, sym file_a i, sym file_b i)) (r.images.fits sure);
+        };
+        log = log;
+        started = started;
+        over = subst (λ (k : ImageProgress). (k.phase ≡ Idle) ⊎ (k.phase ≡ Down)) (sym images) r.over;
+        rests = rests;
+      }
 
   -- a checkpoint began
   pub mark_follows : WorldsGoOn

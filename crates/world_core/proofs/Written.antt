@@ -190,10 +190,10 @@ retired_written : (phase : Phase) (current : Slot) (starting down : Bool) (base 
     → IsWritten log_b
 retired_written phase current starting down base written log_a log_b last is_b in_start fits outcomes =
     let shut = subst (λ s. CurrentFits OpeningSync true down base written (of_slot s log_a.content log_b.content)) is_b
-        (subst (λ p. CurrentFits p true down base written (of_slot current log_a.content log_b.content)) last
-        (subst (λ s. CurrentFits phase s down base written (of_slot current log_a.content log_b.content)) in_start fits)) in
+    (subst (λ p. CurrentFits p true down base written (of_slot current log_a.content log_b.content)) last
+    (subst (λ s. CurrentFits phase s down base written (of_slot current log_a.content log_b.content)) in_start fits)) in
     let only = subst (λ s. CurrentOutcomes OpeningSync base written (of_slot s log_a.content log_b.content) (in_slot s (IsCrashOutcome log_a) (IsCrashOutcome log_b))) is_b
-        (subst (λ p. CurrentOutcomes p base written (of_slot current log_a.content log_b.content) (in_slot current (IsCrashOutcome log_a) (IsCrashOutcome log_b))) last outcomes) in
+    (subst (λ p. CurrentOutcomes p base written (of_slot current log_a.content log_b.content) (in_slot current (IsCrashOutcome log_a) (IsCrashOutcome log_b))) last outcomes) in
     subst (λ b. 0 < length b) (sym (only log_b.durable (durable_stays log_b))) shut.0
 
 ends_closed : (state : State) (start : Start) (left : ℕ) → HasLog state (record { journal = InStart start; left = left }) → state.log.down ≡ false → state.log.starting ≡ true → left ≡ 1 → IsWritten state.log_b.inner
@@ -294,7 +294,7 @@ tick_written past next old new c e w =
     let over : new.log.starting ≡ false = queued_by next new c.images c.place.journal c.place.left c.in_step.phase c.has_log (let some : 0 < length new.queue = omega (arith, queued) in some) in
     let both = w.started (ap (λ (s : State). s.log.starting) (sym e.2) ∙ over) in
     let logs : IsWritten new.log_a.inner × IsWritten new.log_b.inner =
-        (subst (λ (s : State). IsWritten s.log_a.inner) (sym e.2) both.0, subst (λ (s : State). IsWritten s.log_b.inner) (sym e.2) both.1) in
+    (subst (λ (s : State). IsWritten s.log_a.inner) (sym e.2) both.0, subst (λ (s : State). IsWritten s.log_b.inner) (sym e.2) both.1) in
     record {
       started = λ is. logs;
       ticked = λ some. logs;
@@ -407,7 +407,7 @@ images_left_by keepers outcomes past state (Newest images) journal has phase w r
 pub none_is_empty : KeeperLaws → OutcomeLaws → SafetyLaws → (past : Past) (state : State) → IsCoreAt past state → AreWritten past state → NoneIsEmpty (files_in state)
 none_is_empty keepers outcomes safety past state c w ia ib la lb r may e =
     let again = restarts safety (replicate state.cells 0) past.history.ticks past.acknowledged ia ib la lb e.a e.b e.reads_a e.reads_b (IsCrashOutcome state.image_a.inner) (IsCrashOutcome state.image_b.inner) (IsCrashOutcome state.log_a.inner) (IsCrashOutcome state.log_b.inner)
-        past.has_image (core_is_safe_for safety past state c) may.0 may.1 may.2 may.3 r e.holds in
+    past.has_image (core_is_safe_for safety past state c) may.0 may.1 may.2 may.3 r e.holds in
     let built = safety.restarts.built (image_of ia) (image_of ib) e.a e.b r e.holds in (
       λ some. (
           let both = w.ticked (let t : 0 < length past.history.ticks = omega (arith, some, again.world.ended) in t) in

@@ -8,8 +8,8 @@ use Rattle.disk_model.specs.declared.four_files.FourFiles.{FourFiles}
 use Rattle.disk_model.specs.FourFiles.{EachFile, KeepsFile}
 use Rattle.image_files.specs.Image.{Image, Closed, Open, image_of}
 use Rattle.action_log.specs.Segment.{ClosedSegment, IsSegment}
-use Rattle.recovery.specs.Recovery.{Recovers}
-use Rattle.recovery.specs.Sound.{HoldsWorld, IsFreshImage}
+use Rattle.recovery.specs.Recovery.{Recovers, BothRead}
+use Rattle.recovery.specs.Sound.{HoldsWorld, IsSoundReading, IsFreshImage}
 use Rattle.file_readers.specs.Reading.{AreFilesRead}
 use Rattle.world_start.specs.Fresh.{AreClosed, AreNotMade, FilesAreClosed}
 use Rattle.world_folder.specs.declared.ending.Ending.{Ending}
@@ -121,6 +121,26 @@ words_stand a b la lb words image image_b log_a log_b = record {
 holds_words : (image : Image) (words : List ℕ) → image ≡ Open 0 words → HoldsWorld words [] 0 image
 holds_words image words is = subst (HoldsWorld words [] 0) (sym is) (omega arith, record { ended = omega arith; words_are = refl })
 
+-- such an image beside closed files is sound from the words
+words_are_sound : (a b la lb words : List ℕ) → image_of a ≡ Open 0 words → image_of b ≡ Closed → IsSegment la ClosedSegment → IsSegment lb ClosedSegment
+    → BothRead la lb (λ segment_a segment_b. IsSoundReading (image_of a) (image_of b) segment_a segment_b words [] 0)
+words_are_sound a b la lb words image image_b log_a log_b = record {
+  a = ClosedSegment;
+  b = ClosedSegment;
+  reads_a = log_a;
+  reads_b = log_b;
+  holds = record {
+    recovery = recovery_of_words words;
+    stands = rw (image, image_b) refl;
+    keeps = omega arith;
+    world = record { ended = omega arith; words_are = refl };
+    image_a_holds = holds_words (image_of a) words image;
+    image_b_holds = subst (HoldsWorld words [] 0) (sym image_b) tt;
+    log_a_begins = tt;
+    log_b_begins = tt;
+  };
+}
+
 -- a closed image, or one of the words at tick 0, is that of a fresh world
 fresh_image : (image : Image) (words : List ℕ) → (image ≡ Closed) ⊎ (image ≡ Open 0 words) → IsFreshImage words image
 fresh_image image words (inl closed) = subst (IsFreshImage words) (sym closed) tt
@@ -148,27 +168,9 @@ module _ {D : Type 0} (file : D → List ℕ) (leaves : D → List ℕ → Type 
     recovers = words_stand (file made.image_a) (file made.image_b) (file made.log_a) (file made.log_b) words image (ap image_of kept_b.same_content ∙ closed.image_b_closed)
         (subst (λ (l : List ℕ). IsSegment l ClosedSegment) (sym kept_la.same_content) closed.log_a_closed) (subst (λ (l : List ℕ). IsSegment l ClosedSegment) (sym kept_lb.same_content) closed.log_b_closed);
     sound = λ synced a b la lb left_a left_b left_la left_lb.
-        let a_is : image_of a ≡ Open 0 words = ap image_of (durable a left_a) ∙ image in
-        let b_closed : image_of b ≡ Closed = ap image_of (left_as files.image_b made.image_b b kept_b synced.image_b left_b) ∙ closed.image_b_closed in
-        let stand = words_stand a b la lb words a_is b_closed
+        words_are_sound a b la lb words (ap image_of (durable a left_a) ∙ image) (ap image_of (left_as files.image_b made.image_b b kept_b synced.image_b left_b) ∙ closed.image_b_closed)
         (subst (λ (l : List ℕ). IsSegment l ClosedSegment) (sym (left_as files.log_a made.log_a la kept_la synced.log_a left_la)) closed.log_a_closed)
-        (subst (λ (l : List ℕ). IsSegment l ClosedSegment) (sym (left_as files.log_b made.log_b lb kept_lb synced.log_b left_lb)) closed.log_b_closed) in
-        record {
-          a = ClosedSegment;
-          b = ClosedSegment;
-          reads_a = stand.reads_a;
-          reads_b = stand.reads_b;
-          holds = record {
-            recovery = recovery_of_words words;
-            stands = stand.holds;
-            keeps = omega arith;
-            world = record { ended = omega arith; words_are = refl };
-            image_a_holds = holds_words (image_of a) words a_is;
-            image_b_holds = subst (HoldsWorld words [] 0) (sym b_closed) tt;
-            log_a_begins = tt;
-            log_b_begins = tt;
-          };
-        };
+        (subst (λ (l : List ℕ). IsSegment l ClosedSegment) (sym (left_as files.log_b made.log_b lb kept_lb synced.log_b left_lb)) closed.log_b_closed);
     synced = λ synced. record {
       image_a = durable;
       image_b = still_synced files.image_b made.image_b kept_b synced.image_b;

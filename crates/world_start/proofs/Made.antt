@@ -58,9 +58,9 @@ module _ {C D : Type 0} (content : C → Content) (file : D → List ℕ) (leave
         queue = b.queue;
         follows = λ synced.
             (let s = synced_on content file leaves files left kept synced in
-              start_follows content file leaves false laws cells (replicate cells 0) (length-replicate cells 0) None 0 (replicate cells 0) engine left begun some few (omega arith) s.image_a s.image_b s.log_a s.log_b
-                  (NoneYet (record { round = None })) (refl, refl, here.image_a_closed, here.image_b_closed) ClosedSegment ClosedSegment here.log_a_closed here.log_b_closed
-                  [] 0 (begins.fresh (replicate cells 0) (content engine.store) (omega (arith, some, length-replicate {A = ℕ} cells 0)) begun.store) refl refl);
+            start_follows content file leaves false laws cells (replicate cells 0) (length-replicate cells 0) None 0 (replicate cells 0) engine left begun some few (omega arith) s.image_a s.image_b s.log_a s.log_b
+            (NoneYet (record { round = None })) (refl, refl, here.image_a_closed, here.image_b_closed) ClosedSegment ClosedSegment here.log_a_closed here.log_b_closed
+            [] 0 (begins.fresh (replicate cells 0) (content engine.store) (omega (arith, some, length-replicate {A = ℕ} cells 0)) begun.store) refl refl);
       }
     where
       closed_on : {a b c d a2 b2 c2 d2 : List ℕ} → a ≡ a2 → b ≡ b2 → c ≡ c2 → d ≡ d2 → AreClosed a b c d → AreClosed a2 b2 c2 d2

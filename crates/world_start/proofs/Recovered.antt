@@ -78,9 +78,9 @@ module _ {C D : Type 0} (content : C → Content) (file : D → List ℕ) (leave
       let here = subst (λ n. Begins content n (Some (r.slot, r.from)) r.tick r.words ia ib la lb engine) s.whole b in
       let step = begins.recovery first ticks acknowledged r (image_of ia) (image_of ib) e.a e.b (content engine.store) some s b.store in
       let count : length (take r.tick ticks) ≡ r.tick = length-take-le r.tick ticks s.world.ended in
-        start_follows content file leaves false laws (length first) first refl (Some (r.slot, r.from)) r.tick r.words engine files here some few most synced.image_a synced.image_b synced.log_a synced.log_b
-            (Newest (recovered_images r (image_of ia) (image_of ib))) (refl, refl, s.newest_whole, by_slot r.slot ia ib ∙ s.chosen, by_other r.slot ia ib)
-            e.a e.b e.reads_a e.reads_b (take r.tick ticks) acknowledged step s.world.words_are (sym count)
+      start_follows content file leaves false laws (length first) first refl (Some (r.slot, r.from)) r.tick r.words engine files here some few most synced.image_a synced.image_b synced.log_a synced.log_b
+      (Newest (recovered_images r (image_of ia) (image_of ib))) (refl, refl, s.newest_whole, by_slot r.slot ia ib ∙ s.chosen, by_other r.slot ia ib)
+      e.a e.b e.reads_a e.reads_b (take r.tick ticks) acknowledged step s.world.words_are (sym count)
 
   -- the result of reading the files, recovering them and beginning the start
   pub is_read : StartLaws file leaves → ReadsOnce → CrashRestarts → WorldsGoOn → ((disk : D) → leaves disk (file disk))

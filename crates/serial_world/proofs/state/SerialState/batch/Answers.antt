@@ -5,13 +5,25 @@ use Rattle.world_start.specs.declared.engine.Engine.{Engine}
 use Rattle.serial_world.specs.declared.state.SerialState.{SerialState}
 use Rattle.serial_world.specs.Runs.{Serves}
 use Rattle.world_start.proofs.Following.{no_work, none_waits, all_follows}
-use Rattle.serial_world.proofs.Playing.{tick_follows}
+use Rattle.serial_world.proofs.Playing.{tick_follows, played_rests}
 use Rattle.serial_world.proofs.state.SerialState.batch.Goals as goal
 
 pub play-requires-clause-none : goal.play-requires-clause-none
 play-requires-clause-none g c =
     let engine = c.args.self.now.engine in
     (none_waits engine.log engine.queue.items (no_work engine.log engine.queue.items c.requires.rests c.in_default.ensures.room.0)).1
+
+pub returns-then-is_down-clause-rest : goal.returns-then-is_down-clause-rest
+returns-then-is_down-clause-rest g c =
+    let p = c.in_ok-play.ensures.plays in
+    played_rests g.C.Capture.content g.D.Disk.content g.D.Disk.may_leave g.D.Disk.honest c.args.self.now.engine c.play.new.engine c.write_log.new.self c.args.self.now.files c.write_log.new.files c.args.b.now.list c.requires p
+    c.write_log.ensures.same c.write_log.ensures.same_files c.write_log.ensures.log (c.write_log.ensures.started (ap (λ (e : Engine g.row.C.Denot). e.log.starting) p.is ∙ c.requires.started)) c.write_log.ensures.rests
+
+pub checkpoint_if_due-requires-clause-rest : goal.checkpoint_if_due-requires-clause-rest
+checkpoint_if_due-requires-clause-rest g c =
+    let p = c.in_ok-play.ensures.plays in
+    played_rests g.C.Capture.content g.D.Disk.content g.D.Disk.may_leave g.D.Disk.honest c.args.self.now.engine c.play.new.engine c.write_log.new.self c.args.self.now.files c.write_log.new.files c.args.b.now.list c.requires p
+    c.write_log.ensures.same c.write_log.ensures.same_files c.write_log.ensures.log (c.write_log.ensures.started (ap (λ (e : Engine g.row.C.Denot). e.log.starting) p.is ∙ c.requires.started)) c.write_log.ensures.rests
 
 pub returns-then-is_down-clause-refused : goal.returns-then-is_down-clause-refused
 returns-then-is_down-clause-refused g c =
