@@ -1,77 +1,74 @@
-/* A client of a serving worldd: plays lines as one batch, and prints the answer.
+/* A client of a serving worldd: plays lines as one batch exactly once, and prints the answer.
  *
- *   cc -Wall -Wextra -Werror -o client client.c && ./client 7070 'set 0 5' 'get 0'
- *   ./client /run/worldd/socket 'set 0 5' 'get 0'
+ *   cc -Wall -Wextra -Werror -Iclients/c -o client examples/client.c
+ *   ./client 7070 1 1 'add 0 5' 'get 0'
+ *   ./client /run/worldd/socket 1 1 'add 0 5' 'get 0'
  *
- * The address is a port of this machine, or the path of a socket.
- *
- * If the connection breaks before the answer comes, the batch was played as a whole or not at all. A batch of `set`, `cap`
- * and `get` leaves the same world if it is played twice, so the client connects again and sends it again. It gives up on
- * any other batch with status 3.
+ * The address is a port of this machine, or the path of a socket. The cell behind it is the client's own, and holds the number
+ * behind that once the batch was played. Each batch has a greater number than the one before. If the connection breaks, the
+ * client connects again for half a minute. It gives up with status 3 if nobody knows whether the batch was played. Once the
+ * server was started again, the same command plays the batch, or prints that it was played.
  */
-#include <arpa/inet.h>
-#include <netinet/in.h>
-#include <signal.h>
-#include <stdbool.h>
-#include <stdio.h>
-#include <stdlib.h>
-#include <string.h>
-#include <sys/socket.h>
-#include <sys/un.h>
-#include <unistd.h>
+#include "cektaulis.h"
 
-enum { TRIES = 30, ANSWER_BYTES = 32768 };
+enum { SILENCE = 5000, PATIENCE = 30000 };
 
-/* A connection, or NULL if there is none. */
-static FILE *dial_to(const struct sockaddr *to, socklen_t length) {
-    int stream = socket(to->sa_family, SOCK_STREAM, 0);
-    if (stream < 0) return NULL;
-    if (!connect(stream, to, length)) return fdopen(stream, "r+");
-    close(stream);
-    return NULL;
+/* Reads a number up to a limit. False: the word is none. */
+static bool read_number(const char *word, uint64_t limit, uint64_t *number) {
+    int end = 0;
+    return sscanf(word, "%" SCNu64 "%n", number, &end) == 1 && !word[end] && *number <= limit;
 }
 
-/* A connection to an address, or NULL if there is none. */
-static FILE *dial(const char *address) {
-    struct sockaddr_in port = {.sin_family = AF_INET, .sin_addr.s_addr = htonl(INADDR_LOOPBACK)};
-    struct sockaddr_un path = {.sun_family = AF_UNIX};
-    if (!address[strspn(address, "0123456789")]) {
-        port.sin_port = htons(atoi(address));
-        return dial_to((struct sockaddr *)&port, sizeof port);
+/* Reads a line of the protocol. False: it isn't understood. */
+static bool read_action(const char *line, struct cektaulis_action *action) {
+    uint32_t cell, target;
+    uint64_t number;
+    int64_t difference;
+    int end = 0;
+    if (sscanf(line, "set %" SCNu32 " %" SCNu64 "%n", &cell, &number, &end) == 2) *action = cektaulis_set(cell, number);
+    else if (sscanf(line, "add %" SCNu32 " %" SCNd64 "%n", &cell, &difference, &end) == 2)
+        *action = cektaulis_add(cell, difference);
+    else if (sscanf(line, "move %" SCNu32 " %" SCNu32 " %" SCNu64 "%n", &cell, &target, &number, &end) == 3)
+        *action = cektaulis_move(cell, target, number);
+    else if (sscanf(line, "swap %" SCNu32 " %" SCNu32 "%n", &cell, &target, &end) == 2) *action = cektaulis_swap(cell, target);
+    else if (sscanf(line, "cap %" SCNu32 " %" SCNu64 "%n", &cell, &number, &end) == 2) *action = cektaulis_cap(cell, number);
+    else if (sscanf(line, "get %" SCNu32 "%n", &cell, &end) == 1) *action = cektaulis_get(cell);
+    return end && !line[end];
+}
+
+/* Prints the answer to a batch. */
+static void print_answer(uint64_t tick, const struct cektaulis_answer *answers, size_t count) {
+    printf("tick %" PRIu64 ":", tick);
+    for (size_t i = 0; i < count; i++) {
+        if (answers[i].outcome == CEKTAULIS_DONE) printf(" +");
+        else if (answers[i].outcome == CEKTAULIS_VALUE) printf(" =%" PRIu64, answers[i].value);
+        else printf(" -%d", answers[i].code);
     }
-    if (strlen(address) >= sizeof path.sun_path) return NULL;
-    strcpy(path.sun_path, address);
-    return dial_to((struct sockaddr *)&path, sizeof path);
-}
-
-/* Plays a batch. False: the connection broke before the whole answer came. */
-static bool play(FILE *stream, char **lines, char *answer) {
-    for (; *lines; lines++) fprintf(stream, "%s\n", *lines);
-    fprintf(stream, "end\n");
-    return !fflush(stream) && fgets(answer, ANSWER_BYTES, stream) && strchr(answer, '\n');
-}
-
-/* Whether these lines leave the same world if they are played twice. */
-static bool may_be_played_twice(char **lines) {
-    for (; *lines; lines++)
-        if (strncmp(*lines, "set ", 4) && strncmp(*lines, "cap ", 4) && strncmp(*lines, "get ", 4)) return false;
-    return true;
+    printf("\n");
 }
 
 int main(int count, char **words) {
-    static char answer[ANSWER_BYTES];
-    if (count < 2) return fputs("usage: client ADDRESS LINE..\n", stderr), 2;
-    signal(SIGPIPE, SIG_IGN);
-    for (int tries = 0; tries < TRIES; tries++) {
-        FILE *stream = dial(words[1]);
-        if (stream && play(stream, words + 2, answer)) {
-            fputs(answer, stdout);
-            return strncmp(answer, "fault ", 6) ? 0 : 1;
-        }
-        if (stream && !may_be_played_twice(words + 2))
-            return fputs("client: it isn't known whether the batch was played\n", stderr), 3;
-        if (stream) fclose(stream);
-        sleep(1);
+    static struct cektaulis_action actions[CEKTAULIS_BATCH_LINES];
+    static struct cektaulis_answer answers[CEKTAULIS_BATCH_LINES];
+    struct cektaulis world;
+    uint64_t tick, cell, number;
+    if (count < 4 || count - 4 > CEKTAULIS_BATCH_LINES || !read_number(words[2], UINT32_MAX, &cell)
+        || !read_number(words[3], CEKTAULIS_LIMIT, &number))
+        return fputs("usage: client ADDRESS CELL NUMBER LINE..\n", stderr), 2;
+    const size_t lines = (size_t)count - 4;
+    for (size_t i = 0; i < lines; i++)
+        if (!read_action(words[4 + i], &actions[i])) return fprintf(stderr, "client: `%s` isn't understood\n", words[4 + i]), 2;
+    enum cektaulis_status status = cektaulis_open(&world, words[1], SILENCE);
+    /* A server that isn't there yet may come: the call connects again. */
+    if (status != CEKTAULIS_BAD_ADDRESS)
+        status = cektaulis_play_once(&world, (uint32_t)cell, number, actions, lines, answers, &tick, PATIENCE);
+    cektaulis_close(&world);
+    if (status == CEKTAULIS_OK) print_answer(tick, answers, lines);
+    else fprintf(status == CEKTAULIS_ANSWER_LOST ? stdout : stderr, "%s\n", cektaulis_status_text(status));
+    switch (status) {
+    case CEKTAULIS_OK: case CEKTAULIS_ANSWER_LOST: return 0;
+    case CEKTAULIS_BAD_ADDRESS: case CEKTAULIS_BAD_ACTION: case CEKTAULIS_TOO_LARGE: return 2;
+    case CEKTAULIS_UNANSWERED: return 3;
+    default: return 1;
     }
-    return fputs("client: no answer\n", stderr), 1;
 }

@@ -19,7 +19,9 @@ class World:
     """A connection to a server. It plays one batch after another."""
 
     def __init__(self, address: str) -> None:
-        if address.isdigit():
+        if address.isascii() and address.isdigit():
+            if not 1 <= int(address) <= 65_535:
+                raise ValueError("a port is a number from 1 to 65535")
             self.stream = socket.create_connection(("127.0.0.1", int(address)))
             self.stream.setsockopt(socket.IPPROTO_TCP, socket.TCP_NODELAY, 1)
         else:
@@ -29,6 +31,8 @@ class World:
 
     def play(self, *lines: str) -> tuple[int, list[str]]:
         """Plays a batch, and returns its tick and a word for each line."""
+        if any(line == "end" or "\n" in line for line in lines):
+            raise ValueError("an `end` or a newline within a batch would end it")
         self.stream.sendall("".join(f"{line}\n" for line in (*lines, "end")).encode("ascii"))
         answer = self.answers.readline()
         if not answer.endswith("\n"):
@@ -46,9 +50,9 @@ def main() -> int:
         return 2
     try:
         tick, words = World(sys.argv[1]).play(*sys.argv[2:])
-    except (Refused, OSError) as error:
+    except (Refused, OSError, ValueError) as error:
         print(f"client: {error}", file=sys.stderr)
-        return 1
+        return 2 if isinstance(error, ValueError) else 1
     print(f"tick {tick}:", *words)
     return 0
 

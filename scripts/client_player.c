@@ -1,6 +1,7 @@
 /* Plays by clients/c/cektaulis.h what its input says, one command a line, and prints what came of each. For client_trial.py.
  *
- *   open ADDRESS MS | reconnect MS | send ACTION, ACTION .. | receive COUNT | played CELL NUMBER
+ *   open ADDRESS MS | reconnect MS | connections | send ACTION, ACTION .. | receive COUNT | played CELL NUMBER
+ *   once CELL NUMBER MS ACTION, ACTION .. | batch ACTION, ACTION .. | least buffers | no action
  */
 #include "cektaulis.h"
 
@@ -11,7 +12,7 @@ static size_t read_actions(char *text, struct cektaulis_action *actions) {
     size_t count = 0;
     char *rest = NULL;
     for (char *line = strtok_r(text, ",\n", &rest); line && count < MOST; line = strtok_r(NULL, ",\n", &rest)) {
-        char kind[8];
+        char kind[8] = "";
         uint64_t first = 0, second = 0;
         int64_t difference = 0;
         if (sscanf(line, " add %" SCNu64 " %" SCNd64, &first, &difference) == 2) {
@@ -19,7 +20,7 @@ static size_t read_actions(char *text, struct cektaulis_action *actions) {
             continue;
         }
         uint64_t third = 0;
-        sscanf(line, " %7s %" SCNu64 " %" SCNu64 " %" SCNu64, kind, &first, &second, &third);
+        if (sscanf(line, " %7s %" SCNu64 " %" SCNu64 " %" SCNu64, kind, &first, &second, &third) < 2) continue;
         uint32_t cell = (uint32_t)first, target = (uint32_t)second;
         actions[count++] = !strcmp(kind, "set") ? cektaulis_set(cell, second)
                            : !strcmp(kind, "move") ? cektaulis_move(cell, target, third)
@@ -32,17 +33,16 @@ static size_t read_actions(char *text, struct cektaulis_action *actions) {
 
 /* Prints what came of a call, unless it went well. */
 static bool went_well(const struct cektaulis *world, enum cektaulis_status status) {
-    static const char *const names[] = {"ok", "not connected", "too large", "fault", "unanswered", "garbled"};
+    static const char *const names[] = {"ok", "not connected", "too large", "fault", "unanswered", "garbled", "answer lost",
+        "marker refused", "bad address", "bad action"};
+    const bool has_fault = status == CEKTAULIS_BATCH_REFUSED || (status == CEKTAULIS_UNANSWERED && world->fault);
     if (status == CEKTAULIS_OK) return true;
-    if (status == CEKTAULIS_BATCH_REFUSED) printf("fault %d: %s\n", world->fault, cektaulis_fault_text(world->fault));
+    if (has_fault) printf("fault %d: %s\n", world->fault, cektaulis_fault_text(world->fault));
     else printf("%s\n", names[status]);
     return false;
 }
 
-static void receive(struct cektaulis *world, size_t count) {
-    static struct cektaulis_answer answers[MOST];
-    uint64_t tick;
-    if (!went_well(world, cektaulis_receive(world, answers, count, &tick))) return;
+static void print_tick(uint64_t tick, const struct cektaulis_answer *answers, size_t count) {
     printf("tick %" PRIu64 ":", tick);
     for (size_t i = 0; i < count; i++) {
         if (answers[i].outcome == CEKTAULIS_DONE) printf(" +");
@@ -52,27 +52,60 @@ static void receive(struct cektaulis *world, size_t count) {
     printf("\n");
 }
 
-int main(void) {
-    static char line[LINE_BYTES], address[108];
+/* Makes the buffers of the connection as small as the system allows. */
+static void lessen_buffers(const struct cektaulis *world) {
+    const int least = 1;
+    setsockopt(world->stream, SOL_SOCKET, SO_SNDBUF, &least, sizeof least);
+    setsockopt(world->stream, SOL_SOCKET, SO_RCVBUF, &least, sizeof least);
+    printf("ok\n");
+}
+
+/* Does what a line says that has actions. False: it has none. */
+static bool play_line(struct cektaulis *world, char *line) {
     static struct cektaulis_action actions[MOST];
+    static struct cektaulis_answer answers[MOST];
+    uint64_t number, tick;
+    uint32_t cell;
+    int milliseconds, length = 0;
+    if (!strncmp(line, "send ", 5)) {
+        if (went_well(world, cektaulis_send(world, actions, read_actions(line + 5, actions)))) printf("ok\n");
+    } else if (sscanf(line, "receive %" SCNu64, &number) == 1) {
+        if (went_well(world, cektaulis_receive(world, answers, (size_t)number, &tick))) print_tick(tick, answers, (size_t)number);
+    } else if (sscanf(line, "once %" SCNu32 " %" SCNu64 " %d%n", &cell, &number, &milliseconds, &length) == 3) {
+        size_t count = read_actions(line + length, actions);
+        if (went_well(world, cektaulis_play_once(world, cell, number, actions, count, answers, &tick, milliseconds)))
+            print_tick(tick, answers, count);
+    } else if (!strncmp(line, "batch ", 6)) {
+        printf("%zu\n", cektaulis_batch(actions, read_actions(line + 6, actions)));
+    } else {
+        return false;
+    }
+    return true;
+}
+
+int main(void) {
+    static char line[LINE_BYTES], address[200];
     struct cektaulis world = {.stream = -1};
     while (fgets(line, sizeof line, stdin)) {
         int milliseconds;
         uint32_t cell;
         uint64_t number;
         bool played;
-        if (sscanf(line, "open %107s %d", address, &milliseconds) == 2) {
+        if (play_line(&world, line)) {
+        } else if (sscanf(line, "open %199s %d", address, &milliseconds) == 2) {
+            cektaulis_close(&world);
             if (went_well(&world, cektaulis_open(&world, address, milliseconds))) printf("ok\n");
         } else if (sscanf(line, "reconnect %d", &milliseconds) == 1) {
             if (went_well(&world, cektaulis_reconnect(&world, milliseconds))) printf("ok\n");
-        } else if (!strncmp(line, "send ", 5)) {
-            if (went_well(&world, cektaulis_send(&world, actions, read_actions(line + 5, actions)))) printf("ok\n");
-        } else if (sscanf(line, "receive %" SCNu64, &number) == 1) {
-            receive(&world, (size_t)number);
         } else if (sscanf(line, "played %" SCNu32 " %" SCNu64, &cell, &number) == 2) {
             if (went_well(&world, cektaulis_was_played(&world, cell, number, &played))) printf("%s\n", played ? "yes" : "no");
-        } else if (!strncmp(line, "batch ", 6)) {
-            printf("%zu\n", cektaulis_batch(actions, read_actions(line + 6, actions)));
+        } else if (!strcmp(line, "connections\n")) {
+            printf("%u\n", world.connections);
+        } else if (!strcmp(line, "least buffers\n")) {
+            lessen_buffers(&world);
+        } else if (!strcmp(line, "no action\n")) {
+            struct cektaulis_action action = {.kind = (enum cektaulis_kind)9};
+            went_well(&world, cektaulis_send(&world, &action, 1));
         }
         fflush(stdout);
     }

@@ -2,17 +2,28 @@
 """Tries the clients of clients/ in Python and C on a serving worldd, and on servers of its own that answer badly.
 
     scripts/client_trial.py crates/worldd/out/worldd
+    scripts/client_trial.py WORLDD --kills 200
 
-Each client meets each code and each limit, over a port and over a socket. Its server is killed before a connection, before a batch, while a batch is on its
-way, in the midst of an answer and after one. Then it counts up a cell while the server is killed again and again, and asks
-after each kill if its last batch was played: each batch has to count once. The trial prints how often it met what, and fails
-if anything was never met. It needs a C compiler, as cc.
+Each client meets each code and each limit, over a port and over a socket. Its server is killed before a connection, before a
+batch, while a batch is on its way, in the midst of an answer and after one. It sends 1,000 batches before it receives an answer.
+The client in Python is run at a pseudo-terminal.
+Then two clients count and two trade while the server is killed again and again. Each batch of `play_once` has to count once. The
+trial prints how often it met what, and fails if anything was never met. It needs a C compiler, as cc.
 """
 import argparse
 import collections
+import concurrent.futures
+import contextlib
+import dataclasses
+import importlib.util
 import itertools
+import os
 import pathlib
+import pty
 import random
+import re
+import select
+import shutil
 import signal
 import socket
 import subprocess
@@ -22,29 +33,39 @@ import threading
 import time
 
 from check_docs import TOP
-from example_trial import free_port
+from example_trial import Script, Step, Wrong, free_port
 from kill_trial import PORT, TRANSPORTS
 
 sys.path.insert(0, str(TOP / "clients" / "python"))
 import cektaulis
-from cektaulis import Action, Add, Cap, Get, Move, Set, Swap
+from cektaulis import Action, Add, Cap, Get, Move, Set, Swap, Unanswered
 
 SECONDS = 30
 # How long a client waits that is to see a silent server.
 SHORT = 0.3
-KILLS = 20
-OWN, COUNT = 0, 1
+# How long a call tries that is to give up. A server of the trial's own answers meanwhile: on a busy system the next bound holds.
+BOUNDS = 1, 5, 20
+# How long each client's server is killed again and again, unless `--kills` says how often. On a busy system it is killed for
+# longer, until batches have come to each end.
+KILLING_SECONDS, MOST_KILLING_SECONDS = 5, 60
+AHEAD = 1000
+OWN = 0
 LIMIT = cektaulis.LIMIT
 UNANSWERED, NOT_CONNECTED, GARBLED, TOO_LARGE = "unanswered", "not connected", "garbled", "too large"
+ANSWER_LOST, MARKER_REFUSED, BAD_ADDRESS, BAD_ACTION = "answer lost", "marker refused", "bad address", "bad action"
 WANTED = (
     *(f"refusal {refusal.code}" for refusal in cektaulis.Refusal),
     *(f"fault {fault.code}" for fault in cektaulis.Fault),
     *("done", "value", UNANSWERED, NOT_CONNECTED, GARBLED, TOO_LARGE, "played", "not played"),
+    *(ANSWER_LOST, MARKER_REFUSED, BAD_ADDRESS, BAD_ACTION),
 )
-
-
-class Wrong(Exception):
-    """What a client should not have done."""
+# How a batch of `play_once` came to its end while the server was killed.
+ANSWERED, ANSWERED_LATER = "answered", "answered after a loss"
+ENDS = (ANSWERED, ANSWERED_LATER, ANSWER_LOST)
+# The clients that are killed have a marker each, from cell 0 on. Two count in a cell. Two trade, by a purse each, with one shop.
+COUNTERS, TRADERS = (0, 1), (2, 3)
+COUNT, SHOP, PURSES = 4, 5, {2: 6, 3: 7}
+GOLD = 10**9
 
 
 class PythonPlayer:
@@ -55,9 +76,11 @@ class PythonPlayer:
 
     def open(self, address: str, seconds: float) -> str:
         try:
-            self.world = cektaulis.World(int(address) if address.isdigit() else address, seconds)
+            self.world = cektaulis.World(address, seconds)
         except OSError:
             return NOT_CONNECTED
+        except ValueError:
+            return BAD_ADDRESS
         return "ok"
 
     def reconnect(self, seconds: float) -> str:
@@ -68,6 +91,22 @@ class PythonPlayer:
 
     def receive(self, _count: int) -> str:
         return self.answer(lambda: text_of(self.world.receive()))
+
+    def once(self, cell: int, number: int, seconds: float, batch: list[Action]) -> str:
+        def call() -> str:
+            tick = self.world.play_once(cell, number, *batch, patience=seconds)
+            return text_of(tick) if tick else ANSWER_LOST
+
+        return self.answer(call)
+
+    def connections(self) -> int:
+        return self.world.connections
+
+    def lessen_buffers(self) -> None:
+        lessen_buffers(self.world._stream)
+
+    def no_action(self) -> str:
+        return self.answer(lambda: self.world.send([Set(0, 1)]))
 
     def played(self, cell: int, number: int) -> str:
         return self.answer(lambda: "yes" if self.world.was_played(cell, number) else "no")
@@ -86,6 +125,12 @@ class PythonPlayer:
             return f"fault {refused.fault.code}: {refused.fault.text}"
         except cektaulis.TooLarge:
             return TOO_LARGE
+        except cektaulis.MarkerRefused:
+            return MARKER_REFUSED
+        except (TypeError, ValueError):
+            return BAD_ACTION
+        except cektaulis.LogDown:
+            return f"fault 12: {cektaulis.Fault.LOG_DOWN.text}"
         except cektaulis.Unanswered:
             return UNANSWERED
         except cektaulis.Garbled:
@@ -118,6 +163,18 @@ class CPlayer:
     def receive(self, count: int) -> str:
         return self.ask(f"receive {count}")
 
+    def once(self, cell: int, number: int, seconds: float, batch: list[Action]) -> str:
+        return self.ask(f"once {cell} {number} {seconds * 1000:.0f} {', '.join(map(str, batch))}")
+
+    def connections(self) -> int:
+        return int(self.ask("connections"))
+
+    def lessen_buffers(self) -> None:
+        self.ask("least buffers")
+
+    def no_action(self) -> str:
+        return self.ask("no action")
+
     def played(self, cell: int, number: int) -> str:
         return self.ask(f"played {cell} {number}")
 
@@ -141,14 +198,14 @@ def text_of(tick: cektaulis.Tick) -> str:
 class Trial:
     """The tries of one client, and how often each kind of answer was met."""
 
-    def __init__(self, player, worldd: pathlib.Path, room: pathlib.Path, transport: str) -> None:
+    def __init__(self, player, worldd: pathlib.Path, room: pathlib.Path, transport: str, cells: int = 4) -> None:
         self.player, self.worldd, self.room, self.transport = player, worldd, room, transport
         self.met: collections.Counter = collections.Counter()
         self.server: subprocess.Popen | None = None
         room.mkdir()
         # The address stays, so that a client finds the server again.
         self.address = free_port() if transport == PORT else str(room / "socket")
-        run = [worldd, "create", "--dir", room, "--cells", "4"]
+        run = [worldd, "create", "--dir", room, "--cells", str(cells)]
         subprocess.run(run, check=True, stdout=subprocess.DEVNULL)
 
     def note(self, got: str) -> str:
@@ -183,9 +240,16 @@ class Trial:
             self.server.stdout.readline()
 
     def kill(self) -> None:
-        """Kills the server, running or held."""
+        """Kills the server, running or held, unless it was killed."""
+        if self.server.stdout.closed:
+            return
         self.server.kill()
         self.server.communicate()
+
+    def hold(self) -> None:
+        """Stops the server, and waits until all of its threads stand."""
+        self.server.send_signal(signal.SIGSTOP)
+        os.waitid(os.P_PID, self.server.pid, os.WSTOPPED)
 
     def open(self, address: str | None = None, seconds: float = SECONDS) -> None:
         """Connects, which has to go well."""
@@ -209,6 +273,8 @@ def texts_of_page() -> dict[int, str]:
 
 
 TEXTS = texts_of_page()
+# Where the client in Python runs as a program.
+BY_HAND = os.environ | {"PYTHONPATH": str(TOP / "clients" / "python"), "PYTHONDONTWRITEBYTECODE": "1", "TERM": "vt100"}
 
 
 def try_codes(trial: Trial) -> None:
@@ -267,9 +333,9 @@ def try_answers(trial: Trial) -> None:
     for code in codes:
         trial.expect(trial.play(Get(0)), f"tick 1: {text_of_refusal(code)}")
     faults = [fault.code for fault in cektaulis.Fault]
-    answering(trial, [f"fault {code}\n".encode() for code in faults])
-    for fault in cektaulis.Fault:
-        trial.expect(trial.play(Get(0)), f"fault {fault.code}: {TEXTS[-fault.code]}")
+    for code in faults:
+        answering(trial, [f"fault {code}\n".encode()])
+        trial.expect(trial.play(Get(0)), f"fault {code}: {TEXTS[-code]}")
     garbled = b"hello\n", b"tick 1: + +\n", b"tick 1:\n", b"tick x: +\n", b"tick 1: -7\n", b"fault 5\n", b"tick 1: =\n"
     for answer in (*garbled, b"tick 1: x\n", b"tick 1:" + b" " * 70_000):
         answering(trial, [answer])
@@ -291,7 +357,7 @@ def try_kills(trial: Trial) -> None:
     trial.open()
     # A server that is held has the batch, and is killed before it plays it.
     trial.expect(trial.play(Set(OWN, 100)).partition(":")[2], " +")
-    trial.server.send_signal(signal.SIGSTOP)
+    trial.hold()
     trial.expect(trial.player.send([Set(OWN, 101)]), "ok")
     trial.kill()
     trial.expect(trial.player.receive(1), UNANSWERED)
@@ -305,7 +371,7 @@ def try_kills(trial: Trial) -> None:
 def try_silence(trial: Trial) -> None:
     """A batch of a server that is silent for too long is played later."""
     trial.open(seconds=SHORT)
-    trial.server.send_signal(signal.SIGSTOP)
+    trial.hold()
     trial.expect(trial.play(Set(OWN, 102)), UNANSWERED)
     trial.server.send_signal(signal.SIGCONT)
     trial.expect(trial.player.reconnect(SECONDS), "ok")
@@ -315,52 +381,380 @@ def try_silence(trial: Trial) -> None:
             raise Wrong("a batch that had arrived wasn't played")
 
 
-def killing(trial: Trial, chance: random.Random, done: threading.Event) -> None:
-    """Kills the server and starts it again, a number of times."""
-    for _ in range(KILLS):
-        time.sleep(chance.uniform(0.01, 0.1))
+def try_ahead(trial: Trial) -> None:
+    """A client sends many batches before it receives an answer, with the smallest buffers: to worldd, and to a server of the
+    trial's own whose buffers are the smallest too."""
+    trial.open()
+    trial.expect(trial.play(Set(2, LIMIT)).partition(":")[2], " +")
+    play_ahead(trial)
+    listener = socket.create_server(("127.0.0.1", 0))
+    if trial.transport != PORT:
+        listener = socket.create_server(str(trial.room / "small"), family=socket.AF_UNIX)
+    threading.Thread(target=answer_slowly, args=(listener,), daemon=True).start()
+    address = listener.getsockname()
+    trial.open(str(address[1]) if trial.transport == PORT else address)
+    play_ahead(trial)
+
+
+def play_ahead(trial: Trial) -> None:
+    """Sends batches that read, and then receives their answers."""
+    trial.player.lessen_buffers()
+    for _ in range(AHEAD):
+        trial.expect(trial.player.send([Get(2)] * 4), "ok")
+    for _ in range(AHEAD):
+        trial.expect(trial.player.receive(4).partition(":")[2], f" ={LIMIT}" * 4)
+
+
+def lessen_buffers(stream: socket.socket) -> None:
+    """Makes the buffers of a connection as small as the system allows."""
+    for buffer in (socket.SO_SNDBUF, socket.SO_RCVBUF):
+        stream.setsockopt(socket.SOL_SOCKET, buffer, 1)
+
+
+def answer_slowly(listener: socket.socket) -> None:
+    """A server's work: it answers batches of four reads, and reads no more while an answer can't be written."""
+    lessen_buffers(listener)
+    with contextlib.suppress(ConnectionError), listener, listener.accept()[0] as stream:
+        lessen_buffers(stream)
+        with stream.makefile("r") as lines:
+            for line in lines:
+                if line == "end\n":
+                    stream.sendall(b"tick 1:" + f" ={LIMIT}".encode() * 4 + b"\n")
+
+
+def try_mistakes(trial: Trial) -> None:
+    """What is no address, no action, no batch or no marker is refused, and nothing is sent."""
+    for address in ("0", "65536", "72928", "9" * 30, "x" * 108):
+        trial.expect(trial.player.open(address, SECONDS), BAD_ADDRESS)
+    trial.open()
+    trial.expect(trial.play(Set(OWN, 200), Set(1, 0)).partition(":")[2], " + +")
+    trial.expect(trial.player.no_action(), BAD_ACTION)
+    for number, action in ((0, Get(1)), (LIMIT + 1, Get(1)), (201, Set(OWN, 1)), (201, Swap(1, OWN)), (201, Move(OWN, 1, 1))):
+        trial.expect(trial.player.once(OWN, number, SECONDS, [action]), BAD_ACTION)
+    trial.expect(trial.player.once(OWN, 201, SECONDS, [Add(1, 1)] * 256), TOO_LARGE)
+    trial.expect(trial.player.once(OWN, 199, SECONDS, [Add(1, 1)]), MARKER_REFUSED)
+    trial.expect(trial.player.once(OWN, 200, SECONDS, [Add(1, 1)]), ANSWER_LOST)
+    trial.expect(trial.player.once(4, 1, SECONDS, [Add(1, 1)]), MARKER_REFUSED)
+    trial.expect(trial.player.played(4, 1), MARKER_REFUSED)
+    for number in (0, LIMIT + 1):
+        trial.expect(trial.player.played(OWN, number), BAD_ACTION)
+    trial.expect(trial.player.once(OWN, 201, SECONDS, [Get(1)]).partition(":")[2], " =0")
+
+
+def try_python_mistakes(world: cektaulis.World) -> None:
+    """What the client in Python refuses, as its types can't."""
+    for call in (
+        lambda: world.play("end"),
+        lambda: world.play([Set(0, 1)]),
+        lambda: world.send(None),
+        lambda: list(world.play_all(["set 0 1"])),
+        lambda: world.play_again("get 0"),
+        lambda: world.play_once(OWN, 10**9, (Get(0),)),
+        lambda: cektaulis.does_no_harm_twice(["get 0"]),
+    ):
+        refuses(TypeError, call)
+    for address in (0, 65536, 72928, "72928", ""):
+        refuses(ValueError, lambda address=address: cektaulis.World(address))
+    refuses(ValueError, lambda: cektaulis.World("7070", timeout=0))
+
+
+def run_by_hand(trial: Trial, *flags: str) -> str:
+    """What the client in Python prints and reports, run as a program."""
+    command = [sys.executable, "-m", "cektaulis", trial.address, *flags]
+    run = subprocess.run(command, env=BY_HAND, stdin=subprocess.DEVNULL, capture_output=True, text=True, timeout=SECONDS)
+    return run.stdout + run.stderr + f"status {run.returncode}"
+
+
+def try_files(trial: Trial) -> None:
+    """The client in Python plays a file of batches, and dumps and loads cells."""
+    trial.open()
+    trial.expect(trial.play(Set(1, 7), Set(2, 8)).partition(":")[2], " + +")
+    path, words = trial.room / "batches", trial.room / "words"
+    path.write_bytes(b"add 1 1\r\nget 1\r\nend\r\nget 9\nend\nadd 1 1\n")
+    got = re.sub(r"tick \d+", "tick", run_by_hand(trial, "--file", str(path)))
+    want = f"tick\n  add 1 1: done\n  get 1: 8\ntick\n  get 9: refused: {TEXTS[1]}\n"
+    if got != f"{want}cektaulis: {path}: its last lines have no `end`, and weren't played\nstatus 1":
+        raise Wrong(f"a file of batches prints {got}")
+    for flag, done in (("--dump", "dumped"), ("--load", "loaded"), ("--dump", "dumped")):
+        if (got := run_by_hand(trial, flag, str(words))) != f"{done} 4 cells\nstatus 0":
+            raise Wrong(f"{flag} prints {got}")
+        held = words.read_text().split()
+        if held[1:3] != ["8", "8"] or len(held) != 4:
+            raise Wrong(f"{flag}: the words are {held}")
+    words.write_text("1\n" * 5)
+    if "`set 4 1` is refused" not in run_by_hand(trial, "--load", str(words)):
+        raise Wrong("a load of more words than cells isn't refused")
+
+
+def try_prompt(trial: Trial) -> None:
+    """The client in Python plays lines at a terminal, keeps a history, and survives a kill."""
+    terminal, end = pty.openpty()
+    command = [sys.executable, "-m", "cektaulis", trial.address]
+    process = subprocess.Popen(command, env=BY_HAND, stdin=end, stdout=end, stderr=end)
+    os.close(end)
+
+    def read_to(*wanted: str) -> None:
+        """Reads until each text has come behind the one before."""
+        got, deadline = "", time.monotonic() + SECONDS
+        while not re.search(".*".join(map(re.escape, wanted)), got, re.DOTALL):
+            if time.monotonic() > deadline or not select.select([terminal], [], [], SECONDS)[0]:
+                raise Wrong(f"the prompt prints {got!r} in the place of {wanted}")
+            got += os.read(terminal, 4096).decode("ascii", "replace")
+
+    try:
+        read_to("> ")
+        os.write(terminal, b"set 1 5, add 1 1, get 1, move 1 1 1\r\n")
+        read_to("get 1: 6", f"refused: {TEXTS[4]}", "> ")
+        os.write(terminal, b"foo\n")
+        read_to("`foo` is no action", "> ")
+        if importlib.util.find_spec("readline"):
+            os.write(terminal, b"\x1b[A\x1b[A\n")
+            read_to("get 1: 6", "> ")
+        else:
+            print("client_trial: this Python has no readline, so the history isn't tried")
         trial.kill()
         trial.serve()
-    done.set()
+        os.write(terminal, b"get 1\n")
+        read_to("nobody knows", "connected again", "> ")
+        os.write(terminal, b"get 1\n")
+        read_to("get 1: 6", "> ")
+        os.write(terminal, b"\x04")
+        if process.wait(SECONDS):
+            raise Wrong(f"the prompt ends with status {process.returncode}")
+    finally:
+        process.kill()
+        process.wait()
+        os.close(terminal)
 
 
-def try_counting(trial: Trial, chance: random.Random) -> int:
-    """Counts up a cell while the server is killed again and again. Each batch has to count once. Returns how many."""
+def refuses(kind: type[Exception], call) -> Exception:
+    """What a call raises, which has to be of this kind."""
+    try:
+        got = call()
+    except kind as error:
+        return error
+    raise Wrong(f"{got!r} comes of a call that has to raise {kind.__name__}")
+
+
+LOOK, PROBE, BATCH = "get 0", "", "set 0 5, add 1 1"
+NO, YES, READY, PLAYED = Step(LOOK, "tick 1: =4"), Step(LOOK, "tick 4: =5"), Step(PROBE, "tick 2:"), Step(BATCH, "tick 3: + +")
+LOST, LOST_LOOK, LOST_PROBE, FULL = Step(BATCH, None), Step(LOOK, None), Step(PROBE, None), Step(BATCH, "fault 6")
+
+
+def try_once(trial: Trial) -> None:
+    """Each way of a batch that is to be played once, on servers of the trial's own."""
+    played = "tick 3: +"
+    tries = (
+        (played, [NO, PLAYED]),
+        (played, [LOST_LOOK], [READY, NO, PLAYED]),
+        (played, [NO, LOST], [READY, NO, PLAYED]),
+        (ANSWER_LOST, [NO, LOST], [READY, YES]),
+        (ANSWER_LOST, [NO, LOST], [LOST_PROBE], [READY, LOST_LOOK], [LOST_PROBE], [READY, YES]),
+        (played, [NO, Step(BATCH, "fault 12")], [Step(PROBE, "fault 12")], [READY, Step(LOOK, "fault 12")], [READY, NO, PLAYED]),
+        (played, [NO, FULL, Step(BATCH, "fault 17"), PLAYED]),
+        (played, [NO, LOST], [Step(PROBE, "fault 6"), Step(LOOK, "fault 17"), NO, PLAYED]),
+        (f"fault 21: {TEXTS[-21]}", [NO, Step(BATCH, "fault 21")]),
+        (UNANSWERED, [NO, LOST], [READY, Step(LOOK, "fault 21")]),
+        (MARKER_REFUSED, [Step(LOOK, "tick 1: -1")]),
+        (MARKER_REFUSED, [Step(LOOK, "tick 1: =6")]),
+        (MARKER_REFUSED, [NO, Step(BATCH, "tick 3: -1 +")]),
+        (ANSWER_LOST, [YES]),
+        (GARBLED, [NO, Step(BATCH, "hello")]),
+        # An answer that is late isn't a loss.
+        (played, [NO, dataclasses.replace(PLAYED, seconds=2 * SHORT)]),
+    )
+    for wanted, *connections in tries:
+        script = Script(*connections)
+        trial.open(script.address, SHORT)
+        trial.expect(trial.player.once(OWN, 5, SECONDS, [Add(1, 1)]), wanted)
+        script.end()
+
+
+def try_bounds(trial: Trial) -> None:
+    """Calls that connect again end in time, with what is known."""
+    silent = socket.create_server(("127.0.0.1", 0))
+    tries = (
+        (NOT_CONNECTED, [LOST_LOOK]),
+        (UNANSWERED, [NO, LOST]),
+        (f"fault 6: {TEXTS[-6]}", [NO] + [FULL] * 100),
+        (UNANSWERED, [NO, LOST], [READY] + [Step(LOOK, "fault 6")] * 100),
+    )
+    with silent:
+        trial.open(str(silent.getsockname()[1]))
+        expect_in_time(trial, [SHORT], NOT_CONNECTED, trial.player.reconnect)
+
+        def play(bound: float) -> str:
+            trial.open(Script(*connections).address)
+            return trial.player.once(OWN, 5, bound, [Add(1, 1)])
+
+        for wanted, *connections in tries:
+            expect_in_time(trial, BOUNDS, wanted, play)
+
+
+def expect_in_time(trial: Trial, bounds, wanted: str, call) -> None:
+    """Expects an answer of a call that gives up after the first or a later of some bounds."""
+    for bound in bounds:
+        start = time.monotonic()
+        got = call(bound)
+        if time.monotonic() - start > bound + SECONDS / 3:
+            raise Wrong(f"a call that gives up after {bound} seconds doesn't")
+        if got == wanted:
+            break
+    trial.expect(got, wanted)
+
+
+def try_going_on(trial: Trial) -> None:
+    """A call that gave up goes on when it is made again."""
     trial.open()
-    trial.note(trial.play(Set(OWN, 1000), Set(COUNT, 0)))
-    done, number = threading.Event(), 1000
-    killer = threading.Thread(target=killing, args=(trial, chance, done))
-    killer.start()
+    trial.expect(trial.player.once(OWN, 300, SECONDS, [Set(1, 0)]).partition(":")[2], " +")
+    trial.hold()
+    trial.expect(trial.player.once(OWN, 301, SHORT, [Add(1, 1)]), UNANSWERED)
+    trial.kill()
+    trial.serve()
+    trial.expect(trial.player.once(OWN, 301, SECONDS, [Add(1, 1), Get(1)]).partition(":")[2], " + =1")
+    trial.expect(trial.player.once(OWN, 301, SECONDS, [Add(1, 1)]), ANSWER_LOST)
+
+
+def try_doubt(seconds: float) -> None:
+    """The client in Python keeps a batch of which nobody knows whether it was played, however often the server dies."""
+    batch = (Add(1, 1),)
+    script = Script([Step("add 1 1", None)], [LOST_PROBE], [READY, LOST_LOOK], [READY, NO, Step("get 1", None)], [READY])
+    world = cektaulis.World(script.address, seconds)
+    for kind, call in ((Unanswered, lambda: world.play(*batch)), (Unanswered, world.receive)):
+        lost = refuses(kind, call)
+        if lost.batches != [batch] or "reconnect" not in str(lost):
+            raise Wrong(f"{lost} keeps {lost.batches}")
+    for call in (lambda: world.play(Get(1)), lambda: world.send(Get(1)), lambda: world.was_played(OWN, 5)):
+        if "reconnect" not in str(refuses(cektaulis.NotConnected, call)):
+            raise Wrong("a call without a connection doesn't name the way back")
+    got = [world.reconnect(seconds)]
+    refuses(Unanswered, lambda: world.was_played(OWN, 5))
+    got += [world.reconnect(seconds), world.was_played(OWN, 5)]
+    refuses(Unanswered, lambda: world.play(Get(1)))
+    got += [world.reconnect(seconds)]
+    script.end()
+    if got != [[batch], [batch], False, [batch, (Get(1),)]]:
+        raise Wrong(f"a batch is lost: {got}")
+
+
+Ends = dict[int, collections.Counter]
+
+
+def killing(trial: Trial, chance: random.Random, kills: int | None, ends: Ends, done: threading.Event) -> int:
+    """Kills the server and starts it again, so often or for some seconds. Returns how often."""
+    count, start = 0, time.monotonic()
+
+    def is_enough() -> bool:
+        seconds = time.monotonic() - start
+        is_met = all(any(it[end] for it in ends.values()) for end in ENDS)
+        return seconds > (KILLING_SECONDS if is_met else MOST_KILLING_SECONDS)
+
+    try:
+        while not is_enough() if kills is None else count < kills:
+            before = sum(it.total() for it in ends.values())
+            time.sleep(chance.uniform(0.01, 0.1))
+            # On a busy system a server may be killed too early for any batch. Every second one plays some.
+            while count % 2 and before == sum(it.total() for it in ends.values()) and not done.wait(0.01):
+                pass
+            trial.kill()
+            trial.serve()
+            count += 1
+    finally:
+        done.set()
+    return count
+
+
+def turn(client: int, number: int) -> Action:
+    """What a client does in a batch."""
+    if client in COUNTERS:
+        return Add(COUNT, 1)
+    return Move(SHOP, PURSES[client], 3) if number % 2 else Move(PURSES[client], SHOP, 2)
+
+
+def playing(player, client: int, ends: collections.Counter, done: threading.Event) -> None:
+    """Plays batches, each once, until the server is killed no more. Counts how they ended."""
     while not done.is_set():
-        number += 1
-        while trial.note(trial.play(Set(OWN, number), Add(COUNT, 1))) in (UNANSWERED, NOT_CONNECTED):
-            if was_played(trial, number):
-                break
-    killer.join()
-    trial.expect(trial.player.reconnect(SECONDS), "ok")
-    trial.expect(trial.play(Get(COUNT)).partition(":")[2], f" ={number - 1000}")
-    return number - 1000
+        number, before = ends.total() + 1, player.connections()
+        answer = player.once(client, number, 4 * SECONDS, [turn(client, number)])
+        if answer != ANSWER_LOST and not (answer.startswith("tick ") and answer.endswith(": +")):
+            raise Wrong(f"a batch ends by `{answer}`")
+        later = ANSWERED_LATER if player.connections() > before else ANSWERED
+        ends[ANSWER_LOST if answer == ANSWER_LOST else later] += 1
 
 
-def was_played(trial: Trial, number: int) -> bool:
-    """Connects again until it is known whether the batch of this number was played. The server was killed, so that is final."""
-    while True:
-        trial.player.reconnect(SECONDS)
-        answer = trial.note(trial.player.played(OWN, number))
-        if answer in ("yes", "no"):
-            return answer == "yes"
+def words_after(batches: dict[int, int]) -> dict[int, int]:
+    """What cells hold once each client has played so many batches, each once."""
+    words = dict(batches)
+    words[COUNT] = sum(batches[client] for client in COUNTERS)
+    for client in TRADERS:
+        words[PURSES[client]] = GOLD + (batches[client] + 1) // 2 * 3 - batches[client] // 2 * 2
+    words[SHOP] = 3 * GOLD - sum(words[PURSES[client]] for client in TRADERS)
+    return words
 
 
-def try_client(trial: Trial, chance: random.Random) -> int:
-    """Tries a client, and returns how many batches it counted."""
+def try_kills_of_many(kind, trial: Trial, chance: random.Random, kills: int | None) -> tuple[int, collections.Counter]:
+    """Two clients count and two trade while the server is killed. Returns how often that was, and how batches ended."""
+    players = {client: kind() for client in (*COUNTERS, *TRADERS)}
+    ends: Ends = {client: collections.Counter() for client in players}
+    done = threading.Event()
     trial.serve()
     try:
-        for part in (try_codes, try_limits, try_pipeline, try_answers, try_kills):
+        trial.open()
+        trial.expect(trial.play(*(Set(cell, GOLD) for cell in (SHOP, *PURSES.values()))), "tick 1: + + +")
+        for player in players.values():
+            trial.expect(player.open(trial.address, SECONDS), "ok")
+        with concurrent.futures.ThreadPoolExecutor() as threads:
+            killer = threads.submit(killing, trial, chance, kills, ends, done)
+            runs = [threads.submit(playing, player, it, ends[it], done) for it, player in players.items()]
+            try:
+                for run in runs:
+                    run.result()
+            finally:
+                done.set()
+            kills = killer.result()
+        trial.expect(trial.player.reconnect(SECONDS), "ok")
+        words = words_after({client: it.total() for client, it in ends.items()})
+        trial.expect(trial.play(*map(Get, range(8))).partition(":")[2], "".join(f" ={words[cell]}" for cell in range(8)))
+    finally:
+        done.set()
+        trial.kill()
+        for player in (*players.values(), trial.player):
+            player.close()
+    return kills, sum(ends.values(), collections.Counter())
+
+
+def try_client(trial: Trial) -> None:
+    """Tries all but the kills of many clients."""
+    trial.serve()
+    try:
+        for part in (try_codes, try_limits, try_pipeline, try_ahead, try_mistakes):
             part(trial)
-        return try_counting(trial, chance)
+        if isinstance(trial.player, PythonPlayer):
+            try_python_mistakes(trial.player.world)
+            try_doubt(SECONDS)
+            try_files(trial)
+            try_prompt(trial)
+        for part in (try_answers, try_once, try_bounds, try_kills, try_going_on):
+            part(trial)
     finally:
         trial.kill()
         trial.player.close()
+
+
+def try_both(name: str, kind, given: argparse.Namespace, room: pathlib.Path, transport: str) -> None:
+    """Tries a client over a port or a socket, and prints what was met."""
+    worldd, folder = given.worldd.resolve(), room / f"{name}-{transport}"
+    trial = Trial(kind(), worldd, folder, transport)
+    try_client(trial)
+    many = Trial(kind(), worldd, folder.with_suffix(".many"), transport, 8)
+    kills, ends = try_kills_of_many(kind, many, random.Random(given.seed), given.kills)
+    met = ", ".join(f"{it} {trial.met[it]}" for it in WANTED)
+    print(f"client in {name} over a {transport}: {met}")
+    print(f"  {kills} kills, {ends.total()} batches of four clients, each counted once: "
+          + ", ".join(f"{it} {ends[it]}" for it in ENDS))
+    never = [it for it in WANTED if not trial.met[it]] + [it for it in ENDS if not ends[it]]
+    if never:
+        raise Wrong(f"never met: {', '.join(never)}")
 
 
 def main() -> int:
@@ -368,24 +762,24 @@ def main() -> int:
     parser = argparse.ArgumentParser(description=__doc__.splitlines()[0])
     parser.add_argument("worldd", type=pathlib.Path, help="the built program")
     parser.add_argument("--seed", type=int, default=1)
+    parser.add_argument("--kills", type=int, help=f"how often each server is killed, in place of {KILLING_SECONDS} seconds")
     given = parser.parse_args()
     with tempfile.TemporaryDirectory(prefix="client-trial-") as folder:
         room = pathlib.Path(folder)
         CPlayer.program = room / "player"
-        build = ["cc", "-std=c11", "-D_POSIX_C_SOURCE=200809L", "-O2", "-Wall", "-Wextra", "-Werror", f"-I{TOP}/clients/c"]
+        strict = ["-Wall", "-Wextra", "-Wpedantic", "-Werror", f"-I{TOP}/clients/c"]
+        build = ["cc", "-std=c11", "-D_POSIX_C_SOURCE=200809L", "-O2", *strict]
         subprocess.run([*build, "-o", CPlayer.program, TOP / "scripts" / "client_player.c"], check=True)
+        if shutil.which("c++"):
+            check = ["c++", "-std=c++17", *strict, "-fsyntax-only", "-x", "c++", "-"]
+            subprocess.run(check, input=b'#include "cektaulis.h"\n', check=True)
+        else:
+            print("client_trial: there is no c++, so the header isn't tried in C++")
         for (name, kind), transport in itertools.product((("python", PythonPlayer), ("c", CPlayer)), TRANSPORTS):
-            trial = Trial(kind(), given.worldd.resolve(), room / f"{name}-{transport}", transport)
             try:
-                counted = try_client(trial, random.Random(given.seed))
+                try_both(name, kind, given, room, transport)
             except (Wrong, OSError, subprocess.SubprocessError) as wrong:
                 print(f"client_trial: {name} over a {transport}: {wrong}", file=sys.stderr)
-                return 1
-            met = ", ".join(f"{it} {trial.met[it]}" for it in WANTED)
-            print(f"client in {name} over a {transport}: {met}; {counted} batches counted over {KILLS} kills")
-            never = [it for it in WANTED if not trial.met[it]]
-            if never:
-                print(f"client_trial: {name}: never met: {', '.join(never)}", file=sys.stderr)
                 return 1
     return 0
 

@@ -8,6 +8,7 @@ that breaks before the answer comes. Port 7070 stands for a free port. It needs 
 """
 import argparse
 import contextlib
+import dataclasses
 import os
 import pathlib
 import signal
@@ -16,6 +17,7 @@ import subprocess
 import sys
 import tempfile
 import threading
+import time
 
 from check_docs import TOP, Block, pages
 
@@ -25,7 +27,7 @@ PORT = "7070"
 
 
 class Wrong(Exception):
-    """What an example should not have printed."""
+    """What an example or a client should not have done."""
 
 
 def compare(what: str, got: str, want: str) -> None:
@@ -85,28 +87,79 @@ def run_block(worldd: pathlib.Path, page: str, block: Block, room: pathlib.Path)
         shell.wait()
 
 
-def break_once(listener: socket.socket) -> None:
-    """A server's work: it takes a batch and breaks the connection, and answers the batch of the next one."""
-    for answer in (b"", b"tick 1: +\n"):
-        stream, _ = listener.accept()
-        with stream, stream.makefile("rb") as lines:
-            while lines.readline() != b"end\n":
-                pass
-            stream.sendall(answer)
+@dataclasses.dataclass(frozen=True)
+class Step:
+    """A batch that a server of the trial's own expects, and its answer after so many seconds. None: it ends the connection."""
+
+    batch: str
+    answer: str | None
+    seconds: float = 0
+
+
+class Script:
+    """A server that expects the steps of one connection after another."""
+
+    def __init__(self, *connections: list[Step], path: pathlib.Path | None = None) -> None:
+        self.connections, self.wrong = connections, ""
+        if path:
+            self.listener, self.address = socket.create_server(str(path), family=socket.AF_UNIX), str(path)
+        else:
+            self.listener = socket.create_server(("127.0.0.1", 0))
+            self.address = str(self.listener.getsockname()[1])
+        self.thread = threading.Thread(target=self.serve, daemon=True)
+        self.thread.start()
+
+    def serve(self) -> None:
+        with self.listener, contextlib.suppress(ConnectionResetError):
+            for steps in self.connections:
+                with self.listener.accept()[0] as stream, stream.makefile("r") as lines:
+                    for step in steps:
+                        batch = ", ".join(line[:-1] for line in iter(lines.readline, "end\n") if line)
+                        if batch != step.batch:
+                            self.wrong = f"`{batch}` comes in the place of `{step.batch}`"
+                            return
+                        time.sleep(step.seconds)
+                        if step.answer is None:
+                            break
+                        stream.sendall(f"{step.answer}\n".encode())
+
+    def end(self) -> None:
+        """Refuses a batch that wasn't expected, and connections that didn't come."""
+        self.thread.join(SECONDS)
+        if self.wrong or self.thread.is_alive():
+            raise Wrong(self.wrong or "a connection or a batch doesn't come")
 
 
 def try_reconnect(room: pathlib.Path) -> None:
-    """The client in C sends a batch again if that does no harm, and gives up on any other batch."""
+    """The client in C plays a batch once on a connection that breaks, and prints what is known of it."""
     client = room / "client"
-    subprocess.run(["cc", "-Wall", "-Wextra", "-Werror", "-o", client, EXAMPLES / "client.c"], check=True)
-    for line, printed, status in (("set 0 5", "tick 1: +\n", 0), ("add 0 5", "", 3)):
-        path = room / f"socket-{status}"
-        with socket.create_server(("127.0.0.1", 0)) as port, socket.create_server(str(path), family=socket.AF_UNIX) as at_path:
-            for listener, address in ((port, str(port.getsockname()[1])), (at_path, str(path))):
-                threading.Thread(target=break_once, args=(listener,), daemon=True).start()
-                run = subprocess.run([client, address, line], capture_output=True, text=True, timeout=SECONDS)
-                got, want = f"{run.stdout}status {run.returncode}\n", f"{printed}status {status}\n"
-                compare(f"examples/client.c: {line}", got, want)
+    build = ["cc", "-Wall", "-Wextra", "-Werror", f"-I{CLIENTS}/c", "-o", client, EXAMPLES / "client.c"]
+    subprocess.run(build, check=True)
+    broken = [Step("get 1", "tick 1: =4"), Step("set 1 5, add 0 5", None)]
+    ready = Step("", "tick 2:")
+    lost = "the batch was played, and its answer is lost\n"
+    for number, (steps, printed, status) in enumerate((
+        ([Step("get 1", "tick 3: =4"), Step("set 1 5, add 0 5", "tick 4: + +")], "tick 4: +\n", 0),
+        ([Step("get 1", "tick 3: =5")], lost, 0),
+        ([Step("get 1", "fault 21")], "", 3),
+    )):
+        for path in (None, room / f"socket-{number}"):
+            script = Script(broken, [ready, *steps], path=path)
+            run = subprocess.run([client, script.address, "1", "5", "add 0 5"], capture_output=True, text=True, timeout=SECONDS)
+            compare("examples/client.c", f"{run.stdout}status {run.returncode}\n", f"{printed}status {status}\n")
+            script.end()
+
+
+def try_mistakes(room: pathlib.Path) -> None:
+    """Both clients refuse what is no port and no line."""
+    in_c, in_python = room / "client", EXAMPLES / "client.py"
+    for command in (
+        *([in_c, port, "1", "1"] for port in ("0", "65536", "72928")),
+        *([in_c, PORT, *rest] for rest in (["x", "1"], ["1", "x"], ["1", "0"], ["1", "1", "get 0 1"], ["1", "1", "set 1 2"])),
+        *([sys.executable, in_python, port] for port in ("0", "65536", "72928")),
+    ):
+        run = subprocess.run(command, stderr=subprocess.DEVNULL, timeout=SECONDS)
+        compare(" ".join(map(str, command)), f"status {run.returncode}\n", "status 2\n")
 
 
 def main() -> int:
@@ -122,6 +175,7 @@ def main() -> int:
             for number, (page, block) in enumerate(blocks):
                 run_block(worldd, page, block, room / str(number))
             try_reconnect(room)
+            try_mistakes(room)
     except (Wrong, OSError, subprocess.SubprocessError) as wrong:
         print(f"example_trial: {wrong}", file=sys.stderr)
         return 1

@@ -1,4 +1,4 @@
-/* A client of worldd, the world server Cektaulis. It is this one file, in C11 over POSIX sockets, and allocates nothing.
+/* A client of worldd, the world server Cektaulis. It is this one file, in C11 or C++17 over POSIX sockets.
  *
  *   struct cektaulis world;
  *   struct cektaulis_action batch[] = {cektaulis_set(0, 5), cektaulis_move(0, 1, 2), cektaulis_get(1)};
@@ -9,16 +9,20 @@
  *       printf("tick %" PRIu64 ": %" PRIu64 "\n", tick, answers[2].value);
  *
  * A batch is the actions of one tick. Its answer comes once the tick is durable. The page docs/CLIENT.md of the server has
- * the protocol and the worth of an answer. One thread uses a connection at a time.
+ * the protocol and the worth of an answer. One thread uses a connection at a time. `cektaulis_close` ends it and frees its
+ * one buffer, which holds answers that no call has received yet.
  */
 #ifndef CEKTAULIS_H
 #define CEKTAULIS_H
 
 #include <arpa/inet.h>
 #include <errno.h>
+#include <fcntl.h>
 #include <inttypes.h>
+#include <limits.h>
 #include <netinet/in.h>
 #include <netinet/tcp.h>
+#include <poll.h>
 #include <stdbool.h>
 #include <stddef.h>
 #include <stdint.h>
@@ -70,16 +74,26 @@ struct cektaulis_answer {
 
 enum cektaulis_status {
     CEKTAULIS_OK,
-    /* There is no connection: `error` is the errno. */
+    /* There is no connection: `error` is the errno. Nothing was sent. `cektaulis_reconnect` connects again. */
     CEKTAULIS_NOT_CONNECTED,
     /* The batch has too many actions or changes. Nothing was sent. */
     CEKTAULIS_TOO_LARGE,
-    /* The server refused the whole batch: `fault` is its code (`cektaulis_fault_text`). */
+    /* The server refused the whole batch, which changed nothing: `fault` is its code (`cektaulis_fault_text`). */
     CEKTAULIS_BATCH_REFUSED,
-    /* The connection broke, or was silent for too long. Each batch that wasn't answered was played as a whole or not at all. */
+    /* The connection broke, or was silent for too long, and is closed. Each batch that wasn't answered was played as a whole
+     * or not at all. `fault` is 12 if the server's log failed, else 0. `cektaulis_reconnect` connects again. */
     CEKTAULIS_UNANSWERED,
     /* The other side answered with a line that no worldd sends. */
     CEKTAULIS_GARBLED,
+    /* The batch was played, and its answer is lost. */
+    CEKTAULIS_ANSWER_LOST,
+    /* A marker shows nothing: the world has no such cell, or the cell holds a greater number. */
+    CEKTAULIS_MARKER_REFUSED,
+    /* The address is empty, too long for a socket, or a port outside 1 to 65,535. */
+    CEKTAULIS_BAD_ADDRESS,
+    /* An action is of no kind, has a difference of INT64_MIN, or changes the cell of the marker, or a number is no marker's.
+     * Nothing was sent. */
+    CEKTAULIS_BAD_ACTION,
 };
 
 /* A connection. Its fields are read only. */
@@ -89,32 +103,47 @@ struct cektaulis {
     int stream;
     int error;
     int fault;
-    size_t at, filled;
-    char bytes[4096];
+    /* How often it connected. */
+    unsigned connections;
+    /* How many milliseconds of silence the running call bears; below 0 any. */
+    int bears;
+    /* What the cell of the last marker is known to hold. */
+    bool mark_known;
+    uint32_t mark_cell;
+    uint64_t mark;
+    /* What the server sent and no call has received. */
+    char *bytes;
+    size_t at, filled, room;
 };
 
+static inline struct cektaulis_action cektaulis_action_of(
+    enum cektaulis_kind kind, uint32_t cell, uint32_t target, uint64_t number, int64_t difference) {
+    struct cektaulis_action action = {kind, cell, target, number, difference};
+    return action;
+}
+
 static inline struct cektaulis_action cektaulis_set(uint32_t cell, uint64_t value) {
-    return (struct cektaulis_action){.kind = CEKTAULIS_SET, .cell = cell, .number = value};
+    return cektaulis_action_of(CEKTAULIS_SET, cell, 0, value, 0);
 }
 
 static inline struct cektaulis_action cektaulis_add(uint32_t cell, int64_t difference) {
-    return (struct cektaulis_action){.kind = CEKTAULIS_ADD, .cell = cell, .difference = difference};
+    return cektaulis_action_of(CEKTAULIS_ADD, cell, 0, 0, difference);
 }
 
 static inline struct cektaulis_action cektaulis_move(uint32_t source, uint32_t target, uint64_t amount) {
-    return (struct cektaulis_action){.kind = CEKTAULIS_MOVE, .cell = source, .target = target, .number = amount};
+    return cektaulis_action_of(CEKTAULIS_MOVE, source, target, amount, 0);
 }
 
 static inline struct cektaulis_action cektaulis_swap(uint32_t first, uint32_t second) {
-    return (struct cektaulis_action){.kind = CEKTAULIS_SWAP, .cell = first, .target = second};
+    return cektaulis_action_of(CEKTAULIS_SWAP, first, second, 0, 0);
 }
 
 static inline struct cektaulis_action cektaulis_cap(uint32_t cell, uint64_t value) {
-    return (struct cektaulis_action){.kind = CEKTAULIS_CAP, .cell = cell, .number = value};
+    return cektaulis_action_of(CEKTAULIS_CAP, cell, 0, value, 0);
 }
 
 static inline struct cektaulis_action cektaulis_get(uint32_t cell) {
-    return (struct cektaulis_action){.kind = CEKTAULIS_GET, .cell = cell};
+    return cektaulis_action_of(CEKTAULIS_GET, cell, 0, 0, 0);
 }
 
 /* Why an action was refused, or NULL for a number that is no such code. */
@@ -142,6 +171,23 @@ static inline const char *cektaulis_fault_text(int code) {
     }
 }
 
+/* What a status says, without the details in `error` and `fault`. */
+static inline const char *cektaulis_status_text(enum cektaulis_status status) {
+    switch (status) {
+    case CEKTAULIS_OK: return "the batch was played";
+    case CEKTAULIS_NOT_CONNECTED: return "no server answers, and nothing was sent";
+    case CEKTAULIS_TOO_LARGE: return "the batch is too large";
+    case CEKTAULIS_BATCH_REFUSED: return "the server refused the batch";
+    case CEKTAULIS_UNANSWERED: return "nobody knows whether the batch was played";
+    case CEKTAULIS_GARBLED: return "the answer is of no worldd";
+    case CEKTAULIS_ANSWER_LOST: return "the batch was played, and its answer is lost";
+    case CEKTAULIS_MARKER_REFUSED: return "there is no such cell for the marker, or it holds a greater number";
+    case CEKTAULIS_BAD_ADDRESS: return "the address is no port from 1 to 65535 and no path";
+    case CEKTAULIS_BAD_ACTION: return "there is no such action, or it changes the cell of the marker";
+    }
+    return "there is no such status";
+}
+
 /* How many of the first actions make a batch that is as long as it may be. */
 static inline size_t cektaulis_batch(const struct cektaulis_action *actions, size_t count) {
     size_t changes = 0, length = 0;
@@ -160,65 +206,155 @@ static inline bool cektaulis_does_no_harm_twice(const struct cektaulis_action *a
     return true;
 }
 
-/* Ends the connection. It does nothing if there is none. */
-static inline void cektaulis_close(struct cektaulis *world) {
-    if (world->stream >= 0) close(world->stream);
-    world->stream = -1;
+/* Whether an action may change a cell. */
+static inline bool cektaulis_changes(const struct cektaulis_action *action, uint32_t cell) {
+    if (action->kind == CEKTAULIS_GET) return false;
+    if (action->kind != CEKTAULIS_MOVE && action->kind != CEKTAULIS_SWAP) return action->cell == cell;
+    return action->cell == cell || action->target == cell;
 }
 
-/* Ends the connection for a reason, and returns the reason. */
+/* Ends the connection for a reason, and returns the reason. Answers that have come can still be received. */
 static inline enum cektaulis_status cektaulis_ended(struct cektaulis *world, enum cektaulis_status why, int error) {
-    cektaulis_close(world);
+    if (world->stream >= 0) close(world->stream);
+    world->stream = -1;
     world->error = error;
+    world->fault = 0;
     return why;
 }
 
-static inline enum cektaulis_status cektaulis_dial(struct cektaulis *world, const struct sockaddr *to, socklen_t length) {
+/* Ends the connection and frees its buffer. It does nothing if there is none. */
+static inline void cektaulis_close(struct cektaulis *world) {
+    cektaulis_ended(world, CEKTAULIS_OK, 0);
+    free(world->bytes);
+    world->bytes = NULL;
+    world->at = world->filled = world->room = 0;
+}
+
+/* The milliseconds of a clock that only goes forward. */
+static inline int64_t cektaulis_now(void) {
+    struct timespec now;
+    clock_gettime(CLOCK_MONOTONIC, &now);
+    return (int64_t)now.tv_sec * 1000 + now.tv_nsec / 1000000;
+}
+
+/* The milliseconds until then, from 1 to the most that a call bears. */
+static inline int cektaulis_until(int64_t then) {
+    int64_t left = then - cektaulis_now();
+    return left < 1 ? 1 : left > INT_MAX ? INT_MAX : (int)left;
+}
+
+/* Waits, and doubles the next wait up to a second. False: that would be too late. */
+static inline bool cektaulis_pauses(int *milliseconds, int64_t deadline) {
+    struct timespec pause = {*milliseconds / 1000, *milliseconds % 1000 * 1000000L};
+    if (cektaulis_now() + *milliseconds >= deadline) return false;
+    nanosleep(&pause, NULL);
+    *milliseconds = *milliseconds < 500 ? *milliseconds * 2 : 1000;
+    return true;
+}
+
+static inline enum cektaulis_status cektaulis_dial_to(struct cektaulis *world, const struct sockaddr *to, socklen_t length) {
     int one = 1;
-    struct timeval patience = {.tv_sec = world->milliseconds / 1000, .tv_usec = world->milliseconds % 1000 * 1000};
+    struct timeval limit = {0, 0};
+    struct sockaddr_in own;
+    socklen_t room = sizeof own;
+    if (world->bears > 0) limit.tv_sec = world->bears / 1000, limit.tv_usec = world->bears % 1000 * 1000;
     world->stream = socket(to->sa_family, SOCK_STREAM, 0);
     if (world->stream < 0) return cektaulis_ended(world, CEKTAULIS_NOT_CONNECTED, errno);
-    setsockopt(world->stream, SOL_SOCKET, SO_RCVTIMEO, &patience, sizeof patience);
-    setsockopt(world->stream, SOL_SOCKET, SO_SNDTIMEO, &patience, sizeof patience);
+    fcntl(world->stream, F_SETFD, FD_CLOEXEC);
+    /* It bounds the time in which `connect` waits. */
+    setsockopt(world->stream, SOL_SOCKET, SO_SNDTIMEO, &limit, sizeof limit);
     if (to->sa_family == AF_INET) setsockopt(world->stream, IPPROTO_TCP, TCP_NODELAY, &one, sizeof one);
     if (connect(world->stream, to, length)) return cektaulis_ended(world, CEKTAULIS_NOT_CONNECTED, errno);
+    /* The system may choose the port of a server that isn't there for the client. */
+    if (!getsockname(world->stream, (struct sockaddr *)&own, &room) && room == length && !memcmp(&own, to, length))
+        return cektaulis_ended(world, CEKTAULIS_NOT_CONNECTED, ECONNREFUSED);
+    fcntl(world->stream, F_SETFL, O_NONBLOCK);
+    world->connections++;
     return CEKTAULIS_OK;
 }
 
-/* Connects to a port of this machine, or to the path of a socket. Each call waits for the server so many milliseconds at a
- * time; 0 waits for ever. The address stays the caller's, and is read again by `cektaulis_reconnect`. */
+/* Connects to the address. */
+static inline enum cektaulis_status cektaulis_dial(struct cektaulis *world) {
+    struct sockaddr_in port;
+    struct sockaddr_un path;
+    cektaulis_ended(world, CEKTAULIS_OK, 0);
+    world->at = world->filled = 0;
+    memset(&port, 0, sizeof port);
+    memset(&path, 0, sizeof path);
+    if (!world->address || !world->address[0]) return cektaulis_ended(world, CEKTAULIS_BAD_ADDRESS, EINVAL);
+    if (!world->address[strspn(world->address, "0123456789")]) {
+        unsigned long number = strtoul(world->address, NULL, 10);
+        if (number < 1 || number > 65535) return cektaulis_ended(world, CEKTAULIS_BAD_ADDRESS, EINVAL);
+        port.sin_family = AF_INET;
+        port.sin_addr.s_addr = htonl(INADDR_LOOPBACK);
+        port.sin_port = htons((uint16_t)number);
+        return cektaulis_dial_to(world, (struct sockaddr *)&port, sizeof port);
+    }
+    if (strlen(world->address) >= sizeof path.sun_path) return cektaulis_ended(world, CEKTAULIS_BAD_ADDRESS, ENAMETOOLONG);
+    path.sun_family = AF_UNIX;
+    strcpy(path.sun_path, world->address);
+    return cektaulis_dial_to(world, (struct sockaddr *)&path, sizeof path);
+}
+
+/* Begins a public call, which bears the silence of `cektaulis_open`. */
+static inline void cektaulis_begin(struct cektaulis *world) {
+    world->bears = world->milliseconds > 0 ? world->milliseconds : -1;
+}
+
+/* Connects to a port of this machine, or to the path of a socket. Digits alone are a port. Each call bears so many
+ * milliseconds of silence; 0 waits for ever. The address stays the caller's, and is read again by `cektaulis_reconnect`. */
 static inline enum cektaulis_status cektaulis_open(struct cektaulis *world, const char *address, int milliseconds) {
-    struct sockaddr_in port = {.sin_family = AF_INET, .sin_addr.s_addr = htonl(INADDR_LOOPBACK)};
-    struct sockaddr_un path = {.sun_family = AF_UNIX};
-    *world = (struct cektaulis){.address = address, .milliseconds = milliseconds, .stream = -1};
-    if (!address[strspn(address, "0123456789")]) {
-        port.sin_port = htons((uint16_t)atoi(address));
-        return cektaulis_dial(world, (struct sockaddr *)&port, sizeof port);
-    }
-    if (strlen(address) >= sizeof path.sun_path) return cektaulis_ended(world, CEKTAULIS_NOT_CONNECTED, ENAMETOOLONG);
-    strcpy(path.sun_path, address);
-    return cektaulis_dial(world, (struct sockaddr *)&path, sizeof path);
+    memset(world, 0, sizeof *world);
+    world->address = address;
+    world->milliseconds = milliseconds;
+    world->stream = -1;
+    cektaulis_begin(world);
+    return cektaulis_dial(world);
 }
 
-/* Connects again, and tries for so many milliseconds. Batches that weren't answered are forgotten. */
-static inline enum cektaulis_status cektaulis_reconnect(struct cektaulis *world, long patience) {
-    const struct timespec pause = {.tv_nsec = 50 * 1000 * 1000};
-    for (;; patience -= 50) {
-        cektaulis_close(world);
-        enum cektaulis_status status = cektaulis_open(world, world->address, world->milliseconds);
-        if (status == CEKTAULIS_OK || patience <= 0) return status;
-        nanosleep(&pause, NULL);
+/* Makes room for more bytes of the server. False: there is no memory. */
+static inline bool cektaulis_grows(struct cektaulis *world) {
+    if (world->at == world->filled) world->at = world->filled = 0;
+    if (world->filled < world->room) return true;
+    if (world->at && world->at >= world->room / 2) {
+        memmove(world->bytes, world->bytes + world->at, world->filled - world->at);
+        world->filled -= world->at;
+        world->at = 0;
+        return true;
     }
+    size_t room = world->room ? world->room * 2 : 4096;
+    char *bytes = (char *)realloc(world->bytes, room);
+    if (!bytes) return false;
+    world->bytes = bytes;
+    world->room = room;
+    return true;
 }
 
-/* Sends all of these bytes. */
-static inline enum cektaulis_status cektaulis_write(struct cektaulis *world, const char *bytes, size_t count) {
-    while (count) {
-        ssize_t sent = send(world->stream, bytes, count, MSG_NOSIGNAL);
-        if (sent < 0 && errno == EINTR) continue;
-        if (sent <= 0) return cektaulis_ended(world, CEKTAULIS_UNANSWERED, sent < 0 ? errno : EPIPE);
-        bytes += sent;
-        count -= (size_t)sent;
+/* Takes what the server sent, and returns 0 or why the connection ended. */
+static inline int cektaulis_takes(struct cektaulis *world) {
+    if (!cektaulis_grows(world)) return ENOMEM;
+    ssize_t got = recv(world->stream, world->bytes + world->filled, world->room - world->filled, 0);
+    if (got < 0) return errno == EINTR || errno == EAGAIN ? 0 : errno;
+    world->filled += (size_t)got;
+    return got ? 0 : ECONNRESET;
+}
+
+/* Sends these bytes, and takes what the server sends meanwhile. Without bytes it waits until it has taken some. So no answer
+ * that nobody receives holds up the server, which would read no more. */
+static inline enum cektaulis_status cektaulis_exchange(struct cektaulis *world, const char *bytes, size_t count) {
+    const bool waits = !count;
+    while (count || (waits && world->at == world->filled)) {
+        struct pollfd ready = {world->stream, (short)(count ? POLLIN | POLLOUT : POLLIN), 0};
+        int found = poll(&ready, 1, world->bears), error = 0;
+        if (found < 0 && errno == EINTR) continue;
+        if (found <= 0) error = found ? errno : ETIMEDOUT;
+        if (!error && ready.revents & ~POLLOUT) error = cektaulis_takes(world);
+        if (!error && ready.revents & POLLOUT) {
+            ssize_t sent = send(world->stream, bytes, count, MSG_NOSIGNAL);
+            if (sent < 0 && errno != EINTR && errno != EAGAIN) error = errno;
+            if (sent > 0) bytes += sent, count -= (size_t)sent;
+        }
+        if (error) return cektaulis_ended(world, CEKTAULIS_UNANSWERED, error);
     }
     return CEKTAULIS_OK;
 }
@@ -238,36 +374,44 @@ static inline size_t cektaulis_line(const struct cektaulis_action *it, char *lin
     return 0;
 }
 
-/* Sends a batch, whose answer `cektaulis_receive` returns later. The server answers the batches of a connection in order. */
-static inline enum cektaulis_status cektaulis_send(
-    struct cektaulis *world, const struct cektaulis_action *actions, size_t count) {
+/* Why these actions make no batch, or CEKTAULIS_OK. */
+static inline enum cektaulis_status cektaulis_check(const struct cektaulis_action *actions, size_t count) {
+    for (size_t i = 0; i < count; i++)
+        if ((unsigned)actions[i].kind > CEKTAULIS_GET
+            || (actions[i].kind == CEKTAULIS_ADD && actions[i].difference == INT64_MIN))
+            return CEKTAULIS_BAD_ACTION;
+    return cektaulis_batch(actions, count) < count ? CEKTAULIS_TOO_LARGE : CEKTAULIS_OK;
+}
+
+/* Sends a batch that was checked, and a marker before it unless that is NULL. */
+static inline enum cektaulis_status cektaulis_send_marked(struct cektaulis *world, const struct cektaulis_action *marker,
+    const struct cektaulis_action *actions, size_t count) {
     char lines[4096];
-    size_t filled = 0;
-    if (cektaulis_batch(actions, count) < count) return CEKTAULIS_TOO_LARGE;
+    size_t filled = marker ? cektaulis_line(marker, lines) : 0;
     if (world->stream < 0) return CEKTAULIS_NOT_CONNECTED;
     for (size_t i = 0; i < count; i++) {
         filled += cektaulis_line(&actions[i], lines + filled);
         if (filled + 80 < sizeof lines - 4) continue;
-        enum cektaulis_status status = cektaulis_write(world, lines, filled);
+        enum cektaulis_status status = cektaulis_exchange(world, lines, filled);
         if (status != CEKTAULIS_OK) return status;
         filled = 0;
     }
     memcpy(lines + filled, "end\n", 4);
-    return cektaulis_write(world, lines, filled + 4);
+    return cektaulis_exchange(world, lines, filled + 4);
+}
+
+/* Sends a batch, whose answer `cektaulis_receive` returns later. The server answers the batches of a connection in order. */
+static inline enum cektaulis_status cektaulis_send(
+    struct cektaulis *world, const struct cektaulis_action *actions, size_t count) {
+    enum cektaulis_status status = cektaulis_check(actions, count);
+    if (status != CEKTAULIS_OK) return status;
+    cektaulis_begin(world);
+    return cektaulis_send_marked(world, NULL, actions, count);
 }
 
 /* The next byte of the server. Below 0: the connection broke. */
 static inline int cektaulis_byte(struct cektaulis *world) {
-    while (world->at == world->filled) {
-        ssize_t got = recv(world->stream, world->bytes, sizeof world->bytes, 0);
-        if (got < 0 && errno == EINTR) continue;
-        if (got <= 0) {
-            cektaulis_ended(world, CEKTAULIS_UNANSWERED, got < 0 ? errno : ECONNRESET);
-            return -1;
-        }
-        world->at = 0;
-        world->filled = (size_t)got;
-    }
+    if (world->at == world->filled && (world->stream < 0 || cektaulis_exchange(world, NULL, 0) != CEKTAULIS_OK)) return -1;
     return (unsigned char)world->bytes[world->at++];
 }
 
@@ -290,7 +434,9 @@ static inline bool cektaulis_reads(struct cektaulis *world, const char *text) {
 static inline int cektaulis_word(struct cektaulis *world, struct cektaulis_answer *answer) {
     uint64_t code;
     int byte = cektaulis_byte(world);
-    *answer = (struct cektaulis_answer){.outcome = CEKTAULIS_DONE};
+    answer->outcome = CEKTAULIS_DONE;
+    answer->value = 0;
+    answer->code = 0;
     if (byte == '+') return cektaulis_byte(world);
     if (byte == '=') {
         answer->outcome = CEKTAULIS_VALUE;
@@ -313,11 +459,13 @@ static inline bool cektaulis_reads_fault(struct cektaulis *world) {
     return true;
 }
 
-/* Reads what follows the `t` of a tick. */
-static inline bool cektaulis_reads_tick(
-    struct cektaulis *world, struct cektaulis_answer *answers, size_t count, uint64_t *tick) {
+/* Reads what follows the `t` of a tick. The answer to a marker comes first, unless `marked` is NULL. */
+static inline bool cektaulis_reads_tick(struct cektaulis *world, struct cektaulis_answer *marked,
+    struct cektaulis_answer *answers, size_t count, uint64_t *tick) {
     if (!cektaulis_reads(world, "ick ") || cektaulis_number(world, tick) != ':') return false;
     int byte = cektaulis_byte(world);
+    if (marked && byte != ' ') return false;
+    if (marked) byte = cektaulis_word(world, marked);
     for (size_t i = 0; i < count; i++) {
         if (byte != ' ') return false;
         byte = cektaulis_word(world, &answers[i]);
@@ -325,15 +473,29 @@ static inline bool cektaulis_reads_tick(
     return byte == '\n';
 }
 
+/* The answer to a batch, and to the marker before it unless `marked` is NULL. */
+static inline enum cektaulis_status cektaulis_receive_marked(struct cektaulis *world, struct cektaulis_answer *marked,
+    struct cektaulis_answer *answers, size_t count, uint64_t *tick) {
+    if (world->stream < 0 && world->at == world->filled) return CEKTAULIS_NOT_CONNECTED;
+    int byte = cektaulis_byte(world);
+    if (byte == 't' && cektaulis_reads_tick(world, marked, answers, count, tick)) return CEKTAULIS_OK;
+    if (byte == 'f' && cektaulis_reads_fault(world)) {
+        if (world->fault != 12) return CEKTAULIS_BATCH_REFUSED;
+        cektaulis_ended(world, CEKTAULIS_UNANSWERED, EIO);
+        world->at = world->filled = 0;
+        world->fault = 12;
+        return CEKTAULIS_UNANSWERED;
+    }
+    if (world->stream < 0 && world->at == world->filled) return CEKTAULIS_UNANSWERED;
+    world->at = world->filled = 0;
+    return cektaulis_ended(world, CEKTAULIS_GARBLED, EPROTO);
+}
+
 /* The answer to the oldest batch that waits for one, which has `count` actions. */
 static inline enum cektaulis_status cektaulis_receive(
     struct cektaulis *world, struct cektaulis_answer *answers, size_t count, uint64_t *tick) {
-    if (world->stream < 0) return CEKTAULIS_NOT_CONNECTED;
-    int byte = cektaulis_byte(world);
-    if (byte == 't' && cektaulis_reads_tick(world, answers, count, tick)) return CEKTAULIS_OK;
-    if (byte == 'f' && cektaulis_reads_fault(world)) return CEKTAULIS_BATCH_REFUSED;
-    if (world->stream < 0) return CEKTAULIS_UNANSWERED;
-    return cektaulis_ended(world, CEKTAULIS_GARBLED, EPROTO);
+    cektaulis_begin(world);
+    return cektaulis_receive_marked(world, NULL, answers, count, tick);
 }
 
 /* Plays a batch: sends it, and waits for its answer. Earlier answers are to be received first. */
@@ -343,18 +505,121 @@ static inline enum cektaulis_status cektaulis_play(struct cektaulis *world, cons
     return status == CEKTAULIS_OK ? cektaulis_receive(world, answers, count, tick) : status;
 }
 
-/* Whether a batch with `cektaulis_set(cell, number)` in it was played, if this client alone writes the cell, and ever greater
- * numbers. True is certain. False is certain once the server was started again. If the connection alone broke, a batch that
- * had arrived may still be played later. */
-static inline enum cektaulis_status cektaulis_was_played(
-    struct cektaulis *world, uint32_t cell, uint64_t number, bool *played) {
+/* Connects again, and waits until the server answers an empty batch. It tries for so many milliseconds. Batches that weren't
+ * answered stay the caller's. */
+static inline enum cektaulis_status cektaulis_reconnect(struct cektaulis *world, long patience) {
+    const int64_t deadline = cektaulis_now() + patience;
+    int pause = 10;
+    for (;;) {
+        uint64_t tick;
+        world->bears = cektaulis_until(deadline);
+        enum cektaulis_status status = cektaulis_dial(world);
+        if (status == CEKTAULIS_OK) status = cektaulis_send_marked(world, NULL, NULL, 0);
+        if (status == CEKTAULIS_OK) status = cektaulis_receive_marked(world, NULL, NULL, 0, &tick);
+        if (status == CEKTAULIS_BATCH_REFUSED) return CEKTAULIS_OK;
+        if (status != CEKTAULIS_NOT_CONNECTED && status != CEKTAULIS_UNANSWERED) return status;
+        if (!cektaulis_pauses(&pause, deadline)) return CEKTAULIS_NOT_CONNECTED;
+    }
+}
+
+/* Whether a marker may have this number: one that a cell holds once it was written. */
+static inline bool cektaulis_is_marker(uint64_t number) {
+    return number > 0 && number <= CEKTAULIS_LIMIT;
+}
+
+/* Looks what the cell of a marker holds. */
+static inline enum cektaulis_status cektaulis_look(struct cektaulis *world, uint32_t cell, uint64_t *held) {
     struct cektaulis_action look = cektaulis_get(cell);
     struct cektaulis_answer answer;
     uint64_t tick;
-    *played = false;
-    enum cektaulis_status status = cektaulis_play(world, &look, 1, &answer, &tick);
-    if (status == CEKTAULIS_OK) *played = answer.outcome == CEKTAULIS_VALUE && answer.value >= number;
+    enum cektaulis_status status = cektaulis_send_marked(world, NULL, &look, 1);
+    if (status == CEKTAULIS_OK) status = cektaulis_receive_marked(world, NULL, &answer, 1, &tick);
+    if (status == CEKTAULIS_OK && answer.outcome != CEKTAULIS_VALUE) return CEKTAULIS_MARKER_REFUSED;
+    if (status == CEKTAULIS_OK) *held = answer.value;
     return status;
+}
+
+/* Whether a batch with `cektaulis_set(cell, number)` in it was played, if this client alone writes the cell, and ever greater
+ * numbers. True is certain. False is certain once the server was started again. If the connection alone broke, a batch that
+ * had arrived may still be played later. CEKTAULIS_MARKER_REFUSED if the world has no such cell. */
+static inline enum cektaulis_status cektaulis_was_played(
+    struct cektaulis *world, uint32_t cell, uint64_t number, bool *played) {
+    uint64_t held = 0;
+    *played = false;
+    if (!cektaulis_is_marker(number)) return CEKTAULIS_BAD_ACTION;
+    cektaulis_begin(world);
+    enum cektaulis_status status = cektaulis_look(world, cell, &held);
+    if (status == CEKTAULIS_OK) *played = held >= number;
+    return status;
+}
+
+/* Plays a batch with a marker, unless the marker shows that it was played. `doubtful`: it may have been played. */
+static inline enum cektaulis_status cektaulis_try_once(struct cektaulis *world, const struct cektaulis_action *marker,
+    const struct cektaulis_action *actions, size_t count, struct cektaulis_answer *answers, uint64_t *tick, bool *doubtful) {
+    struct cektaulis_answer marked;
+    enum cektaulis_status status = CEKTAULIS_OK;
+    if (!world->mark_known || world->mark_cell != marker->cell) status = cektaulis_look(world, marker->cell, &world->mark);
+    if (status != CEKTAULIS_OK) return status;
+    world->mark_known = true;
+    world->mark_cell = marker->cell;
+    if (world->mark > marker->number) return CEKTAULIS_MARKER_REFUSED;
+    if (world->mark == marker->number) return CEKTAULIS_ANSWER_LOST;
+    world->mark_known = *doubtful = false;
+    status = cektaulis_send_marked(world, marker, actions, count);
+    if (status == CEKTAULIS_OK) status = cektaulis_receive_marked(world, &marked, answers, count, tick);
+    *doubtful = status == CEKTAULIS_UNANSWERED || status == CEKTAULIS_GARBLED;
+    world->mark_known = status == CEKTAULIS_BATCH_REFUSED;
+    if (status != CEKTAULIS_OK) return status;
+    if (marked.outcome != CEKTAULIS_DONE) return CEKTAULIS_MARKER_REFUSED;
+    world->mark_known = true;
+    world->mark = marker->number;
+    return CEKTAULIS_OK;
+}
+
+/* Why these actions make no batch with a marker, or CEKTAULIS_OK. */
+static inline enum cektaulis_status cektaulis_check_once(
+    const struct cektaulis_action *marker, const struct cektaulis_action *actions, size_t count) {
+    size_t changes = 0;
+    enum cektaulis_status status = cektaulis_check(actions, count);
+    if (status != CEKTAULIS_OK) return status;
+    for (size_t i = 0; i < count; i++) {
+        changes += actions[i].kind != CEKTAULIS_GET;
+        if (cektaulis_changes(&actions[i], marker->cell)) return CEKTAULIS_BAD_ACTION;
+    }
+    if (!cektaulis_is_marker(marker->number)) return CEKTAULIS_BAD_ACTION;
+    return count == CEKTAULIS_BATCH_LINES || changes == CEKTAULIS_BATCH_CHANGES ? CEKTAULIS_TOO_LARGE : CEKTAULIS_OK;
+}
+
+/* Plays a batch exactly once, though its connection breaks. CEKTAULIS_ANSWER_LOST: it was played, and its answer is lost.
+ *
+ * The batch gets the marker `cektaulis_set(cell, number)`. This client alone writes the cell, and ever greater numbers. If the
+ * connection breaks, it connects again and looks at the cell. The batch is sent again if it wasn't played, or was refused for
+ * now (faults 6 and 17). Nothing is sent if the cell holds the number at the beginning. Earlier answers are to be received
+ * first.
+ *
+ * It gives up after so many milliseconds: with CEKTAULIS_UNANSWERED if the batch may have been played. The same call goes
+ * on once the server was started again. CEKTAULIS_MARKER_REFUSED if the world has no such cell, or if it holds a greater
+ * number. */
+static inline enum cektaulis_status cektaulis_play_once(struct cektaulis *world, uint32_t cell, uint64_t number,
+    const struct cektaulis_action *actions, size_t count, struct cektaulis_answer *answers, uint64_t *tick, long patience) {
+    const struct cektaulis_action marker = cektaulis_set(cell, number);
+    const int64_t deadline = cektaulis_now() + patience;
+    enum cektaulis_status status = cektaulis_check_once(&marker, actions, count);
+    int pause = 10;
+    bool doubtful = false;
+    if (status != CEKTAULIS_OK) return status;
+    do {
+        if (world->stream < 0) status = cektaulis_reconnect(world, cektaulis_until(deadline));
+        else status = CEKTAULIS_OK;
+        /* A server that is silent has the batch, so nothing is sent again before the connection ends. */
+        world->bears = cektaulis_until(deadline);
+        if (status == CEKTAULIS_OK) status = cektaulis_try_once(world, &marker, actions, count, answers, tick, &doubtful);
+        const bool is_for_now = status == CEKTAULIS_BATCH_REFUSED && (world->fault == 6 || world->fault == 17);
+        if (!is_for_now && status != CEKTAULIS_NOT_CONNECTED && status != CEKTAULIS_UNANSWERED) break;
+    } while (cektaulis_pauses(&pause, deadline));
+    if (doubtful && status == CEKTAULIS_BATCH_REFUSED) return cektaulis_ended(world, CEKTAULIS_UNANSWERED, EIO);
+    if (doubtful && status == CEKTAULIS_NOT_CONNECTED) return CEKTAULIS_UNANSWERED;
+    return !doubtful && status == CEKTAULIS_UNANSWERED ? CEKTAULIS_NOT_CONNECTED : status;
 }
 
 #endif
