@@ -23,7 +23,16 @@ pub const CUTS: u64 = 500;
 
 /// Plays the world in the files of a folder, and cuts the power at random moments of the run.
 pub fn cut_power<
-    R: Threads + Wait + time::Clock + Files<File = File> + AllocGlobal + Copy + Send + 'static,
+    R: Threads
+        + Wait
+        + time::Clock
+        + Files<File = File>
+        + Print
+        + Eprint
+        + AllocGlobal
+        + Copy
+        + Send
+        + 'static,
     M: Seats + Send + 'static,
 >(rt: &R, folder: &str, seed: u64) -> Result<CutTally, Refusal> {
     let alloc = rt.alloc();

@@ -6,3 +6,4 @@ pub mod LookLemmas
 pub mod ForwardLemmas
 pub mod LostLemmas
 pub mod EndingLemmas
+pub mod FoundLemmas

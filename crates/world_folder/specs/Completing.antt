@@ -1,13 +1,19 @@
 -- The files of a folder in which a world is to be made: those that are there, and those that are made.
-use Rattle.std.specs.Prelude.{◌≡◌, ◌⊎◌, ◌≤◌, ℕ, List, true, length, Option, Some, None}
+use Rattle.std.specs.Prelude.{◌≡◌, ◌⊎◌, ◌≤◌, ℕ, List, ◌∷◌, [], true, length, Option, Some, None, option_map}
 use Rattle.std.specs.Path.{path_buf_bytes, path_join}
 use Rattle.world_actions.specs.declared.refusal.Refusal.TheVariants.{NoMemory, Device, NotEmpty}
-use Rattle.file_format.specs.Gate.{HasOpenGate}
-use Rattle.disk_model.specs.FourFiles.{KeepsFile}
+use Rattle.file_format.specs.Gate.{HasOpenGate, HasClosedGate}
+use Rattle.disk_model.specs.Disk.{Only}
+use Rattle.disk_model.specs.FourFiles.{EachFile, KeepsFile}
+use Rattle.world_start.specs.Opening.{AreSynced}
 use Rattle.disk_model.specs.declared.four_files.FourFiles.{FourFiles}
 use Rattle.world_folder.specs.declared.ending.Ending.{Ending}
 use Rattle.world_folder.specs.declared.ending.Ending.TheVariants.{Fault, Occupied}
 use Rattle.world_folder.specs.declared.look.TheConstants.{IMAGE_HEAD, SEGMENT_HEAD}
+use Rattle.world_folder.specs.declared.entry.Entry.{Entry}
+use Rattle.world_folder.specs.declared.entry.Identity.{Identity}
+use Rattle.world_folder.specs.History.{Act, Made, with_lock, synced}
+use Rattle.world_folder.specs.OwnFile.{AreLookedFor, AreApart}
 use Rattle.world_folder.specs.declared.unfinished.MadeFiles.{MadeFiles}
 use Rattle.world_folder.specs.declared.world_file.WorldFile.{WorldFile}
 use Rattle.world_folder.specs.declared.world_file.WorldFile.TheVariants.{ImageA, ImageB, LogA, LogB}
@@ -63,3 +69,55 @@ abbrev pub KeepsThere : {S : Type 0} → (S → List ℕ) → (S → List ℕ �
 KeepsThere content may_leave None new = new ≡ None
 KeepsThere content may_leave (Some old) None = ⊥
 KeepsThere content may_leave (Some old) (Some new) = KeepsFile content may_leave old new
+
+-- ---- the history of a folder
+
+-- Those files of four that are there are different ones, and were opened to be written.
+pub record AreFound {D : Type 0} (identity : D → Identity) (files : FourFiles (Option D)) (before after : List Act) : Type 0 where
+  pub looked_for : AreLookedFor identity files before after
+  pub apart : AreApart (option_map identity files.image_a ∷ option_map identity files.image_b ∷ option_map identity files.log_a ∷ option_map identity files.log_b ∷ [])
+
+module _ {D : Type 0} (content : D → List ℕ) (leaves : D → List ℕ → Type 0) where
+  -- nothing of a file that is there is unsynced
+  abbrev pub IsSyncedIfThere : Option D → Type 0
+  IsSyncedIfThere None = Unit {0}
+  IsSyncedIfThere (Some disk) = Only (content disk) (leaves disk)
+
+  pub record EachSynced (files : FourFiles (Option D)) : Type 0 where
+    pub image_a : IsSyncedIfThere files.image_a
+    pub image_b : IsSyncedIfThere files.image_b
+    pub log_a : IsSyncedIfThere files.log_a
+    pub log_b : IsSyncedIfThere files.log_b
+
+  -- the file that was there, or a new one with a closed gate, which is synced
+  abbrev pub IsReady : (file : WorldFile) → Option D → D → (before after : List Act) → Type 0
+  IsReady file (Some there) disk before after = (disk ≡ there) × (after ≡ before)
+  IsReady file None disk before after =
+      (entry : Entry) × (after ≡ with_lock file entry (Made file entry ∷ before)) × HasClosedGate (content disk) × Only (content disk) (leaves disk)
+
+  -- each file of four is the one that was there, or was made under its own name
+  pub record AreReady (there : FourFiles (Option D)) (files : FourFiles D) (before after : List Act) : Type 0 where
+    pub with_image_a : List Act
+    pub with_image_b : List Act
+    pub with_log_a : List Act
+    pub image_a : IsReady ImageA there.image_a files.image_a before with_image_a
+    pub image_b : IsReady ImageB there.image_b files.image_b with_image_a with_image_b
+    pub log_a : IsReady LogA there.log_a files.log_a with_image_b with_log_a
+    pub log_b : IsReady LogB there.log_b files.log_b with_log_a after
+
+  -- those files that were there were read, and then the others were made
+  pub record AreCompleted (there : FourFiles (Option D)) (files : FourFiles D) (before after : List Act) : Type 0 where
+    pub read : FourFiles (Option D)
+    pub kept : EachFile there read (KeepsThere content leaves)
+    pub ready : AreReady read files before after
+
+  -- The four files of a folder in which a world is made, as it found or made them, and the names are durable. They are synced.
+  pub record AreTaken (identity : D → Identity) (files : FourFiles D) (before after : List Act) : Type 0 where
+    pub there : FourFiles (Option D)
+    pub looked : List Act
+    pub made : List Act
+    pub found : AreFound identity there before looked
+    pub none_open : NoneIsOpen content there
+    pub completed : AreCompleted there files looked made
+    pub named : after ≡ synced made
+    pub synced_files : AreSynced content leaves files

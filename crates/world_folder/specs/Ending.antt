@@ -6,7 +6,7 @@ use Rattle.std.specs.declared.alloc.Global.{Global}
 use Rattle.std.specs.declared.io.Error.{Error}
 use Rattle.std.specs.declared.io.ErrorKind.TheVariants as kind
 use Rattle.world_actions.specs.declared.refusal.Refusal.{Refusal}
-use Rattle.world_actions.specs.declared.refusal.Refusal.TheVariants.{NoMemory}
+use Rattle.world_actions.specs.declared.refusal.Refusal.TheVariants.{NoMemory, Device}
 use Rattle.disk_model.specs.declared.four_files.FourFiles.{FourFiles}
 use Rattle.world_folder.specs.declared.ending.Ending.{Ending}
 use Rattle.world_folder.specs.declared.ending.ServerEnding.{ServerEnding}
@@ -17,6 +17,7 @@ use Rattle.world_folder.specs.declared.words_text.BadWords.TheVariants as bad
 use Rattle.world_folder.specs.declared.unfinished.Why.{Why}
 use Rattle.world_folder.specs.declared.unfinished.Why.TheVariants as why
 use Rattle.world_folder.specs.declared.world_file.Named.{Named}
+use Rattle.world_folder.specs.declared.world_file.WorldFile.{WorldFile}
 use Rattle.world_folder.specs.WorldFile.{name_of}
 
 -- memory, or room on a disk, is wanting: it may be there at another try. A write that was cut short is of these.
@@ -78,6 +79,15 @@ abbrev pub TellsOf : (folder name : List ℕ) → Error → Ending → Type 0
 TellsOf folder name error (Fault refusal) = refusal ≡ NoMemory
 TellsOf folder name error (Unreadable file) = (path_buf_bytes file.path ≡ path_join folder name) × (file.error ≡ error)
 TellsOf folder name error other = ⊥
+
+-- the ending names this file of a folder, or there was no memory for its path
+abbrev pub NamesFile : (folder : List ℕ) → WorldFile → Ending → Type 0
+NamesFile folder file ending = (error : Error) × TellsOf folder (name_of file) error ending
+
+-- the ending names the file of a folder that failed; without one, the device did
+abbrev pub TellsFailure : (folder : List ℕ) → Option (WorldFile × Error) → Ending → Type 0
+TellsFailure folder None ending = ending ≡ Fault Device
+TellsFailure folder (Some failed) ending = TellsOf folder (name_of failed.0) failed.1 ending
 
 -- the ending names the first of four files in a folder that couldn't be read, with its error
 abbrev pub TellsOfFirst : (folder : List ℕ) → FourFiles (Named (Result (Vec ℕ Global) Error)) → Ending → Type 0

@@ -1,7 +1,9 @@
 pub mod WorldFile
 pub mod Lost
 pub mod Fault
+pub mod History
 pub mod OwnFile
+pub mod Failing
 pub mod Told
 pub mod Completing
 pub mod Copying
@@ -15,4 +17,5 @@ pub mod Forward
 pub mod Salvaging
 pub mod Served
 pub mod Texts
+pub mod Creating
 pub mod Verified

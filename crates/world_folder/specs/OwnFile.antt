@@ -1,6 +1,19 @@
 -- Files that a world has to itself.
-use Rattle.std.specs.Prelude.{◌≢◌, List, ◌∷◌, [], Option, Some}
-use Rattle.world_folder.specs.declared.own_file.Identity.{Identity}
+use Rattle.std.specs.Prelude.{◌≡◌, ◌≢◌, List, ◌∷◌, [], Option, Some, None}
+use Rattle.disk_model.specs.declared.four_files.FourFiles.{FourFiles}
+use Rattle.world_folder.specs.declared.entry.Identity.{Identity}
+use Rattle.world_folder.specs.declared.entry.Entry.{Entry}
+use Rattle.world_folder.specs.declared.entry.FileKind.TheVariants.{Regular}
+use Rattle.world_folder.specs.declared.world_file.WorldFile.{WorldFile}
+use Rattle.world_folder.specs.declared.world_file.WorldFile.TheVariants.{ImageA, ImageB, LogA, LogB}
+use Rattle.world_folder.specs.History.{Act, Looked, Opened, NamesSynced, with_lock}
+
+-- an entry, for files of which contracts state none
+abbrev pub no_identity : Identity
+no_identity = record { device = 0; inode = 0 }
+
+abbrev pub no_entry : Entry
+no_entry = record { kind = Regular; identity = no_identity; names = 0 }
 
 -- not one file, if both are there
 abbrev pub IsApart : Option Identity → Option Identity → Type 0
@@ -11,3 +24,49 @@ IsApart a b = Unit {0}
 abbrev pub AreApart : List (Option Identity) → Type 0
 AreApart (a ∷ b ∷ c ∷ d ∷ []) = IsApart a b × IsApart a c × IsApart a d × IsApart b c × IsApart b d × IsApart c d
 AreApart other = ⊥
+
+-- The regular file that stood under its name was opened to be written. It has no other name. It was locked, if it is image.a.
+pub record IsOnlyFile (file : WorldFile) (there : Entry) (identity : Identity) (before after : List Act) : Type 0 where
+  pub opened : Entry
+  pub acts : after ≡ with_lock file opened (Opened file opened ∷ before)
+  pub regular : there.kind ≡ Regular
+  pub same : opened.identity ≡ there.identity
+  pub one_name : opened.names ≡ 1
+  pub identity_is : identity ≡ opened.identity
+
+-- a file was looked for by its name, and then this one was opened
+abbrev pub IsOwn : (file : WorldFile) → Identity → (before after : List Act) → Type 0
+IsOwn file identity before after = (there : Entry) × IsOnlyFile file there identity (Looked file (Some there) ∷ before) after
+
+module _ {D : Type 0} (identity : D → Identity) where
+  -- the same of a file that may not be there
+  abbrev pub IsOwnIfThere : (file : WorldFile) → Option D → (before after : List Act) → Type 0
+  IsOwnIfThere file None before after = after ≡ Looked file None ∷ before
+  IsOwnIfThere file (Some disk) before after = IsOwn file (identity disk) before after
+
+  -- each file of four, by its own name, image.a first
+  pub record AreOwn (files : FourFiles D) (before after : List Act) : Type 0 where
+    pub with_image_a : List Act
+    pub with_image_b : List Act
+    pub with_log_a : List Act
+    pub image_a : IsOwn ImageA (identity files.image_a) before with_image_a
+    pub image_b : IsOwn ImageB (identity files.image_b) with_image_a with_image_b
+    pub log_a : IsOwn LogA (identity files.log_a) with_image_b with_log_a
+    pub log_b : IsOwn LogB (identity files.log_b) with_log_a after
+
+  -- four different files are open to be written, and their names are durable
+  pub record AreHeld (files : FourFiles D) (before after : List Act) : Type 0 where
+    pub opened : List Act
+    pub own : AreOwn files before opened
+    pub apart : AreApart (Some (identity files.image_a) ∷ Some (identity files.image_b) ∷ Some (identity files.log_a) ∷ Some (identity files.log_b) ∷ [])
+    pub synced : after ≡ NamesSynced ∷ opened
+
+  -- each file of four was looked for by its own name, image.a first
+  pub record AreLookedFor (files : FourFiles (Option D)) (before after : List Act) : Type 0 where
+    pub with_image_a : List Act
+    pub with_image_b : List Act
+    pub with_log_a : List Act
+    pub image_a : IsOwnIfThere ImageA files.image_a before with_image_a
+    pub image_b : IsOwnIfThere ImageB files.image_b with_image_a with_image_b
+    pub log_a : IsOwnIfThere LogA files.log_a with_image_b with_log_a
+    pub log_b : IsOwnIfThere LogB files.log_b with_log_a after

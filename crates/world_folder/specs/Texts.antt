@@ -45,6 +45,10 @@ image_name B = IMAGE_B.now
 abbrev pub recovered_text : (tick from : ℕ) → Slot → List ℕ
 recovered_text tick from slot = codes "recovered " ++ world_text tick from ++ codes " in " ++ image_name slot
 
+-- a world that was made
+abbrev pub created_text : (cells : ℕ) → List ℕ
+created_text cells = codes "created " ++ decimal cells
+
 -- ---- files
 
 abbrev pub image_told_text : ImageTold → List ℕ

@@ -4,8 +4,8 @@ ghost use Rattle.world_folder.specs.Ending.{IsFault};
 use crate::copying::{Images, copy_world};
 use crate::ending::{Ending, Filled};
 use crate::fault::stands_in;
-use crate::folder::{opened, path_of, sync_names};
-use crate::own_file::make_file;
+use crate::opening::{opened, path_of, sync_names};
+use crate::system_folder::{SystemFolder, make_file};
 use crate::verified::verify;
 use crate::world_file::WorldFile;
 use disk_model::FourFiles;
@@ -68,7 +68,7 @@ fn filled(alloc: Global, to: &str) -> Ending
 }
 
 // Makes the files of a copy, that of the newest image last, and syncs each of them and their names.
-fn write_files<R: Files<File = File> + AllocGlobal>(
+fn write_files<R: Files<File = File> + Clock + Print + Eprint + AllocGlobal>(
     rt: &R,
     to: &str,
     files: &FourFiles<Vec<u8>>,
@@ -88,7 +88,7 @@ fn write_files<R: Files<File = File> + AllocGlobal>(
             write_one(rt, to, WorldFile::ImageB, &files.image_b)?;
         }
     }
-    sync_names(rt, to)
+    sync_names(rt.alloc(), &mut SystemFolder::new(rt, to), to)
 }
 
 /// Makes a file of a folder with these bytes, and makes them durable.

@@ -1,30 +1,25 @@
 //! The four files in which a world is to be made, of those that are there and of new ones.
-ghost use Rattle.std.specs.Prelude.{◌≡◌, ◌↔◌, ◌≤◌, IsTrue, Ok, IfOk, IfErr, OnOk, IfSome, IfNone};
+ghost use Rattle.std.specs.Prelude.{◌≡◌, ◌↔◌, ◌≤◌, IsTrue, Ok, None, IfOk, IfErr, OnOk, IfSome, IfNone};
+ghost use Rattle.disk_model.specs.Disk.{Only};
 ghost use Rattle.disk_model.specs.FourFiles.{EachFile, KeepsFile};
-ghost use Rattle.world_folder.specs.declared.unfinished.MadeFiles.{MadeFiles as Made};
-ghost use Rattle.world_folder.specs.Completing.{IsOccupied, IsOpenFile, IsOpenThere, IsFirstThere, NoneIsOpen, TellsOpen, KeepsThere, with_made};
-ghost use Rattle.world_folder.specs.Ending.{IsFault};
+ghost use Rattle.file_format.specs.Gate.{HasClosedGate};
+ghost use Rattle.world_folder.specs.Completing.{IsOccupied, IsOpenFile, IsOpenThere, IsFirstThere, NoneIsOpen, TellsOpen, KeepsThere, IsReady, AreReady, AreCompleted, with_made};
+ghost use Rattle.world_folder.specs.Ending.{IsFault, NamesFile};
+ghost use Rattle.world_folder.specs.History.{with_lock};
 
 use crate::ending::{Ending, Occupied};
-use crate::folder::path_of;
+use crate::folders::Folder;
 use crate::look::{IMAGE_HEAD, SEGMENT_HEAD};
+use crate::opening::{opened, path_of};
+use crate::own_file::take_own;
+use crate::reading::answered;
+use crate::unfinished::MadeFiles;
 use crate::world_file::{IMAGE_A, IMAGE_B, LOG_A, LOG_B, WorldFile};
 use disk_model::{Disk, FourFiles};
-use file_format::OPEN_GATE;
+use file_format::{CLOSED_GATE, OPEN_GATE};
 use std::alloc::Global;
+use std::io;
 use world_actions::Refusal;
-
-/// Makes files of a folder.
-pub trait MakesFiles<D> {
-    /// Which files were made.
-    ghost made: { Self → Made };
-
-    /// Makes a file that isn't there. A failure is no finding on the others.
-    fn make(&mut self, file: WorldFile) -> Result<D, Ending>
-        ensures made { OnOk result (made self.new ≡ with_made file (made self.old)) }
-        ensures other { IfErr result (λ ending. ¬ IsOccupied ending) }
-        ensures fault { IfErr result IsFault };
-}
 
 // Looks at the files of a folder that are there. If one is open, no world is made there, and the first such file is named.
 // An open file may hold an image or ticks, whatever the others are.
@@ -103,53 +98,141 @@ fn has_open_gate<D: Disk>(disk: &mut D, header: usize) -> Result<bool, Refusal>
 }
 
 // Makes the files of a folder that aren't there, and takes the others.
-fn make_absent<D: Disk + Drop, M: MakesFiles<D>>(
-    present: &mut FourFiles<Option<D>>,
-    maker: &mut M,
-) -> Result<FourFiles<D>, Ending>
+fn make_absent<F: Folder>(
+    alloc: Global,
+    folder: &mut F,
+    path: &str,
+    present: &mut FourFiles<Option<F::File>>,
+    made: &mut MadeFiles,
+) -> Result<FourFiles<F::File>, Ending>
+    ensures ready { IsTrue F.honest → IsTrue F.File.honest → IfOk result (λ files.
+        AreReady F.File.content F.File.may_leave present.old files (F.history folder.old) (F.history folder.new)) }
     ensures other { IfErr result (λ ending. ¬ IsOccupied ending) }
     ensures fault { IfErr result IsFault }
 {
     Ok(FourFiles {
-        image_a: there_or_made(&mut present.image_a, WorldFile::ImageA, maker)?,
-        image_b: there_or_made(&mut present.image_b, WorldFile::ImageB, maker)?,
-        log_a: there_or_made(&mut present.log_a, WorldFile::LogA, maker)?,
-        log_b: there_or_made(&mut present.log_b, WorldFile::LogB, maker)?,
+        image_a: there_or_made(
+            alloc,
+            folder,
+            path,
+            WorldFile::ImageA,
+            &mut present.image_a,
+            made,
+        )?,
+        image_b: there_or_made(
+            alloc,
+            folder,
+            path,
+            WorldFile::ImageB,
+            &mut present.image_b,
+            made,
+        )?,
+        log_a: there_or_made(
+            alloc,
+            folder,
+            path,
+            WorldFile::LogA,
+            &mut present.log_a,
+            made,
+        )?,
+        log_b: there_or_made(
+            alloc,
+            folder,
+            path,
+            WorldFile::LogB,
+            &mut present.log_b,
+            made,
+        )?,
     })
 }
 
-fn there_or_made<D: Drop, M: MakesFiles<D>>(
-    present: &mut Option<D>,
+fn there_or_made<F: Folder>(
+    alloc: Global,
+    folder: &mut F,
+    path: &str,
     file: WorldFile,
-    maker: &mut M,
-) -> Result<D, Ending>
+    present: &mut Option<F::File>,
+    made: &mut MadeFiles,
+) -> Result<F::File, Ending>
+    ensures ready { IsTrue F.honest → IsTrue F.File.honest → IfOk result (λ disk.
+        IsReady F.File.content F.File.may_leave file present.old disk (F.history folder.old) (F.history folder.new)) }
     ensures there { IfSome present.old (λ disk. result ≡ Ok disk) }
-    ensures none_made { IfSome present.old (λ _. M.made maker.new ≡ M.made maker.old) }
-    ensures made { IfNone present.old (OnOk result (M.made maker.new ≡ with_made file (M.made maker.old))) }
+    ensures none_made { IfSome present.old (λ _. made.new ≡ made.old) }
+    ensures made { IfNone present.old (OnOk result (made.new ≡ with_made file made.old)) }
     ensures other { IfErr result (λ ending. ¬ IsOccupied ending) }
     ensures fault { IfErr result IsFault }
 {
     match present.take() {
         Some(disk) => Ok(disk),
-        None => maker.make(file),
+        None => make_closed(alloc, folder, path, file, made),
     }
+}
+
+// Makes a file that its owner alone may read and write, and locks it if it is image.a. It is a closed gate: an empty file of a
+// world that was made is one that was lost.
+fn make_closed<F: Folder>(
+    alloc: Global,
+    folder: &mut F,
+    path: &str,
+    file: WorldFile,
+    made: &mut MadeFiles,
+) -> Result<F::File, Ending>
+    ensures acts { IsTrue F.honest → IsTrue F.File.honest → IfOk result (λ disk.
+        IsReady F.File.content F.File.may_leave file None disk (F.history folder.old) (F.history folder.new)) }
+    ensures made { OnOk result (made.new ≡ with_made file made.old) }
+    ensures other { IfErr result (λ ending. ¬ IsOccupied ending) }
+    ensures named { IfErr result (NamesFile path.now file) }
+    ensures fault { IfErr result IsFault }
+{
+    let handle = folder.make(file);
+    let handle = opened(alloc, path, file.name(), handle)?;
+    made.note(file);
+    let closed = take_closed(folder, file, handle);
+    opened(alloc, path, file.name(), closed)
+}
+
+// Takes a new file, of which it makes a closed gate.
+fn take_closed<F: Folder>(folder: &mut F, file: WorldFile, handle: F::Handle) -> io::Result<F::File>
+    ensures locked { IsTrue F.honest → OnOk result (F.history folder.new ≡ with_lock file (F.entry_of handle) (F.history folder.old)) }
+    ensures closed { IsTrue F.File.honest → IfOk result (λ disk. HasClosedGate (F.File.content disk)) }
+    ensures synced { IsTrue F.File.honest → IfOk result (λ disk. Only (F.File.content disk) (F.File.may_leave disk)) }
+{
+    let mut disk = take_own(folder, file, handle)?;
+    let closed = write_closed_gate(&mut disk);
+    answered(&mut disk, closed)?;
+    Ok(disk)
+}
+
+// Writes a closed gate over the first byte of a file, and makes it durable.
+fn write_closed_gate<D: Disk>(disk: &mut D) -> Result<(), Refusal>
+    ensures closed { IsTrue D.honest → OnOk result (HasClosedGate (D.content disk.new)) }
+    ensures synced { IsTrue D.honest → OnOk result (Only (D.content disk.new) (D.may_leave disk.new)) }
+    ensures refused { IfErr result (λ refusal. refusal ≡ Refusal.Device) }
+{
+    disk.write_at(0, &[CLOSED_GATE])?;
+    disk.sync()
 }
 
 /// The four files in which a world is to be made: those that are there, and new ones. If one that is there is open, no file
 /// is made, and none is changed.
-pub fn complete<D: Disk + Drop, M: MakesFiles<D>>(
+pub fn complete<F: Folder>(
     alloc: Global,
-    folder: &str,
-    present: &mut FourFiles<Option<D>>,
-    maker: &mut M,
-) -> Result<FourFiles<D>, Ending>
-    ensures none_made { IfErr result (λ ending. IsOccupied ending → M.made maker.new ≡ M.made maker.old) }
-    ensures none_open { IsTrue D.honest → IfOk result (λ _. NoneIsOpen D.content present.old) }
-    ensures told { IsTrue D.honest → IfErr result (λ ending. IsOccupied ending → TellsOpen D.content folder.now present.old ending) }
-    ensures kept { IsTrue D.honest → IfErr result (λ ending. IsOccupied ending
-        → EachFile present.old present.new (KeepsThere D.content D.may_leave)) }
+    folder: &mut F,
+    path: &str,
+    present: &mut FourFiles<Option<F::File>>,
+    made: &mut MadeFiles,
+) -> Result<FourFiles<F::File>, Ending>
+    ensures completed { IsTrue F.honest → IsTrue F.File.honest → IfOk result (λ files.
+        AreCompleted F.File.content F.File.may_leave present.old files (F.history folder.old) (F.history folder.new)) }
+    ensures none_made { IfErr result (λ ending. IsOccupied ending → made.new ≡ made.old) }
+    ensures no_act { IfErr result (λ ending. IsOccupied ending → folder.new ≡ folder.old) }
+    ensures none_open { IsTrue F.File.honest → IfOk result (λ _. NoneIsOpen F.File.content present.old) }
+    ensures told { IsTrue F.File.honest → IfErr result (λ ending. IsOccupied ending
+        → TellsOpen F.File.content path.now present.old ending) }
+    ensures kept { IsTrue F.File.honest → IfErr result (λ ending. IsOccupied ending
+        → EachFile present.old present.new (KeepsThere F.File.content F.File.may_leave)) }
     ensures fault { IfErr result IsFault }
 {
-    look_for_world(alloc, folder, present)?;
-    make_absent(present, maker)
+    look_for_world(alloc, path, present)?;
+    make_absent(alloc, folder, path, present, made)
 }

@@ -5,8 +5,8 @@ ghost use Rattle.world_folder.specs.Ending.{IsFault};
 
 use crate::ending::Ending;
 use crate::fault::Fault;
-use crate::folder::{Unreadable, opened, path_of};
 use crate::look::{IMAGE_HEAD, Look, SEGMENT_HEAD, look_at, read_head};
+use crate::opening::{Unreadable, opened, path_of};
 use crate::reading::{answered, open_plain, read_whole};
 use crate::world_file::WorldFile;
 use action_log::{SEGMENT_BYTES_MAX, extent_of};

@@ -1,26 +1,32 @@
-ghost use Rattle.std.specs.Prelude.{◌≡◌, ◌≤◌, length, IfOk, IfErr};
+ghost use Rattle.std.specs.Prelude.{◌≡◌, ◌≢◌, ◌∷◌, ◌≤◌, Some, length, IsTrue, IfOk, IfErr};
 ghost use Rattle.world_actions.specs.declared.world.TheConstants.{CELLS};
 ghost use Rattle.world_actions.specs.World.{IsWorld};
-ghost use Rattle.world_folder.specs.Ending.{IsFault};
+ghost use Rattle.world_folder.specs.Completing.{AreTaken};
+ghost use Rattle.world_folder.specs.Creating.{AreZeros, AreWords, IsCreated, IsCreatedOfWords, IsUnfinished};
+ghost use Rattle.world_folder.specs.Ending.{IsFault, TellsFailure};
+ghost use Rattle.world_folder.specs.Failing.{failure_there, first_failure};
+ghost use Rattle.world_folder.specs.History.{Printed};
+ghost use Rattle.world_folder.specs.Texts.{created_text};
 
 use crate::completing::complete;
 use crate::ending::{Ending, Unlisted};
-use crate::folder::{failure_of, failure_of_present, opened, path_of, sync_names};
+use crate::folders::{Folder, WorldDisk};
 use crate::forward::read_forward;
 use crate::making::{Made, make_in, make_of_words};
-use crate::present::{FolderFiles, open_present};
+use crate::opening::{failure_of, failure_of_present, opened, path_of, sync_names};
+use crate::present::open_present;
+use crate::system_folder::SystemFolder;
+use crate::unfinished::{MadeFiles, Unfinished, Why};
 use crate::words_text::{BadWords, Listed, TEXT_BYTES};
 use disk_model::FourFiles;
-use file_disk::FileDisk;
 use std::alloc::Global;
 use std::fs::{File, Files};
 use std::io;
 use std::time::Clock;
 use world_actions::Refusal;
 
-/// Makes the files of a world of zeros at tick 0 in a folder, and prints how many cells it has. If one of the files isn't
-/// closed, it makes no file and writes none. After another failure the files that it made stay, and are named.
-pub fn create<R: Files<File = File> + Clock + Print + AllocGlobal>(
+/// Makes the files of a world of zeros at tick 0 in a folder of the system, as `create_zeros` does.
+pub fn create<R: Files<File = File> + Clock + Print + Eprint + AllocGlobal>(
     rt: &R,
     folder: &str,
     cells: u32,
@@ -29,33 +35,60 @@ pub fn create<R: Files<File = File> + Clock + Print + AllocGlobal>(
     ensures made { IfOk result (λ made. made.cells ≡ cells) }
     ensures fault { IfErr result IsFault }
 {
-    let mut maker = FolderFiles::new(rt, folder);
-    match create_in(rt, folder, cells, &mut maker) {
-        Ok(made) => print_made(rt, made),
-        Err(ending) => Err(maker.unfinished(ending)),
-    }
-}
-
-fn create_in<R: Files<File = File> + Clock + AllocGlobal>(
-    rt: &R,
-    folder: &str,
-    cells: u32,
-    maker: &mut FolderFiles<'_, R>,
-) -> Result<Made, Ending>
-    requires { (1 ≤ cells) × (cells ≤ CELLS) }
-    ensures made { IfOk result (λ made. made.cells ≡ cells) }
-    ensures fault { IfErr result IsFault }
-{
-    let files = four_files(rt, folder, maker)?;
-    match make_in(rt.alloc(), folder, cells, files) {
+    let mut system = SystemFolder::new(rt, folder);
+    match create_zeros(rt.alloc(), &mut system, folder, cells) {
         Ok((_, made)) => Ok(made),
-        Err((unmade, ending)) => Err(not_made(rt.alloc(), folder, unmade, ending)),
+        Err(ending) => Err(ending),
     }
 }
 
-/// Makes the files of a world of the words that a file lists, at tick 0, and prints how many cells it has. A file that
-/// lists no words of a world is refused before anything is opened in the folder.
-pub fn create_of_words<R: Files<File = File> + Clock + Print + AllocGlobal>(
+/// Makes the files of a world of zeros at tick 0 in the folder at this path, and prints how many cells it has. If one of the
+/// files isn't closed, it makes no file and writes none. After another failure the files that it made stay, and are named.
+pub fn create_zeros<F: Folder>(
+    alloc: Global,
+    folder: &mut F,
+    path: &str,
+    cells: u32,
+) -> Result<(FourFiles<F::File>, Made), Ending>
+    requires { (1 ≤ cells) × (cells ≤ CELLS) }
+    ensures created { IsTrue F.honest → IsTrue F.File.honest → IfOk result (λ created.
+        IsCreated F.identity F.File.content F.File.may_leave cells created.0 (F.history folder.old) (F.history folder.new)) }
+    ensures cells { IfOk result (λ created. created.1.cells ≡ cells) }
+    ensures fault { IfErr result IsFault }
+{
+    let mut made = MadeFiles::none();
+    match make_zeros(alloc, folder, path, cells, &mut made) {
+        Ok((files, world)) => {
+            folder.print(world)?;
+            Ok((files, world))
+        }
+        Err(ending) => Err(unfinished(made, ending)),
+    }
+}
+
+fn make_zeros<F: Folder>(
+    alloc: Global,
+    folder: &mut F,
+    path: &str,
+    cells: u32,
+    made: &mut MadeFiles,
+) -> Result<(FourFiles<F::File>, Made), Ending>
+    requires { (1 ≤ cells) × (cells ≤ CELLS) }
+    ensures zeros { IsTrue F.honest → IsTrue F.File.honest → IfOk result (λ made.
+        AreZeros F.identity F.File.content F.File.may_leave cells made.0 (F.history folder.old) (F.history folder.new)) }
+    ensures cells { IfOk result (λ made. made.1.cells ≡ cells) }
+    ensures fault { IfErr result IsFault }
+{
+    let files = four_files(alloc, folder, path, made)?;
+    match make_in(alloc, path, cells, files) {
+        Ok(world) => Ok(world),
+        Err((unmade, ending)) => Err(not_made(alloc, path, unmade, ending)),
+    }
+}
+
+/// Makes the files of a world of the words that a file lists, at tick 0, in a folder of the system, as `create_listed` does. A
+/// file that lists no words of a world is refused before anything is opened in the folder.
+pub fn create_of_words<R: Files<File = File> + Clock + Print + Eprint + AllocGlobal>(
     rt: &R,
     folder: &str,
     list: &str,
@@ -63,52 +96,73 @@ pub fn create_of_words<R: Files<File = File> + Clock + Print + AllocGlobal>(
     ensures fault { IfErr result IsFault }
 {
     let listed = read_list(rt, list)?;
-    let mut maker = FolderFiles::new(rt, folder);
-    match create_of(rt, folder, &listed, &mut maker) {
-        Ok(made) => print_made(rt, made),
-        Err(ending) => Err(maker.unfinished(ending)),
-    }
-}
-
-fn create_of<R: Files<File = File> + Clock + AllocGlobal>(
-    rt: &R,
-    folder: &str,
-    listed: &Listed,
-    maker: &mut FolderFiles<'_, R>,
-) -> Result<Made, Ending>
-    requires { IsWorld listed.now.words.items }
-    ensures made { IfOk result (λ made. made.cells ≡ length listed.now.words.items) }
-    ensures fault { IfErr result IsFault }
-{
-    let files = four_files(rt, folder, maker)?;
-    match make_of_words(rt.alloc(), folder, listed.words(), files) {
+    let mut system = SystemFolder::new(rt, folder);
+    match create_listed(rt.alloc(), &mut system, folder, &listed) {
         Ok((_, made)) => Ok(made),
-        Err((files, ending)) => Err(not_made(rt.alloc(), folder, files, ending)),
+        Err(ending) => Err(ending),
     }
 }
 
-fn print_made<R: Print>(rt: &R, made: Made) -> Result<Made, Ending>
-    ensures made { IfOk result (λ same. same ≡ made) }
+/// Makes the files of a world of these words at tick 0 in the folder at this path, as `create_zeros` makes one of zeros.
+pub fn create_listed<F: Folder>(
+    alloc: Global,
+    folder: &mut F,
+    path: &str,
+    listed: &Listed,
+) -> Result<(FourFiles<F::File>, Made), Ending>
+    requires { IsWorld listed.now.words.items }
+    ensures created { IsTrue F.honest → IsTrue F.File.honest → IfOk result (λ created.
+        IsCreatedOfWords F.identity F.File.content F.File.may_leave listed.now.words.items created.0 (F.history folder.old) (F.history folder.new)) }
+    ensures cells { IfOk result (λ created. created.1.cells ≡ length listed.now.words.items) }
     ensures fault { IfErr result IsFault }
 {
-    println!(rt; "created {}", made.cells())?;
-    Ok(made)
+    let mut made = MadeFiles::none();
+    match make_listed(alloc, folder, path, listed, &mut made) {
+        Ok((files, world)) => {
+            folder.print(world)?;
+            Ok((files, world))
+        }
+        Err(ending) => Err(unfinished(made, ending)),
+    }
+}
+
+fn make_listed<F: Folder>(
+    alloc: Global,
+    folder: &mut F,
+    path: &str,
+    listed: &Listed,
+    made: &mut MadeFiles,
+) -> Result<(FourFiles<F::File>, Made), Ending>
+    requires { IsWorld listed.now.words.items }
+    ensures words { IsTrue F.honest → IsTrue F.File.honest → IfOk result (λ made.
+        AreWords F.identity F.File.content F.File.may_leave listed.now.words.items made.0 (F.history folder.old) (F.history folder.new)) }
+    ensures cells { IfOk result (λ made. made.1.cells ≡ length listed.now.words.items) }
+    ensures fault { IfErr result IsFault }
+{
+    let files = four_files(alloc, folder, path, made)?;
+    match make_of_words(alloc, path, listed.words(), files) {
+        Ok(world) => Ok(world),
+        Err((files, ending)) => Err(not_made(alloc, path, files, ending)),
+    }
 }
 
 // The four files of a folder in which a world is to be made. They are made durable with their names.
-fn four_files<R: Files<File = File> + Clock + AllocGlobal>(
-    rt: &R,
-    folder: &str,
-    maker: &mut FolderFiles<'_, R>,
-) -> Result<FourFiles<FileDisk>, Ending>
-    ensures { IfErr result IsFault }
+fn four_files<F: Folder>(
+    alloc: Global,
+    folder: &mut F,
+    path: &str,
+    made: &mut MadeFiles,
+) -> Result<FourFiles<F::File>, Ending>
+    ensures taken { IsTrue F.honest → IsTrue F.File.honest → IfOk result (λ files.
+        AreTaken F.File.content F.File.may_leave F.identity files (F.history folder.old) (F.history folder.new)) }
+    ensures fault { IfErr result IsFault }
 {
-    let mut present = open_present(rt, folder)?;
-    let files = match complete(rt.alloc(), folder, &mut present, maker) {
+    let mut present = open_present(alloc, folder, path)?;
+    let files = match complete(alloc, folder, path, &mut present, made) {
         Ok(files) => files,
-        Err(ending) => return Err(not_read(rt.alloc(), folder, present, ending)),
+        Err(ending) => return Err(not_read(alloc, path, present, ending)),
     };
-    sync_names(rt, folder)?;
+    sync_names(alloc, folder, path)?;
     Ok(files)
 }
 
@@ -140,9 +194,17 @@ fn unlisted(alloc: Global, list: &str, why: BadWords) -> Ending
 }
 
 // How the program ends if no world was made: of a device that failed the file is named.
-fn not_made(alloc: Global, folder: &str, files: FourFiles<FileDisk>, ending: Ending) -> Ending
+fn not_made<D: WorldDisk + Drop>(
+    alloc: Global,
+    folder: &str,
+    files: FourFiles<D>,
+    ending: Ending,
+) -> Ending
     requires { IsFault ending }
-    ensures { IsFault result }
+    ensures other { ending ≢ Ending.Fault Refusal.Device → result ≡ ending }
+    ensures device { IsTrue D.honest → ending ≡ Ending.Fault Refusal.Device → TellsFailure folder.now (first_failure (D.failure files.image_a)
+        (D.failure files.image_b) (D.failure files.log_a) (D.failure files.log_b)) result }
+    ensures fault { IsFault result }
 {
     match ending {
         Ending::Fault(Refusal::Device) => failure_of(alloc, folder, files),
@@ -151,17 +213,39 @@ fn not_made(alloc: Global, folder: &str, files: FourFiles<FileDisk>, ending: End
 }
 
 // How the program ends if the files that are there can't be looked at: of a device that failed the file is named.
-fn not_read(
+fn not_read<D: WorldDisk + Drop>(
     alloc: Global,
     folder: &str,
-    present: FourFiles<Option<FileDisk>>,
+    present: FourFiles<Option<D>>,
     ending: Ending,
 ) -> Ending
     requires { IsFault ending }
-    ensures { IsFault result }
+    ensures other { ending ≢ Ending.Fault Refusal.Device → result ≡ ending }
+    ensures device { IsTrue D.honest → ending ≡ Ending.Fault Refusal.Device → TellsFailure folder.now (first_failure (failure_there D.failure present.image_a)
+        (failure_there D.failure present.image_b) (failure_there D.failure present.log_a) (failure_there D.failure present.log_b)) result }
+    ensures fault { IsFault result }
 {
     match ending {
         Ending::Fault(Refusal::Device) => failure_of_present(alloc, folder, present),
+        ending => ending,
+    }
+}
+
+// How the program ends if it ends so and files were made: they are named.
+fn unfinished(made: MadeFiles, ending: Ending) -> Ending
+    requires { IsFault ending }
+    ensures made { IsUnfinished made ending result }
+    ensures fault { IsFault result }
+{
+    match ending {
+        Ending::Unreadable(file) => Ending::Unfinished(Unfinished {
+            made,
+            why: Why::File(file),
+        }),
+        Ending::Fault(Refusal::NoMemory) => Ending::Unfinished(Unfinished {
+            made,
+            why: Why::NoMemory,
+        }),
         ending => ending,
     }
 }

@@ -6,7 +6,7 @@ ghost use Rattle.world_folder.specs.Texts.{filled_text, unlisted_text};
 
 use crate::escaped::Escaped;
 use crate::fault::Fault;
-use crate::folder::Unreadable;
+use crate::opening::Unreadable;
 use crate::system_error::{is_shortage, refusal_of};
 use crate::unfinished::Unfinished;
 use crate::words_text::BadWords;

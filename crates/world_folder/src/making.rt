@@ -13,12 +13,13 @@ ghost use Rattle.world_actions.specs.World.{IsWorld};
 ghost use Rattle.world_folder.specs.Making.{IsFirstOpen, TellsUnmade, IsUnmade, HoldsWords, HoldsNoOther, OthersOnlyAsked};
 
 use crate::ending::{Ending, Occupied};
-use crate::folder::path_of;
+use crate::opening::path_of;
 use crate::words_image::write_words;
 use crate::world_file::{IMAGE_A, IMAGE_B, LOG_A, LOG_B};
 use disk_model::{Disk, FourFiles};
 use file_readers::read_files;
 use std::alloc::Global;
+use std::fmt;
 use world_actions::Refusal;
 use world_start::{are_closed, fresh_files, is_closed_image, is_closed_segment};
 
@@ -34,6 +35,17 @@ impl Made {
         ensures { result ≡ self.now.cells }
     {
         self.cells
+    }
+}
+
+impl fmt::Display for Made {
+    ghost use Rattle.std.specs.Prelude.{Some};
+    ghost use Rattle.world_folder.specs.Texts.{created_text};
+
+    ghost output = { λ made. Some (created_text made.cells) };
+
+    fn fmt<W: fmt::Write>(&self, f: &mut fmt::Formatter<W>) -> fmt::Result {
+        write!(f, "created {}", self.cells)
     }
 }
 

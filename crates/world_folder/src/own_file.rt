@@ -1,137 +1,112 @@
 //! A file that a world has to itself.
-ghost use Rattle.std.specs.Prelude.{◌≡◌, ◌<ℤ◌, pos, false, IfOk, IfSome, IsOk};
-ghost use Rattle.std.specs.Fd.{file_raw_fd};
-ghost use Rattle.world_folder.specs.OwnFile.{IsApart, AreApart};
+ghost use Rattle.std.specs.Prelude.{◌≡◌, ◌∷◌, false, None, IsTrue, IfOk, IfSome, IfNone, IsOk, OnOk};
+ghost use Rattle.disk_model.specs.Disk.{Only};
+ghost use Rattle.world_folder.specs.History.{Looked, with_lock};
+ghost use Rattle.world_folder.specs.OwnFile.{IsApart, AreApart, IsOwn, IsOnlyFile};
 
-use file_disk::FileDisk;
-use std::fs::{self, File, Files, Metadata, OpenOptions};
-use std::io::{self, ErrorKind};
-use std::os::fd::AsRawFd;
-use std::os::unix::fs::{MetadataExt, OpenOptionsExt};
-use std::path::Path;
-
-/// The highest descriptor of a standard stream.
-const STANDARD_ERROR: i32 = 2;
+use crate::entry::{Entry, FileKind, Identity};
+use crate::folders::Folder;
+use crate::world_file::WorldFile;
+use std::io;
 
 /// The reason to refuse a folder, a pipe or a device.
 pub const NOT_REGULAR: &str = "not a regular file";
 
-/// The numbers by which the system knows a file.
-#[derive(Clone, Copy, Debug, PartialEq, Eq)]
-pub struct Identity {
-    device: u64,
-    inode: u64,
-}
-
-impl Identity {
-    fn of(metadata: &Metadata) -> Self {
-        Identity {
-            device: metadata.dev(),
-            inode: metadata.ino(),
-        }
-    }
-}
-
 /// A file of a world that is open to be written.
 #[derive(Drop)]
-pub struct OwnFile {
-    pub disk: FileDisk,
+pub struct OwnFile<D> {
+    pub disk: D,
     pub identity: Identity,
 }
 
-impl OwnFile {
-    pub fn of(file: File) -> io::Result<Self> {
-        let identity = Identity::of(&file.metadata()?);
-        Ok(OwnFile {
-            disk: FileDisk::open(file)?,
-            identity,
-        })
-    }
-}
-
-/// The permissions of a new file.
-const OWNER_ALONE: u32 = 0o600;
-
-/// Opens a file of a folder for reading and writing.
-pub fn open_file<R: Files<File = File> + AllocGlobal>(
-    rt: &R,
-    folder: &str,
-    name: &str,
-) -> io::Result<File>
-    ensures { IfOk result (λ file. pos 2 <ℤ file_raw_fd file) }
+/// Opens a file of a folder to write it, and locks it if it is image.a. Its one name has to be an ordinary one, and no other
+/// file may take its place meanwhile.
+pub fn open_own<F: Folder>(folder: &mut F, file: WorldFile) -> io::Result<OwnFile<F::File>>
+    ensures own { IsTrue F.honest → IfOk result (λ own. IsOwn file (F.identity own.disk) (F.history folder.old) (F.history folder.new)) }
+    ensures disk { IsTrue F.honest → IfOk result (λ own. own.identity ≡ F.identity own.disk) }
 {
-    let path = Path::new(folder).join(rt.alloc(), name)?;
-    let there = fs::symlink_metadata(rt, path.as_path())?;
-    above_streams(open_there(rt, path.as_path(), &there)?)
+    match find_own(folder, file)? {
+        Some(own) => Ok(own),
+        None => Err(io::Error::from_raw_os_error(libc::ENOENT)),
+    }
 }
 
-/// The same, or `None` if there is no file of this name.
-pub fn find_file<R: Files<File = File> + AllocGlobal>(
-    rt: &R,
-    folder: &str,
-    name: &str,
-) -> io::Result<Option<File>>
-    ensures { IfOk result (λ found. IfSome found (λ file. pos 2 <ℤ file_raw_fd file)) }
+/// The same, or `None` if nothing stands under this name.
+pub fn find_own<F: Folder>(folder: &mut F, file: WorldFile) -> io::Result<Option<OwnFile<F::File>>>
+    ensures own { IsTrue F.honest → IfOk result (λ found.
+        IfSome found (λ own. IsOwn file (F.identity own.disk) (F.history folder.old) (F.history folder.new))) }
+    ensures none { IsTrue F.honest → IfOk result (λ found.
+        IfNone found (F.history folder.new ≡ Looked file None ∷ F.history folder.old)) }
+    ensures disk { IsTrue F.honest → IfOk result (λ found. IfSome found (λ own. own.identity ≡ F.identity own.disk)) }
+    ensures synced { IsTrue F.honest → IsTrue F.File.honest → IfOk result (λ found.
+        IfSome found (λ own. Only (F.File.content own.disk) (F.File.may_leave own.disk))) }
 {
-    match open_file(rt, folder, name) {
-        Ok(file) => Ok(Some(file)),
-        Err(error) if error.kind() == ErrorKind::NotFound => Ok(None),
-        Err(error) => Err(error),
+    match folder.look(file)? {
+        Some(there) => Ok(Some(open_there(folder, file, there)?)),
+        None => Ok(None),
     }
 }
 
-/// Makes a file of a folder that its owner alone may read and write. One that is there is an error.
-pub fn make_file<R: Files<File = File> + AllocGlobal>(
-    rt: &R,
-    folder: &str,
-    name: &str,
-) -> io::Result<File>
-    ensures { IfOk result (λ file. pos 2 <ℤ file_raw_fd file) }
+// Opens the file that stood under its name.
+fn open_there<F: Folder>(
+    folder: &mut F,
+    file: WorldFile,
+    there: Entry,
+) -> io::Result<OwnFile<F::File>>
+    ensures own { IsTrue F.honest → IfOk result (λ own. IsOnlyFile file there (F.identity own.disk) (F.history folder.old) (F.history folder.new)) }
+    ensures disk { IsTrue F.honest → IfOk result (λ own. own.identity ≡ F.identity own.disk) }
+    ensures synced { IsTrue F.honest → IsTrue F.File.honest → IfOk result (λ own. Only (F.File.content own.disk) (F.File.may_leave own.disk)) }
 {
-    let path = Path::new(folder).join(rt.alloc(), name)?;
-    above_streams(make(rt, path.as_path())?)
+    unless_odd(there)?;
+    let handle = folder.open(file)?;
+    let opened = folder.entry(&handle)?;
+    unless_other(there, opened)?;
+    let disk = take_own(folder, file, handle)?;
+    Ok(OwnFile {
+        disk,
+        identity: opened.identity,
+    })
 }
 
-// Makes a file that its owner alone may read and write. It follows no symbolic link.
-fn make<R: Files<File = File>>(rt: &R, path: Path<'_>) -> io::Result<File> {
-    OpenOptions::new()
-        .read(true)
-        .write(true)
-        .create_new(true)
-        .mode(OWNER_ALONE)
-        .open(rt, path)
+// Refuses what is no regular file.
+fn unless_odd(there: Entry) -> io::Result<()>
+    ensures { OnOk result (there.kind ≡ FileKind.Regular) }
+{
+    match there.kind {
+        FileKind::Regular => Ok(()),
+        FileKind::Link => Err(io::Error::other("a symbolic link")),
+        FileKind::Other => Err(io::Error::other(NOT_REGULAR)),
+    }
 }
 
-// Opens a file that is there, of which the system says this without following a symbolic link. Its one name has to be
-// an ordinary one, and no other file may take its place meanwhile.
-fn open_there<R: Files<File = File>>(rt: &R, path: Path<'_>, there: &Metadata) -> io::Result<File> {
-    if there.is_symlink() {
-        return Err(io::Error::other("a symbolic link"));
-    }
-    if !there.is_file() {
-        return Err(io::Error::other(NOT_REGULAR));
-    }
-    let file = OpenOptions::new().read(true).write(true).open(rt, path)?;
-    let opened = file.metadata()?;
-    if Identity::of(&opened) != Identity::of(there) {
+// Refuses an open file that isn't the one that stood under its name, or has another name too.
+fn unless_other(there: Entry, opened: Entry) -> io::Result<()>
+    ensures same { OnOk result (opened.identity ≡ there.identity) }
+    ensures one_name { OnOk result (opened.names ≡ 1) }
+{
+    if opened.identity != there.identity {
         return Err(io::Error::other("another file took its place"));
     }
-    if opened.nlink() != 1 {
+    if opened.names != 1 {
         return Err(io::Error::other("it has another name, by a hard link"));
     }
-    Ok(file)
+    Ok(())
 }
 
-/// Refuses a file at the descriptor of a standard stream, which text for people would be written into.
-pub fn above_streams(file: File) -> io::Result<File>
-    ensures above { IfOk result (λ same. pos 2 <ℤ file_raw_fd same) }
-    ensures same { IfOk result (λ same. same ≡ file) }
+/// Takes a file that is open to be written as a disk, and locks it if it is image.a.
+pub fn take_own<F: Folder>(
+    folder: &mut F,
+    file: WorldFile,
+    handle: F::Handle,
+) -> io::Result<F::File>
+    ensures locked { IsTrue F.honest → OnOk result (F.history folder.new ≡ with_lock file (F.entry_of handle) (F.history folder.old)) }
+    ensures disk { IsTrue F.honest → IfOk result (λ disk. F.identity disk ≡ (F.entry_of handle).identity) }
+    ensures synced { IsTrue F.honest → IsTrue F.File.honest → IfOk result (λ disk. Only (F.File.content disk) (F.File.may_leave disk)) }
 {
-    if file.as_raw_fd() > STANDARD_ERROR {
-        Ok(file)
-    } else {
-        Err(io::Error::other("a standard stream is closed"))
+    if file == WorldFile::ImageA {
+        folder.lock(&handle)?;
     }
+    folder.take(handle)
 }
 
 /// Refuses one file under two of the four names. A file that isn't there has no number.

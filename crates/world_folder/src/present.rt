@@ -1,58 +1,79 @@
-//! The files of a folder that are there before a world is made in it, and the making of the others.
-ghost use Rattle.std.specs.Prelude.{◌≡◌, Some, None, IfErr, OnOk};
-ghost use Rattle.world_folder.specs.Completing.{IsOccupied, with_made};
-ghost use Rattle.world_folder.specs.Ending.{IsFault};
+//! The files of a folder that are there before a world is made in it.
+ghost use Rattle.std.specs.Prelude.{◌≡◌, ◌∷◌, [], option_map, IsTrue, IfOk, IfErr, IfSome};
+ghost use Rattle.disk_model.specs.Disk.{Only};
+ghost use Rattle.disk_model.specs.FourFiles.{EachFile};
+ghost use Rattle.world_folder.specs.Ending.{IsFault, NamesFile};
+ghost use Rattle.world_folder.specs.Completing.{AreFound, EachSynced};
+ghost use Rattle.world_folder.specs.OwnFile.{AreLookedFor, IsOwnIfThere};
 
-use crate::completing::MakesFiles;
 use crate::ending::Ending;
-use crate::folder::{opened, own};
-use crate::own_file::{Identity, OwnFile, are_apart, find_file, make_file};
-use crate::unfinished::{MadeFiles, Unfinished, Why};
+use crate::entry::Identity;
+use crate::folders::Folder;
+use crate::opening::opened;
+use crate::own_file::{OwnFile, are_apart, find_own};
 use crate::world_file::WorldFile;
 use disk_model::FourFiles;
-use file_disk::FileDisk;
-use file_format::CLOSED_GATE;
-use std::fs::{File, Files};
-use std::io::Write;
-use std::time::Clock;
-use world_actions::Refusal;
+use std::alloc::Global;
 
-/// Opens those files of a folder that are there, to write them, with the refusals and the lock of `open_existing`. It
-/// makes none.
-pub fn open_present<R: Files<File = File> + Clock + AllocGlobal>(
-    rt: &R,
-    folder: &str,
-) -> Result<FourFiles<Option<FileDisk>>, Ending>
-    ensures { IfErr result IsFault }
+/// Opens those files of a folder that are there, to write them, with the refusals and the lock of `open_files`. It makes
+/// none.
+pub fn open_present<F: Folder>(
+    alloc: Global,
+    folder: &mut F,
+    path: &str,
+) -> Result<FourFiles<Option<F::File>>, Ending>
+    ensures found { IsTrue F.honest → IfOk result (λ files. AreFound F.identity files (F.history folder.old) (F.history folder.new)) }
+    ensures synced { IsTrue F.honest → IsTrue F.File.honest → IfOk result (EachSynced F.File.content F.File.may_leave) }
+    ensures fault { IfErr result IsFault }
 {
-    let files = FourFiles {
-        image_a: find_own(rt, folder, WorldFile::ImageA)?,
-        image_b: find_own(rt, folder, WorldFile::ImageB)?,
-        log_a: find_own(rt, folder, WorldFile::LogA)?,
-        log_b: find_own(rt, folder, WorldFile::LogB)?,
-    };
-    opened(rt.alloc(), folder, "", are_apart(&identities_of(&files)))?;
+    let files = find_each(alloc, folder, path)?;
+    let apart = are_apart(&identities_of(&files));
+    opened(alloc, path, "", apart)?;
     Ok(disks_of(files))
 }
 
-fn find_own<R: Files<File = File> + Clock + AllocGlobal>(
-    rt: &R,
-    folder: &str,
-    file: WorldFile,
-) -> Result<Option<OwnFile>, Ending>
-    ensures { IfErr result IsFault }
+// Looks for each file by its own name, image.a first.
+fn find_each<F: Folder>(
+    alloc: Global,
+    folder: &mut F,
+    path: &str,
+) -> Result<FourFiles<Option<OwnFile<F::File>>>, Ending>
+    ensures found { IsTrue F.honest → IfOk result (λ files. AreLookedFor (λ own. F.identity own.disk) files (F.history folder.old) (F.history folder.new)) }
+    ensures identities { IsTrue F.honest → IfOk result (λ files. EachFile files files (λ found _. IfSome found (λ own. own.identity ≡ F.identity own.disk))) }
+    ensures synced { IsTrue F.honest → IsTrue F.File.honest → IfOk result (λ files. EachFile files files
+        (λ found _. IfSome found (λ own. Only (F.File.content own.disk) (F.File.may_leave own.disk)))) }
+    ensures fault { IfErr result IsFault }
 {
-    let found = find_file(rt, folder, file.name());
-    match opened(rt.alloc(), folder, file.name(), found)? {
-        None => Ok(None),
-        Some(found) => {
-            let owned = own(rt, file, found);
-            Ok(Some(opened(rt.alloc(), folder, file.name(), owned)?))
-        }
-    }
+    Ok(FourFiles {
+        image_a: find_named(alloc, folder, path, WorldFile::ImageA)?,
+        image_b: find_named(alloc, folder, path, WorldFile::ImageB)?,
+        log_a: find_named(alloc, folder, path, WorldFile::LogA)?,
+        log_b: find_named(alloc, folder, path, WorldFile::LogB)?,
+    })
 }
 
-fn identities_of(files: &FourFiles<Option<OwnFile>>) -> [Option<Identity>; 4] {
+fn find_named<F: Folder>(
+    alloc: Global,
+    folder: &mut F,
+    path: &str,
+    file: WorldFile,
+) -> Result<Option<OwnFile<F::File>>, Ending>
+    ensures found { IsTrue F.honest → IfOk result (λ found.
+        IsOwnIfThere (λ own. F.identity own.disk) file found (F.history folder.old) (F.history folder.new)) }
+    ensures identity { IsTrue F.honest → IfOk result (λ found. IfSome found (λ own. own.identity ≡ F.identity own.disk)) }
+    ensures synced { IsTrue F.honest → IsTrue F.File.honest → IfOk result (λ found.
+        IfSome found (λ own. Only (F.File.content own.disk) (F.File.may_leave own.disk))) }
+    ensures named { IfErr result (NamesFile path.now file) }
+    ensures fault { IfErr result IsFault }
+{
+    let found = find_own(folder, file);
+    opened(alloc, path, file.name(), found)
+}
+
+fn identities_of<D>(files: &FourFiles<Option<OwnFile<D>>>) -> [Option<Identity>; 4]
+    ensures { result ≡ option_map (λ own. own.identity) files.now.image_a ∷ option_map (λ own. own.identity) files.now.image_b
+        ∷ option_map (λ own. own.identity) files.now.log_a ∷ option_map (λ own. own.identity) files.now.log_b ∷ [] }
+{
     [
         identity_of(&files.image_a),
         identity_of(&files.image_b),
@@ -61,14 +82,23 @@ fn identities_of(files: &FourFiles<Option<OwnFile>>) -> [Option<Identity>; 4] {
     ]
 }
 
-fn identity_of(file: &Option<OwnFile>) -> Option<Identity> {
+fn identity_of<D>(file: &Option<OwnFile<D>>) -> Option<Identity>
+    ensures { result ≡ option_map (λ own. own.identity) file.now }
+{
     match file {
         Some(own) => Some(own.identity),
         None => None,
     }
 }
 
-fn disks_of(files: FourFiles<Option<OwnFile>>) -> FourFiles<Option<FileDisk>> {
+fn disks_of<D>(files: FourFiles<Option<OwnFile<D>>>) -> FourFiles<Option<D>>
+    ensures { result ≡ record {
+      image_a = option_map (λ own. own.disk) files.image_a;
+      image_b = option_map (λ own. own.disk) files.image_b;
+      log_a = option_map (λ own. own.disk) files.log_a;
+      log_b = option_map (λ own. own.disk) files.log_b;
+    } }
+{
     FourFiles {
         image_a: disk_of(files.image_a),
         image_b: disk_of(files.image_b),
@@ -77,82 +107,11 @@ fn disks_of(files: FourFiles<Option<OwnFile>>) -> FourFiles<Option<FileDisk>> {
     }
 }
 
-fn disk_of(file: Option<OwnFile>) -> Option<FileDisk>
-    ensures none { file ≡ None → result ≡ None }
-    ensures same { (own : OwnFile) → file ≡ Some own → result ≡ Some own.disk }
+fn disk_of<D>(file: Option<OwnFile<D>>) -> Option<D>
+    ensures { result ≡ option_map (λ own. own.disk) file }
 {
     match file {
-        Some(own) => Some(own.disk),
+        Some(OwnFile { disk, .. }) => Some(disk),
         None => None,
-    }
-}
-
-/// A folder in which files are made, and which of them were.
-#[derive(Drop)]
-pub struct FolderFiles<'a, R> {
-    rt: &'a R,
-    folder: &'a str,
-    pub made: MadeFiles,
-}
-
-impl<'a, R: Files<File = File> + AllocGlobal> FolderFiles<'a, R> {
-    pub fn new(rt: &'a R, folder: &'a str) -> Self {
-        FolderFiles {
-            rt,
-            folder,
-            made: MadeFiles {
-                image_a: false,
-                image_b: false,
-                log_a: false,
-                log_b: false,
-            },
-        }
-    }
-
-    /// How the program ends if it ends so and files were made: they are named.
-    pub fn unfinished(self, ending: Ending) -> Ending
-        requires { IsFault ending }
-        ensures fault { IsFault result }
-        ensures occupied { IsOccupied ending → result ≡ ending }
-    {
-        match ending {
-            Ending::Unreadable(file) => Ending::Unfinished(Unfinished {
-                made: self.made,
-                why: Why::File(file),
-            }),
-            Ending::Fault(Refusal::NoMemory) => Ending::Unfinished(Unfinished {
-                made: self.made,
-                why: Why::NoMemory,
-            }),
-            ending => ending,
-        }
-    }
-
-    // Notes that this file was made.
-    fn note(&mut self, file: WorldFile)
-        ensures { self.new.made ≡ with_made file self.old.made }
-    {
-        match file {
-            WorldFile::ImageA => self.made.image_a = true,
-            WorldFile::ImageB => self.made.image_b = true,
-            WorldFile::LogA => self.made.log_a = true,
-            WorldFile::LogB => self.made.log_b = true,
-        }
-    }
-}
-
-impl<'a, R: Files<File = File> + Clock + AllocGlobal> MakesFiles<FileDisk> for FolderFiles<'a, R> {
-    ghost made = { λ files. files.made };
-
-    /// Makes a file that its owner alone may read and write, and locks it if it is image.a. It is a closed gate: an empty file
-    /// of a world that was made is one that was lost.
-    fn make(&mut self, file: WorldFile) -> Result<FileDisk, Ending> {
-        let new = make_file(self.rt, self.folder, file.name());
-        let mut new = opened(self.rt.alloc(), self.folder, file.name(), new)?;
-        self.note(file);
-        let closed = new.write_all(&[CLOSED_GATE]);
-        opened(self.rt.alloc(), self.folder, file.name(), closed)?;
-        let owned = own(self.rt, file, new);
-        Ok(opened(self.rt.alloc(), self.folder, file.name(), owned)?.disk)
     }
 }

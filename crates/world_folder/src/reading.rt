@@ -1,13 +1,15 @@
 //! The files of a folder as readers see them: opened to be read alone, and read as far as their formats go.
-ghost use Rattle.std.specs.Prelude.{◌≡◌, Ok, IfOk, IfErr};
+ghost use Rattle.std.specs.Prelude.{◌≡◌, Ok, IsTrue, IfOk, IfErr, OnErr, IfSome, IsErr, IsErrAnd};
 ghost use Rattle.world_folder.specs.Fault.{AreRead};
 ghost use Rattle.world_folder.specs.Ending.{IsFault, TellsOfFirst};
 ghost use Rattle.world_folder.specs.WorldFile.{AreNamed};
 
 use crate::ending::Ending;
-use crate::folder::opened;
-use crate::own_file::{NOT_REGULAR, above_streams};
+use crate::folders::WorldDisk;
+use crate::opening::opened;
+use crate::own_file::NOT_REGULAR;
 use crate::system_error::error_of;
+use crate::system_folder::above_streams;
 use crate::world_file::{Named, WorldFile};
 use disk_model::FourFiles;
 use file_disk::FileDisk;
@@ -66,8 +68,10 @@ pub fn read_whole(alloc: Global, file: WorldFile, disk: &mut FileDisk) -> Result
 }
 
 /// The answer of a call, or the system's error if a call of the file failed.
-pub fn answered<T>(disk: &mut FileDisk, answer: Result<T, Refusal>) -> io::Result<T>
-    ensures { IfOk answer (λ value. result ≡ Ok value) }
+pub fn answered<D: WorldDisk, T>(disk: &mut D, answer: Result<T, Refusal>) -> io::Result<T>
+    ensures ok { IfOk answer (λ value. (result ≡ Ok value) × (disk.new ≡ disk.old)) }
+    ensures fails { OnErr answer (IsErr result) }
+    ensures reason { IsTrue D.honest → OnErr answer (IfSome (D.failure disk.old) (λ error. IsErrAnd result (λ why. why ≡ error))) }
 {
     match answer {
         Ok(value) => Ok(value),

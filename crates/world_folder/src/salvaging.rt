@@ -9,9 +9,9 @@ use crate::backing_up::{look_for_room, write_one};
 use crate::counted::Counted;
 use crate::ending::Ending;
 use crate::fault::Fault;
-use crate::folder::{opened, sync_names};
-use crate::own_file::make_file;
+use crate::opening::{opened, sync_names};
 use crate::reading::read_folder;
+use crate::system_folder::{SystemFolder, make_file};
 use crate::verified::verify;
 use crate::words_image::image_body;
 use crate::world_file::{Named, WorldFile};
@@ -23,11 +23,12 @@ use std::alloc::Global;
 use std::fmt;
 use std::fs::{File, Files};
 use std::io::{self, ErrorKind, Write};
+use std::time::Clock;
 use world_actions::Refusal;
 
 /// Makes a world in an empty folder of what can be read of the files of another one, in which nothing is written. It prints
 /// what it took of each file, and which world the new files hold: its image, beside closed files.
-pub fn salvage_world<R: Files<File = File> + Print + AllocGlobal + Clone + Drop>(
+pub fn salvage_world<R: Files<File = File> + Clock + Print + Eprint + AllocGlobal + Clone + Drop>(
     rt: &R,
     folder: &str,
     to: &str,
@@ -193,7 +194,7 @@ impl fmt::Display for Run {
 }
 
 // Writes a world into an empty folder, its image last, and makes the files and their names durable.
-fn write_world<R: Files<File = File> + AllocGlobal>(
+fn write_world<R: Files<File = File> + Clock + Print + Eprint + AllocGlobal>(
     rt: &R,
     to: &str,
     world: &Recovered,
@@ -207,7 +208,7 @@ fn write_world<R: Files<File = File> + AllocGlobal>(
     let body = image_body(rt.alloc(), world.tick, &world.words)?;
     let written = write_image(rt, to, &body);
     opened(rt.alloc(), to, WorldFile::ImageA.name(), written)?;
-    sync_names(rt, to)
+    sync_names(rt.alloc(), &mut SystemFolder::new(rt, to), to)
 }
 
 fn write_image<R: Files<File = File> + AllocGlobal>(

@@ -1,6 +1,6 @@
 //! A world that wasn't made, and the files of it that were.
-use crate::folder::Unreadable;
-use crate::world_file::{IMAGE_A, IMAGE_B, LOG_A, LOG_B};
+use crate::opening::Unreadable;
+use crate::world_file::{IMAGE_A, IMAGE_B, LOG_A, LOG_B, WorldFile};
 use std::{fmt, io};
 use world_actions::Refusal;
 
@@ -35,6 +35,34 @@ pub struct MadeFiles {
     pub image_b: bool,
     pub log_a: bool,
     pub log_b: bool,
+}
+
+impl MadeFiles {
+    ghost use Rattle.std.specs.Prelude.{◌≡◌, false};
+    ghost use Rattle.world_folder.specs.Completing.{with_made};
+
+    pub fn none() -> Self
+        ensures { result ≡ record { image_a = false; image_b = false; log_a = false; log_b = false } }
+    {
+        MadeFiles {
+            image_a: false,
+            image_b: false,
+            log_a: false,
+            log_b: false,
+        }
+    }
+
+    /// Notes that this file was made.
+    pub fn note(&mut self, file: WorldFile)
+        ensures { self.new ≡ with_made file self.old }
+    {
+        match file {
+            WorldFile::ImageA => self.image_a = true,
+            WorldFile::ImageB => self.image_b = true,
+            WorldFile::LogA => self.log_a = true,
+            WorldFile::LogB => self.log_b = true,
+        }
+    }
 }
 
 /// Why a world wasn't made, and which files were. They stay, and hold no world.

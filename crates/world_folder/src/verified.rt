@@ -5,8 +5,8 @@ ghost use Rattle.world_folder.specs.Texts.{world_text};
 ghost use Rattle.world_folder.specs.Verified.{IsSameWorld};
 
 use crate::ending::Ending;
-use crate::folder::{Unreadable, path_of};
 use crate::found::WorldTold;
+use crate::opening::{Unreadable, path_of};
 use crate::reading::read_folder;
 use crate::recovering::found_in;
 use recovery::Recovered;

@@ -1,0 +1,16 @@
+use Rattle.std.proofs.Common.{List, ℕ, subst}
+use Rattle.world_folder.specs.Making.{HoldsWords}
+use Rattle.world_folder.proofs.creating.make_listed.Goals as goal
+
+pub returns-in-Ok-clause-words : goal.returns-in-Ok-clause-words
+returns-in-Ok-clause-words g c = λ honest honest_files.
+    let taken = c.in_ok-files.ensures.taken honest honest_files in
+    let made = subst (λ (words : List ℕ). HoldsWords g.F.File.Disk.content g.F.File.Disk.may_leave c.in_ok-files.files words c.in-Ok.world.0)
+    c.words.ensures (c.in-Ok.ensures.made honest_files) in
+    record {
+      files = c.in_ok-files.files;
+      taken = taken;
+      made_of = made;
+      sound = made.sound taken.synced_files;
+      durable = made.synced taken.synced_files;
+    }

@@ -1,0 +1,50 @@
+-- A world that was made in a folder.
+use Rattle.std.specs.Prelude.{◌≡◌, ℕ, List, [], ◌∷◌, length, replicate, Some}
+use Rattle.disk_model.specs.declared.four_files.FourFiles.{FourFiles}
+use Rattle.world_actions.specs.declared.refusal.Refusal.TheVariants.{NoMemory}
+use Rattle.world_start.specs.Fresh.{AreMade}
+use Rattle.world_start.specs.Opening.{AreSound, AreSynced}
+use Rattle.world_folder.specs.Completing.{AreTaken}
+use Rattle.world_folder.specs.Making.{HoldsWords}
+use Rattle.world_folder.specs.History.{Act, Printed}
+use Rattle.world_folder.specs.Texts.{created_text}
+use Rattle.world_folder.specs.declared.entry.Identity.{Identity}
+use Rattle.world_folder.specs.declared.ending.Ending.{Ending}
+use Rattle.world_folder.specs.declared.ending.Ending.TheVariants.{Fault, Unreadable, Unfinished}
+use Rattle.world_folder.specs.declared.unfinished.MadeFiles.{MadeFiles}
+use Rattle.world_folder.specs.declared.unfinished.Why.TheVariants as why
+
+module _ {D : Type 0} (identity : D → Identity) (content : D → List ℕ) (leaves : D → List ℕ → Type 0) where
+  -- A world of zeros was made of the four files of a folder. It is sound at tick 0, and durable.
+  pub record AreZeros (cells : ℕ) (made : FourFiles D) (before after : List Act) : Type 0 where
+    pub files : FourFiles D
+    pub taken : AreTaken content leaves identity files before after
+    pub made_of : AreMade content leaves files cells made
+    pub sound : AreSound content leaves made (replicate cells 0) [] 0
+    pub durable : AreSynced content leaves made
+
+  -- the same of a world of these words
+  pub record AreWords (words : List ℕ) (made : FourFiles D) (before after : List Act) : Type 0 where
+    pub files : FourFiles D
+    pub taken : AreTaken content leaves identity files before after
+    pub made_of : HoldsWords content leaves files words made
+    pub sound : AreSound content leaves made words [] 0
+    pub durable : AreSynced content leaves made
+
+  -- a world of zeros was made, and then its number of cells was printed
+  pub record IsCreated (cells : ℕ) (made : FourFiles D) (before after : List Act) : Type 0 where
+    pub acts : List Act
+    pub zeros : AreZeros cells made before acts
+    pub printed : after ≡ Printed (Some (created_text cells)) ∷ acts
+
+  -- a world of these words was made, and then its number of cells was printed
+  pub record IsCreatedOfWords (words : List ℕ) (made : FourFiles D) (before after : List Act) : Type 0 where
+    pub acts : List Act
+    pub is_words : AreWords words made before acts
+    pub printed : after ≡ Printed (Some (created_text (length words))) ∷ acts
+
+-- the ending of a command that made these files: it names them, if a file failed or memory was wanting
+abbrev pub IsUnfinished : MadeFiles → Ending → Ending → Type 0
+IsUnfinished made (Unreadable file) result = result ≡ Unfinished (record { made = made; why = why.File file })
+IsUnfinished made (Fault NoMemory) result = result ≡ Unfinished (record { made = made; why = why.NoMemory })
+IsUnfinished made ending result = result ≡ ending

@@ -1,0 +1,43 @@
+-- The calls that a program made in a folder, and the lines that it printed: its history, the latest one first.
+use Rattle.std.specs.Prelude.{◌≡◌, ℕ, List, ◌∷◌, Option}
+use Rattle.world_folder.specs.declared.entry.Entry.{Entry}
+use Rattle.world_folder.specs.declared.locks.LockState.{LockState}
+use Rattle.world_folder.specs.declared.world_file.WorldFile.{WorldFile}
+use Rattle.world_folder.specs.declared.world_file.WorldFile.TheVariants.{ImageA, ImageB, LogA, LogB}
+
+-- a call that succeeded, with its answer
+pub data Act : Type 0 where
+  -- this is what stands under a name, if anything does
+  Looked : WorldFile → Option Entry → Act
+  -- the file to which a name leads was opened to be written: it is this one
+  Opened : WorldFile → Entry → Act
+  -- a new file was made under a name
+  Made : WorldFile → Entry → Act
+  -- this program has the lock of this file
+  Locked : Entry → Act
+  -- the file to which a name leads was opened to be read, and has these bytes
+  Read : WorldFile → List ℕ → Act
+  -- the file to which a name leads is so long
+  Measured : WorldFile → ℕ → Act
+  -- a reader asked for the lock of the file to which a name leads
+  Asked : WorldFile → LockState → Act
+  -- the names of the folder's files are durable
+  NamesSynced : Act
+  -- the name of the folder itself is durable
+  OwnNameSynced : Act
+  -- the folder has no file
+  FoundEmpty : Act
+  -- a line was printed, on standard output or on standard error: its text, if that is stated
+  Printed : Option (List ℕ) → Act
+  Warned : Option (List ℕ) → Act
+
+-- the lock of image.a is taken, and that of no other file
+abbrev pub with_lock : WorldFile → Entry → List Act → List Act
+with_lock ImageA entry acts = Locked entry ∷ acts
+with_lock ImageB entry acts = acts
+with_lock LogA entry acts = acts
+with_lock LogB entry acts = acts
+
+-- the names of the files are durable, and then the folder's own
+abbrev pub synced : List Act → List Act
+synced acts = OwnNameSynced ∷ NamesSynced ∷ acts

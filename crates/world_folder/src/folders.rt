@@ -1,0 +1,84 @@
+//! The calls of the system that the commands make in one folder, and the lines that they print.
+ghost use Rattle.std.specs.Prelude.{◌≡◌, ◌∷◌, Bool, List, Option, Some, None, IsTrue, IfOk, OnOk, OnErr};
+ghost use Rattle.std.specs.declared.io.Error.{Error};
+ghost use Rattle.disk_model.specs.Disk.{Only};
+ghost use Rattle.world_folder.specs.History.{Act, Looked, Opened, Made, Locked, Read, Measured, Asked, NamesSynced, OwnNameSynced, FoundEmpty, Printed, Warned};
+ghost use Rattle.world_folder.specs.declared.entry.Entry.{Entry as FileEntry};
+ghost use Rattle.world_folder.specs.declared.entry.Identity.{Identity as FileIdentity};
+
+use crate::entry::Entry;
+use crate::locks::LockState;
+use crate::world_file::WorldFile;
+use disk_model::Disk;
+use std::fmt::Display;
+use std::io;
+
+/// A disk that keeps the error of its last call that failed.
+pub trait WorldDisk: Disk {
+    /// That error.
+    ghost failure: { Self → Option Error };
+
+    /// Takes the error of the last call that failed.
+    fn take_failure(&mut self) -> Option<io::Error>
+        ensures { IsTrue Self.honest → result ≡ failure self.old };
+}
+
+/// A folder of the system with the four files of a world. A call that fails is no part of its history.
+pub trait Folder {
+    /// A file that is open to be written.
+    type Handle: Drop;
+
+    type File: WorldDisk + Drop;
+
+    /// True if each call of this type does and answers what its name says. If it is false, contracts state nothing of the calls.
+    ghost honest: { Bool };
+
+    /// The calls that succeeded, and the lines that were printed, the latest one first.
+    ghost history: { Self → List Act };
+
+    /// The file behind a handle.
+    ghost entry_of: { Self.Handle → FileEntry };
+
+    /// The file that a disk was taken of.
+    ghost identity: { Self.File → FileIdentity };
+
+    /// What stands under a name, if anything does. It follows no symbolic link.
+    fn look(&mut self, file: WorldFile) -> io::Result<Option<Entry>>
+        ensures looked { IsTrue honest → IfOk result (λ there. history self.new ≡ Looked file there ∷ history self.old) }
+        ensures failed { IsTrue honest → OnErr result (history self.new ≡ history self.old) };
+
+    /// Opens the file to which a name leads, to read and write it.
+    fn open(&mut self, file: WorldFile) -> io::Result<Self::Handle>
+        ensures opened { IsTrue honest → IfOk result (λ handle. history self.new ≡ Opened file (entry_of handle) ∷ history self.old) };
+
+    /// Makes a file that its owner alone may read and write. One that is there is an error.
+    fn make(&mut self, file: WorldFile) -> io::Result<Self::Handle>
+        ensures made { IsTrue honest → IfOk result (λ handle. history self.new ≡ Made file (entry_of handle) ∷ history self.old) };
+
+    /// Describes an open file.
+    fn entry(&mut self, handle: &Self::Handle) -> io::Result<Entry>
+        ensures entry { IsTrue honest → IfOk result (λ entry. entry ≡ entry_of handle.now) }
+        ensures kept { IsTrue honest → history self.new ≡ history self.old };
+
+    /// Locks an open file for this program, which writes it.
+    fn lock(&mut self, handle: &Self::Handle) -> io::Result<()>
+        ensures locked { IsTrue honest → OnOk result (history self.new ≡ Locked (entry_of handle.now) ∷ history self.old) };
+
+    /// Takes an open file as a disk, which is synced.
+    fn take(&mut self, handle: Self::Handle) -> io::Result<Self::File>
+        ensures file { IsTrue honest → IfOk result (λ disk. identity disk ≡ (entry_of handle).identity) }
+        ensures synced { IsTrue honest → IsTrue Self.File.honest → IfOk result (λ disk. Only (Self.File.content disk) (Self.File.may_leave disk)) }
+        ensures kept { IsTrue honest → history self.new ≡ history self.old };
+
+    /// Makes the names of the files durable.
+    fn sync_names(&mut self) -> io::Result<()>
+        ensures synced { IsTrue honest → OnOk result (history self.new ≡ NamesSynced ∷ history self.old) };
+
+    /// Makes the name of the folder durable.
+    fn sync_own_name(&mut self) -> io::Result<()>
+        ensures synced { IsTrue honest → OnOk result (history self.new ≡ OwnNameSynced ∷ history self.old) };
+
+    /// Prints a line on standard output.
+    fn print<T: Display + Drop>(&mut self, line: T) -> io::Result<()>
+        ensures printed { IsTrue honest → OnOk result (history self.new ≡ Printed (T.output line) ∷ history self.old) };
+}

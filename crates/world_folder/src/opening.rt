@@ -1,0 +1,246 @@
+ghost use Rattle.std.specs.Prelude.{◌≡◌, ◌∷◌, [], Some, Ok, IsTrue, IfOk, IfErr, OnOk, IsErrAnd};
+ghost use Rattle.std.specs.Path.{path_buf_bytes, path_join};
+ghost use Rattle.disk_model.specs.FourFiles.{EachFile};
+ghost use Rattle.world_folder.specs.Ending.{IsFault, TellsOf, NamesFile, TellsFailure};
+ghost use Rattle.world_folder.specs.Failing.{failure_there, first_failure};
+ghost use Rattle.world_folder.specs.History.{NamesSynced, synced};
+ghost use Rattle.world_folder.specs.OwnFile.{AreApart, AreHeld, AreOwn, IsOwn};
+
+use crate::ending::Ending;
+use crate::entry::Identity;
+use crate::folders::{Folder, WorldDisk};
+use crate::own_file::{OwnFile, are_apart, open_own};
+use crate::system_error::Reason;
+use crate::system_folder::{ABOVE, SystemFolder};
+use crate::world_file::WorldFile;
+use disk_model::FourFiles;
+use file_disk::FileDisk;
+use std::alloc::{AllocError, Global};
+use std::fs::{File, Files};
+use std::path::{Path, PathBuf};
+use std::time::Clock;
+use std::{fmt, io};
+use world_actions::Refusal;
+
+/// A file that can't be read, and why.
+#[derive(Debug, Drop)]
+pub struct Unreadable {
+    pub path: PathBuf,
+    pub error: io::Error,
+}
+
+impl fmt::Display for Unreadable {
+    fn fmt<W: fmt::Write>(&self, f: &mut fmt::Formatter<W>) -> fmt::Result {
+        write!(f, "{}: {}", self.path.as_str(), Reason(self.error))
+    }
+}
+
+/// Makes the names of a folder's files durable, and its own.
+pub fn sync_names<F: Folder>(alloc: Global, folder: &mut F, path: &str) -> Result<(), Ending>
+    ensures synced { IsTrue F.honest → OnOk result (F.history folder.new ≡ synced (F.history folder.old)) }
+    ensures fault { IfErr result IsFault }
+{
+    let named = folder.sync_names();
+    opened(alloc, path, "", named)?;
+    let named = folder.sync_own_name();
+    opened(alloc, path, ABOVE, named)
+}
+
+/// Opens the four files of a folder to serve the world in them, as `open_files` does.
+pub fn open_existing<R: Files<File = File> + Clock + Print + Eprint + AllocGlobal>(
+    rt: &R,
+    folder: &str,
+) -> Result<FourFiles<FileDisk>, Ending>
+    ensures { IfErr result IsFault }
+{
+    open_files(rt.alloc(), &mut SystemFolder::new(rt, folder), folder)
+}
+
+/// Opens the four files of a folder at this path to serve the world in them. It makes none, and syncs the folder. It refuses a
+/// symbolic link, a file with a second name, and one file twice. A writer of a world holds a lock on its image.a as long as the
+/// file is open, so no two programs write it.
+pub fn open_files<F: Folder>(
+    alloc: Global,
+    folder: &mut F,
+    path: &str,
+) -> Result<FourFiles<F::File>, Ending>
+    ensures held { IsTrue F.honest → IfOk result (λ files. AreHeld F.identity files (F.history folder.old) (F.history folder.new)) }
+    ensures fault { IfErr result IsFault }
+{
+    let files = open_each(alloc, folder, path)?;
+    let settled = settle(folder, &identities_of(&files));
+    opened(alloc, path, "", settled)?;
+    Ok(disks_of(files))
+}
+
+// Refuses one file under two names, and makes the names durable.
+fn settle<F: Folder>(folder: &mut F, files: &[Option<Identity>; 4]) -> io::Result<()>
+    ensures apart { OnOk result (AreApart files.now) }
+    ensures synced { IsTrue F.honest → OnOk result (F.history folder.new ≡ NamesSynced ∷ F.history folder.old) }
+{
+    are_apart(files)?;
+    folder.sync_names()
+}
+
+// Opens each file by its own name, image.a first: no two programs then hold a part of the files each.
+fn open_each<F: Folder>(
+    alloc: Global,
+    folder: &mut F,
+    path: &str,
+) -> Result<FourFiles<OwnFile<F::File>>, Ending>
+    ensures own { IsTrue F.honest → IfOk result (λ files.
+        AreOwn (λ own. F.identity own.disk) files (F.history folder.old) (F.history folder.new)) }
+    ensures identities { IsTrue F.honest → IfOk result (λ files. EachFile files files (λ own _. own.identity ≡ F.identity own.disk)) }
+    ensures fault { IfErr result IsFault }
+{
+    Ok(FourFiles {
+        image_a: open_named(alloc, folder, path, WorldFile::ImageA)?,
+        image_b: open_named(alloc, folder, path, WorldFile::ImageB)?,
+        log_a: open_named(alloc, folder, path, WorldFile::LogA)?,
+        log_b: open_named(alloc, folder, path, WorldFile::LogB)?,
+    })
+}
+
+fn open_named<F: Folder>(
+    alloc: Global,
+    folder: &mut F,
+    path: &str,
+    file: WorldFile,
+) -> Result<OwnFile<F::File>, Ending>
+    ensures own { IsTrue F.honest → IfOk result (λ own. IsOwn file (F.identity own.disk) (F.history folder.old) (F.history folder.new)) }
+    ensures identity { IsTrue F.honest → IfOk result (λ own. own.identity ≡ F.identity own.disk) }
+    ensures named { IfErr result (NamesFile path.now file) }
+    ensures fault { IfErr result IsFault }
+{
+    let own = open_own(folder, file);
+    opened(alloc, path, file.name(), own)
+}
+
+fn identities_of<D>(files: &FourFiles<OwnFile<D>>) -> [Option<Identity>; 4]
+    ensures { result ≡ Some files.now.image_a.identity ∷ Some files.now.image_b.identity
+        ∷ Some files.now.log_a.identity ∷ Some files.now.log_b.identity ∷ [] }
+{
+    [
+        Some(files.image_a.identity),
+        Some(files.image_b.identity),
+        Some(files.log_a.identity),
+        Some(files.log_b.identity),
+    ]
+}
+
+fn disks_of<D>(files: FourFiles<OwnFile<D>>) -> FourFiles<D>
+    ensures { result ≡ record {
+      image_a = files.image_a.disk;
+      image_b = files.image_b.disk;
+      log_a = files.log_a.disk;
+      log_b = files.log_b.disk;
+    } }
+{
+    let FourFiles {
+        image_a: OwnFile { disk: image_a, .. },
+        image_b: OwnFile { disk: image_b, .. },
+        log_a: OwnFile { disk: log_a, .. },
+        log_b: OwnFile { disk: log_b, .. },
+    } = files;
+    FourFiles {
+        image_a,
+        image_b,
+        log_a,
+        log_b,
+    }
+}
+
+/// The value that the system gave for a file, or how the program ends if it gave an error.
+pub fn opened<T>(
+    alloc: Global,
+    folder: &str,
+    name: &str,
+    answer: io::Result<T>,
+) -> Result<T, Ending>
+    ensures ok { IfOk answer (λ value. result ≡ Ok value) }
+    ensures fails { IfErr answer (λ error. IsErrAnd result (TellsOf folder.now name.now error)) }
+    ensures fault { IfErr result IsFault }
+{
+    match answer {
+        Ok(value) => Ok(value),
+        Err(error) => match path_of(alloc, folder, name) {
+            Ok(path) => Err(Ending::Unreadable(Unreadable { path, error })),
+            Err(_) => Err(Ending::Fault(Refusal::NoMemory)),
+        },
+    }
+}
+
+/// The path of the file of this name in a folder.
+pub fn path_of(alloc: Global, folder: &str, name: &str) -> Result<PathBuf, AllocError>
+    ensures { IfOk result (λ path. path_buf_bytes path ≡ path_join folder.now name.now) }
+{
+    Path::new(folder).join(alloc, name)
+}
+
+/// How the program ends if a call of one of the files failed: the first one is named.
+pub fn failure_of<D: WorldDisk + Drop>(alloc: Global, folder: &str, files: FourFiles<D>) -> Ending
+    ensures first { IsTrue D.honest → TellsFailure folder.now (first_failure (D.failure files.image_a) (D.failure files.image_b)
+        (D.failure files.log_a) (D.failure files.log_b)) result }
+    ensures fault { IsFault result }
+{
+    let FourFiles {
+        image_a,
+        image_b,
+        log_a,
+        log_b,
+    } = files;
+    let files = FourFiles {
+        image_a: Some(image_a),
+        image_b: Some(image_b),
+        log_a: Some(log_a),
+        log_b: Some(log_b),
+    };
+    failure_of_present(alloc, folder, files)
+}
+
+/// The same of those files that are there.
+pub fn failure_of_present<D: WorldDisk + Drop>(
+    alloc: Global,
+    folder: &str,
+    files: FourFiles<Option<D>>,
+) -> Ending
+    ensures first { IsTrue D.honest → TellsFailure folder.now (first_failure (failure_there D.failure files.image_a)
+        (failure_there D.failure files.image_b) (failure_there D.failure files.log_a) (failure_there D.failure files.log_b)) result }
+    ensures fault { IsFault result }
+{
+    let mut files = files;
+    let Some((file, error)) = first_failure(&mut files) else {
+        return Ending::Fault(Refusal::Device);
+    };
+    match path_of(alloc, folder, file.name()) {
+        Ok(path) => Ending::Unreadable(Unreadable { path, error }),
+        Err(_) => Ending::Fault(Refusal::NoMemory),
+    }
+}
+
+// The first file that failed, and why.
+fn first_failure<D: WorldDisk>(files: &mut FourFiles<Option<D>>) -> Option<(WorldFile, io::Error)>
+    ensures { IsTrue D.honest → result ≡ first_failure (failure_there D.failure files.old.image_a)
+        (failure_there D.failure files.old.image_b) (failure_there D.failure files.old.log_a) (failure_there D.failure files.old.log_b) }
+{
+    if let Some(error) = failure_in(&mut files.image_a) {
+        return Some((WorldFile::ImageA, error));
+    }
+    if let Some(error) = failure_in(&mut files.image_b) {
+        return Some((WorldFile::ImageB, error));
+    }
+    if let Some(error) = failure_in(&mut files.log_a) {
+        return Some((WorldFile::LogA, error));
+    }
+    let error = failure_in(&mut files.log_b)?;
+    Some((WorldFile::LogB, error))
+}
+
+fn failure_in<D: WorldDisk>(file: &mut Option<D>) -> Option<io::Error>
+    ensures { IsTrue D.honest → result ≡ failure_there D.failure file.old }
+{
+    match file {
+        Some(disk) => disk.take_failure(),
+        None => None,
+    }
+}
