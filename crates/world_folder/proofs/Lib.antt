@@ -7,3 +7,4 @@ pub mod ForwardLemmas
 pub mod LostLemmas
 pub mod EndingLemmas
 pub mod FoundLemmas
+pub mod CopyLemmas

@@ -6,7 +6,10 @@ pub mod OwnFile
 pub mod Failing
 pub mod Told
 pub mod Completing
+pub mod ReadIn
 pub mod Copying
+pub mod Looks
+pub mod Tried
 pub mod Ending
 pub mod Making
 pub mod WordsText
@@ -18,4 +21,9 @@ pub mod Salvaging
 pub mod Served
 pub mod Texts
 pub mod Creating
+pub mod Backup
+pub mod Looking
+pub mod Reports
+pub mod StatusReport
+pub mod Inspection
 pub mod Verified

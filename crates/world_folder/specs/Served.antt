@@ -1,5 +1,6 @@
 -- What the locks of a world's files say of its server.
-use Rattle.std.specs.Prelude.{◌≡◌}
+use Rattle.std.specs.Prelude.{◌≡◌, List, ◌∷◌}
+use Rattle.world_folder.specs.History.{Act, Asked}
 use Rattle.world_folder.specs.declared.locks.LockState.{LockState}
 use Rattle.world_folder.specs.declared.locks.LockState.TheVariants as lock
 use Rattle.world_folder.specs.declared.served.Locks.{Locks as AskedLocks}
@@ -9,11 +10,9 @@ use Rattle.world_folder.specs.declared.served.ServerTold.{ServerTold}
 use Rattle.world_folder.specs.declared.served.ServerTold.TheVariants.{Running, Missing, Unknown}
 use Rattle.world_folder.specs.declared.world_file.WorldFile.TheVariants.{ImageA, ImageB, LogA}
 
--- each of three locks is that of its own file
-pub record AreAsked (locks : AskedLocks) : Type 0 where
-  pub image_a : locks.image_a.file ≡ ImageA
-  pub image_b : locks.image_b.file ≡ ImageB
-  pub log_a : locks.log_a.file ≡ LogA
+-- each of three locks was asked for by the name of its own file, that of image.a last
+abbrev pub asked : AskedLocks → List Act → List Act
+asked locks acts = Asked ImageA locks.image_a ∷ Asked LogA locks.log_a ∷ Asked ImageB locks.image_b ∷ acts
 
 -- a server takes the lock of a part that goes down
 abbrev pub part_told : LockState → PartTold
@@ -29,4 +28,10 @@ running_told lock.Unknown log images = Unknown
 
 -- image.a is locked while a server runs, log.a once its log is down, and image.b once its images are
 abbrev pub server_told : AskedLocks → ServerTold
-server_told locks = running_told locks.image_a.value (part_told locks.log_a.value) (part_told locks.image_b.value)
+server_told locks = running_told locks.image_a (part_told locks.log_a) (part_told locks.image_b)
+
+-- the report says what the locks say that were asked for
+pub record IsServerTold (told : ServerTold) (before after : List Act) : Type 0 where
+  pub locks : AskedLocks
+  pub are_asked : after ≡ asked locks before
+  pub told_is : told ≡ server_told locks

@@ -45,9 +45,23 @@ image_name B = IMAGE_B.now
 abbrev pub recovered_text : (tick from : ℕ) → Slot → List ℕ
 recovered_text tick from slot = codes "recovered " ++ world_text tick from ++ codes " in " ++ image_name slot
 
+-- a copy of a world, and how often it was begun
+abbrev pub backed_up_text : (tick from : ℕ) → List ℕ
+backed_up_text tick from = codes "backed up " ++ world_text tick from
+
+abbrev pub begun_text : (tries : ℕ) → List ℕ
+begun_text tries = codes "worldd: it was begun " ++ decimal tries ++ codes " times"
+
+-- a world that was salvaged
+abbrev pub salvaged_text : (tick from : ℕ) → List ℕ
+salvaged_text tick from = codes "salvaged " ++ world_text tick from
+
 -- a world that was made
 abbrev pub created_text : (cells : ℕ) → List ℕ
 created_text cells = codes "created " ++ decimal cells
+
+abbrev pub recovered_line : (tick from : ℕ) → List ℕ
+recovered_line tick from = codes "recovered " ++ world_text tick from
 
 -- ---- files
 
@@ -81,6 +95,9 @@ lost_text (lost.Gap slot) = log_name slot ++ codes " begins after ticks that wer
 -- an empty log of a world at tick 0
 abbrev pub doubtful_text : Slot → List ℕ
 doubtful_text slot = log_name slot ++ codes " is empty: if this world was played, its ticks are lost"
+
+abbrev pub doubtful_line : Slot → List ℕ
+doubtful_line slot = codes "worldd: " ++ doubtful_text slot
 
 -- ---- figures
 

@@ -1,4 +1,5 @@
-ghost use Rattle.std.specs.Prelude.{◌≡◌, ◌≢◌, ◌∷◌, ◌≤◌, Some, length, IsTrue, IfOk, IfErr};
+ghost use Rattle.std.specs.Prelude.{◌≡◌, ◌≢◌, ◌∷◌, ◌≤◌, ◌<◌, Some, length, IsTrue, IfOk, IfErr};
+ghost use Rattle.std.specs.Io.KnownBytes.{Consumes, IsAtEnd};
 ghost use Rattle.world_actions.specs.declared.world.TheConstants.{CELLS};
 ghost use Rattle.world_actions.specs.World.{IsWorld};
 ghost use Rattle.world_folder.specs.Completing.{AreTaken};
@@ -21,7 +22,7 @@ use crate::words_text::{BadWords, Listed, TEXT_BYTES};
 use disk_model::FourFiles;
 use std::alloc::Global;
 use std::fs::{File, Files};
-use std::io;
+use std::io::{self, Read};
 use std::time::Clock;
 use world_actions::Refusal;
 
@@ -171,16 +172,24 @@ fn read_list<R: Files<File = File> + AllocGlobal>(rt: &R, list: &str) -> Result<
     ensures world { IfOk result (λ listed. IsWorld listed.words.items) }
     ensures fault { IfErr result IsFault }
 {
-    let text = opened(rt.alloc(), "", list, read_text(rt, list))?;
+    let text = opened(rt.alloc(), "", list, read_list_file(rt, list))?;
     match Listed::read(rt.alloc(), &text) {
         Ok(listed) => Ok(listed),
         Err(why) => Err(unlisted(rt.alloc(), list, why)),
     }
 }
 
-fn read_text<R: Files<File = File> + AllocGlobal>(rt: &R, list: &str) -> io::Result<Vec<u8>> {
+fn read_list_file<R: Files<File = File> + AllocGlobal>(rt: &R, list: &str) -> io::Result<Vec<u8>> {
     let mut file = File::open(rt, list)?;
-    read_forward(rt.alloc(), &mut file, TEXT_BYTES)
+    read_text(rt.alloc(), &mut file)
+}
+
+// The text of a list: all of it, unless it is longer than the longest text of a world.
+fn read_text<S: Read>(alloc: Global, list: &mut S) -> io::Result<Vec<u8>>
+    ensures read { IfOk result (λ text. Consumes (S.remaining list.old) (S.remaining list.new) text.items) }
+    ensures all { IfOk result (λ text. length text.items < TEXT_BYTES → IsAtEnd (S.remaining list.new)) }
+{
+    read_forward(alloc, list, TEXT_BYTES)
 }
 
 // The end that names the file and its line.

@@ -1,7 +1,8 @@
 //! Figures of a world, by what its files hold.
-ghost use Rattle.std.specs.Prelude.{◌≡◌, IfOk, IfErr, Some};
+ghost use Rattle.std.specs.Prelude.{◌≡◌, IsTrue, IfOk, IfErr, OnOk, Some};
 ghost use Rattle.world_folder.specs.Ending.{IsFault};
 ghost use Rattle.world_folder.specs.Fault.{Explains};
+ghost use Rattle.world_folder.specs.StatusReport.{IsStatusReported, IsServerReported, AreFiguresReported};
 ghost use Rattle.world_folder.specs.Told.{IsLogTold};
 ghost use Rattle.world_folder.specs.Figures.{AreFigures, current_segment, told_segment};
 ghost use Rattle.world_folder.specs.Texts.{figures_text, lengths_text, pair_text, segment_text, total_of};
@@ -10,8 +11,10 @@ use crate::copying::{Images, copy_world};
 use crate::counted::Counted;
 use crate::ending::Ending;
 use crate::fault::{Fault, stands_in};
+use crate::folders::Folder;
 use crate::found::{FoundTold, WorldTold};
 use crate::served::server_in;
+use crate::system_folder::SystemFolder;
 use crate::told::{LogTold, tell_log};
 use crate::world_file::{IMAGE_A, IMAGE_B, LOG_A, LOG_B};
 use action_log::SEGMENT_TICKS;
@@ -77,35 +80,50 @@ fn opened_segment(log: LogTold) -> Option<(u64, usize)>
     }
 }
 
-/// Prints the figures of the world in a folder, which a server may write meanwhile, and then whether one does. If the files
-/// hold no world, only the last line is printed.
-pub fn status<R: Files<File = File> + Clock + Print + AllocGlobal>(
+/// Prints the figures of the world in a folder of the system, as `report_status` does.
+pub fn status<R: Files<File = File> + Clock + Print + Eprint + AllocGlobal>(
     rt: &R,
     folder: &str,
 ) -> Result<(), Ending>
     ensures { IfErr result IsFault }
 {
-    let printed = print_figures(rt, folder);
-    println!(rt; "{}", server_in(rt, folder))?;
+    report_status(rt.alloc(), &mut SystemFolder::new(rt, folder), folder)
+}
+
+/// Prints the figures of the world in the folder at this path, which a server may write meanwhile, and then whether one does. If
+/// the files hold no world, only the last line is printed.
+pub fn report_status<F: Folder>(alloc: Global, folder: &mut F, path: &str) -> Result<(), Ending>
+    ensures reported { IsTrue F.honest → IsTrue F.File.honest → OnOk result (IsStatusReported (F.history folder.old) (F.history folder.new)) }
+    ensures fault { IfErr result IsFault }
+{
+    let printed = print_figures(alloc, folder, path);
+    print_server(folder)?;
     printed
 }
 
-fn print_figures<R: Files<File = File> + Clock + Print + AllocGlobal>(
-    rt: &R,
-    folder: &str,
-) -> Result<(), Ending>
-    ensures { IfErr result IsFault }
+fn print_server<F: Folder>(folder: &mut F) -> Result<(), Ending>
+    ensures reported { IsTrue F.honest → OnOk result (IsServerReported (F.history folder.old) (F.history folder.new)) }
+    ensures fault { IfErr result IsFault }
 {
-    let copied = match copy_world(rt, folder, Images::Newest) {
+    let told = server_in(folder);
+    folder.print(told)?;
+    Ok(())
+}
+
+fn print_figures<F: Folder>(alloc: Global, folder: &mut F, path: &str) -> Result<(), Ending>
+    ensures reported { IsTrue F.honest → IsTrue F.File.honest → OnOk result (AreFiguresReported (F.history folder.old) (F.history folder.new)) }
+    ensures fault { IfErr result IsFault }
+{
+    let copied = match copy_world(alloc, folder, path, Images::Newest) {
         Ok(copied) => copied,
         Err(reason) => return Err(reason.ending()),
     };
-    let figures = match figures_of(rt.alloc(), &copied.files) {
+    let figures = match figures_of(alloc, &copied.files) {
         Ok(figures) => figures,
         Err(fault) => return Err(Ending::NoWorld(fault)),
     };
-    println!(rt; "{figures}")?;
-    println!(rt; "{}", Lengths(copied.lengths))?;
+    folder.print(figures)?;
+    folder.print(Lengths(copied.lengths))?;
     Ok(())
 }
 

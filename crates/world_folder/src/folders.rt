@@ -1,5 +1,5 @@
 //! The calls of the system that the commands make in one folder, and the lines that they print.
-ghost use Rattle.std.specs.Prelude.{◌≡◌, ◌∷◌, Bool, List, Option, Some, None, IsTrue, IfOk, OnOk, OnErr};
+ghost use Rattle.std.specs.Prelude.{◌≡◌, ◌∷◌, [], ℕ, Bool, true, Ok, List, Option, Some, None, IsTrue, IfOk, OnOk, OnErr};
 ghost use Rattle.std.specs.declared.io.Error.{Error};
 ghost use Rattle.disk_model.specs.Disk.{Only};
 ghost use Rattle.world_folder.specs.History.{Act, Looked, Opened, Made, Locked, Read, Measured, Asked, NamesSynced, OwnNameSynced, FoundEmpty, Printed, Warned};
@@ -12,6 +12,15 @@ use crate::world_file::WorldFile;
 use disk_model::Disk;
 use std::fmt::Display;
 use std::io;
+
+/// How a file is opened to be read.
+#[derive(Clone, Copy, Debug, PartialEq, Eq)]
+pub enum Reading {
+    /// As the system has it.
+    Cached,
+    /// As the device has it. It is synced first.
+    Synced,
+}
 
 /// A disk that keeps the error of its last call that failed.
 pub trait WorldDisk: Disk {
@@ -39,6 +48,9 @@ pub trait Folder {
     /// The file behind a handle.
     ghost entry_of: { Self.Handle → FileEntry };
 
+    /// Its bytes.
+    ghost content_of: { Self.Handle → List ℕ };
+
     /// The file that a disk was taken of.
     ghost identity: { Self.File → FileIdentity };
 
@@ -53,7 +65,13 @@ pub trait Folder {
 
     /// Makes a file that its owner alone may read and write. One that is there is an error.
     fn make(&mut self, file: WorldFile) -> io::Result<Self::Handle>
-        ensures made { IsTrue honest → IfOk result (λ handle. history self.new ≡ Made file (entry_of handle) ∷ history self.old) };
+        ensures made { IsTrue honest → IfOk result (λ handle. history self.new ≡ Made file (entry_of handle) ∷ history self.old) }
+        ensures empty { IsTrue honest → IfOk result (λ handle. content_of handle ≡ []) };
+
+    /// Opens the file to which a name leads, to read it alone.
+    fn open_to_read(&mut self, file: WorldFile, how: Reading) -> io::Result<Self::File>
+        ensures read { IsTrue honest → IfOk result (λ disk. history self.new ≡ Read file (Self.File.content disk) ∷ history self.old) }
+        ensures failed { IsTrue honest → OnErr result (history self.new ≡ history self.old) };
 
     /// Describes an open file.
     fn entry(&mut self, handle: &Self::Handle) -> io::Result<Entry>
@@ -67,6 +85,7 @@ pub trait Folder {
     /// Takes an open file as a disk, which is synced.
     fn take(&mut self, handle: Self::Handle) -> io::Result<Self::File>
         ensures file { IsTrue honest → IfOk result (λ disk. identity disk ≡ (entry_of handle).identity) }
+        ensures content { IsTrue honest → IsTrue Self.File.honest → IfOk result (λ disk. Self.File.content disk ≡ content_of handle) }
         ensures synced { IsTrue honest → IsTrue Self.File.honest → IfOk result (λ disk. Only (Self.File.content disk) (Self.File.may_leave disk)) }
         ensures kept { IsTrue honest → history self.new ≡ history self.old };
 
@@ -81,4 +100,25 @@ pub trait Folder {
     /// Prints a line on standard output.
     fn print<T: Display + Drop>(&mut self, line: T) -> io::Result<()>
         ensures printed { IsTrue honest → OnOk result (history self.new ≡ Printed (T.output line) ∷ history self.old) };
+
+    /// Prints a line on standard error, if that can be written.
+    fn warn<T: Display + Drop>(&mut self, line: T)
+        ensures { IsTrue honest → history self.new ≡ Warned (T.output line) ∷ history self.old };
+
+    /// True if the folder has no file.
+    fn is_empty(&mut self) -> io::Result<bool>
+        ensures empty { IsTrue honest → result ≡ Ok true → history self.new ≡ FoundEmpty ∷ history self.old };
+
+    /// How long the file is to which a name leads.
+    fn length(&mut self, file: WorldFile) -> io::Result<u64>
+        ensures length { IsTrue honest → IfOk result (λ length. history self.new ≡ Measured file length ∷ history self.old) }
+        ensures failed { IsTrue honest → OnErr result (history self.new ≡ history self.old) };
+
+    /// Asks for the lock of the file to which a name leads, as a reader does.
+    fn lock_state(&mut self, file: WorldFile) -> LockState
+        ensures { IsTrue honest → history self.new ≡ Asked file result ∷ history self.old };
+
+    /// Waits a moment.
+    fn pause(&mut self)
+        ensures { IsTrue honest → history self.new ≡ history self.old };
 }

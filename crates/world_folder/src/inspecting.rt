@@ -1,87 +1,169 @@
-ghost use Rattle.std.specs.Prelude.{◌≡◌, IfErr};
+ghost use Rattle.std.specs.Prelude.{◌≡◌, Some, IsTrue, IfOk, IfErr, OnOk, string_bytes};
 ghost use Rattle.world_folder.specs.Ending.{IsFault};
+ghost use Rattle.world_folder.specs.Inspection.{IsFileLine, IsTold, AreFilesReported, IsInspected, file_line_text, words_text, words_printed};
 
 use crate::counted::Counted;
 use crate::ending::Ending;
+use crate::folders::Folder;
 use crate::found::FoundTold;
 use crate::looking::{Seen, look_at_folder};
 use crate::recovering::found_in;
-use crate::told::{tell_image, tell_log};
-use crate::world_file::Named;
+use crate::system_folder::SystemFolder;
+use crate::told::{ImageTold, LogTold, tell_image, tell_log};
+use crate::world_file::{Named, WorldFile};
+use disk_model::FourFiles;
+use recovery::Recovered;
 use std::alloc::{AllocError, Global};
-use std::fmt::Display;
 use std::fs::{File, Files};
-use std::io;
 use std::time::Clock;
+use std::{fmt, io};
 use world_actions::Refusal;
 
-/// Prints how each file of a folder reads, and then which world they hold, with its words if they are asked for. A server
-/// may write the world meanwhile. This writes nothing into the folder.
-pub fn inspect<R: Files<File = File> + Clock + Print + AllocGlobal>(
+/// Prints how each file of a folder of the system reads, and which world they hold, as `report_files` does.
+pub fn inspect<R: Files<File = File> + Clock + Print + Eprint + AllocGlobal>(
     rt: &R,
     folder: &str,
     with_words: bool,
 ) -> Result<(), Ending>
     ensures { IfErr result IsFault }
 {
-    let Seen { files, lengths } = look_at_folder(rt, folder)?;
-    print_file(rt, &files.image_a, lengths.image_a, tell_image)?;
-    print_file(rt, &files.image_b, lengths.image_b, tell_image)?;
-    print_file(rt, &files.log_a, lengths.log_a, tell_log)?;
-    print_file(rt, &files.log_b, lengths.log_b, tell_log)?;
-    let found = found_in(rt.alloc(), folder, files)?;
-    println!(rt; "{}", FoundTold::of(&found))?;
-    if with_words {
-        rt.println(line_of(rt.alloc(), &found.words).map_err(io::Error::from)?)?;
-    }
-    Ok(())
+    let mut system = SystemFolder::new(rt, folder);
+    report_files(rt.alloc(), &mut system, folder, with_words)
 }
 
-// Prints the report on a file, or why it can't be read.
-fn print_file<
-    R: Print + AllocGlobal,
-    T: Display + Drop,
-    F: FnOnce(Global, &[u8]) -> Result<T, Refusal>,
->(rt: &R, named: &Named<io::Result<Vec<u8>>>, length: Option<u64>, tell: F) -> Result<(), Ending>
-    requires { F.IsAlwaysCallable tell }
-    ensures { IfErr result IsFault }
+/// Prints how each file of the folder at this path reads, and then which world they hold, with its words if they are asked for. A
+/// server may write the world meanwhile. This writes nothing into the folder.
+pub fn report_files<F: Folder>(
+    alloc: Global,
+    folder: &mut F,
+    path: &str,
+    with_words: bool,
+) -> Result<(), Ending>
+    ensures reported { IsTrue F.honest → IsTrue F.File.honest → OnOk result (IsInspected with_words (F.history folder.old) (F.history folder.new)) }
+    ensures fault { IfErr result IsFault }
 {
-    let name = named.file.name();
-    match &named.value {
-        Ok(bytes) => match tell(rt.alloc(), bytes) {
-            Ok(told) => print_told(rt, name, told, length.unwrap_or(bytes.len() as u64))?,
-            Err(refusal) => return Err(Ending::Fault(refusal)),
-        },
-        Err(error) => print_unreadable(rt, name, error)?,
+    let seen = look_at_folder(alloc, folder, path)?;
+    print_files(alloc, folder, &seen)?;
+    let found = found_in(alloc, path, seen.files)?;
+    folder.print(FoundTold::of(&found))?;
+    print_words(alloc, folder, &found, with_words)?;
+    Ok(())
+}
+
+// Prints the words of a world, if they are asked for.
+fn print_words<F: Folder>(
+    alloc: Global,
+    folder: &mut F,
+    found: &Recovered,
+    with_words: bool,
+) -> Result<(), Ending>
+    ensures printed { IsTrue F.honest → OnOk result (F.history folder.new ≡ words_printed with_words found.now.words.items (F.history folder.old)) }
+    ensures fault { IfErr result IsFault }
+{
+    if with_words {
+        let line = line_of(alloc, &found.words)?;
+        folder.print(line)?;
     }
     Ok(())
 }
 
-fn print_told<R: Print, T: Display + Drop>(
-    rt: &R,
-    name: &str,
-    told: T,
-    length: u64,
-) -> io::Result<()> {
-    let length = Counted {
-        count: length as usize,
-        noun: "byte",
+// Prints how each file reads.
+fn print_files<F: Folder>(alloc: Global, folder: &mut F, seen: &Seen) -> Result<(), Ending>
+    ensures printed { IsTrue F.honest → OnOk result (AreFilesReported seen.now (F.history folder.old) (F.history folder.new)) }
+    ensures fault { IfErr result IsFault }
+{
+    let lines = FourFiles {
+        image_a: file_line(alloc, &seen.files.image_a, seen.lengths.image_a)?,
+        image_b: file_line(alloc, &seen.files.image_b, seen.lengths.image_b)?,
+        log_a: file_line(alloc, &seen.files.log_a, seen.lengths.log_a)?,
+        log_b: file_line(alloc, &seen.files.log_b, seen.lengths.log_b)?,
     };
-    println!(rt; "{name}: {told}, {length}")
+    folder.print(lines.image_a)?;
+    folder.print(lines.image_b)?;
+    folder.print(lines.log_a)?;
+    folder.print(lines.log_b)?;
+    Ok(())
 }
 
-fn print_unreadable<R: Print>(rt: &R, name: &str, error: &io::Error) -> io::Result<()> {
-    println!(rt; "{name}: unreadable: {error}")
+// The report on a file.
+#[derive(Clone, Copy)]
+enum FileTold {
+    Image(ImageTold),
+    Log(LogTold),
+    Unreadable(io::Error),
+}
+
+// The line on a file: its name, how it reads, and how long it is.
+#[derive(Clone, Copy)]
+struct FileLine {
+    file: WorldFile,
+    told: FileTold,
+    length: u64,
+}
+
+// The line on a file that was read so. A length that isn't known is that of the bytes.
+fn file_line(
+    alloc: Global,
+    named: &Named<io::Result<Vec<u8>>>,
+    length: Option<u64>,
+) -> Result<FileLine, Ending>
+    ensures line { IfOk result (IsFileLine named.now length) }
+    ensures fault { IfErr result IsFault }
+{
+    match &named.value {
+        Ok(bytes) => match told_of(alloc, named.file, bytes) {
+            Ok(told) => Ok(FileLine {
+                file: named.file,
+                told,
+                length: length.unwrap_or(bytes.len() as u64),
+            }),
+            Err(refusal) => Err(Ending::Fault(refusal)),
+        },
+        Err(error) => Ok(FileLine {
+            file: named.file,
+            told: FileTold::Unreadable(*error),
+            length: 0,
+        }),
+    }
+}
+
+fn told_of(alloc: Global, file: WorldFile, bytes: &[u8]) -> Result<FileTold, Refusal>
+    ensures { IfOk result (IsTold file bytes.now) }
+{
+    match file {
+        WorldFile::ImageA | WorldFile::ImageB => Ok(FileTold::Image(tell_image(alloc, bytes)?)),
+        WorldFile::LogA | WorldFile::LogB => Ok(FileTold::Log(tell_log(alloc, bytes)?)),
+    }
+}
+
+impl fmt::Display for FileLine {
+    ghost output = { λ line. file_line_text line };
+
+    fn fmt<W: fmt::Write>(&self, f: &mut fmt::Formatter<W>) -> fmt::Result {
+        let name = self.file.name();
+        let length = Counted {
+            count: self.length as usize,
+            noun: "byte",
+        };
+        match self.told {
+            FileTold::Image(told) => write!(f, "{name}: {told}, {length}"),
+            FileTold::Log(told) => write!(f, "{name}: {told}, {length}"),
+            FileTold::Unreadable(error) => write!(f, "{name}: unreadable: {error}"),
+        }
+    }
 }
 
 // All words, one space between.
-fn line_of(alloc: Global, words: &[u64]) -> Result<String, AllocError> {
+fn line_of(alloc: Global, words: &[u64]) -> Result<String, AllocError>
+    ensures { IfOk result (λ line. string_bytes line ≡ words_text words.now) }
+{
     let mut line = String::new(alloc);
-    for word in words {
-        if !line.is_empty() {
-            line.push(' ')?;
-        }
-        write!(line, "{word}")?;
+    let Some((first, rest)) = words.split_first() else {
+        return Ok(line);
+    };
+    write!(line, "{first}")?;
+    for word in rest {
+        write!(line, " {word}")?;
     }
     Ok(line)
 }

@@ -1,18 +1,18 @@
 //! A look at the four files of a folder, which a server may write meanwhile.
-ghost use Rattle.std.specs.Prelude.{◌≡◌, Ok, IfOk, IfErr};
+ghost use Rattle.std.specs.Prelude.{◌≡◌, Ok, Some, IsTrue, IfOk, IfErr};
 ghost use Rattle.world_folder.specs.Ending.{IsFault};
 ghost use Rattle.world_folder.specs.Fault.{AreRead};
+ghost use Rattle.world_folder.specs.Looking.{IsSeen, IsMeasured, AreMeasured, AreReadAndMeasured, AreKnown};
 ghost use Rattle.world_folder.specs.WorldFile.{AreNamed};
 
 use crate::copying::{Images, NotCopied, copy_world};
 use crate::ending::Ending;
+use crate::folders::Folder;
 use crate::reading::read_folder;
 use crate::world_file::{Named, WorldFile};
 use disk_model::FourFiles;
-use std::fs::{self, File, Files};
+use std::alloc::Global;
 use std::io;
-use std::path::Path;
-use std::time::Clock;
 
 /// The bytes of four files at one time that their formats read, and how long the files are.
 #[derive(Drop)]
@@ -22,26 +22,32 @@ pub struct Seen {
     pub lengths: FourFiles<Option<u64>>,
 }
 
-/// Looks at both images and the log of a folder. If no image is open, or a file can't be read, no server writes a world
-/// there, and each file is read by itself.
-pub fn look_at_folder<R: Files<File = File> + Clock + AllocGlobal>(
-    rt: &R,
-    folder: &str,
-) -> Result<Seen, Ending>
+/// Looks at both images and the log of the folder at this path. If no image is open, or a file can't be read, no server writes
+/// a world there, and each file is read by itself.
+pub fn look_at_folder<F: Folder>(alloc: Global, folder: &mut F, path: &str) -> Result<Seen, Ending>
+    ensures seen { IsTrue F.honest → IsTrue F.File.honest → IfOk result (λ seen.
+        IsSeen seen (F.history folder.old) (F.history folder.new)) }
     ensures named { IfOk result (λ seen. AreNamed seen.files) }
     ensures fault { IfErr result IsFault }
 {
-    match copy_world(rt, folder, Images::Both) {
+    match copy_world(alloc, folder, path, Images::Both) {
         Ok(copied) => Ok(Seen {
             files: named(copied.files),
             lengths: known(copied.lengths),
         }),
         Err(NotCopied::Unsteady(ending)) => Err(ending),
-        Err(NotCopied::NoImage | NotCopied::Unreadable(_)) => Ok(Seen {
-            files: read_folder(rt, folder),
-            lengths: lengths_in(rt, folder),
-        }),
+        Err(NotCopied::NoImage | NotCopied::Unreadable(_)) => Ok(look_at_each(alloc, folder)),
     }
+}
+
+// Reads each file by itself, and then asks how long it is.
+fn look_at_each<F: Folder>(alloc: Global, folder: &mut F) -> Seen
+    ensures seen { IsTrue F.honest → IsTrue F.File.honest → AreReadAndMeasured result (F.history folder.old) (F.history folder.new) }
+    ensures named { AreNamed result.files }
+{
+    let files = read_folder(alloc, folder);
+    let lengths = lengths_in(folder);
+    Seen { files, lengths }
 }
 
 // The files that were read, each with its name.
@@ -66,7 +72,9 @@ fn read(file: WorldFile, bytes: Vec<u8>) -> Named<io::Result<Vec<u8>>>
     }
 }
 
-fn known(lengths: FourFiles<u64>) -> FourFiles<Option<u64>> {
+fn known(lengths: FourFiles<u64>) -> FourFiles<Option<u64>>
+    ensures { AreKnown lengths result }
+{
     FourFiles {
         image_a: Some(lengths.image_a),
         image_b: Some(lengths.image_b),
@@ -75,20 +83,22 @@ fn known(lengths: FourFiles<u64>) -> FourFiles<Option<u64>> {
     }
 }
 
-fn lengths_in<R: Files<File = File> + AllocGlobal>(rt: &R, folder: &str) -> FourFiles<Option<u64>> {
+fn lengths_in<F: Folder>(folder: &mut F) -> FourFiles<Option<u64>>
+    ensures { IsTrue F.honest → AreMeasured result (F.history folder.old) (F.history folder.new) }
+{
     FourFiles {
-        image_a: length_in(rt, folder, WorldFile::ImageA),
-        image_b: length_in(rt, folder, WorldFile::ImageB),
-        log_a: length_in(rt, folder, WorldFile::LogA),
-        log_b: length_in(rt, folder, WorldFile::LogB),
+        image_a: length_in(folder, WorldFile::ImageA),
+        image_b: length_in(folder, WorldFile::ImageB),
+        log_a: length_in(folder, WorldFile::LogA),
+        log_b: length_in(folder, WorldFile::LogB),
     }
 }
 
-fn length_in<R: Files<File = File> + AllocGlobal>(
-    rt: &R,
-    folder: &str,
-    file: WorldFile,
-) -> Option<u64> {
-    let path = Path::new(folder).join(rt.alloc(), file.name()).ok()?;
-    Some(fs::metadata(rt, path.as_path()).ok()?.len())
+fn length_in<F: Folder>(folder: &mut F, file: WorldFile) -> Option<u64>
+    ensures { IsTrue F.honest → IsMeasured file result (F.history folder.old) (F.history folder.new) }
+{
+    match folder.length(file) {
+        Ok(length) => Some(length),
+        Err(_) => None,
+    }
 }

@@ -2,65 +2,64 @@
 ghost use Rattle.std.specs.Prelude.{◌≡◌, Ok, IsTrue, IfOk, IfErr, OnErr, IfSome, IsErr, IsErrAnd};
 ghost use Rattle.world_folder.specs.Fault.{AreRead};
 ghost use Rattle.world_folder.specs.Ending.{IsFault, TellsOfFirst};
+ghost use Rattle.world_folder.specs.ReadIn.{IsFileRead, IsReadIn, AreReadIn};
 ghost use Rattle.world_folder.specs.WorldFile.{AreNamed};
 
 use crate::ending::Ending;
-use crate::folders::WorldDisk;
+use crate::folders::{Folder, Reading, WorldDisk};
 use crate::opening::opened;
-use crate::own_file::NOT_REGULAR;
 use crate::system_error::error_of;
-use crate::system_folder::above_streams;
 use crate::world_file::{Named, WorldFile};
-use disk_model::FourFiles;
-use file_disk::FileDisk;
+use disk_model::{Disk, FourFiles};
 use file_readers::{read_image_file, read_segment_file};
 use std::alloc::Global;
-use std::fs::{self, File, Files};
 use std::io;
-use std::path::Path;
 use world_actions::Refusal;
 
 /// The bytes of each file of a folder that its format reads, or why it can't be read. Each is opened for reading alone, and
 /// nothing is locked.
-pub fn read_folder<R: Files<File = File> + AllocGlobal>(
-    rt: &R,
-    folder: &str,
+pub fn read_folder<F: Folder>(
+    alloc: Global,
+    folder: &mut F,
 ) -> FourFiles<Named<io::Result<Vec<u8>>>>
-    ensures { AreNamed result }
+    ensures named { AreNamed result }
+    ensures read { IsTrue F.honest → IsTrue F.File.honest → AreReadIn result (F.history folder.old) (F.history folder.new) }
 {
     FourFiles {
-        image_a: read_named(rt, folder, WorldFile::ImageA),
-        image_b: read_named(rt, folder, WorldFile::ImageB),
-        log_a: read_named(rt, folder, WorldFile::LogA),
-        log_b: read_named(rt, folder, WorldFile::LogB),
+        image_a: read_named(alloc, folder, WorldFile::ImageA),
+        image_b: read_named(alloc, folder, WorldFile::ImageB),
+        log_a: read_named(alloc, folder, WorldFile::LogA),
+        log_b: read_named(alloc, folder, WorldFile::LogB),
     }
 }
 
-fn read_named<R: Files<File = File> + AllocGlobal>(
-    rt: &R,
-    folder: &str,
+fn read_named<F: Folder>(
+    alloc: Global,
+    folder: &mut F,
     file: WorldFile,
 ) -> Named<io::Result<Vec<u8>>>
-    ensures { result.file ≡ file }
+    ensures named { result.file ≡ file }
+    ensures read { IsTrue F.honest → IsTrue F.File.honest → IsReadIn file result.value (F.history folder.old) (F.history folder.new) }
 {
     Named {
         file,
-        value: read_file(rt, folder, file),
+        value: read_file(alloc, folder, file),
     }
 }
 
-fn read_file<R: Files<File = File> + AllocGlobal>(
-    rt: &R,
-    folder: &str,
-    file: WorldFile,
-) -> io::Result<Vec<u8>> {
-    let mut disk = FileDisk::open_to_read(open_plain(rt, folder, file.name())?)?;
-    let bytes = read_whole(rt.alloc(), file, &mut disk);
+fn read_file<F: Folder>(alloc: Global, folder: &mut F, file: WorldFile) -> io::Result<Vec<u8>>
+    ensures { IsTrue F.honest → IsTrue F.File.honest → IsReadIn file result (F.history folder.old) (F.history folder.new) }
+{
+    let mut disk = folder.open_to_read(file, Reading::Synced)?;
+    let bytes = read_whole(alloc, file, &mut disk);
     answered(&mut disk, bytes)
 }
 
 /// The bytes of a file that its format reads.
-pub fn read_whole(alloc: Global, file: WorldFile, disk: &mut FileDisk) -> Result<Vec<u8>, Refusal> {
+pub fn read_whole<D: Disk>(alloc: Global, file: WorldFile, disk: &mut D) -> Result<Vec<u8>, Refusal>
+    ensures read { IsTrue D.honest → IfOk result (λ bytes. IsFileRead file (D.content disk.old) bytes.items) }
+    ensures kept { IsTrue D.honest → D.content disk.new ≡ D.content disk.old }
+{
     match file {
         WorldFile::ImageA | WorldFile::ImageB => read_image_file(alloc, disk),
         WorldFile::LogA | WorldFile::LogB => read_segment_file(alloc, disk),
@@ -80,19 +79,6 @@ pub fn answered<D: WorldDisk, T>(disk: &mut D, answer: Result<T, Refusal>) -> io
             None => Err(error_of(refusal)),
         },
     }
-}
-
-/// Opens a file of a folder for reading alone. A file of another kind isn't opened: to open a pipe waits for its writer.
-pub fn open_plain<R: Files<File = File> + AllocGlobal>(
-    rt: &R,
-    folder: &str,
-    name: &str,
-) -> io::Result<File> {
-    let path = Path::new(folder).join(rt.alloc(), name)?;
-    if !fs::metadata(rt, path.as_path())?.is_file() {
-        return Err(io::Error::other(NOT_REGULAR));
-    }
-    above_streams(File::open(rt, path.as_path())?)
 }
 
 /// The bytes of all files if each was read, else how the program ends for the first that wasn't.

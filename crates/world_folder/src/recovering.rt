@@ -1,37 +1,85 @@
-ghost use Rattle.std.specs.Prelude.{IfOk, IfErr};
+ghost use Rattle.std.specs.Prelude.{◌≡◌, Some, IsTrue, IfOk, IfErr, OnOk};
 ghost use Rattle.world_folder.specs.Ending.{IsFault, TellsWhy};
 ghost use Rattle.world_folder.specs.Fault.{Files, AreRead, Stands};
+ghost use Rattle.world_folder.specs.Lost.{doubtful_log};
+ghost use Rattle.world_folder.specs.Reports.{IsWorldReported, with_doubt};
+ghost use Rattle.world_folder.specs.Texts.{recovered_line, doubtful_line};
 
 use crate::ending::Ending;
 use crate::fault::stands_in;
+use crate::folders::Folder;
 use crate::found::WorldTold;
 use crate::looking::look_at_folder;
 use crate::lost::{Doubtful, doubtful_log};
 use crate::reading::all_read;
+use crate::system_folder::SystemFolder;
 use crate::world_file::Named;
 use disk_model::FourFiles;
 use recovery::Recovered;
 use std::alloc::Global;
 use std::fs::{self, File};
-use std::io;
 use std::time::Clock;
+use std::{fmt, io};
 
-/// Prints which world the files of a folder hold, which a server may write meanwhile. It writes nothing into the folder. On
-/// standard error it names a log that may have been lost.
+/// Prints which world the files of a folder of the system hold, as `report_world` does.
 pub fn recover<R: fs::Files<File = File> + Clock + Print + Eprint + AllocGlobal>(
     rt: &R,
     folder: &str,
 ) -> Result<(), Ending>
     ensures { IfErr result IsFault }
 {
-    let seen = look_at_folder(rt, folder)?;
-    let files = all_read(rt.alloc(), folder, seen.files)?;
-    let found = stands_in(rt.alloc(), &files).map_err(Ending::NoWorld)?;
-    if let Some(slot) = doubtful_log(found.tick, &files) {
-        let _ = eprintln!(rt; "worldd: {}", Doubtful(slot));
-    }
-    println!(rt; "recovered {}", WorldTold::of(&found))?;
+    report_world(rt.alloc(), &mut SystemFolder::new(rt, folder), folder)
+}
+
+/// Prints which world the files of the folder at this path hold, which a server may write meanwhile. It writes nothing into the
+/// folder. On standard error it names a log that may have been lost.
+pub fn report_world<F: Folder>(alloc: Global, folder: &mut F, path: &str) -> Result<(), Ending>
+    ensures reported { IsTrue F.honest → IsTrue F.File.honest → OnOk result (IsWorldReported (F.history folder.old) (F.history folder.new)) }
+    ensures fault { IfErr result IsFault }
+{
+    let seen = look_at_folder(alloc, folder, path)?;
+    let files = all_read(alloc, path, seen.files)?;
+    let found = match stands_in(alloc, &files) {
+        Ok(found) => found,
+        Err(fault) => return Err(Ending::NoWorld(fault)),
+    };
+    warn_of_doubt(folder, found.tick, &files);
+    folder.print(RecoveredLine(WorldTold::of(&found)))?;
     Ok(())
+}
+
+// Names a log that may have been lost of a world at this tick.
+fn warn_of_doubt<F: Folder>(folder: &mut F, tick: u64, files: &FourFiles<Vec<u8>>)
+    ensures { IsTrue F.honest → F.history folder.new
+        ≡ with_doubt (doubtful_log tick files.now.log_a.items files.now.log_b.items) (F.history folder.old) }
+{
+    if let Some(slot) = doubtful_log(tick, files) {
+        folder.warn(DoubtfulLine(Doubtful(slot)));
+    }
+}
+
+// The line on a world that was recovered.
+#[derive(Clone, Copy)]
+struct RecoveredLine(WorldTold);
+
+impl fmt::Display for RecoveredLine {
+    ghost output = { λ line. Some (recovered_line line.0.tick line.0.from) };
+
+    fn fmt<W: fmt::Write>(&self, f: &mut fmt::Formatter<W>) -> fmt::Result {
+        write!(f, "recovered {}", self.0)
+    }
+}
+
+// The line on a log that may have been lost.
+#[derive(Clone, Copy)]
+struct DoubtfulLine(Doubtful);
+
+impl fmt::Display for DoubtfulLine {
+    ghost output = { λ line. Some (doubtful_line line.0.0) };
+
+    fn fmt<W: fmt::Write>(&self, f: &mut fmt::Formatter<W>) -> fmt::Result {
+        write!(f, "worldd: {}", self.0)
+    }
 }
 
 /// The world that files hold which were read so, or how the program ends.

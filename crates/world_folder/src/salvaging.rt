@@ -1,54 +1,78 @@
 //! A new world of what can be read of damaged files.
-ghost use Rattle.std.specs.Prelude.{◌↔◌, Some, IsTrue, IfOk, IfErr};
+ghost use Rattle.std.specs.Prelude.{◌≡◌, ◌↔◌, ◌++◌, codes, Some, IsTrue, IfOk, IfErr, OnOk};
 ghost use Rattle.world_actions.specs.World.{IsWorld};
 ghost use Rattle.world_folder.specs.Ending.{IsFault};
-ghost use Rattle.world_folder.specs.Salvaging.{IsLost};
+ghost use Rattle.world_folder.specs.Salvaging.{IsLost, parts_printed};
 ghost use Rattle.world_folder.specs.Texts.{image_part_text, log_part_text, run_text};
+ghost use Rattle.world_folder.specs.WorldFile.{name_of};
 
-use crate::backing_up::{look_for_room, write_one};
+use crate::backing_up::{look_for_room, write_files};
 use crate::counted::Counted;
 use crate::ending::Ending;
 use crate::fault::Fault;
-use crate::opening::{opened, sync_names};
+use crate::folders::Folder;
+use crate::opening::opened;
 use crate::reading::read_folder;
-use crate::system_folder::{SystemFolder, make_file};
-use crate::verified::verify;
+use crate::system_folder::SystemFolder;
+use crate::verified::{SalvagedInto, verify};
 use crate::words_image::image_body;
 use crate::world_file::{Named, WorldFile};
 use disk_model::FourFiles;
 use file_format::{CLOSED_GATE, OPEN_GATE};
-use recovery::Recovered;
+use recovery::{Recovered, Slot};
 use salvage::{ImagePart, LogPart, Salvaged, salvage};
-use std::alloc::Global;
+use std::alloc::{AllocError, Global};
 use std::fmt;
 use std::fs::{File, Files};
-use std::io::{self, ErrorKind, Write};
+use std::io::{self, ErrorKind};
 use std::time::Clock;
 use world_actions::Refusal;
 
-/// Makes a world in an empty folder of what can be read of the files of another one, in which nothing is written. It prints
-/// what it took of each file, and which world the new files hold: its image, beside closed files.
-pub fn salvage_world<R: Files<File = File> + Clock + Print + Eprint + AllocGlobal + Clone + Drop>(
+/// Makes a world in an empty folder of the system of what can be read of the files of another one, as `salvage_into` does.
+pub fn salvage_world<R: Files<File = File> + Clock + Print + Eprint + AllocGlobal>(
     rt: &R,
     folder: &str,
     to: &str,
 ) -> Result<(), Ending>
     ensures { IfErr result IsFault }
 {
-    look_for_room(rt, to)?;
-    let files = readable_in(rt, folder)?;
-    let salvaged = salvaged_of(rt.alloc(), &files)?;
-    print_parts(rt, &salvaged)?;
-    write_world(rt, to, &salvaged.found)?;
-    let verified = verify(rt, to, &salvaged.found)?;
-    println!(rt; "salvaged {verified}")?;
-    Ok(())
+    let mut from = SystemFolder::new(rt, folder);
+    let mut into = SystemFolder::new(rt, to);
+    match salvage_into(rt.alloc(), &mut from, folder, &mut into, to) {
+        Ok(_) => Ok(()),
+        Err(ending) => Err(ending),
+    }
+}
+
+/// Makes a world in an empty folder of what can be read of the files of another one, in which nothing is written. It prints
+/// what it took of each file, and which world the new files hold: its image, beside closed files. These files are returned.
+pub fn salvage_into<F: Folder, T: Folder>(
+    alloc: Global,
+    from: &mut F,
+    path: &str,
+    into: &mut T,
+    to: &str,
+) -> Result<FourFiles<T::File>, Ending>
+    ensures { IfErr result IsFault }
+{
+    look_for_room(alloc, into, to)?;
+    let read = read_folder(alloc, from);
+    let files = readable_in(alloc, path, read, into)?;
+    let salvaged = salvaged_of(alloc, &files)?;
+    print_parts(into, &salvaged)?;
+    let bytes = bytes_of(alloc, &salvaged.found)?;
+    let made = write_files(alloc, into, to, &bytes, Slot::A)?;
+    let verified = verify(alloc, into, to, &salvaged.found)?;
+    into.print(SalvagedInto(verified))?;
+    Ok(made)
 }
 
 // The bytes of the files of a folder that can be read. A file that was lost has none, and is named.
-fn readable_in<R: Files<File = File> + Print + AllocGlobal>(
-    rt: &R,
-    folder: &str,
+fn readable_in<T: Folder>(
+    alloc: Global,
+    path: &str,
+    read: FourFiles<Named<io::Result<Vec<u8>>>>,
+    into: &mut T,
 ) -> Result<FourFiles<Vec<u8>>, Ending>
     ensures { IfErr result IsFault }
 {
@@ -57,28 +81,39 @@ fn readable_in<R: Files<File = File> + Print + AllocGlobal>(
         image_b,
         log_a,
         log_b,
-    } = read_folder(rt, folder);
+    } = read;
     Ok(FourFiles {
-        image_a: readable(rt, folder, image_a)?,
-        image_b: readable(rt, folder, image_b)?,
-        log_a: readable(rt, folder, log_a)?,
-        log_b: readable(rt, folder, log_b)?,
+        image_a: readable(alloc, path, image_a, into)?,
+        image_b: readable(alloc, path, image_b, into)?,
+        log_a: readable(alloc, path, log_a, into)?,
+        log_b: readable(alloc, path, log_b, into)?,
     })
 }
 
-fn readable<R: Print + AllocGlobal>(
-    rt: &R,
-    folder: &str,
+fn readable<T: Folder>(
+    alloc: Global,
+    path: &str,
     file: Named<io::Result<Vec<u8>>>,
+    into: &mut T,
 ) -> Result<Vec<u8>, Ending>
     ensures { IfErr result IsFault }
 {
     match file.value {
         Err(error) if is_lost(&error) => {
-            println!(rt; "{}: lost: {error}", file.file.name())?;
-            Ok(Vec::new(rt.alloc()))
+            into.print(LostLine(file.file, error))?;
+            Ok(Vec::new(alloc))
         }
-        value => opened(rt.alloc(), folder, file.file.name(), value),
+        value => opened(alloc, path, file.file.name(), value),
+    }
+}
+
+// The line on a file that was lost.
+#[derive(Clone, Copy)]
+struct LostLine(WorldFile, io::Error);
+
+impl fmt::Display for LostLine {
+    fn fmt<W: fmt::Write>(&self, f: &mut fmt::Formatter<W>) -> fmt::Result {
+        write!(f, "{}: lost: {}", self.0.name(), self.1)
     }
 }
 
@@ -106,12 +141,41 @@ fn salvaged_of(alloc: Global, files: &FourFiles<Vec<u8>>) -> Result<Salvaged, En
     }
 }
 
-fn print_parts<R: Print>(rt: &R, salvaged: &Salvaged) -> io::Result<()> {
+// Prints what is taken of each file.
+fn print_parts<T: Folder>(into: &mut T, salvaged: &Salvaged) -> Result<(), Ending>
+    ensures printed { IsTrue T.honest → OnOk result (T.history into.new ≡ parts_printed salvaged.now (T.history into.old)) }
+    ensures fault { IfErr result IsFault }
+{
     let tick = salvaged.found.tick;
-    println!(rt; "image.a: {}", ImageTaken(salvaged.image_a))?;
-    println!(rt; "image.b: {}", ImageTaken(salvaged.image_b))?;
-    println!(rt; "log.a: {}", LogTaken(salvaged.log_a, tick))?;
-    println!(rt; "log.b: {}", LogTaken(salvaged.log_b, tick))
+    into.print(ImageLine(WorldFile::ImageA, ImageTaken(salvaged.image_a)))?;
+    into.print(ImageLine(WorldFile::ImageB, ImageTaken(salvaged.image_b)))?;
+    into.print(LogLine(WorldFile::LogA, LogTaken(salvaged.log_a, tick)))?;
+    into.print(LogLine(WorldFile::LogB, LogTaken(salvaged.log_b, tick)))?;
+    Ok(())
+}
+
+// The line on what is taken of an image.
+#[derive(Clone, Copy)]
+struct ImageLine(WorldFile, ImageTaken);
+
+impl fmt::Display for ImageLine {
+    ghost output = { λ line. Some (name_of line.0 ++ codes ": " ++ image_part_text line.1.0) };
+
+    fn fmt<W: fmt::Write>(&self, f: &mut fmt::Formatter<W>) -> fmt::Result {
+        write!(f, "{}: {}", self.0.name(), self.1)
+    }
+}
+
+// The line on what is taken of a log.
+#[derive(Clone, Copy)]
+struct LogLine(WorldFile, LogTaken);
+
+impl fmt::Display for LogLine {
+    ghost output = { λ line. Some (name_of line.0 ++ codes ": " ++ log_part_text line.1.0 line.1.1) };
+
+    fn fmt<W: fmt::Write>(&self, f: &mut fmt::Formatter<W>) -> fmt::Result {
+        write!(f, "{}: {}", self.0.name(), self.1)
+    }
 }
 
 // What is taken of an image.
@@ -193,31 +257,17 @@ impl fmt::Display for Run {
     }
 }
 
-// Writes a world into an empty folder, its image last, and makes the files and their names durable.
-fn write_world<R: Files<File = File> + Clock + Print + Eprint + AllocGlobal>(
-    rt: &R,
-    to: &str,
-    world: &Recovered,
-) -> Result<(), Ending>
+// The bytes of the files of a world: its image, beside closed files.
+fn bytes_of(alloc: Global, world: &Recovered) -> Result<FourFiles<Vec<u8>>, AllocError>
     requires { IsWorld world.now.words.items }
-    ensures { IfErr result IsFault }
 {
-    write_one(rt, to, WorldFile::LogA, &[CLOSED_GATE])?;
-    write_one(rt, to, WorldFile::LogB, &[CLOSED_GATE])?;
-    write_one(rt, to, WorldFile::ImageB, &[CLOSED_GATE])?;
-    let body = image_body(rt.alloc(), world.tick, &world.words)?;
-    let written = write_image(rt, to, &body);
-    opened(rt.alloc(), to, WorldFile::ImageA.name(), written)?;
-    sync_names(rt.alloc(), &mut SystemFolder::new(rt, to), to)
-}
-
-fn write_image<R: Files<File = File> + AllocGlobal>(
-    rt: &R,
-    to: &str,
-    body: &[u8],
-) -> io::Result<()> {
-    let mut file = make_file(rt, to, WorldFile::ImageA.name())?;
-    file.write_all(&[OPEN_GATE])?;
-    file.write_all(body)?;
-    file.sync_all()
+    let mut image_a = vec![in alloc; OPEN_GATE]?;
+    let body = image_body(alloc, world.tick, &world.words)?;
+    image_a.extend_from_slice(&body)?;
+    Ok(FourFiles {
+        image_a,
+        image_b: vec![in alloc; CLOSED_GATE]?,
+        log_a: vec![in alloc; CLOSED_GATE]?,
+        log_b: vec![in alloc; CLOSED_GATE]?,
+    })
 }

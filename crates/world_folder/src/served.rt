@@ -1,13 +1,12 @@
 //! The report on the server of a world, by the locks of its files.
-ghost use Rattle.std.specs.Prelude.{◌≡◌, Some};
-ghost use Rattle.world_folder.specs.Served.{AreAsked, part_told, server_told};
+ghost use Rattle.std.specs.Prelude.{◌≡◌, Some, IsTrue};
+ghost use Rattle.world_folder.specs.Served.{IsServerTold, asked, part_told, server_told};
 ghost use Rattle.world_folder.specs.Texts.{part_text, server_text};
 
-use crate::locks::{LockState, lock_state};
-use crate::reading::open_plain;
-use crate::world_file::{Named, WorldFile};
+use crate::folders::Folder;
+use crate::locks::LockState;
+use crate::world_file::WorldFile;
 use std::fmt;
-use std::fs::{File, Files};
 
 /// The report on a part of a server. A part that is down stays so up to the server's end.
 #[derive(Clone, Copy, Debug, PartialEq, Eq)]
@@ -31,53 +30,42 @@ pub enum ServerTold {
 #[derive(Drop)]
 pub struct Locks {
     /// A server holds it from its start to its end.
-    pub image_a: Named<LockState>,
+    pub image_a: LockState,
     /// It holds this one once its images are down.
-    pub image_b: Named<LockState>,
+    pub image_b: LockState,
     /// It holds this one once its log is down.
-    pub log_a: Named<LockState>,
+    pub log_a: LockState,
 }
 
 /// Reports on the server of the world in a folder. It asks for locks, and gives them back at once.
-pub fn server_in<R: Files<File = File> + AllocGlobal>(rt: &R, folder: &str) -> ServerTold {
-    tell_server(&locks_in(rt, folder))
+pub fn server_in<F: Folder>(folder: &mut F) -> ServerTold
+    ensures { IsTrue F.honest → IsServerTold result (F.history folder.old) (F.history folder.new) }
+{
+    tell_server(&locks_in(folder))
 }
 
 // Asks for the lock of image.a last. A server that starts or ends meanwhile is then reported as one without a fault, or as none.
-fn locks_in<R: Files<File = File> + AllocGlobal>(rt: &R, folder: &str) -> Locks
-    ensures { AreAsked result }
+fn locks_in<F: Folder>(folder: &mut F) -> Locks
+    ensures { IsTrue F.honest → F.history folder.new ≡ asked result (F.history folder.old) }
 {
-    let image_b = lock_in(rt, folder, WorldFile::ImageB);
-    let log_a = lock_in(rt, folder, WorldFile::LogA);
+    let image_b = folder.lock_state(WorldFile::ImageB);
+    let log_a = folder.lock_state(WorldFile::LogA);
+    let image_a = folder.lock_state(WorldFile::ImageA);
     Locks {
-        image_a: lock_in(rt, folder, WorldFile::ImageA),
+        image_a,
         image_b,
         log_a,
     }
-}
-
-fn lock_in<R: Files<File = File> + AllocGlobal>(
-    rt: &R,
-    folder: &str,
-    file: WorldFile,
-) -> Named<LockState>
-    ensures { result.file ≡ file }
-{
-    let value = match open_plain(rt, folder, file.name()) {
-        Ok(opened) => lock_state(&opened),
-        Err(_) => LockState::Unknown,
-    };
-    Named { file, value }
 }
 
 // What the locks say of the server.
 fn tell_server(locks: &Locks) -> ServerTold
     ensures { result ≡ server_told locks.now }
 {
-    match locks.image_a.value {
+    match locks.image_a {
         LockState::Held => ServerTold::Running {
-            log: tell_part(locks.log_a.value),
-            images: tell_part(locks.image_b.value),
+            log: tell_part(locks.log_a),
+            images: tell_part(locks.image_b),
         },
         LockState::Free => ServerTold::Missing,
         LockState::Unknown => ServerTold::Unknown,

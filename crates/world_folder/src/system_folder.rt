@@ -5,8 +5,9 @@ ghost use Rattle.std.proofs.lemmas.Bool.{false≢true};
 ghost use Rattle.world_folder.specs.OwnFile.{no_entry, no_identity};
 
 use crate::entry::Entry;
-use crate::folders::{Folder, WorldDisk};
-use crate::locks;
+use crate::folders::{Folder, Reading, WorldDisk};
+use crate::locks::{self, LockState};
+use crate::own_file::NOT_REGULAR;
 use crate::world_file::WorldFile;
 use file_disk::FileDisk;
 use std::alloc::AllocError;
@@ -16,13 +17,17 @@ use std::io::{self, ErrorKind};
 use std::os::fd::AsRawFd;
 use std::os::unix::fs::{MetadataExt, OpenOptionsExt};
 use std::path::{Path, PathBuf};
-use std::time::Clock;
+use std::thread;
+use std::time::{Clock, Duration};
 
 /// The permissions of a new file.
 const OWNER_ALONE: u32 = 0o600;
 
 /// The highest descriptor of a standard stream.
 const STANDARD_ERROR: i32 = 2;
+
+/// How long a pause is.
+const PAUSE_MILLISECONDS: u64 = 1;
 
 /// The name of the folder above a folder.
 pub const ABOVE: &str = "..";
@@ -42,13 +47,22 @@ pub struct SystemFolder<'a, R> {
     path: &'a str,
 }
 
-impl<'a, R: AllocGlobal> SystemFolder<'a, R> {
+impl<'a, R: Files<File = File> + AllocGlobal> SystemFolder<'a, R> {
     pub fn new(rt: &'a R, path: &'a str) -> Self {
         SystemFolder { rt, path }
     }
 
     fn path_of(&self, file: WorldFile) -> Result<PathBuf, AllocError> {
         Path::new(self.path).join(self.rt.alloc(), file.name())
+    }
+
+    // Opens a file to read it alone. A file of another kind isn't opened: to open a pipe waits for its writer.
+    fn open_plain(&self, file: WorldFile) -> io::Result<File> {
+        let path = self.path_of(file)?;
+        if !fs::metadata(self.rt, path.as_path())?.is_file() {
+            return Err(io::Error::other(NOT_REGULAR));
+        }
+        above_streams(File::open(self.rt, path.as_path())?)
     }
 }
 
@@ -62,6 +76,8 @@ impl<R: Files<File = File> + Clock + Print + Eprint + AllocGlobal> Folder for Sy
     ghost history = { λ _. [] };
 
     ghost entry_of = { λ _. no_entry };
+
+    ghost content_of = { λ _. [] };
 
     ghost identity = { λ _. no_identity };
 
@@ -80,7 +96,20 @@ impl<R: Files<File = File> + Clock + Print + Eprint + AllocGlobal> Folder for Sy
     }
 
     fn make(&mut self, file: WorldFile) -> io::Result<File> {
-        make_file(self.rt, self.path, file.name())
+        let mut how = OpenOptions::new();
+        how.read(true)
+            .write(true)
+            .create_new(true)
+            .mode(OWNER_ALONE);
+        open_by(self.rt, &how, self.path_of(file)?.as_path())
+    }
+
+    fn open_to_read(&mut self, file: WorldFile, how: Reading) -> io::Result<FileDisk> {
+        let opened = self.open_plain(file)?;
+        match how {
+            Reading::Cached => FileDisk::open_cached(opened),
+            Reading::Synced => FileDisk::open_to_read(opened),
+        }
     }
 
     fn entry(&mut self, handle: &File) -> io::Result<Entry> {
@@ -115,6 +144,30 @@ impl<R: Files<File = File> + Clock + Print + Eprint + AllocGlobal> Folder for Sy
     fn print<T: Display + Drop>(&mut self, line: T) -> io::Result<()> {
         self.rt.println(line)
     }
+
+    fn warn<T: Display + Drop>(&mut self, line: T) {
+        let _ = self.rt.eprintln(line);
+    }
+
+    fn is_empty(&mut self) -> io::Result<bool> {
+        let mut names = fs::read_dir(&self.rt, self.path)?;
+        Ok(names.next().is_none())
+    }
+
+    fn length(&mut self, file: WorldFile) -> io::Result<u64> {
+        Ok(fs::metadata(self.rt, self.path_of(file)?.as_path())?.len())
+    }
+
+    fn lock_state(&mut self, file: WorldFile) -> LockState {
+        match self.open_plain(file) {
+            Ok(opened) => locks::lock_state(&opened),
+            Err(_) => LockState::Unknown,
+        }
+    }
+
+    fn pause(&mut self) {
+        thread::sleep(self.rt, Duration::from_millis(PAUSE_MILLISECONDS));
+    }
 }
 
 // Opens a file so. It is none of the standard streams.
@@ -122,22 +175,6 @@ fn open_by<R: Files<File = File>>(rt: &R, how: &OpenOptions, path: Path<'_>) -> 
     ensures { IfOk result (λ file. pos 2 <ℤ file_raw_fd file) }
 {
     above_streams(how.open(rt, path)?)
-}
-
-pub fn make_file<R: Files<File = File> + AllocGlobal>(
-    rt: &R,
-    folder: &str,
-    name: &str,
-) -> io::Result<File>
-    ensures { IfOk result (λ file. pos 2 <ℤ file_raw_fd file) }
-{
-    let mut how = OpenOptions::new();
-    how.read(true)
-        .write(true)
-        .create_new(true)
-        .mode(OWNER_ALONE);
-    let path = Path::new(folder).join(rt.alloc(), name)?;
-    open_by(rt, &how, path.as_path())
 }
 
 /// Refuses a file at the descriptor of a standard stream, which text for people would be written into.

@@ -1,17 +1,17 @@
 //! A world that was written into a folder, and recovered from there.
-ghost use Rattle.std.specs.Prelude.{◌≡◌, Some, IfSome, IfNone, IfOk, IfErr};
+ghost use Rattle.std.specs.Prelude.{◌≡◌, Some, IsTrue, IfSome, IfNone, IfOk, IfErr};
 ghost use Rattle.world_folder.specs.Ending.{IsFault};
-ghost use Rattle.world_folder.specs.Texts.{world_text};
-ghost use Rattle.world_folder.specs.Verified.{IsSameWorld};
+ghost use Rattle.world_folder.specs.Texts.{world_text, backed_up_text, salvaged_text};
+ghost use Rattle.world_folder.specs.Verified.{IsSameWorld, IsVerified};
 
 use crate::ending::Ending;
+use crate::folders::Folder;
 use crate::found::WorldTold;
 use crate::opening::{Unreadable, path_of};
 use crate::reading::read_folder;
 use crate::recovering::found_in;
 use recovery::Recovered;
 use std::alloc::Global;
-use std::fs::{File, Files};
 use std::{fmt, io};
 use world_actions::Refusal;
 
@@ -48,19 +48,47 @@ impl fmt::Display for Verified {
     }
 }
 
-/// Recovers the world in a folder, into which this one was written.
-pub fn verify<R: Files<File = File> + AllocGlobal>(
-    rt: &R,
-    folder: &str,
+/// Recovers the world in the folder at this path, into which this one was written.
+pub fn verify<F: Folder>(
+    alloc: Global,
+    folder: &mut F,
+    path: &str,
     written: &Recovered,
 ) -> Result<Verified, Ending>
+    ensures verified { IsTrue F.honest → IsTrue F.File.honest → IfOk result (λ verified.
+        IsVerified written.now verified.world (F.history folder.old) (F.history folder.new)) }
     ensures same { IfOk result (λ verified. verified.world.tick ≡ written.now.tick) }
     ensures fault { IfErr result IsFault }
 {
-    let found = found_in(rt.alloc(), folder, read_folder(rt, folder))?;
+    let read = read_folder(alloc, folder);
+    let found = found_in(alloc, path, read)?;
     match Verified::of(written, &found) {
         Some(verified) => Ok(verified),
-        None => Err(other_world(rt.alloc(), folder)),
+        None => Err(other_world(alloc, path)),
+    }
+}
+
+/// The report on a copy.
+#[derive(Clone, Copy)]
+pub struct BackedUp(pub Verified);
+
+impl fmt::Display for BackedUp {
+    ghost output = { λ report. Some (backed_up_text report.0.world.tick report.0.world.from) };
+
+    fn fmt<W: fmt::Write>(&self, f: &mut fmt::Formatter<W>) -> fmt::Result {
+        write!(f, "backed up {}", self.0)
+    }
+}
+
+/// The report on a world that was salvaged.
+#[derive(Clone, Copy)]
+pub struct SalvagedInto(pub Verified);
+
+impl fmt::Display for SalvagedInto {
+    ghost output = { λ report. Some (salvaged_text report.0.world.tick report.0.world.from) };
+
+    fn fmt<W: fmt::Write>(&self, f: &mut fmt::Formatter<W>) -> fmt::Result {
+        write!(f, "salvaged {}", self.0)
     }
 }
 

@@ -1,6 +1,6 @@
 use Rattle.std.proofs.Common.{sym, ◌∙◌}
 use Rattle.world_folder.proofs.LookLemmas.{alike}
-use Rattle.world_folder.proofs.copying.are_alike.Goals as goal
+use Rattle.world_folder.proofs.looks.are_alike.Goals as goal
 
 pub returns-then-eq : goal.returns-then-eq
 returns-then-eq c = λ yes. (

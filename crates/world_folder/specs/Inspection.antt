@@ -1,0 +1,89 @@
+-- The report on the files of a folder.
+use Rattle.std.specs.Prelude.{◌≡◌, ℕ, Bool, true, false, List, [], ◌∷◌, ◌++◌, codes, decimal, length, Option, Some, None, Result, Ok, Err, Vec}
+use Rattle.std.specs.List.{flat_map}
+use Rattle.std.specs.declared.alloc.Global.{Global}
+use Rattle.std.specs.declared.io.Error.{Error}
+use Rattle.disk_model.specs.declared.four_files.FourFiles.{FourFiles}
+use Rattle.recovery.specs.declared.recovered.Recovered.{Recovered}
+use Rattle.world_folder.specs.Fault.{Files, AreRead, Stands}
+use Rattle.world_folder.specs.History.{Act, Printed}
+use Rattle.world_folder.specs.Looking.{IsSeen}
+use Rattle.world_folder.specs.Texts.{image_told_text, log_told_text, counted_text, recovered_text}
+use Rattle.world_folder.specs.Told.{IsImageTold, IsLogTold}
+use Rattle.world_folder.specs.WorldFile.{name_of}
+use Rattle.world_folder.specs.declared.inspecting.FileLine.{FileLine}
+use Rattle.world_folder.specs.declared.inspecting.FileTold.{FileTold}
+use Rattle.world_folder.specs.declared.inspecting.FileTold.TheVariants.{Image, Log, Unreadable}
+use Rattle.world_folder.specs.declared.looking.Seen.{Seen}
+use Rattle.world_folder.specs.declared.world_file.Named.{Named}
+use Rattle.world_folder.specs.declared.world_file.WorldFile.{WorldFile}
+use Rattle.world_folder.specs.declared.world_file.WorldFile.TheVariants.{ImageA, ImageB, LogA, LogB}
+
+-- a file's report, and its length
+abbrev pub told_line : (name told : List ℕ) → (length : ℕ) → Option (List ℕ)
+told_line name told length = Some (name ++ codes ": " ++ told ++ codes ", " ++ counted_text length (codes "byte"))
+
+-- the text of the line on a file, which isn't stated if it has an error of the system
+abbrev pub told_text : WorldFile → FileTold → (length : ℕ) → Option (List ℕ)
+told_text file (Image told) length = told_line (name_of file) (image_told_text told) length
+told_text file (Log told) length = told_line (name_of file) (log_told_text told) length
+told_text file (Unreadable error) length = None
+
+abbrev pub file_line_text : FileLine → Option (List ℕ)
+file_line_text line = told_text line.file line.told line.length
+
+-- how the bytes of a file read, by its format
+abbrev pub IsTold : WorldFile → (bytes : List ℕ) → FileTold → Type 0
+IsTold ImageA bytes (Image told) = IsImageTold bytes told
+IsTold ImageB bytes (Image told) = IsImageTold bytes told
+IsTold LogA bytes (Log told) = IsLogTold bytes told
+IsTold LogB bytes (Log told) = IsLogTold bytes told
+IsTold file bytes told = ⊥
+
+-- a length, or that of the bytes
+abbrev pub length_or : Option ℕ → (bytes : List ℕ) → ℕ
+length_or None bytes = length bytes
+length_or (Some known) bytes = known
+
+-- the line on a file that was read so: how its bytes read, or why it can't be read
+abbrev pub IsLineOf : WorldFile → Result (Vec ℕ Global) Error → Option ℕ → FileLine → Type 0
+IsLineOf file (Ok bytes) known line = (line.file ≡ file) × IsTold file bytes.items line.told × (line.length ≡ length_or known bytes.items)
+IsLineOf file (Err error) known line = (line.file ≡ file) × (line.told ≡ Unreadable error)
+
+abbrev pub IsFileLine : Named (Result (Vec ℕ Global) Error) → Option ℕ → FileLine → Type 0
+IsFileLine named known line = IsLineOf named.file named.value known line
+
+-- the line on each file was printed
+pub record AreFilesReported (seen : Seen) (before after : List Act) : Type 0 where
+  pub image_a : FileLine
+  pub image_b : FileLine
+  pub log_a : FileLine
+  pub log_b : FileLine
+  pub is_image_a : IsFileLine seen.files.image_a seen.lengths.image_a image_a
+  pub is_image_b : IsFileLine seen.files.image_b seen.lengths.image_b image_b
+  pub is_log_a : IsFileLine seen.files.log_a seen.lengths.log_a log_a
+  pub is_log_b : IsFileLine seen.files.log_b seen.lengths.log_b log_b
+  pub printed : after ≡ Printed (file_line_text log_b) ∷ Printed (file_line_text log_a) ∷ Printed (file_line_text image_b) ∷ Printed (file_line_text image_a) ∷ before
+
+-- all words in decimal, one space between
+abbrev pub words_text : List ℕ → List ℕ
+words_text [] = []
+words_text (first ∷ rest) = decimal first ++ flat_map (λ word. 32 ∷ decimal word) rest
+
+-- the words are printed, if they are asked for
+abbrev pub words_printed : (with_words : Bool) → (words : List ℕ) → List Act → List Act
+words_printed true words acts = Printed (Some (words_text words)) ∷ acts
+words_printed false words acts = acts
+
+-- The files were seen, and the line on each was printed. Then the world was printed that recovery finds in them.
+pub record IsInspected (with_words : Bool) (before after : List Act) : Type 0 where
+  pub seen : Seen
+  pub looked : List Act
+  pub reported : List Act
+  pub bytes : Files
+  pub found : Recovered
+  pub is_seen : IsSeen seen before looked
+  pub files : AreFilesReported seen looked reported
+  pub are_read : AreRead seen.files bytes
+  pub stands : Stands bytes found
+  pub printed : after ≡ words_printed with_words found.words.items (Printed (Some (recovered_text found.tick found.from found.slot)) ∷ reported)

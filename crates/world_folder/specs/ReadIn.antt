@@ -1,0 +1,32 @@
+-- The files of a folder as they are read.
+use Rattle.std.specs.Prelude.{◌≡◌, ◌⊎◌, ℕ, List, ◌∷◌, Result, Ok, Err, Vec}
+use Rattle.std.specs.declared.alloc.Global.{Global}
+use Rattle.std.specs.declared.io.Error.{Error}
+use Rattle.disk_model.specs.declared.four_files.FourFiles.{FourFiles}
+use Rattle.file_readers.specs.Reading.{IsImageRead, IsSegmentRead}
+use Rattle.world_folder.specs.declared.world_file.Named.{Named}
+use Rattle.world_folder.specs.declared.world_file.WorldFile.{WorldFile}
+use Rattle.world_folder.specs.declared.world_file.WorldFile.TheVariants.{ImageA, ImageB, LogA, LogB}
+use Rattle.world_folder.specs.History.{Act, Read}
+
+-- these bytes of a file are all that its format reads
+abbrev pub IsFileRead : WorldFile → (file bytes : List ℕ) → Type 0
+IsFileRead ImageA file bytes = IsImageRead file bytes
+IsFileRead ImageB file bytes = IsImageRead file bytes
+IsFileRead LogA file bytes = IsSegmentRead file bytes
+IsFileRead LogB file bytes = IsSegmentRead file bytes
+
+-- The file was opened by its own name, and these are its bytes. One that can't be read may not have been opened.
+abbrev pub IsReadIn : (file : WorldFile) → Result (Vec ℕ Global) Error → (before after : List Act) → Type 0
+IsReadIn file (Ok bytes) before after = (content : List ℕ) × (after ≡ Read file content ∷ before) × IsFileRead file content bytes.items
+IsReadIn file (Err error) before after = (after ≡ before) ⊎ ((content : List ℕ) × (after ≡ Read file content ∷ before))
+
+-- each file of four was read by its own name
+pub record AreReadIn (files : FourFiles (Named (Result (Vec ℕ Global) Error))) (before after : List Act) : Type 0 where
+  pub with_image_a : List Act
+  pub with_image_b : List Act
+  pub with_log_a : List Act
+  pub image_a : IsReadIn ImageA files.image_a.value before with_image_a
+  pub image_b : IsReadIn ImageB files.image_b.value with_image_a with_image_b
+  pub log_a : IsReadIn LogA files.log_a.value with_image_b with_log_a
+  pub log_b : IsReadIn LogB files.log_b.value with_log_a after
