@@ -8,8 +8,6 @@ pub mod Told
 pub mod Completing
 pub mod ReadIn
 pub mod Copying
-pub mod Looks
-pub mod Tried
 pub mod Ending
 pub mod Making
 pub mod WordsText
@@ -27,3 +25,6 @@ pub mod Reports
 pub mod StatusReport
 pub mod Inspection
 pub mod Verified
+-- inside: for private functions alone
+pub mod Looks
+pub mod Tried

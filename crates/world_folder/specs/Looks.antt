@@ -1,4 +1,4 @@
--- Three looks at a world's files.
+-- Inside, for private functions alone: three looks at a world's files.
 use Rattle.std.specs.Prelude.{◌≡◌}
 use Rattle.file_format.specs.declared.slot.Slot.{Slot}
 use Rattle.world_folder.specs.Copying.{IsReadWhole, IsNewestIn}
@@ -17,7 +17,7 @@ look_of_files files = look_of files.image_a.items files.image_b.items files.log_
 abbrev pub IsNewest : (heads : Files) → Slot → Type 0
 IsNewest heads newest = IsNewestIn heads.image_a.items heads.image_b.items heads.log_a.items heads.log_b.items newest
 
--- The heads before and after the bytes say what the bytes say, and no segment became longer. Of a copy of both images, neither was
+-- The heads before and after the bytes say what the bytes say, and no segment became longer. If both images are copied, neither was
 -- written anew.
 pub record AreLookedAlike (within : Within) (after : After) : Type 0 where
   pub before_is : look_of_files within.before.heads ≡ look_of_files within.files

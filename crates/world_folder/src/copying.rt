@@ -106,7 +106,8 @@ fn copy_from<F: Folder>(
     let mut blanks = 0;
     for number in 1..=TRIES {
         match try_copy(alloc, source, images) {
-            Ok(Tried::Copied(Alike { files, lengths })) => {
+            Ok(Tried::Copied(alike)) => {
+                let (files, lengths) = alike.parts();
                 return Ok(Copied {
                     files,
                     lengths,

@@ -43,8 +43,8 @@ pub struct After {
 /// three looks in order.
 #[derive(Drop)]
 pub struct Alike {
-    pub files: FourFiles<Vec<u8>>,
-    pub lengths: FourFiles<u64>,
+    files: FourFiles<Vec<u8>>,
+    lengths: FourFiles<u64>,
 }
 
 impl Before {
@@ -132,6 +132,13 @@ impl Alike {
             Images::Both if same_images(&heads, &after.heads) => Some(Alike { files, lengths }),
             Images::Both => None,
         }
+    }
+
+    /// The bytes, and how long the files are.
+    pub fn parts(self) -> (FourFiles<Vec<u8>>, FourFiles<u64>)
+        ensures { (result.0 ≡ self.files) × (result.1 ≡ self.lengths) }
+    {
+        (self.files, self.lengths)
     }
 }
 
