@@ -2,6 +2,8 @@
 use Rattle.std.specs.Char.{is_control, encode_utf8, digit_char}
 use Rattle.std.specs.Prelude.{ℕ, ◌+◌, ◌-◌, ◌/◌, ◌%◌, ◌^◌, min, List, [], ◌++◌, ◌==◌, nat_lt, if◌then◌else◌, codes, decimal, Option, Some, None}
 use Rattle.world_actions.specs.declared.world.TheConstants.{CELLS, LIMIT}
+use Rattle.world_actions.specs.declared.refusal.Refusal.{Refusal}
+use Rattle.world_actions.specs.Refusal.{code_of}
 use Rattle.disk_model.specs.declared.four_files.FourFiles.{FourFiles}
 use Rattle.file_format.specs.declared.slot.Slot.{Slot}
 use Rattle.file_format.specs.declared.slot.Slot.TheVariants.{A, B}
@@ -133,6 +135,11 @@ abbrev pub server_text : ServerTold → List ℕ
 server_text (server.Running log images) = codes "server: running, log " ++ part_text log ++ codes ", images " ++ part_text images
 server_text server.Missing = codes "server: none"
 server_text server.Unknown = codes "server: unknown"
+
+-- ---- a fault
+
+abbrev pub fault_text : Refusal → List ℕ
+fault_text refusal = codes "fault " ++ decimal (code_of refusal)
 
 -- ---- a text that lists no words
 

@@ -2,7 +2,7 @@ ghost use Rattle.std.specs.Prelude.{◌≡◌, Some, true, false};
 ghost use Rattle.std.specs.Path.{path_buf_bytes};
 ghost use Rattle.std.specs.Process.{exit_status};
 ghost use Rattle.world_folder.specs.Ending.{IsStatusOfError, IsStatusOfRefusal, IsStatusOfServer, IsStatusOfUnfinished};
-ghost use Rattle.world_folder.specs.Texts.{filled_text, unlisted_text};
+ghost use Rattle.world_folder.specs.Texts.{fault_text, filled_text, unlisted_text};
 
 use crate::escaped::Escaped;
 use crate::fault::Fault;
@@ -272,8 +272,20 @@ fn report_error<R: Eprint, D: Display + Drop>(rt: &R, error: io::Error, words: D
 
 // Prints a code and the reason.
 fn tell<R: Eprint, D: Display + Drop>(rt: &R, refusal: Refusal, words: D) {
-    let _ = eprintln!(rt; "fault {}", refusal.code());
+    let _ = rt.eprintln(FaultLine(refusal));
     let _ = eprintln!(rt; "worldd: {}", Escaped(words));
+}
+
+// The line on a fault, by the code of its refusal.
+#[derive(Clone, Copy)]
+struct FaultLine(Refusal);
+
+impl fmt::Display for FaultLine {
+    ghost output = { λ line. Some (fault_text line.0) };
+
+    fn fmt<W: fmt::Write>(&self, f: &mut fmt::Formatter<W>) -> fmt::Result {
+        write!(f, "fault {}", self.0.code())
+    }
 }
 
 // The exit status of a fault. A shortage passes, so the same command is worth another try.
