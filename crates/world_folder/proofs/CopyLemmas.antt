@@ -1,5 +1,5 @@
 -- A copy that was taken is one of the files.
-use Rattle.std.proofs.Common.{◌≡◌, ℕ, List, length, take, subst, sym, refl, ◌∙◌}
+use Rattle.std.proofs.Common.{◌≡◌, ℕ, List, length, take, subst, sym, ◌∙◌}
 use Rattle.disk_model.specs.declared.four_files.FourFiles.{FourFiles}
 use Rattle.file_format.specs.declared.slot.Slot.{Slot}
 use Rattle.file_format.specs.declared.slot.Slot.TheVariants.{A, B}

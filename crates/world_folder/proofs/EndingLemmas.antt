@@ -1,5 +1,5 @@
 -- The exit status of a world that wasn't made.
-use Rattle.std.proofs.Common.{◌≡◌, ℕ, Option, Some, None, ap, sym, ◌∙◌, subst}
+use Rattle.std.proofs.Common.{◌≡◌, ℕ, Some, None, subst}
 use Rattle.std.specs.declared.io.Error.{Error}
 use Rattle.world_folder.specs.declared.unfinished.Why.{Why}
 use Rattle.world_folder.specs.declared.unfinished.Why.TheVariants as why

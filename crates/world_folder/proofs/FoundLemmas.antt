@@ -1,5 +1,5 @@
 -- Files of which some are there, as disks.
-use Rattle.std.proofs.Common.{◌≡◌, List, [], ◌∷◌, Option, Some, None, IfSome, option_map, subst, sym, refl, ap}
+use Rattle.std.proofs.Common.{◌≡◌, List, [], ◌∷◌, Option, Some, None, IfSome, option_map, subst, refl, ap}
 use Rattle.disk_model.specs.FourFiles.{EachFile}
 use Rattle.disk_model.specs.declared.four_files.FourFiles.{FourFiles}
 use Rattle.world_folder.specs.Completing.{AreFound}

@@ -1,6 +1,6 @@
 -- No sound segment begins after the recovered tick.
-use Rattle.std.proofs.Common.{◌≡◌, ◌⊎◌, inl, inr, ℕ, ◌<◌, ◌≤◌, List, ◌++◌, Bool, true, false, Some, length, refl, sym, ap, ◌∙◌, arith}
-use Rattle.std.specs.Prelude.{◌≢◌, ◌&&◌, ◌==◌, nat_le, nat_lt, get_or}
+use Rattle.std.proofs.Common.{◌≡◌, ◌⊎◌, inl, inr, ℕ, ◌≤◌, List, ◌++◌, Bool, true, false, Some, length, refl, ap, ◌∙◌, arith}
+use Rattle.std.specs.Prelude.{◌&&◌, ◌==◌, nat_le, nat_lt, get_or}
 use Rattle.std.specs.List.{flat_map}
 use Rattle.std.proofs.lemmas.Grind.{common_steps}
 use Rattle.std.proofs.lemmas.Bool.Decides.{nat_tests}
@@ -9,7 +9,7 @@ use Rattle.file_format.specs.Format.{marked_in}
 use Rattle.action_log.specs.Segment.{Tick, Segment, ClosedSegment, MalformedSegment, OpenSegment, IsSegment, IsClosedSegment, IsOpenSegment, group_bytes}
 use Rattle.action_log.proofs.ReadingLemmas.{mark_again}
 use Rattle.recovery.specs.Sound.{BeginsUpTo}
-use Rattle.world_folder.specs.Lost.{begins_after, is_above}
+use Rattle.world_folder.specs.Lost.{begins_after}
 
 and_false : (a b : Bool) → (a ≡ false) ⊎ (b ≡ false) → (a && b) ≡ false
 and_false false b is = refl

@@ -1,5 +1,5 @@
 -- The calls that a program made in a folder, and the lines that it printed: its history, the latest one first.
-use Rattle.std.specs.Prelude.{◌≡◌, ℕ, List, ◌∷◌, Option}
+use Rattle.std.specs.Prelude.{ℕ, List, ◌∷◌, Option}
 use Rattle.world_folder.specs.declared.entry.Entry.{Entry}
 use Rattle.world_folder.specs.declared.locks.LockState.{LockState}
 use Rattle.world_folder.specs.declared.world_file.WorldFile.{WorldFile}

@@ -4,7 +4,7 @@ use Rattle.file_format.specs.declared.slot.Slot.{Slot}
 use Rattle.world_folder.specs.Copying.{IsReadWhole, IsNewestIn}
 use Rattle.world_folder.specs.Fault.{Files}
 use Rattle.world_folder.specs.Look.{look_of}
-use Rattle.world_folder.specs.declared.copying.Images.TheVariants.{Newest, Both}
+use Rattle.world_folder.specs.declared.copying.Images.TheVariants.{Both}
 use Rattle.world_folder.specs.declared.look.Look.{Look}
 use Rattle.world_folder.specs.declared.looks.Within.{Within}
 use Rattle.world_folder.specs.declared.looks.After.{After}

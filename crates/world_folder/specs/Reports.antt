@@ -1,5 +1,5 @@
 -- The reports that commands print.
-use Rattle.std.specs.Prelude.{◌≡◌, ℕ, List, ◌∷◌, Option, Some, None}
+use Rattle.std.specs.Prelude.{◌≡◌, List, ◌∷◌, Option, Some, None}
 use Rattle.file_format.specs.declared.slot.Slot.{Slot}
 use Rattle.recovery.specs.declared.recovered.Recovered.{Recovered}
 use Rattle.world_folder.specs.Fault.{Files, AreRead, Stands, IsWhole}

@@ -1,6 +1,5 @@
-use Rattle.std.proofs.Common.{◌≡◌, Option, IfSome, sym, subst}
+use Rattle.std.proofs.Common.{Option, IfSome, sym, subst}
 use Rattle.disk_model.specs.declared.four_files.FourFiles.{FourFiles}
-use Rattle.file_format.specs.declared.slot.Slot.{Slot}
 use Rattle.std.proofs.Common.{ℕ}
 use Rattle.world_folder.specs.Copying.{AreHeads, AreShut, IsCopyOf}
 use Rattle.world_folder.specs.Looks.{IsNewest}

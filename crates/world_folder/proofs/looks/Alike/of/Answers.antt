@@ -1,6 +1,5 @@
-use Rattle.std.proofs.Common.{◌≡◌, ◌∙◌, List, ℕ, sym, subst, refl}
+use Rattle.std.proofs.Common.{◌∙◌, List, ℕ, sym, subst, refl}
 use Rattle.world_folder.specs.Copying.{IsReadWhole}
-use Rattle.world_folder.specs.declared.copying.Images.TheVariants.{Both}
 use Rattle.world_folder.proofs.looks.Alike.of.Goals as goal
 
 pub returns-in-Newest-clause-alike : goal.returns-in-Newest-clause-alike
