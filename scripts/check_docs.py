@@ -47,7 +47,7 @@ PAST = re.compile(r"\b(?:[Bb]efore|Until then),[^.|\n]*")
 # A path of the repository. What a program's folder out/ has is made by a run of the gate.
 PATH = re.compile(r"(?<![\w/.-])((?:docs|scripts|bench|examples|clients|crates|\.ci)/[\w./*-]*[\w*/])")
 MADE = re.compile(r"crates/\w+/out/.*")
-FOLDERS = (".", "docs", "docs/proofs", "scripts", "bench", "examples", "clients/python", "clients/c")
+FOLDERS = (".", "docs", "docs/proofs", "scripts", "bench", "examples", "clients/python", "clients/c", "clients/rust")
 FILE = re.compile(r"(?<![\w/.*-])(\w+\.(?:md|py|sh|c))\b")
 PLACEHOLDERS = re.compile(r"\b(?:NAME|CRATE|FILE)\b")
 LINK = re.compile(r"\[[^\]\n]*\]\(([^)\s]+)\)")

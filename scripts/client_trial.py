@@ -1,19 +1,22 @@
 #!/usr/bin/env python3
-"""Tries the clients of clients/ in Python and C on a serving worldd, and on servers of its own that answer badly.
+"""Tries the clients of clients/ in Python, C and Rust on a serving worldd, and on servers of its own that answer badly.
 
     scripts/client_trial.py crates/worldd/out/worldd
     scripts/client_trial.py WORLDD --kills 200
 
 Each client meets each code and each limit, over a port and over a socket. Its server is killed before a connection, before a
-batch, while a batch is on its way, in the midst of an answer and after one. It sends 1,000 batches before it receives an answer.
-The client in Python is run at a pseudo-terminal.
+batch, while a batch is on its way, in the midst of an answer and after one. It sends 1,000 batches before it receives an answer,
+plays 5,000 random lines that a plain model answers too, and reads and loads cells over lost connections. The client in Python is
+run at a pseudo-terminal.
 Then two clients count and two trade while the server is killed again and again. Each batch of `play_once` has to count once. The
-trial prints how often it met what, and fails if anything was never met. It needs a C compiler, as cc.
+trial prints how often it met what, and fails if anything was never met. It needs a C compiler, as cc. It compiles the header by
+each of gcc, g++, clang and clang++ that is there, and leaves Rust out without rustc.
 """
 import argparse
 import collections
 import concurrent.futures
 import contextlib
+import ctypes
 import dataclasses
 import importlib.util
 import itertools
@@ -34,7 +37,7 @@ import time
 
 from check_docs import TOP
 from example_trial import Script, Step, Wrong, free_port
-from kill_trial import PORT, TRANSPORTS
+from kill_trial import PORT, TRANSPORTS, answer
 
 sys.path.insert(0, str(TOP / "clients" / "python"))
 import cektaulis
@@ -49,15 +52,19 @@ BOUNDS = 1, 5, 20
 # longer, until batches have come to each end.
 KILLING_SECONDS, MOST_KILLING_SECONDS = 5, 60
 AHEAD = 1000
+MODEL_LINES = 5000
+# The number of the system's call that takes a descriptor of another process.
+PIDFD_GETFD = 438
 OWN = 0
 LIMIT = cektaulis.LIMIT
 UNANSWERED, NOT_CONNECTED, GARBLED, TOO_LARGE = "unanswered", "not connected", "garbled", "too large"
 ANSWER_LOST, MARKER_REFUSED, BAD_ADDRESS, BAD_ACTION = "answer lost", "marker refused", "bad address", "bad action"
+NONE, ACTION_REFUSED, KEPT, MODEL = "none", "action refused", "answers kept over a loss", "lines as the model"
 WANTED = (
     *(f"refusal {refusal.code}" for refusal in cektaulis.Refusal),
     *(f"fault {fault.code}" for fault in cektaulis.Fault),
     *("done", "value", UNANSWERED, NOT_CONNECTED, GARBLED, TOO_LARGE, "played", "not played"),
-    *(ANSWER_LOST, MARKER_REFUSED, BAD_ADDRESS, BAD_ACTION),
+    *(ANSWER_LOST, MARKER_REFUSED, BAD_ADDRESS, BAD_ACTION, NONE, ACTION_REFUSED, KEPT, MODEL),
 )
 # How a batch of `play_once` came to its end while the server was killed.
 ANSWERED, ANSWERED_LATER = "answered", "answered after a loss"
@@ -91,6 +98,21 @@ class PythonPlayer:
 
     def receive(self, _count: int) -> str:
         return self.answer(lambda: text_of(self.world.receive()))
+
+    def poll(self, _count: int) -> str:
+        return self.answer(lambda: text_of(tick) if (tick := self.world.receive(wait=False)) else NONE)
+
+    def step(self) -> str:
+        return self.answer(lambda: NONE if self.world.reconnect(wait=False) is None else "ok")
+
+    def again(self, seconds: float, batch: list[Action]) -> str:
+        return self.answer(lambda: text_of(self.world.play_again(*batch, patience=seconds)))
+
+    def read(self, cells: list[int]) -> str:
+        return self.answer(lambda: " ".join(map(str, self.world.read(cells))))
+
+    def load(self, first: int, words: list[int]) -> str:
+        return self.answer(lambda: "ok" if self.world.load(words, first) == len(words) else "too few")
 
     def once(self, cell: int, number: int, seconds: float, batch: list[Action]) -> str:
         def call() -> str:
@@ -127,6 +149,8 @@ class PythonPlayer:
             return TOO_LARGE
         except cektaulis.MarkerRefused:
             return MARKER_REFUSED
+        except cektaulis.ActionRefused as refused:
+            return f"{ACTION_REFUSED}: {refused.refusal.text}"
         except (TypeError, ValueError):
             return BAD_ACTION
         except cektaulis.LogDown:
@@ -163,6 +187,21 @@ class CPlayer:
     def receive(self, count: int) -> str:
         return self.ask(f"receive {count}")
 
+    def poll(self, count: int) -> str:
+        return self.ask(f"poll {count}")
+
+    def step(self) -> str:
+        return self.ask("step")
+
+    def again(self, seconds: float, batch: list[Action]) -> str:
+        return self.ask(f"again {seconds * 1000:.0f} {', '.join(map(str, batch))}")
+
+    def read(self, cells: list[int]) -> str:
+        return self.ask(f"read {' '.join(map(str, cells))}")
+
+    def load(self, first: int, words: list[int]) -> str:
+        return self.ask(f"load {first} {' '.join(map(str, words))}")
+
     def once(self, cell: int, number: int, seconds: float, batch: list[Action]) -> str:
         return self.ask(f"once {cell} {number} {seconds * 1000:.0f} {', '.join(map(str, batch))}")
 
@@ -184,6 +223,22 @@ class CPlayer:
     def close(self) -> None:
         self.process.stdin.close()
         self.process.wait(SECONDS)
+
+
+class RustPlayer(CPlayer):
+    """The client in Rust, by scripts/client_player.rs."""
+
+    program: pathlib.Path
+
+    def lessen_buffers(self) -> None:
+        """The standard library of Rust can't, so this takes the client's connection."""
+        process = os.pidfd_open(self.process.pid)
+        taken = ctypes.CDLL(None, use_errno=True).syscall(PIDFD_GETFD, process, int(self.ask("descriptor")), 0)
+        os.close(process)
+        if taken < 0:
+            raise OSError(ctypes.get_errno(), "pidfd_getfd")
+        with socket.socket(fileno=taken) as stream:
+            lessen_buffers(stream)
 
 
 def text_of(tick: cektaulis.Tick) -> str:
@@ -255,6 +310,15 @@ class Trial:
         """Connects, which has to go well."""
         self.expect(self.player.open(address or self.address, seconds), "ok")
 
+    def expect_later(self, call, wanted: str, event) -> None:
+        """Expects an answer of a call that doesn't wait once something was done, and none before it."""
+        self.expect(call(), NONE)
+        event()
+        deadline = time.monotonic() + SECONDS
+        while (got := call()) == NONE and time.monotonic() < deadline:
+            time.sleep(0.001)
+        self.expect(re.sub(r"tick \d+:", "tick:", got), wanted)
+
 
 def text_of_refusal(code: int) -> str:
     """A refusal with its text, as docs/CLIENT.md has it."""
@@ -309,6 +373,92 @@ def try_pipeline(trial: Trial) -> None:
         trial.expect(trial.player.send([Add(3, -1), Get(3)]), "ok")
     for number in range(20):
         trial.expect(trial.player.receive(2), f"tick {8 + number}: + ={LIMIT - 1 - number}")
+
+
+def try_model(trial: Trial, chance: random.Random) -> None:
+    """Random lines are answered as by a plain model."""
+    trial.open()
+    words, lines = [10, 20, 30, 40], 0
+    trial.expect(trial.play(*itertools.starmap(Set, enumerate(words))).partition(":")[2], " +" * 4)
+    while lines < MODEL_LINES:
+        batch = [random_action(chance) for _ in range(chance.choice((1, 3, 20, 256)))]
+        line = answer(words, [(kind, *map(int, numbers)) for kind, *numbers in (str(it).split() for it in batch)], 0)
+        line = re.sub(r" -(\d+)", lambda found: f" {text_of_refusal(int(found[1]))}", line)
+        trial.expect(trial.play(*batch).partition(":")[2], line.partition(":")[2])
+        lines += len(batch)
+        trial.met[MODEL] += len(batch)
+
+
+def random_action(chance: random.Random) -> Action:
+    """An action on a world of four cells, which may be refused."""
+    cell, other = chance.choices((0, 1, 2, 3, 4), (30, 30, 30, 30, 1), k=2)
+    amount = chance.choice((0, 1, 7, 50, 1000, LIMIT - 30, LIMIT, LIMIT + 1, 2**63 - 1))
+    kinds = Set(cell, amount), Add(cell, chance.choice((1, -1)) * amount), Move(cell, other, amount), Swap(cell, other)
+    return chance.choice((*kinds, Move(cell, other, amount % 100), Add(cell, -(amount % 60)), Cap(cell, amount), Get(cell)))
+
+
+def try_polls(trial: Trial) -> None:
+    """Calls that don't wait: for an answer, and for a server that comes back."""
+    player = trial.player
+    trial.open()
+    trial.expect(trial.play(Set(1, 5)).partition(":")[2], " +")
+    trial.hold()
+    trial.expect(player.send([Add(1, 1), Get(1)]), "ok")
+    trial.expect(player.poll(2), NONE)
+    trial.expect_later(lambda: player.poll(2), "tick: + =6", lambda: trial.server.send_signal(signal.SIGCONT))
+    trial.hold()
+    trial.expect(player.send([Get(1)]), "ok")
+    trial.expect(player.poll(1), NONE)
+    trial.expect_later(lambda: player.poll(1), UNANSWERED, trial.kill)
+    trial.expect_later(player.step, "ok", trial.serve)
+    trial.expect(trial.play(Get(1)).partition(":")[2], " =6")
+
+
+def try_kept(trial: Trial) -> None:
+    """Answers that came before the connection broke are received after `reconnect`, and before later ones."""
+    add, get, later = Step("add 1 1", "tick 1: +"), Step("get 1", "tick 2: =1"), Step("get 1", "tick 3: =1")
+    for last in (Step("get 2", None), Step("get 2", "fault 12")):
+        script = Script([add, get, last], [LOST_PROBE], [READY, later])
+        trial.open(script.address)
+        for batch in ([Add(1, 1)], [Get(1)], [Get(2)]):
+            trial.expect(trial.player.send(batch), "ok")
+        deadline = time.monotonic() + SECONDS
+        while script.served < 3 and time.monotonic() < deadline:
+            time.sleep(0.001)
+        # The last answer may be on its way.
+        time.sleep(0.05)
+        trial.expect(trial.player.reconnect(SECONDS), "ok")
+        trial.expect(trial.player.send([Get(1)]), "ok")
+        for wanted in (add.answer, get.answer, later.answer):
+            trial.expect(trial.player.receive(1), wanted)
+        trial.met[KEPT] += 2
+        script.end()
+
+
+def try_bulk(trial: Trial) -> None:
+    """Many cells are set and read, over lost connections and refusals that pass."""
+    words = [number * 7 for number in range(1100)]
+    sets = [[str(Set(cell, words[cell])) for cell in range(it, min(it + 256, 600))] for it in range(0, 600, 256)]
+    gets = [[str(Get(cell)) for cell in range(it, min(it + 1024, 1100))] for it in (0, 1024)]
+    set_steps = [Step(", ".join(it), f"tick 1:{' +' * len(it)}") for it in sets]
+    read_steps = [Step(", ".join(it), "tick 2:" + "".join(f" ={7 * int(line[4:])}" for line in it)) for it in gets]
+    lost = lambda step: dataclasses.replace(step, answer=None)
+    full = dataclasses.replace(set_steps[2], answer="fault 6")
+    script = Script(
+        [set_steps[0], lost(set_steps[1])],
+        [READY, set_steps[1], full, set_steps[2], lost(read_steps[0])],
+        [LOST_PROBE],
+        [READY, *read_steps, Step("set 9 1", "tick 3: -1"), Step("get 9", "tick 3: -1"), Step("set 1 5", "tick 4: +")],
+    )
+    trial.open(script.address)
+    trial.expect(trial.player.load(0, words[:600]), "ok")
+    if trial.player.read(list(range(1100))) != " ".join(map(str, words)):
+        raise Wrong("a long read gives other words")
+    trial.expect(trial.player.load(9, [1]), f"{ACTION_REFUSED}: {TEXTS[1]}")
+    trial.expect(trial.player.read([9]), f"{ACTION_REFUSED}: {TEXTS[1]}")
+    trial.expect(trial.player.again(SECONDS, [Add(1, 1)]), BAD_ACTION)
+    trial.expect(trial.player.again(SECONDS, [Set(1, 5)]), "tick 4: +")
+    script.end()
 
 
 def answering(trial: Trial, answers: list[bytes]) -> None:
@@ -458,10 +608,11 @@ def try_python_mistakes(world: cektaulis.World) -> None:
     refuses(ValueError, lambda: cektaulis.World("7070", timeout=0))
 
 
-def run_by_hand(trial: Trial, *flags: str) -> str:
+def run_by_hand(trial: Trial, *flags: str, given: pathlib.Path = pathlib.Path("/dev/null")) -> str:
     """What the client in Python prints and reports, run as a program."""
     command = [sys.executable, "-m", "cektaulis", trial.address, *flags]
-    run = subprocess.run(command, env=BY_HAND, stdin=subprocess.DEVNULL, capture_output=True, text=True, timeout=SECONDS)
+    with given.open() as file:
+        run = subprocess.run(command, env=BY_HAND, stdin=file, capture_output=True, text=True, timeout=SECONDS)
     return run.stdout + run.stderr + f"status {run.returncode}"
 
 
@@ -470,13 +621,14 @@ def try_files(trial: Trial) -> None:
     trial.open()
     trial.expect(trial.play(Set(1, 7), Set(2, 8)).partition(":")[2], " + +")
     path, words = trial.room / "batches", trial.room / "words"
-    path.write_bytes(b"add 1 1\r\nget 1\r\nend\r\nget 9\nend\nadd 1 1\n")
-    got = re.sub(r"tick \d+", "tick", run_by_hand(trial, "--file", str(path)))
-    want = f"tick\n  add 1 1: done\n  get 1: 8\ntick\n  get 9: refused: {TEXTS[1]}\n"
-    if got != f"{want}cektaulis: {path}: its last lines have no `end`, and weren't played\nstatus 1":
-        raise Wrong(f"a file of batches prints {got}")
+    path.write_bytes(b"set 1 7\r\nadd 1 1\r\nget 1\r\nend\r\nget 9\nend\nadd 1 1\n")
+    want = f"tick\n  set 1 7: done\n  add 1 1: done\n  get 1: 8\ntick\n  get 9: refused: {TEXTS[1]}\n"
+    for name in (str(path), "-"):
+        got = re.sub(r"tick \d+", "tick", run_by_hand(trial, "--file", name, given=path))
+        if got != f"{want}cektaulis: {name}: its last lines have no `end`, and weren't played\nstatus 1":
+            raise Wrong(f"a file of batches prints {got}")
     for flag, done in (("--dump", "dumped"), ("--load", "loaded"), ("--dump", "dumped")):
-        if (got := run_by_hand(trial, flag, str(words))) != f"{done} 4 cells\nstatus 0":
+        if (got := run_by_hand(trial, flag, str(words))) != f"{done} 4 of 4 cells\nstatus 0":
             raise Wrong(f"{flag} prints {got}")
         held = words.read_text().split()
         if held[1:3] != ["8", "8"] or len(held) != 4:
@@ -505,10 +657,14 @@ def try_prompt(trial: Trial) -> None:
         read_to("> ")
         os.write(terminal, b"set 1 5, add 1 1, get 1, move 1 1 1\r\n")
         read_to("get 1: 6", f"refused: {TEXTS[4]}", "> ")
+        os.write(terminal, b"begin\r\nadd 1 1, add 1 1\r\n")
+        read_to(". ", ". ")
+        os.write(terminal, b"foo\nget 1\nend\n")
+        read_to("this line isn't in the batch", "get 1: 8", "> ")
         os.write(terminal, b"foo\n")
         read_to("`foo` is no action", "> ")
         if importlib.util.find_spec("readline"):
-            os.write(terminal, b"\x1b[A\x1b[A\n")
+            os.write(terminal, b"\x1b[A" * 7 + b"\n")
             read_to("get 1: 6", "> ")
         else:
             print("client_trial: this Python has no readline, so the history isn't tried")
@@ -635,6 +791,28 @@ def try_doubt(seconds: float) -> None:
     script.end()
     if got != [[batch], [batch], False, [batch, (Get(1),)]]:
         raise Wrong(f"a batch is lost: {got}")
+    try_doubt_behind_answers(seconds)
+
+
+def try_doubt_behind_answers(seconds: float) -> None:
+    """The client in Python doubts the batches behind answers that it keeps, and no others."""
+    get = Step("get 1", "tick 1: =4")
+    script = Script([get, get, Step("add 1 1", "fault 12")], [READY, Step("get 1", None)], [READY])
+    world = cektaulis.World(script.address, seconds)
+    for action in (Get(1), Get(1), Add(1, 1)):
+        world.send(action)
+    first = world.receive()
+    deadline = time.monotonic() + SECONDS
+    while script.served < 3 and time.monotonic() < deadline:
+        time.sleep(0.001)
+    time.sleep(0.05)
+    doubtful = [world.reconnect(seconds)]
+    kept = world.waiting, world.receive(), world.waiting
+    refuses(Unanswered, lambda: world.play(Get(1)))
+    doubtful.append(world.reconnect(seconds))
+    script.end()
+    if kept != (1, first, 0) or doubtful != [[(Add(1, 1),)], [(Add(1, 1),), (Get(1),)]]:
+        raise Wrong(f"{kept} is kept, and {doubtful} is in doubt")
 
 
 Ends = dict[int, collections.Counter]
@@ -723,18 +901,19 @@ def try_kills_of_many(kind, trial: Trial, chance: random.Random, kills: int | No
     return kills, sum(ends.values(), collections.Counter())
 
 
-def try_client(trial: Trial) -> None:
+def try_client(trial: Trial, chance: random.Random) -> None:
     """Tries all but the kills of many clients."""
     trial.serve()
     try:
-        for part in (try_codes, try_limits, try_pipeline, try_ahead, try_mistakes):
+        for part in (try_codes, try_limits, try_pipeline, try_ahead, try_mistakes, try_kept, try_bulk):
             part(trial)
+        try_model(trial, chance)
         if isinstance(trial.player, PythonPlayer):
             try_python_mistakes(trial.player.world)
             try_doubt(SECONDS)
             try_files(trial)
             try_prompt(trial)
-        for part in (try_answers, try_once, try_bounds, try_kills, try_going_on):
+        for part in (try_answers, try_once, try_bounds, try_kills, try_polls, try_going_on):
             part(trial)
     finally:
         trial.kill()
@@ -745,7 +924,7 @@ def try_both(name: str, kind, given: argparse.Namespace, room: pathlib.Path, tra
     """Tries a client over a port or a socket, and prints what was met."""
     worldd, folder = given.worldd.resolve(), room / f"{name}-{transport}"
     trial = Trial(kind(), worldd, folder, transport)
-    try_client(trial)
+    try_client(trial, random.Random(given.seed))
     many = Trial(kind(), worldd, folder.with_suffix(".many"), transport, 8)
     kills, ends = try_kills_of_many(kind, many, random.Random(given.seed), given.kills)
     met = ", ".join(f"{it} {trial.met[it]}" for it in WANTED)
@@ -757,8 +936,33 @@ def try_both(name: str, kind, given: argparse.Namespace, room: pathlib.Path, tra
         raise Wrong(f"never met: {', '.join(never)}")
 
 
+STRICT = "-Wall", "-Wextra", "-Wpedantic", "-Werror", f"-I{TOP}/clients/c"
+IN_C = "-std=c11", "-D_POSIX_C_SOURCE=200809L"
+
+
+def build_players(room: pathlib.Path) -> None:
+    """Compiles the players in C and, with rustc, in Rust."""
+    CPlayer.program, RustPlayer.program = room / "player-c", room / "player-rust"
+    subprocess.run(["cc", *IN_C, "-O2", *STRICT, "-o", CPlayer.program, TOP / "scripts" / "client_player.c"], check=True)
+    if not shutil.which("rustc"):
+        print("client_trial: there is no rustc, so the client in Rust isn't tried")
+        return
+    build = ["rustc", "--edition", "2021", "-O", "-D", "warnings", "-o", RustPlayer.program]
+    subprocess.run([*build, TOP / "scripts" / "client_player.rs"], check=True)
+
+
+def compile_header() -> None:
+    """Compiles the header alone by each compiler that is there, as C and as C++."""
+    ways = (("gcc", "c", IN_C), ("clang", "c", IN_C), *((it, "c++", (f"-std={by}",)) for it in ("g++", "clang++") for by in ("c++17", "c++20")))
+    tried = [(compiler, language, flags) for compiler, language, flags in ways if shutil.which(compiler)]
+    for compiler, language, flags in tried:
+        command = [compiler, *flags, *STRICT, "-fsyntax-only", "-x", language, "-"]
+        subprocess.run(command, input=b'#include "cektaulis.h"\n', check=True)
+    print("header: compiles by " + ", ".join(f"{compiler} {flags[0]}" for compiler, _, flags in tried))
+
+
 def main() -> int:
-    """Tries both clients."""
+    """Tries all clients."""
     parser = argparse.ArgumentParser(description=__doc__.splitlines()[0])
     parser.add_argument("worldd", type=pathlib.Path, help="the built program")
     parser.add_argument("--seed", type=int, default=1)
@@ -766,16 +970,16 @@ def main() -> int:
     given = parser.parse_args()
     with tempfile.TemporaryDirectory(prefix="client-trial-") as folder:
         room = pathlib.Path(folder)
-        CPlayer.program = room / "player"
-        strict = ["-Wall", "-Wextra", "-Wpedantic", "-Werror", f"-I{TOP}/clients/c"]
-        build = ["cc", "-std=c11", "-D_POSIX_C_SOURCE=200809L", "-O2", *strict]
-        subprocess.run([*build, "-o", CPlayer.program, TOP / "scripts" / "client_player.c"], check=True)
-        if shutil.which("c++"):
-            check = ["c++", "-std=c++17", *strict, "-fsyntax-only", "-x", "c++", "-"]
-            subprocess.run(check, input=b'#include "cektaulis.h"\n', check=True)
-        else:
-            print("client_trial: there is no c++, so the header isn't tried in C++")
-        for (name, kind), transport in itertools.product((("python", PythonPlayer), ("c", CPlayer)), TRANSPORTS):
+        kinds = {"python": PythonPlayer, "c": CPlayer}
+        try:
+            build_players(room)
+            compile_header()
+        except (OSError, subprocess.SubprocessError) as wrong:
+            print(f"client_trial: {wrong}", file=sys.stderr)
+            return 1
+        if shutil.which("rustc"):
+            kinds["rust"] = RustPlayer
+        for (name, kind), transport in itertools.product(kinds.items(), TRANSPORTS):
             try:
                 try_both(name, kind, given, room, transport)
             except (Wrong, OSError, subprocess.SubprocessError) as wrong:

@@ -4,13 +4,15 @@
     scripts/example_trial.py crates/worldd/out/worldd
 
 It runs examples/session.txt as a script, each block of a page that is marked as run, and the client in C on a connection
-that breaks before the answer comes. Port 7070 stands for a free port. It needs a C compiler, as cc.
+that breaks before the answer comes. Then it lets both games play for ten seconds on a server that is killed. Each turn has to
+count once. Port 7070 stands for a free port. It needs a C compiler, as cc.
 """
 import argparse
 import contextlib
 import dataclasses
 import os
 import pathlib
+import re
 import signal
 import socket
 import subprocess
@@ -24,6 +26,13 @@ from check_docs import TOP, Block, pages
 EXAMPLES, CLIENTS = TOP / "examples", TOP / "clients"
 SECONDS = 60
 PORT = "7070"
+IN_C = "cc", "-Wall", "-Wextra", "-Werror", f"-I{CLIENTS}/c"
+# What examples/game.py and examples/game.c play for, and their first cells. Each has 602, and gives a player so much gold.
+GAME_SECONDS, GAMES, PLAYERS, GOLD = 10, {"game.py": 0, "game.c": 602}, 300, 1000
+GAME_LINE = r"steps (\d+), turns (\d+), late (\d+), losses (\d+), sent again (\d+), longest step \d+ ms\n"
+
+sys.path.insert(0, str(CLIENTS / "python"))
+import cektaulis
 
 
 class Wrong(Exception):
@@ -100,7 +109,7 @@ class Script:
     """A server that expects the steps of one connection after another."""
 
     def __init__(self, *connections: list[Step], path: pathlib.Path | None = None) -> None:
-        self.connections, self.wrong = connections, ""
+        self.connections, self.wrong, self.served = connections, "", 0
         if path:
             self.listener, self.address = socket.create_server(str(path), family=socket.AF_UNIX), str(path)
         else:
@@ -119,6 +128,7 @@ class Script:
                             self.wrong = f"`{batch}` comes in the place of `{step.batch}`"
                             return
                         time.sleep(step.seconds)
+                        self.served += 1
                         if step.answer is None:
                             break
                         stream.sendall(f"{step.answer}\n".encode())
@@ -133,8 +143,7 @@ class Script:
 def try_reconnect(room: pathlib.Path) -> None:
     """The client in C plays a batch once on a connection that breaks, and prints what is known of it."""
     client = room / "client"
-    build = ["cc", "-Wall", "-Wextra", "-Werror", f"-I{CLIENTS}/c", "-o", client, EXAMPLES / "client.c"]
-    subprocess.run(build, check=True)
+    subprocess.run([*IN_C, "-o", client, EXAMPLES / "client.c"], check=True)
     broken = [Step("get 1", "tick 1: =4"), Step("set 1 5, add 0 5", None)]
     ready = Step("", "tick 2:")
     lost = "the batch was played, and its answer is lost\n"
@@ -162,6 +171,58 @@ def try_mistakes(room: pathlib.Path) -> None:
         compare(" ".join(map(str, command)), f"status {run.returncode}\n", "status 2\n")
 
 
+def serve(worldd: pathlib.Path, folder: pathlib.Path) -> subprocess.Popen:
+    """A server of a folder, at its file `socket`, once it listens."""
+    command = [worldd, "serve", "--dir", folder, "--method", "zigzag", "--socket", folder / "socket", "--clients", "100000"]
+    server = subprocess.Popen(command, stdout=subprocess.PIPE, stderr=subprocess.DEVNULL, text=True)
+    for _ in range(2):
+        server.stdout.readline()
+    return server
+
+
+def try_games(worldd: pathlib.Path, room: pathlib.Path) -> None:
+    """Both games play at once while their server is killed. Prints what they print."""
+    folder, in_c = room / "games", room / "game"
+    folder.mkdir()
+    subprocess.run([*IN_C, "-o", in_c, EXAMPLES / "game.c"], check=True)
+    subprocess.run([worldd, "create", "--dir", folder, "--cells", "1204"], check=True, stdout=subprocess.DEVNULL)
+    programs = {"game.py": [sys.executable, EXAMPLES / "game.py"], "game.c": [in_c]}
+    environment = os.environ | {"PYTHONPATH": str(CLIENTS / "python"), "PYTHONDONTWRITEBYTECODE": "1"}
+    server, kills, end = serve(worldd, folder), 0, time.monotonic() + GAME_SECONDS - 1
+    games = {
+        name: subprocess.Popen([*programs[name], folder / "socket", str(GAME_SECONDS), str(first)], stdout=subprocess.PIPE, text=True,
+                               env=environment)
+        for name, first in GAMES.items()
+    }
+    try:
+        # A game that begins late has its words before the first kill.
+        time.sleep(2)
+        while time.monotonic() < end:
+            server.kill()
+            server.communicate()
+            time.sleep(0.1)
+            server, kills = serve(worldd, folder), kills + 1
+            time.sleep(1)
+        print(f"games: the server is killed {kills} times")
+        for name, game in games.items():
+            line = game.communicate(timeout=SECONDS)[0]
+            if game.returncode or not (found := re.fullmatch(GAME_LINE, line)):
+                raise Wrong(f"{name} ends with {game.returncode}, and prints {line}")
+            steps, turns, late, losses, again = map(int, found.groups())
+            print(f"  {name}: {line}", end="")
+            if not (0 < turns <= steps and late and losses and again):
+                raise Wrong(f"{name} never met a turn, a late one, a lost connection or a turn that is sent again")
+            first = GAMES[name]
+            with cektaulis.World(folder / "socket", SECONDS) as world:
+                words = world.read(range(first, first + 2 + 2 * PLAYERS))
+            if words[:2] != [turns, turns] or sum(words[2 + PLAYERS :]) != PLAYERS * GOLD:
+                raise Wrong(f"{name} has played {turns} turns: the words are {words}")
+    finally:
+        for process in (server, *games.values()):
+            process.kill()
+            process.communicate()
+
+
 def main() -> int:
     """Runs all examples."""
     parser = argparse.ArgumentParser(description=__doc__.splitlines()[0])
@@ -176,10 +237,11 @@ def main() -> int:
                 run_block(worldd, page, block, room / str(number))
             try_reconnect(room)
             try_mistakes(room)
+            try_games(worldd, room)
     except (Wrong, OSError, subprocess.SubprocessError) as wrong:
         print(f"example_trial: {wrong}", file=sys.stderr)
         return 1
-    print(f"examples: the script, the broken connection and blocks of commands ({len(blocks)}) print what their pages say")
+    print(f"examples: the script, the broken connection, the games and blocks of commands ({len(blocks)}) do what their pages say")
     return 0
 
 

@@ -1,4 +1,4 @@
-/* A client of worldd, the world server Cektaulis. It is this one file, in C11 or C++17 over POSIX sockets.
+/* A client of worldd, the world server Cektaulis. It is this one file, in C11, C++17 or C++20 over POSIX sockets.
  *
  *   struct cektaulis world;
  *   struct cektaulis_action batch[] = {cektaulis_set(0, 5), cektaulis_move(0, 1, 2), cektaulis_get(1)};
@@ -10,7 +10,7 @@
  *
  * A batch is the actions of one tick. Its answer comes once the tick is durable. The page docs/CLIENT.md of the server has
  * the protocol and the worth of an answer. One thread uses a connection at a time. `cektaulis_close` ends it and frees its
- * one buffer, which holds answers that no call has received yet.
+ * buffers, which hold answers that no call has received yet.
  */
 #ifndef CEKTAULIS_H
 #define CEKTAULIS_H
@@ -34,6 +34,10 @@
 #include <sys/un.h>
 #include <time.h>
 #include <unistd.h>
+
+#ifdef __cplusplus
+extern "C" {
+#endif
 
 /* The greatest number that a cell holds, the most cells of a world, the most actions of a batch, and its most changes, which
  * are all actions except `get`. */
@@ -94,15 +98,27 @@ enum cektaulis_status {
     /* An action is of no kind, has a difference of INT64_MIN, or changes the cell of the marker, or a number is no marker's.
      * Nothing was sent. */
     CEKTAULIS_BAD_ACTION,
+    /* The server refused an action of `cektaulis_read` or `cektaulis_load`: `refusal` is its code. */
+    CEKTAULIS_ACTION_REFUSED,
+};
+
+/* What a server sent and no call has received. */
+struct cektaulis_bytes {
+    char *bytes;
+    size_t at, filled, room;
 };
 
 /* A connection. Its fields are read only. */
 struct cektaulis {
     const char *address;
     int milliseconds;
+    /* The descriptor of the connection, which `poll` may wait for. Below 0: there is none. */
     int stream;
+    /* That of a connection on which the server wasn't heard yet. */
+    int coming;
     int error;
     int fault;
+    int refusal;
     /* How often it connected. */
     unsigned connections;
     /* How many milliseconds of silence the running call bears; below 0 any. */
@@ -111,9 +127,8 @@ struct cektaulis {
     bool mark_known;
     uint32_t mark_cell;
     uint64_t mark;
-    /* What the server sent and no call has received. */
-    char *bytes;
-    size_t at, filled, room;
+    /* Answers of earlier connections, and what has come by this one. */
+    struct cektaulis_bytes kept, come;
 };
 
 static inline struct cektaulis_action cektaulis_action_of(
@@ -184,6 +199,7 @@ static inline const char *cektaulis_status_text(enum cektaulis_status status) {
     case CEKTAULIS_MARKER_REFUSED: return "there is no such cell for the marker, or it holds a greater number";
     case CEKTAULIS_BAD_ADDRESS: return "the address is no port from 1 to 65535 and no path";
     case CEKTAULIS_BAD_ACTION: return "there is no such action, or it changes the cell of the marker";
+    case CEKTAULIS_ACTION_REFUSED: return "the server refused an action";
     }
     return "there is no such status";
 }
@@ -216,18 +232,20 @@ static inline bool cektaulis_changes(const struct cektaulis_action *action, uint
 /* Ends the connection for a reason, and returns the reason. Answers that have come can still be received. */
 static inline enum cektaulis_status cektaulis_ended(struct cektaulis *world, enum cektaulis_status why, int error) {
     if (world->stream >= 0) close(world->stream);
-    world->stream = -1;
+    if (world->coming >= 0) close(world->coming);
+    world->stream = world->coming = -1;
     world->error = error;
     world->fault = 0;
     return why;
 }
 
-/* Ends the connection and frees its buffer. It does nothing if there is none. */
+/* Ends the connection and frees its buffers. It does nothing if there is none. */
 static inline void cektaulis_close(struct cektaulis *world) {
+    const struct cektaulis_bytes none = {NULL, 0, 0, 0};
     cektaulis_ended(world, CEKTAULIS_OK, 0);
-    free(world->bytes);
-    world->bytes = NULL;
-    world->at = world->filled = world->room = 0;
+    free(world->kept.bytes);
+    free(world->come.bytes);
+    world->kept = world->come = none;
 }
 
 /* The milliseconds of a clock that only goes forward. */
@@ -252,48 +270,51 @@ static inline bool cektaulis_pauses(int *milliseconds, int64_t deadline) {
     return true;
 }
 
-static inline enum cektaulis_status cektaulis_dial_to(struct cektaulis *world, const struct sockaddr *to, socklen_t length) {
+static inline int cektaulis_dial_to(struct cektaulis *world, const struct sockaddr *to, socklen_t length) {
     int one = 1;
     struct timeval limit = {0, 0};
     struct sockaddr_in own;
     socklen_t room = sizeof own;
     if (world->bears > 0) limit.tv_sec = world->bears / 1000, limit.tv_usec = world->bears % 1000 * 1000;
-    world->stream = socket(to->sa_family, SOCK_STREAM, 0);
-    if (world->stream < 0) return cektaulis_ended(world, CEKTAULIS_NOT_CONNECTED, errno);
-    fcntl(world->stream, F_SETFD, FD_CLOEXEC);
+    const int stream = socket(to->sa_family, SOCK_STREAM | SOCK_CLOEXEC, 0);
+    if (stream < 0) return cektaulis_ended(world, CEKTAULIS_NOT_CONNECTED, errno), -1;
+    world->coming = stream;
     /* It bounds the time in which `connect` waits. */
-    setsockopt(world->stream, SOL_SOCKET, SO_SNDTIMEO, &limit, sizeof limit);
-    if (to->sa_family == AF_INET) setsockopt(world->stream, IPPROTO_TCP, TCP_NODELAY, &one, sizeof one);
-    if (connect(world->stream, to, length)) return cektaulis_ended(world, CEKTAULIS_NOT_CONNECTED, errno);
+    setsockopt(stream, SOL_SOCKET, SO_SNDTIMEO, &limit, sizeof limit);
+    if (to->sa_family == AF_INET) setsockopt(stream, IPPROTO_TCP, TCP_NODELAY, &one, sizeof one);
+    int error = connect(stream, to, length) ? errno : 0;
     /* The system may choose the port of a server that isn't there for the client. */
-    if (!getsockname(world->stream, (struct sockaddr *)&own, &room) && room == length && !memcmp(&own, to, length))
-        return cektaulis_ended(world, CEKTAULIS_NOT_CONNECTED, ECONNREFUSED);
-    fcntl(world->stream, F_SETFL, O_NONBLOCK);
-    world->connections++;
-    return CEKTAULIS_OK;
+    if (!error && !getsockname(stream, (struct sockaddr *)&own, &room) && room == length && !memcmp(&own, to, length))
+        error = ECONNREFUSED;
+    if (error) return cektaulis_ended(world, CEKTAULIS_NOT_CONNECTED, error), -1;
+    fcntl(stream, F_SETFL, O_NONBLOCK);
+    world->coming = -1;
+    return stream;
 }
 
-/* Connects to the address. */
-static inline enum cektaulis_status cektaulis_dial(struct cektaulis *world) {
+/* Connects to the address, and returns the descriptor. Below 0: nobody is there, as `error` says. */
+static inline int cektaulis_dial(struct cektaulis *world) {
     struct sockaddr_in port;
     struct sockaddr_un path;
-    cektaulis_ended(world, CEKTAULIS_OK, 0);
-    world->at = world->filled = 0;
     memset(&port, 0, sizeof port);
     memset(&path, 0, sizeof path);
-    if (!world->address || !world->address[0]) return cektaulis_ended(world, CEKTAULIS_BAD_ADDRESS, EINVAL);
     if (!world->address[strspn(world->address, "0123456789")]) {
-        unsigned long number = strtoul(world->address, NULL, 10);
-        if (number < 1 || number > 65535) return cektaulis_ended(world, CEKTAULIS_BAD_ADDRESS, EINVAL);
         port.sin_family = AF_INET;
         port.sin_addr.s_addr = htonl(INADDR_LOOPBACK);
-        port.sin_port = htons((uint16_t)number);
+        port.sin_port = htons((uint16_t)strtoul(world->address, NULL, 10));
         return cektaulis_dial_to(world, (struct sockaddr *)&port, sizeof port);
     }
-    if (strlen(world->address) >= sizeof path.sun_path) return cektaulis_ended(world, CEKTAULIS_BAD_ADDRESS, ENAMETOOLONG);
     path.sun_family = AF_UNIX;
     strcpy(path.sun_path, world->address);
     return cektaulis_dial_to(world, (struct sockaddr *)&path, sizeof path);
+}
+
+/* Whether an address is a port or a path that a socket may have. */
+static inline bool cektaulis_is_address(const char *address) {
+    if (!address || !address[0]) return false;
+    if (address[strspn(address, "0123456789")]) return strlen(address) < sizeof ((struct sockaddr_un *)NULL)->sun_path;
+    const unsigned long number = strtoul(address, NULL, 10);
+    return number >= 1 && number <= 65535;
 }
 
 /* Begins a public call, which bears the silence of `cektaulis_open`. */
@@ -307,54 +328,115 @@ static inline enum cektaulis_status cektaulis_open(struct cektaulis *world, cons
     memset(world, 0, sizeof *world);
     world->address = address;
     world->milliseconds = milliseconds;
-    world->stream = -1;
+    world->stream = world->coming = -1;
+    if (!cektaulis_is_address(address)) return cektaulis_ended(world, CEKTAULIS_BAD_ADDRESS, EINVAL);
     cektaulis_begin(world);
-    return cektaulis_dial(world);
+    world->stream = cektaulis_dial(world);
+    world->connections = world->stream >= 0;
+    return world->stream < 0 ? CEKTAULIS_NOT_CONNECTED : CEKTAULIS_OK;
 }
 
-/* Makes room for more bytes of the server. False: there is no memory. */
-static inline bool cektaulis_grows(struct cektaulis *world) {
-    if (world->at == world->filled) world->at = world->filled = 0;
-    if (world->filled < world->room) return true;
-    if (world->at && world->at >= world->room / 2) {
-        memmove(world->bytes, world->bytes + world->at, world->filled - world->at);
-        world->filled -= world->at;
-        world->at = 0;
-        return true;
+/* Makes room for so many more bytes. False: there is no memory. */
+static inline bool cektaulis_grows(struct cektaulis_bytes *it, size_t more) {
+    if (it->at == it->filled) it->at = it->filled = 0;
+    if (it->at && it->at >= it->room / 2) {
+        memmove(it->bytes, it->bytes + it->at, it->filled - it->at);
+        it->filled -= it->at;
+        it->at = 0;
     }
-    size_t room = world->room ? world->room * 2 : 4096;
-    char *bytes = (char *)realloc(world->bytes, room);
+    if (it->room - it->filled >= more) return true;
+    size_t room = it->room ? it->room * 2 : 4096;
+    while (room - it->filled < more) room *= 2;
+    char *bytes = (char *)realloc(it->bytes, room);
     if (!bytes) return false;
-    world->bytes = bytes;
-    world->room = room;
+    it->bytes = bytes;
+    it->room = room;
     return true;
 }
 
-/* Takes what the server sent, and returns 0 or why the connection ended. */
-static inline int cektaulis_takes(struct cektaulis *world) {
-    if (!cektaulis_grows(world)) return ENOMEM;
-    ssize_t got = recv(world->stream, world->bytes + world->filled, world->room - world->filled, 0);
+/* Takes what the server sent by a connection, and returns 0 or why that ended. */
+static inline int cektaulis_takes(struct cektaulis *world, int stream) {
+    struct cektaulis_bytes *come = &world->come;
+    if (!cektaulis_grows(come, 1)) return ENOMEM;
+    ssize_t got = recv(stream, come->bytes + come->filled, come->room - come->filled, 0);
     if (got < 0) return errno == EINTR || errno == EAGAIN ? 0 : errno;
-    world->filled += (size_t)got;
+    come->filled += (size_t)got;
     return got ? 0 : ECONNRESET;
+}
+
+/* Takes all that the server has sent, and returns 0 or why the connection ended. */
+static inline int cektaulis_drains(struct cektaulis *world) {
+    size_t before = world->come.filled + 1;
+    int error = 0;
+    while (world->stream >= 0 && !error && before != world->come.filled) {
+        before = world->come.filled;
+        error = cektaulis_takes(world, world->stream);
+    }
+    return error;
+}
+
+/* How many lines there are that can be received. A `fault 12` and what is no line of a worldd end them, if `answers`. */
+static inline size_t cektaulis_lines(const struct cektaulis_bytes *it, bool answers, size_t *end) {
+    size_t count = 0;
+    *end = it->at;
+    while (*end < it->filled) {
+        const char *line = it->bytes + *end, *stop = (const char *)memchr(line, '\n', it->filled - *end);
+        if (!stop) break;
+        const size_t length = (size_t)(stop - line) + 1;
+        const bool is_answer = length > 6 && (!memcmp(line, "tick ", 5) || !memcmp(line, "fault ", 6));
+        if (answers && (!is_answer || (length == 9 && !memcmp(line, "fault 12\n", 9)))) break;
+        *end += length;
+        count++;
+    }
+    return count;
+}
+
+/* Leaves the connection. Answers that have come stay. False: there is no memory for them. */
+static inline bool cektaulis_leave(struct cektaulis *world) {
+    struct cektaulis_bytes *kept = &world->kept, *come = &world->come;
+    size_t end;
+    cektaulis_drains(world);
+    cektaulis_ended(world, CEKTAULIS_OK, 0);
+    if (cektaulis_lines(come, true, &end)) {
+        const size_t count = end - come->at;
+        if (!cektaulis_grows(kept, count)) return false;
+        memcpy(kept->bytes + kept->filled, come->bytes + come->at, count);
+        kept->filled += count;
+    }
+    come->at = come->filled = 0;
+    return true;
+}
+
+/* How many answers can be received without waiting. It takes what the server has sent, and doesn't wait. If the connection
+ * broke, `stream` is below 0. */
+static inline size_t cektaulis_ready(struct cektaulis *world) {
+    size_t end;
+    const int error = cektaulis_drains(world);
+    if (error) cektaulis_ended(world, CEKTAULIS_UNANSWERED, error);
+    return cektaulis_lines(&world->kept, false, &end) + cektaulis_lines(&world->come, false, &end);
 }
 
 /* Sends these bytes, and takes what the server sends meanwhile. Without bytes it waits until it has taken some. So no answer
  * that nobody receives holds up the server, which would read no more. */
 static inline enum cektaulis_status cektaulis_exchange(struct cektaulis *world, const char *bytes, size_t count) {
     const bool waits = !count;
-    while (count || (waits && world->at == world->filled)) {
-        struct pollfd ready = {world->stream, (short)(count ? POLLIN | POLLOUT : POLLIN), 0};
-        int found = poll(&ready, 1, world->bears), error = 0;
-        if (found < 0 && errno == EINTR) continue;
-        if (found <= 0) error = found ? errno : ETIMEDOUT;
-        if (!error && ready.revents & ~POLLOUT) error = cektaulis_takes(world);
-        if (!error && ready.revents & POLLOUT) {
-            ssize_t sent = send(world->stream, bytes, count, MSG_NOSIGNAL);
-            if (sent < 0 && errno != EINTR && errno != EAGAIN) error = errno;
-            if (sent > 0) bytes += sent, count -= (size_t)sent;
+    while (count || (waits && world->come.at == world->come.filled)) {
+        int error = 0;
+        const ssize_t sent = count ? send(world->stream, bytes, count, MSG_NOSIGNAL) : 0;
+        if (sent > 0) {
+            bytes += sent, count -= (size_t)sent;
+        } else if (sent < 0 && errno != EINTR && errno != EAGAIN) {
+            error = errno;
+        } else {
+            struct pollfd ready = {world->stream, (short)(count ? POLLIN | POLLOUT : POLLIN), 0};
+            const int found = poll(&ready, 1, world->bears);
+            if (found < 0 && errno == EINTR) continue;
+            if (found <= 0) error = found ? errno : ETIMEDOUT;
+            else if (ready.revents & ~POLLOUT) error = cektaulis_takes(world, world->stream);
         }
-        if (error) return cektaulis_ended(world, CEKTAULIS_UNANSWERED, error);
+        if (!error) continue;
+        cektaulis_drains(world);
+        return cektaulis_ended(world, CEKTAULIS_UNANSWERED, error);
     }
     return CEKTAULIS_OK;
 }
@@ -411,8 +493,9 @@ static inline enum cektaulis_status cektaulis_send(
 
 /* The next byte of the server. Below 0: the connection broke. */
 static inline int cektaulis_byte(struct cektaulis *world) {
-    if (world->at == world->filled && (world->stream < 0 || cektaulis_exchange(world, NULL, 0) != CEKTAULIS_OK)) return -1;
-    return (unsigned char)world->bytes[world->at++];
+    struct cektaulis_bytes *come = &world->come;
+    if (come->at == come->filled && world->stream >= 0) cektaulis_exchange(world, NULL, 0);
+    return come->at == come->filled ? -1 : (unsigned char)come->bytes[come->at++];
 }
 
 /* Reads a number of at most 19 digits, and returns the byte behind it. Below 0: there is none. */
@@ -476,18 +559,18 @@ static inline bool cektaulis_reads_tick(struct cektaulis *world, struct cektauli
 /* The answer to a batch, and to the marker before it unless `marked` is NULL. */
 static inline enum cektaulis_status cektaulis_receive_marked(struct cektaulis *world, struct cektaulis_answer *marked,
     struct cektaulis_answer *answers, size_t count, uint64_t *tick) {
-    if (world->stream < 0 && world->at == world->filled) return CEKTAULIS_NOT_CONNECTED;
+    if (world->stream < 0 && world->come.at == world->come.filled) return CEKTAULIS_NOT_CONNECTED;
     int byte = cektaulis_byte(world);
     if (byte == 't' && cektaulis_reads_tick(world, marked, answers, count, tick)) return CEKTAULIS_OK;
     if (byte == 'f' && cektaulis_reads_fault(world)) {
         if (world->fault != 12) return CEKTAULIS_BATCH_REFUSED;
         cektaulis_ended(world, CEKTAULIS_UNANSWERED, EIO);
-        world->at = world->filled = 0;
+        world->come.at = world->come.filled = 0;
         world->fault = 12;
         return CEKTAULIS_UNANSWERED;
     }
-    if (world->stream < 0 && world->at == world->filled) return CEKTAULIS_UNANSWERED;
-    world->at = world->filled = 0;
+    if (world->stream < 0 && world->come.at == world->come.filled) return CEKTAULIS_UNANSWERED;
+    world->come.at = world->come.filled = 0;
     return cektaulis_ended(world, CEKTAULIS_GARBLED, EPROTO);
 }
 
@@ -495,7 +578,19 @@ static inline enum cektaulis_status cektaulis_receive_marked(struct cektaulis *w
 static inline enum cektaulis_status cektaulis_receive(
     struct cektaulis *world, struct cektaulis_answer *answers, size_t count, uint64_t *tick) {
     cektaulis_begin(world);
-    return cektaulis_receive_marked(world, NULL, answers, count, tick);
+    if (world->kept.at == world->kept.filled) return cektaulis_receive_marked(world, NULL, answers, count, tick);
+    /* An answer of an earlier connection is whole, so reading it asks nothing of this one. */
+    const struct cektaulis_bytes come = world->come;
+    world->come = world->kept;
+    const enum cektaulis_status status = cektaulis_receive_marked(world, NULL, answers, count, tick);
+    world->kept = world->come;
+    world->come = come;
+    return status;
+}
+
+/* Forgets the answers of earlier connections. */
+static inline void cektaulis_forget(struct cektaulis *world) {
+    world->kept.at = world->kept.filled = 0;
 }
 
 /* Plays a batch: sends it, and waits for its answer. Earlier answers are to be received first. */
@@ -505,20 +600,48 @@ static inline enum cektaulis_status cektaulis_play(struct cektaulis *world, cons
     return status == CEKTAULIS_OK ? cektaulis_receive(world, answers, count, tick) : status;
 }
 
+/* One step of `cektaulis_reconnect`, which doesn't wait. CEKTAULIS_NOT_CONNECTED: the server hasn't answered yet. Another step
+ * a little later goes on. A `poll` for reading of `coming` waits for the answer, if it isn't below 0. */
+static inline enum cektaulis_status cektaulis_reconnect_step(struct cektaulis *world) {
+    if (world->coming < 0) {
+        if (!cektaulis_leave(world)) return cektaulis_ended(world, CEKTAULIS_NOT_CONNECTED, ENOMEM);
+        world->bears = 1;
+        world->coming = cektaulis_dial(world);
+        if (world->coming < 0) return CEKTAULIS_NOT_CONNECTED;
+        if (send(world->coming, "end\n", 4, MSG_NOSIGNAL) != 4) return cektaulis_ended(world, CEKTAULIS_NOT_CONNECTED, errno);
+    }
+    size_t end;
+    const int error = cektaulis_takes(world, world->coming);
+    if (!cektaulis_lines(&world->come, false, &end)) {
+        if (error) return cektaulis_ended(world, CEKTAULIS_NOT_CONNECTED, error);
+        world->error = EAGAIN;
+        return CEKTAULIS_NOT_CONNECTED;
+    }
+    uint64_t tick;
+    world->stream = world->coming;
+    world->coming = -1;
+    world->bears = 1;
+    const enum cektaulis_status status = cektaulis_receive_marked(world, NULL, NULL, 0, &tick);
+    if (status == CEKTAULIS_UNANSWERED) return CEKTAULIS_NOT_CONNECTED;
+    if (status == CEKTAULIS_GARBLED) return status;
+    world->connections++;
+    return CEKTAULIS_OK;
+}
+
 /* Connects again, and waits until the server answers an empty batch. It tries for so many milliseconds. Batches that weren't
- * answered stay the caller's. */
+ * answered stay the caller's, and answers that had come stay for `cektaulis_receive`: `cektaulis_ready` counts them. */
 static inline enum cektaulis_status cektaulis_reconnect(struct cektaulis *world, long patience) {
     const int64_t deadline = cektaulis_now() + patience;
     int pause = 10;
     for (;;) {
-        uint64_t tick;
-        world->bears = cektaulis_until(deadline);
-        enum cektaulis_status status = cektaulis_dial(world);
-        if (status == CEKTAULIS_OK) status = cektaulis_send_marked(world, NULL, NULL, 0);
-        if (status == CEKTAULIS_OK) status = cektaulis_receive_marked(world, NULL, NULL, 0, &tick);
-        if (status == CEKTAULIS_BATCH_REFUSED) return CEKTAULIS_OK;
-        if (status != CEKTAULIS_NOT_CONNECTED && status != CEKTAULIS_UNANSWERED) return status;
-        if (!cektaulis_pauses(&pause, deadline)) return CEKTAULIS_NOT_CONNECTED;
+        const enum cektaulis_status status = cektaulis_reconnect_step(world);
+        if (status != CEKTAULIS_NOT_CONNECTED) return status;
+        if (world->coming >= 0 && cektaulis_now() < deadline) {
+            struct pollfd ready = {world->coming, POLLIN, 0};
+            poll(&ready, 1, cektaulis_until(deadline));
+        } else if (!cektaulis_pauses(&pause, deadline)) {
+            return cektaulis_ended(world, CEKTAULIS_NOT_CONNECTED, world->error);
+        }
     }
 }
 
@@ -553,27 +676,54 @@ static inline enum cektaulis_status cektaulis_was_played(
     return status;
 }
 
-/* Plays a batch with a marker, unless the marker shows that it was played. `doubtful`: it may have been played. */
-static inline enum cektaulis_status cektaulis_try_once(struct cektaulis *world, const struct cektaulis_action *marker,
+/* Plays a batch, unless its marker shows that it was played. The marker is NULL for one that does no harm twice. `doubtful`: it
+ * may have been played. */
+static inline enum cektaulis_status cektaulis_try(struct cektaulis *world, const struct cektaulis_action *marker,
     const struct cektaulis_action *actions, size_t count, struct cektaulis_answer *answers, uint64_t *tick, bool *doubtful) {
-    struct cektaulis_answer marked;
+    struct cektaulis_answer marked = {CEKTAULIS_DONE, 0, 0};
     enum cektaulis_status status = CEKTAULIS_OK;
-    if (!world->mark_known || world->mark_cell != marker->cell) status = cektaulis_look(world, marker->cell, &world->mark);
+    if (marker && (!world->mark_known || world->mark_cell != marker->cell))
+        status = cektaulis_look(world, marker->cell, &world->mark);
     if (status != CEKTAULIS_OK) return status;
-    world->mark_known = true;
-    world->mark_cell = marker->cell;
-    if (world->mark > marker->number) return CEKTAULIS_MARKER_REFUSED;
-    if (world->mark == marker->number) return CEKTAULIS_ANSWER_LOST;
-    world->mark_known = *doubtful = false;
+    if (marker) {
+        world->mark_known = true;
+        world->mark_cell = marker->cell;
+        if (world->mark > marker->number) return CEKTAULIS_MARKER_REFUSED;
+        if (world->mark == marker->number) return CEKTAULIS_ANSWER_LOST;
+        world->mark_known = false;
+    }
+    *doubtful = false;
     status = cektaulis_send_marked(world, marker, actions, count);
-    if (status == CEKTAULIS_OK) status = cektaulis_receive_marked(world, &marked, answers, count, tick);
+    if (status == CEKTAULIS_OK) status = cektaulis_receive_marked(world, marker ? &marked : NULL, answers, count, tick);
     *doubtful = status == CEKTAULIS_UNANSWERED || status == CEKTAULIS_GARBLED;
+    if (!marker) return status;
     world->mark_known = status == CEKTAULIS_BATCH_REFUSED;
     if (status != CEKTAULIS_OK) return status;
     if (marked.outcome != CEKTAULIS_DONE) return CEKTAULIS_MARKER_REFUSED;
     world->mark_known = true;
     world->mark = marker->number;
     return CEKTAULIS_OK;
+}
+
+/* Tries a batch again and again, if the connection breaks or after a refusal that passes, for so many milliseconds. */
+static inline enum cektaulis_status cektaulis_insist(struct cektaulis *world, const struct cektaulis_action *marker,
+    const struct cektaulis_action *actions, size_t count, struct cektaulis_answer *answers, uint64_t *tick, long patience) {
+    const int64_t deadline = cektaulis_now() + patience;
+    enum cektaulis_status status;
+    int pause = 10;
+    bool doubtful = false;
+    do {
+        if (world->stream < 0) status = cektaulis_reconnect(world, cektaulis_until(deadline));
+        else status = CEKTAULIS_OK;
+        /* A server that is silent has the batch, so nothing is sent again before the connection ends. */
+        world->bears = cektaulis_until(deadline);
+        if (status == CEKTAULIS_OK) status = cektaulis_try(world, marker, actions, count, answers, tick, &doubtful);
+        const bool is_for_now = status == CEKTAULIS_BATCH_REFUSED && (world->fault == 6 || world->fault == 17);
+        if (!is_for_now && status != CEKTAULIS_NOT_CONNECTED && status != CEKTAULIS_UNANSWERED) break;
+    } while (cektaulis_pauses(&pause, deadline));
+    if (doubtful && status == CEKTAULIS_BATCH_REFUSED) return cektaulis_ended(world, CEKTAULIS_UNANSWERED, EIO);
+    if (doubtful && status == CEKTAULIS_NOT_CONNECTED) return CEKTAULIS_UNANSWERED;
+    return !doubtful && status == CEKTAULIS_UNANSWERED ? CEKTAULIS_NOT_CONNECTED : status;
 }
 
 /* Why these actions make no batch with a marker, or CEKTAULIS_OK. */
@@ -603,23 +753,67 @@ static inline enum cektaulis_status cektaulis_check_once(
 static inline enum cektaulis_status cektaulis_play_once(struct cektaulis *world, uint32_t cell, uint64_t number,
     const struct cektaulis_action *actions, size_t count, struct cektaulis_answer *answers, uint64_t *tick, long patience) {
     const struct cektaulis_action marker = cektaulis_set(cell, number);
-    const int64_t deadline = cektaulis_now() + patience;
-    enum cektaulis_status status = cektaulis_check_once(&marker, actions, count);
-    int pause = 10;
-    bool doubtful = false;
-    if (status != CEKTAULIS_OK) return status;
-    do {
-        if (world->stream < 0) status = cektaulis_reconnect(world, cektaulis_until(deadline));
-        else status = CEKTAULIS_OK;
-        /* A server that is silent has the batch, so nothing is sent again before the connection ends. */
-        world->bears = cektaulis_until(deadline);
-        if (status == CEKTAULIS_OK) status = cektaulis_try_once(world, &marker, actions, count, answers, tick, &doubtful);
-        const bool is_for_now = status == CEKTAULIS_BATCH_REFUSED && (world->fault == 6 || world->fault == 17);
-        if (!is_for_now && status != CEKTAULIS_NOT_CONNECTED && status != CEKTAULIS_UNANSWERED) break;
-    } while (cektaulis_pauses(&pause, deadline));
-    if (doubtful && status == CEKTAULIS_BATCH_REFUSED) return cektaulis_ended(world, CEKTAULIS_UNANSWERED, EIO);
-    if (doubtful && status == CEKTAULIS_NOT_CONNECTED) return CEKTAULIS_UNANSWERED;
-    return !doubtful && status == CEKTAULIS_UNANSWERED ? CEKTAULIS_NOT_CONNECTED : status;
+    const enum cektaulis_status status = cektaulis_check_once(&marker, actions, count);
+    return status == CEKTAULIS_OK ? cektaulis_insist(world, &marker, actions, count, answers, tick, patience) : status;
 }
+
+/* Plays a batch of `set`, `cap` and `get`, and sends it again if the connection breaks. It gives up after so many
+ * milliseconds. No other client should write these cells meanwhile. Earlier answers are to be received first. */
+static inline enum cektaulis_status cektaulis_play_again(struct cektaulis *world, const struct cektaulis_action *actions,
+    size_t count, struct cektaulis_answer *answers, uint64_t *tick, long patience) {
+    enum cektaulis_status status = cektaulis_check(actions, count);
+    if (status == CEKTAULIS_OK && !cektaulis_does_no_harm_twice(actions, count)) status = CEKTAULIS_BAD_ACTION;
+    return status == CEKTAULIS_OK ? cektaulis_insist(world, NULL, actions, count, answers, tick, patience) : status;
+}
+
+/* Plays a batch of a bulk call. CEKTAULIS_ACTION_REFUSED if an action of it is refused. */
+static inline enum cektaulis_status cektaulis_play_bulk(struct cektaulis *world, const struct cektaulis_action *actions,
+    size_t count, struct cektaulis_answer *answers, long patience) {
+    uint64_t tick;
+    const enum cektaulis_status status = cektaulis_insist(world, NULL, actions, count, answers, &tick, patience);
+    if (status != CEKTAULIS_OK) return status;
+    for (size_t i = 0; i < count; i++) {
+        world->refusal = answers[i].code;
+        if (answers[i].outcome == CEKTAULIS_REFUSED) return CEKTAULIS_ACTION_REFUSED;
+    }
+    return CEKTAULIS_OK;
+}
+
+/* Reads any number of cells, 1,024 in a tick. Other clients may play between two ticks. If the connection breaks, it connects
+ * again and reads on; it gives up if that takes so many milliseconds. The first `*done` words are read whatever it returns. */
+static inline enum cektaulis_status cektaulis_read(
+    struct cektaulis *world, const uint32_t *cells, size_t count, uint64_t *words, size_t *done, long patience) {
+    struct cektaulis_action gets[CEKTAULIS_BATCH_LINES];
+    struct cektaulis_answer answers[CEKTAULIS_BATCH_LINES];
+    for (*done = 0; *done < count;) {
+        const size_t left = count - *done, some = left < CEKTAULIS_BATCH_LINES ? left : CEKTAULIS_BATCH_LINES;
+        for (size_t i = 0; i < some; i++) gets[i] = cektaulis_get(cells[*done + i]);
+        const enum cektaulis_status status = cektaulis_play_bulk(world, gets, some, answers, patience);
+        if (status != CEKTAULIS_OK) return status;
+        for (size_t i = 0; i < some; i++) words[*done + i] = answers[i].value;
+        *done += some;
+    }
+    return CEKTAULIS_OK;
+}
+
+/* Sets the cells from `first` on to any number of words, 256 in a tick. No other client should write these cells meanwhile. The
+ * rest is as for `cektaulis_read`. */
+static inline enum cektaulis_status cektaulis_load(
+    struct cektaulis *world, uint32_t first, const uint64_t *words, size_t count, size_t *done, long patience) {
+    struct cektaulis_action sets[CEKTAULIS_BATCH_CHANGES];
+    struct cektaulis_answer answers[CEKTAULIS_BATCH_CHANGES];
+    for (*done = 0; *done < count;) {
+        const size_t left = count - *done, some = left < CEKTAULIS_BATCH_CHANGES ? left : CEKTAULIS_BATCH_CHANGES;
+        for (size_t i = 0; i < some; i++) sets[i] = cektaulis_set(first + (uint32_t)(*done + i), words[*done + i]);
+        const enum cektaulis_status status = cektaulis_play_bulk(world, sets, some, answers, patience);
+        if (status != CEKTAULIS_OK) return status;
+        *done += some;
+    }
+    return CEKTAULIS_OK;
+}
+
+#ifdef __cplusplus
+}
+#endif
 
 #endif
