@@ -2,7 +2,8 @@
 # Installs worldd and world_load: ./install.sh PREFIX, as ./install.sh "$HOME/worldd"
 #
 # It proves and builds both, as the gate does, where that isn't done yet, which takes a while the first time. It writes
-# PREFIX/bin/worldd, PREFIX/bin/world_load and PREFIX/share/worldd/worldd.service, a unit for systemd, and nothing else.
+# PREFIX/bin/worldd, PREFIX/bin/world_load and PREFIX/share/worldd/worldd.service, a unit for systemd. For clients in C it
+# writes PREFIX/include/cektaulis.h and PREFIX/share/pkgconfig/cektaulis.pc. It writes nothing else.
 # A second run puts newer ones in their places, also while a server runs, which goes on as it is until it is started again.
 # Where PREFIX is root's: sudo env "PATH=$PATH" ./install.sh /usr/local
 set -eu
@@ -30,11 +31,11 @@ printf '%s' "$prefix" | iconv -f UTF-8 -t UTF-8 >/dev/null 2>&1 || fail 2 "a uni
 command -v rt >/dev/null || fail 1 "there is no rt: put the bin folder of the Rattle kit on the PATH"
 
 # What can't be written is told before hours of proof.
-mkdir -p "$prefix/bin" "$prefix/share/worldd"
-prefix=$(CDPATH='' cd -- "$prefix" && pwd)
-for folder in "$prefix/bin" "$prefix/share/worldd"; do
-    [ -w "$folder" ] || fail 1 "$folder can't be written"
+for folder in bin include share/worldd share/pkgconfig; do
+    mkdir -p "$prefix/$folder"
+    [ -w "$prefix/$folder" ] || fail 1 "$prefix/$folder can't be written"
 done
+prefix=$(CDPATH='' cd -- "$prefix" && pwd)
 
 top=$(CDPATH='' cd -- "$(dirname -- "$0")" && pwd)
 for program in worldd world_load; do
@@ -43,6 +44,8 @@ done
 for program in worldd world_load; do
     install -m 755 "$top/crates/$program/out/$program" "$prefix/bin/$program"
 done
+install -m 644 "$top/clients/c/cektaulis.h" "$prefix/include/cektaulis.h"
+install -m 644 "$top/clients/c/cektaulis.pc" "$prefix/share/pkgconfig/cektaulis.pc"
 sed "s|@PREFIX@|$prefix|" "$top/worldd.service" >"$prefix/share/worldd/worldd.service"
 echo "installed: $prefix/bin/worldd, $prefix/bin/world_load"
 echo "to serve a world for good: the first lines of $prefix/share/worldd/worldd.service"

@@ -10,7 +10,7 @@ plays 5,000 random lines that a plain model answers too, and reads and loads cel
 run at a pseudo-terminal.
 Then two clients count and two trade while the server is killed again and again. Each batch of `play_once` has to count once. The
 trial prints how often it met what, and fails if anything was never met. It needs a C compiler, as cc. It compiles the header by
-each of gcc, g++, clang and clang++ that is there, and leaves Rust out without rustc.
+each of gcc, g++, clang and clang++ that is there, builds the package with flit_core, and leaves Rust out without rustc.
 """
 import argparse
 import collections
@@ -34,6 +34,7 @@ import sys
 import tempfile
 import threading
 import time
+import zipfile
 
 from check_docs import TOP
 from example_trial import Script, Step, Wrong, free_port
@@ -961,6 +962,38 @@ def compile_header() -> None:
     print("header: compiles by " + ", ".join(f"{compiler} {flags[0]}" for compiler, _, flags in tried))
 
 
+PACKAGE = TOP / "clients" / "python"
+# Builds a wheel in the folder of its command line, as pip does.
+BUILD = "import sys, flit_core.buildapi as it; print(it.build_wheel(sys.argv[1]))"
+
+
+def try_package(room: pathlib.Path, version: str) -> None:
+    """The client in Python makes a package with its types, which leaves nothing behind and runs. Versions are all the same."""
+    pkg_config = re.search(r"^Version: (.*)$", (TOP / "clients" / "c" / "cektaulis.pc").read_text(), re.MULTILINE)
+    if {cektaulis.__version__, pkg_config[1]} != {version}:
+        raise Wrong(f"the versions differ: {version}, {cektaulis.__version__} in Python, {pkg_config[1]} for pkg-config")
+    has_builder = [sys.executable, "/usr/bin/python3"]
+    has_builder = [it for it in has_builder if not subprocess.run([it, "-c", "import flit_core"], stderr=subprocess.DEVNULL).returncode]
+    if not has_builder:
+        print("client_trial: there is no flit_core, so the package isn't tried")
+        return
+    before = sorted(PACKAGE.rglob("*"))
+    run = subprocess.run([has_builder[0], "-c", BUILD, room], cwd=PACKAGE, env=BY_HAND, capture_output=True, text=True, check=True)
+    if left := set(PACKAGE.rglob("*")) - set(before):
+        raise Wrong(f"the build of the package leaves {left}")
+    with zipfile.ZipFile(room / run.stdout.strip()) as wheel:
+        names = set(wheel.namelist())
+        wheel.extractall(room / "installed")
+    wanted = {f"cektaulis/{path.name}" for path in (PACKAGE / "cektaulis").glob("*.*") if path.is_file()}
+    if not wanted | {f"cektaulis-{version}.dist-info/METADATA"} <= names or "cektaulis/py.typed" not in names:
+        raise Wrong(f"the package has {names}")
+    command, path = [sys.executable, "-m", "cektaulis", "--version"], {"PYTHONPATH": str(room / "installed")}
+    told = subprocess.run(command, cwd=room, env=BY_HAND | path, capture_output=True, text=True, check=True).stdout
+    if told != f"cektaulis {version}\n":
+        raise Wrong(f"the package prints {told}")
+    print(f"package: {run.stdout.strip()} has its types, runs and leaves nothing behind")
+
+
 def main() -> int:
     """Tries all clients."""
     parser = argparse.ArgumentParser(description=__doc__.splitlines()[0])
@@ -972,9 +1005,11 @@ def main() -> int:
         room = pathlib.Path(folder)
         kinds = {"python": PythonPlayer, "c": CPlayer}
         try:
+            told = subprocess.run([given.worldd, "--version"], capture_output=True, text=True, check=True).stdout
+            try_package(room, told.split()[1])
             build_players(room)
             compile_header()
-        except (OSError, subprocess.SubprocessError) as wrong:
+        except (Wrong, OSError, subprocess.SubprocessError) as wrong:
             print(f"client_trial: {wrong}", file=sys.stderr)
             return 1
         if shutil.which("rustc"):

@@ -7,7 +7,8 @@ The manual makes a user and a world. The world is served as that user, and a cli
 and restores it. Then the files are removed under the server, and the manual saves them. What comes of both has to belong to the
 user, to be served by it, and to hold each tick that was answered before. All of it runs in a mount namespace in which the
 folders of the system are copies or empty. This needs root; else it says so and doesn't try it. Before that install.sh runs
-on odd prefixes, over a stand-in for the kit: each gets a unit with its path, or is refused and nothing is made.
+on odd prefixes, over a stand-in for the kit: each gets a unit with its path, or is refused and nothing is made. A program in C
+includes the header that was installed.
 """
 import argparse
 import collections
@@ -15,6 +16,7 @@ import itertools
 import os
 import pathlib
 import re
+import shlex
 import shutil
 import signal
 import stat
@@ -179,6 +181,7 @@ def install(worldd: pathlib.Path, room: pathlib.Path) -> str:
         shutil.copy(worldd, top / "crates" / program / "out" / program)
     for name in ("install.sh", "worldd.service"):
         shutil.copy(TOP / name, top / name)
+    shutil.copytree(TOP / "clients" / "c", top / "clients" / "c")
     for name in (*RIGHT, *ODD):
         prefix = room / "prefix" / name
         command, path = [top / "install.sh", prefix], f"{kit}:{os.environ['PATH']}"
@@ -188,10 +191,23 @@ def install(worldd: pathlib.Path, room: pathlib.Path) -> str:
             want(f'\nExecStart="{prefix}/bin/worldd" serve ' in unit and "@PREFIX@" not in unit, f"no unit with {prefix}: {run}")
             told = subprocess.run([prefix / "bin" / "worldd", "--version"], capture_output=True, text=True).stdout
             want(told.startswith("worldd "), f"no program with {prefix}: {told}")
+            include_header(prefix)
         else:
             is_told = re.fullmatch("install.sh: a unit can't have the path [^\0-\x1f]*\n", run.stderr)
             want(run.returncode == 2 and bool(is_told) and not prefix.exists(), f"a prefix wasn't refused: {run}")
     return f"prefixes with a unit {len(RIGHT)}; prefixes refused {len(ODD)}"
+
+
+def include_header(prefix: pathlib.Path) -> None:
+    """The client in C is found by pkg-config, if that is there."""
+    flags = [f"-I{prefix}/include"]
+    if shutil.which("pkg-config"):
+        ask, path = ["pkg-config", "--cflags", "cektaulis"], {"PKG_CONFIG_PATH": str(prefix / "share" / "pkgconfig")}
+        run = subprocess.run(ask, env=os.environ | path, capture_output=True, text=True, errors="surrogateescape", check=True)
+        flags = shlex.split(run.stdout)
+        want(len(flags) == 1, f"pkg-config answers {flags} with {prefix}")
+    command = ["cc", *flags, "-fsyntax-only", "-x", "c", "-"]
+    subprocess.run(command, input=b"#include <cektaulis.h>\n", check=True)
 
 
 def furnish(worldd: pathlib.Path, room: pathlib.Path) -> None:
