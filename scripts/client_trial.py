@@ -483,6 +483,11 @@ def try_answers(trial: Trial) -> None:
     answering(trial, [f"tick 1: -{code}\n".encode() for code in codes])
     for code in codes:
         trial.expect(trial.play(Get(0)), f"tick 1: {text_of_refusal(code)}")
+    longest = f"tick {10**18}:" + f" ={LIMIT}" * cektaulis.BATCH_LINES
+    if f"{len(longest) + 1:,} bytes" not in (TOP / "docs" / "CLIENT.md").read_text():
+        raise Wrong(f"the page doesn't say that an answer has at most {len(longest) + 1:,} bytes")
+    answering(trial, [f"{longest}\n".encode()])
+    trial.expect(trial.play(*[Get(0)] * cektaulis.BATCH_LINES), longest)
     faults = [fault.code for fault in cektaulis.Fault]
     for code in faults:
         answering(trial, [f"fault {code}\n".encode()])
