@@ -3,7 +3,8 @@
 #
 # It proves and builds both, as the gate does, where that isn't done yet, which takes a while the first time. It writes
 # PREFIX/bin/worldd, PREFIX/bin/world_load and PREFIX/share/worldd/worldd.service, a unit for systemd. For clients in C it
-# writes PREFIX/include/cektaulis.h and PREFIX/share/pkgconfig/cektaulis.pc. It writes nothing else.
+# writes PREFIX/include/cektaulis.h and PREFIX/share/pkgconfig/cektaulis.pc. In PREFIX/share it writes manual pages, and
+# completions for bash, zsh and fish. It writes nothing else.
 # A second run puts newer ones in their places, also while a server runs, which goes on as it is until it is started again.
 # Where PREFIX is root's: sudo env "PATH=$PATH" ./install.sh /usr/local
 set -eu
@@ -31,7 +32,10 @@ printf '%s' "$prefix" | iconv -f UTF-8 -t UTF-8 >/dev/null 2>&1 || fail 2 "a uni
 command -v rt >/dev/null || fail 1 "there is no rt: put the bin folder of the Rattle kit on the PATH"
 
 # What can't be written is told before hours of proof.
-for folder in bin include share/worldd share/pkgconfig; do
+bash=share/bash-completion/completions
+zsh=share/zsh/site-functions
+fish=share/fish/vendor_completions.d
+for folder in bin include share/worldd share/pkgconfig share/man/man1 "$bash" "$zsh" "$fish"; do
     mkdir -p "$prefix/$folder"
     [ -w "$prefix/$folder" ] || fail 1 "$prefix/$folder can't be written"
 done
@@ -43,6 +47,10 @@ for program in worldd world_load; do
 done
 for program in worldd world_load; do
     install -m 755 "$top/crates/$program/out/$program" "$prefix/bin/$program"
+    install -m 644 "$top/man/$program.1" "$prefix/share/man/man1/$program.1"
+    install -m 644 "$top/completions/$program.bash" "$prefix/$bash/$program"
+    install -m 644 "$top/completions/_$program" "$prefix/$zsh/_$program"
+    install -m 644 "$top/completions/$program.fish" "$prefix/$fish/$program.fish"
 done
 install -m 644 "$top/clients/c/cektaulis.h" "$prefix/include/cektaulis.h"
 install -m 644 "$top/clients/c/cektaulis.pc" "$prefix/share/pkgconfig/cektaulis.pc"

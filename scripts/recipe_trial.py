@@ -7,8 +7,8 @@ The manual makes a user and a world. The world is served as that user, and a cli
 and restores it. Then the files are removed under the server, and the manual saves them. What comes of both has to belong to the
 user, to be served by it, and to hold each tick that was answered before. All of it runs in a mount namespace in which the
 folders of the system are copies or empty. This needs root; else it says so and doesn't try it. Before that install.sh runs
-on odd prefixes, over a stand-in for the kit: each gets a unit with its path, or is refused and nothing is made. A program in C
-includes the header that was installed.
+on odd prefixes, over a stand-in for the kit: each gets a unit with its path and each file that install.sh names, or is refused
+and nothing is made. A program in C includes the header that was installed.
 """
 import argparse
 import collections
@@ -35,6 +35,14 @@ RIGHT = "plain", "with a space", "\u00e9", "a;b#c*d~e"
 ODD = (
     "tab\t", "new\nline", "escape\x1b[31m", "quo'te", 'quo"te', "per%cent", "dol$lar", "back\\slash", "and&", "bar|", "not \udcff text",
 )
+# What install.sh writes, and nothing else.
+INSTALLED = {"include/cektaulis.h", "share/pkgconfig/cektaulis.pc", "share/worldd/worldd.service"}.union(*(
+    {
+        f"bin/{name}", f"share/man/man1/{name}.1", f"share/bash-completion/completions/{name}",
+        f"share/zsh/site-functions/_{name}", f"share/fish/vendor_completions.d/{name}.fish",
+    }
+    for name in ("worldd", "world_load")
+))
 # The words of the manual in front of each recipe.
 MAKING, BACKUP = "**2. Make a user, its folder, and a world**", "**While it serves**"
 RESTORE, SAVING = "**Restore.**", "**Files are removed**"
@@ -181,7 +189,8 @@ def install(worldd: pathlib.Path, room: pathlib.Path) -> str:
         shutil.copy(worldd, top / "crates" / program / "out" / program)
     for name in ("install.sh", "worldd.service"):
         shutil.copy(TOP / name, top / name)
-    shutil.copytree(TOP / "clients" / "c", top / "clients" / "c")
+    for name in ("clients/c", "man", "completions"):
+        shutil.copytree(TOP / name, top / name)
     for name in (*RIGHT, *ODD):
         prefix = room / "prefix" / name
         command, path = [top / "install.sh", prefix], f"{kit}:{os.environ['PATH']}"
@@ -192,6 +201,8 @@ def install(worldd: pathlib.Path, room: pathlib.Path) -> str:
             told = subprocess.run([prefix / "bin" / "worldd", "--version"], capture_output=True, text=True).stdout
             want(told.startswith("worldd "), f"no program with {prefix}: {told}")
             include_header(prefix)
+            installed = {str(path.relative_to(prefix)) for path in prefix.rglob("*") if path.is_file()}
+            want(installed == INSTALLED, f"what was installed differs by {sorted(installed ^ INSTALLED)}")
         else:
             is_told = re.fullmatch("install.sh: a unit can't have the path [^\0-\x1f]*\n", run.stderr)
             want(run.returncode == 2 and bool(is_told) and not prefix.exists(), f"a prefix wasn't refused: {run}")
