@@ -12,5 +12,6 @@ crate: ; (cd crates/$(name) && rt check && rt test) && rt must-fail $(name)
 wrong-bodies: ; scripts/wrong_bodies.py $(name)
 serve: ; mkdir -p $(WORLD) && if [ ! -e $(WORLD)/image.a ]; then $(WORLDD) create --dir $(WORLD) --cells 1000; fi && \
 	$(WORLDD) serve --dir $(WORLD) --method zigzag --every 4096 --port $(PORT) --clients 100
+try-serve: ; scripts/try_serve.sh $(WORLD) $(PORT)
 bench: ; bench/serve.sh
-.PHONY: try build gate docs crate wrong-bodies serve bench
+.PHONY: try build gate docs crate wrong-bodies serve try-serve bench

@@ -60,6 +60,7 @@ int main(int count, char **words) {
         if (!read_action(words[4 + i], &actions[i])) return fprintf(stderr, "client: `%s` isn't understood\n", words[4 + i]), 2;
     enum cektaulis_status status = cektaulis_open(&world, words[1], SILENCE);
     /* A server that isn't there yet may come: the call connects again. */
+    if (status == CEKTAULIS_NOT_CONNECTED) fprintf(stderr, "client: no server answers: trying for %d seconds\n", PATIENCE / 1000);
     if (status != CEKTAULIS_BAD_ADDRESS)
         status = cektaulis_play_once(&world, (uint32_t)cell, number, actions, lines, answers, &tick, PATIENCE);
     cektaulis_close(&world);

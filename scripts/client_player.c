@@ -1,6 +1,6 @@
 /* Plays by clients/c/cektaulis.h what its input says, one command a line, and prints what came of each. For client_trial.py.
  *
- *   open ADDRESS MS | reconnect MS | step | connections | send ACTION, ACTION .. | receive COUNT | poll COUNT
+ *   open ADDRESS MS | reconnect MS | step | connections | play ACTION, .. | send ACTION, .. | receive COUNT | poll COUNT
  *   played CELL NUMBER | once CELL NUMBER MS ACTION, ACTION .. | again MS ACTION, ACTION .. | read CELL ..
  *   load FIRST WORD .. | batch ACTION, ACTION .. | least buffers | no action
  */
@@ -100,6 +100,9 @@ static bool play_line(struct cektaulis *world, char *line) {
     int milliseconds, length = 0;
     if (!strncmp(line, "send ", 5)) {
         if (went_well(world, cektaulis_send(world, actions, read_actions(line + 5, actions)))) printf("ok\n");
+    } else if (!strncmp(line, "play ", 5)) {
+        size_t count = read_actions(line + 5, actions);
+        if (went_well(world, cektaulis_play(world, actions, count, answers, &tick))) print_tick(tick, answers, count);
     } else if (sscanf(line, "receive %" SCNu64, &number) == 1) {
         if (went_well(world, cektaulis_receive(world, answers, (size_t)number, &tick))) print_tick(tick, answers, (size_t)number);
     } else if (sscanf(line, "poll %" SCNu64, &number) == 1) {

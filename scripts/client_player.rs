@@ -21,11 +21,27 @@ fn action_of(line: &str) -> Option<Action> {
     let target = || rest.first()?.parse::<u32>().ok();
     let value = |at: usize| rest.get(at)?.parse::<u64>().ok();
     Some(match kind {
-        "set" => Action::Set { cell, value: value(0)? },
-        "add" => Action::Add { cell, difference: rest.first()?.parse().ok()? },
-        "move" => Action::Move { source: cell, target: target()?, amount: value(1)? },
-        "swap" => Action::Swap { first: cell, second: target()? },
-        "cap" => Action::Cap { cell, value: value(0)? },
+        "set" => Action::Set {
+            cell,
+            value: value(0)?,
+        },
+        "add" => Action::Add {
+            cell,
+            difference: rest.first()?.parse().ok()?,
+        },
+        "move" => Action::Move {
+            source: cell,
+            target: target()?,
+            amount: value(1)?,
+        },
+        "swap" => Action::Swap {
+            first: cell,
+            second: target()?,
+        },
+        "cap" => Action::Cap {
+            cell,
+            value: value(0)?,
+        },
         _ => Action::Get { cell },
     })
 }
@@ -63,15 +79,25 @@ fn play(world: &mut World, command: &str, rest: &str) -> Result<String, Error> {
     let cell = || words[0].parse::<u32>().expect("a cell");
     let number = || words[1].parse::<u64>().expect("a number");
     Ok(match command {
-        "reconnect" => world.reconnect(milliseconds(rest)).map(|_| String::from("ok"))?,
+        "reconnect" => world
+            .reconnect(milliseconds(rest))
+            .map(|_| String::from("ok"))?,
         "step" => world.try_reconnect()?.map_or("none", |_| "ok").to_string(),
         "connections" => world.connections().to_string(),
         "send" => world.send(&actions_of(rest)).map(|()| String::from("ok"))?,
+        "play" => text_of(&world.play(&actions_of(rest))?),
         "receive" => text_of(&world.receive()?),
-        "poll" => world.try_receive()?.map_or_else(|| String::from("none"), |tick| text_of(&tick)),
-        "played" => (if world.was_played(cell(), number())? { "yes" } else { "no" }).to_string(),
+        "poll" => world
+            .try_receive()?
+            .map_or_else(|| String::from("none"), |tick| text_of(&tick)),
+        "played" => (if world.was_played(cell(), number())? {
+            "yes"
+        } else {
+            "no"
+        })
+        .to_string(),
         "once" => {
-            let actions = actions_of(&rest.splitn(4, ' ').nth(3).unwrap_or("").to_string());
+            let actions = actions_of(rest.splitn(4, ' ').nth(3).unwrap_or(""));
             let tick = world.play_once(cell(), number(), &actions, milliseconds(words[2]))?;
             tick.map_or_else(|| String::from("answer lost"), |tick| text_of(&tick))
         }
@@ -80,18 +106,36 @@ fn play(world: &mut World, command: &str, rest: &str) -> Result<String, Error> {
             text_of(&world.play_again(&actions_of(actions), milliseconds(limit))?)
         }
         "read" => {
-            let cells: Vec<u32> = words.iter().map(|word| word.parse().expect("a cell")).collect();
+            let cells: Vec<u32> = words
+                .iter()
+                .map(|word| word.parse().expect("a cell"))
+                .collect();
             let read = world.read(&cells, Duration::from_secs(30))?;
-            read.iter().map(|word| word.to_string()).collect::<Vec<_>>().join(" ")
+            read.iter()
+                .map(|word| word.to_string())
+                .collect::<Vec<_>>()
+                .join(" ")
         }
         "load" => {
-            let list: Vec<u64> = words[1..].iter().map(|word| word.parse().expect("a word")).collect();
-            world.load(cell(), &list, Duration::from_secs(30)).map(|()| String::from("ok"))?
+            let list: Vec<u64> = words[1..]
+                .iter()
+                .map(|word| word.parse().expect("a word"))
+                .collect();
+            world
+                .load(cell(), &list, Duration::from_secs(30))
+                .map(|()| String::from("ok"))?
         }
         "batch" => cektaulis::batch_length(&actions_of(rest)).to_string(),
-        "descriptor" => world.descriptor().map_or_else(|| String::from("none"), |it| it.to_string()),
+        "descriptor" => world
+            .descriptor()
+            .map_or_else(|| String::from("none"), |it| it.to_string()),
         // The type has no value that is no action, except this one.
-        "no" => world.send(&[Action::Add { cell: 0, difference: i64::MIN }]).map(|()| String::from("ok"))?,
+        "no" => world
+            .send(&[Action::Add {
+                cell: 0,
+                difference: i64::MIN,
+            }])
+            .map(|()| String::from("ok"))?,
         _ => panic!("{command}"),
     })
 }

@@ -100,6 +100,9 @@ class PythonPlayer:
     def receive(self, _count: int) -> str:
         return self.answer(lambda: text_of(self.world.receive()))
 
+    def play(self, batch: list[Action]) -> str:
+        return self.answer(lambda: text_of(self.world.play(*batch)))
+
     def poll(self, _count: int) -> str:
         return self.answer(lambda: text_of(tick) if (tick := self.world.receive(wait=False)) else NONE)
 
@@ -187,6 +190,9 @@ class CPlayer:
 
     def receive(self, count: int) -> str:
         return self.ask(f"receive {count}")
+
+    def play(self, batch: list[Action]) -> str:
+        return self.ask(f"play {', '.join(map(str, batch))}")
 
     def poll(self, count: int) -> str:
         return self.ask(f"poll {count}")
@@ -416,10 +422,12 @@ def try_polls(trial: Trial) -> None:
 
 
 def try_kept(trial: Trial) -> None:
-    """Answers that came before the connection broke are received after `reconnect`, and before later ones."""
-    add, get, later = Step("add 1 1", "tick 1: +"), Step("get 1", "tick 2: =1"), Step("get 1", "tick 3: =1")
+    """Answers that came before the connection broke are received after `reconnect`, and before later ones. A call that plays
+    a batch meanwhile returns its own answer."""
+    add, get, later = Step("add 1 1", "tick 1: +"), Step("get 1", "tick 2: =1"), Step("get 1", "tick 5: =1")
+    played, again = Step("get 1", "tick 3: =1"), Step("set 1 1", "tick 4: +")
     for last in (Step("get 2", None), Step("get 2", "fault 12")):
-        script = Script([add, get, last], [LOST_PROBE], [READY, later])
+        script = Script([add, get, last], [LOST_PROBE], [READY, played, again, later])
         trial.open(script.address)
         for batch in ([Add(1, 1)], [Get(1)], [Get(2)]):
             trial.expect(trial.player.send(batch), "ok")
@@ -429,6 +437,8 @@ def try_kept(trial: Trial) -> None:
         # The last answer may be on its way.
         time.sleep(0.05)
         trial.expect(trial.player.reconnect(SECONDS), "ok")
+        trial.expect(trial.player.play([Get(1)]), played.answer)
+        trial.expect(trial.player.again(SECONDS, [Set(1, 1)]), again.answer)
         trial.expect(trial.player.send([Get(1)]), "ok")
         for wanted in (add.answer, get.answer, later.answer):
             trial.expect(trial.player.receive(1), wanted)
@@ -942,6 +952,55 @@ def try_both(name: str, kind, given: argparse.Namespace, room: pathlib.Path, tra
         raise Wrong(f"never met: {', '.join(never)}")
 
 
+# The cells of the patterns: two markers of a turn and two cells of each of its batches; a marker of trades, purses and goods.
+BEGUN, COMPLETE, FIRST, SECOND = 0, 1, (2, 3), (4, 5)
+TRADE, BUYER, ESCROW, SELLER, STOCK, BOUGHT = range(6, 12)
+
+
+def try_patterns(worldd: pathlib.Path, room: pathlib.Path) -> None:
+    """Two patterns of docs/CLIENT.md: a turn over two batches with a kill in between, and trades by escrow."""
+    trial = Trial(PythonPlayer(), worldd, room / "patterns", PORT, 12)
+    trial.serve()
+    try:
+        halves = try_turns_of_two_batches(trial)
+        world = cektaulis.World(trial.address, SECONDS)
+        world.play(Set(BUYER, 10), Set(STOCK, 1))
+        trades = [trade(world, 10 * number, price) for number, price in enumerate((4, 4, 100), 1)]
+        if trades != ["bought", "paid back", "too poor"] or world.read(range(BUYER, 12)) != [6, 0, 4, 0, 1]:
+            raise Wrong(f"the trades end as {trades}, with {world.read(range(BUYER, 12))}")
+    finally:
+        trial.kill()
+    print(f"patterns: {halves} turns over two batches were halved by a kill and made whole; trades: {', '.join(trades)}")
+
+
+def try_turns_of_two_batches(trial: Trial) -> int:
+    """Plays turns over two batches. Returns how many were found half played."""
+    halves, world = 0, cektaulis.World(trial.address, SECONDS)
+    for number in range(1, 6):
+        world.play_once(BEGUN, number, *(Set(cell, number) for cell in FIRST))
+        if number % 2:
+            trial.kill()
+            trial.serve()
+            world = cektaulis.World(trial.address, SECONDS)
+            begun, complete = world.play(Get(BEGUN), Get(COMPLETE)).answers
+            halves += (begun, complete) == (number, number - 1)
+        world.play_once(COMPLETE, number, *(Set(cell, number) for cell in SECOND))
+        if (words := world.read((BEGUN, COMPLETE, *FIRST, *SECOND))) != [number] * 6:
+            raise Wrong(f"a turn over two batches leaves {words}")
+    if halves != 3:
+        raise Wrong(f"{halves} turns were found half played, in the place of 3")
+    return halves
+
+
+def trade(world: cektaulis.World, number: int, price: int) -> str:
+    """Buys one piece by escrow, in three batches."""
+    if world.play_once(TRADE, number, Move(BUYER, ESCROW, price)).answers[0] is not None:
+        return "too poor"
+    is_bought = world.play_once(TRADE, number + 1, Move(STOCK, BOUGHT, 1)).answers[0] is None
+    world.play_once(TRADE, number + 2, Move(ESCROW, SELLER if is_bought else BUYER, price))
+    return "bought" if is_bought else "paid back"
+
+
 STRICT = "-Wall", "-Wextra", "-Wpedantic", "-Werror", f"-I{TOP}/clients/c"
 IN_C = "-std=c11", "-D_POSIX_C_SOURCE=200809L"
 
@@ -1012,6 +1071,7 @@ def main() -> int:
         try:
             told = subprocess.run([given.worldd, "--version"], capture_output=True, text=True, check=True).stdout
             try_package(room, told.split()[1])
+            try_patterns(given.worldd.resolve(), room)
             build_players(room)
             compile_header()
         except (Wrong, OSError, subprocess.SubprocessError) as wrong:

@@ -416,24 +416,25 @@ static inline size_t cektaulis_ready(struct cektaulis *world) {
     return cektaulis_lines(&world->kept, false, &end) + cektaulis_lines(&world->come, false, &end);
 }
 
+/* Waits until the server has sent something, which is taken, or for an event of sending. Returns 0 or why the connection ended. */
+static inline int cektaulis_waits(struct cektaulis *world, int event) {
+    struct pollfd ready = {world->stream, (short)(POLLIN | event), 0};
+    const int found = poll(&ready, 1, world->bears);
+    if (found < 0) return errno == EINTR ? 0 : errno;
+    if (!found) return ETIMEDOUT;
+    return ready.revents & ~POLLOUT ? cektaulis_takes(world, world->stream) : 0;
+}
+
 /* Sends these bytes, and takes what the server sends meanwhile. Without bytes it waits until it has taken some. So no answer
  * that nobody receives holds up the server, which would read no more. */
 static inline enum cektaulis_status cektaulis_exchange(struct cektaulis *world, const char *bytes, size_t count) {
     const bool waits = !count;
     while (count || (waits && world->come.at == world->come.filled)) {
-        int error = 0;
-        const ssize_t sent = count ? send(world->stream, bytes, count, MSG_NOSIGNAL) : 0;
-        if (sent > 0) {
-            bytes += sent, count -= (size_t)sent;
-        } else if (sent < 0 && errno != EINTR && errno != EAGAIN) {
-            error = errno;
-        } else {
-            struct pollfd ready = {world->stream, (short)(count ? POLLIN | POLLOUT : POLLIN), 0};
-            const int found = poll(&ready, 1, world->bears);
-            if (found < 0 && errno == EINTR) continue;
-            if (found <= 0) error = found ? errno : ETIMEDOUT;
-            else if (ready.revents & ~POLLOUT) error = cektaulis_takes(world, world->stream);
-        }
+        int error = count ? cektaulis_takes(world, world->stream) : 0;
+        const ssize_t sent = count && !error ? send(world->stream, bytes, count, MSG_NOSIGNAL) : 0;
+        if (sent < 0 && errno != EINTR && errno != EAGAIN) error = errno;
+        if (sent > 0) bytes += sent, count -= (size_t)sent;
+        else if (!error) error = cektaulis_waits(world, count ? POLLOUT : 0);
         if (!error) continue;
         cektaulis_drains(world);
         return cektaulis_ended(world, CEKTAULIS_UNANSWERED, error);
@@ -593,11 +594,11 @@ static inline void cektaulis_forget(struct cektaulis *world) {
     world->kept.at = world->kept.filled = 0;
 }
 
-/* Plays a batch: sends it, and waits for its answer. Earlier answers are to be received first. */
+/* Plays a batch: sends it, and waits for its answer. Answers to earlier batches of this connection are to be received first. */
 static inline enum cektaulis_status cektaulis_play(struct cektaulis *world, const struct cektaulis_action *actions,
     size_t count, struct cektaulis_answer *answers, uint64_t *tick) {
     enum cektaulis_status status = cektaulis_send(world, actions, count);
-    return status == CEKTAULIS_OK ? cektaulis_receive(world, answers, count, tick) : status;
+    return status == CEKTAULIS_OK ? cektaulis_receive_marked(world, NULL, answers, count, tick) : status;
 }
 
 /* One step of `cektaulis_reconnect`, which doesn't wait. CEKTAULIS_NOT_CONNECTED: the server hasn't answered yet. Another step
@@ -614,6 +615,8 @@ static inline enum cektaulis_status cektaulis_reconnect_step(struct cektaulis *w
     const int error = cektaulis_takes(world, world->coming);
     if (!cektaulis_lines(&world->come, false, &end)) {
         if (error) return cektaulis_ended(world, CEKTAULIS_NOT_CONNECTED, error);
+        /* The answer to an empty batch is shorter. */
+        if (world->come.filled > 64) return cektaulis_ended(world, CEKTAULIS_GARBLED, EPROTO);
         world->error = EAGAIN;
         return CEKTAULIS_NOT_CONNECTED;
     }

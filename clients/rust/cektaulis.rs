@@ -52,7 +52,11 @@ pub enum Action {
     /// Adds a difference, which may be below 0, to a cell.
     Add { cell: u32, difference: i64 },
     /// Takes an amount from the cell `source` and adds it to the cell `target`.
-    Move { source: u32, target: u32, amount: u64 },
+    Move {
+        source: u32,
+        target: u32,
+        amount: u64,
+    },
     /// Exchanges the words of two cells.
     Swap { first: u32, second: u32 },
     /// Lowers a cell to a value if it holds more.
@@ -69,7 +73,9 @@ impl Action {
     /// Whether it may change a cell.
     fn changes(&self, it: u32) -> bool {
         match *self {
-            Action::Set { cell, .. } | Action::Add { cell, .. } | Action::Cap { cell, .. } => cell == it,
+            Action::Set { cell, .. } | Action::Add { cell, .. } | Action::Cap { cell, .. } => {
+                cell == it
+            }
             Action::Move { source, target, .. } => source == it || target == it,
             Action::Swap { first, second } => first == it || second == it,
             Action::Get { .. } => false,
@@ -82,7 +88,11 @@ impl fmt::Display for Action {
         match self {
             Action::Set { cell, value } => write!(to, "set {cell} {value}"),
             Action::Add { cell, difference } => write!(to, "add {cell} {difference}"),
-            Action::Move { source, target, amount } => write!(to, "move {source} {target} {amount}"),
+            Action::Move {
+                source,
+                target,
+                amount,
+            } => write!(to, "move {source} {target} {amount}"),
             Action::Swap { first, second } => write!(to, "swap {first} {second}"),
             Action::Cap { cell, value } => write!(to, "cap {cell} {value}"),
             Action::Get { cell } => write!(to, "get {cell}"),
@@ -103,7 +113,12 @@ pub enum Refusal {
 
 impl Refusal {
     const ALL: [Refusal; 6] = [
-        Refusal::BadCell, Refusal::BadValue, Refusal::OutOfRange, Refusal::SameCell, Refusal::TickFull, Refusal::BadLine,
+        Refusal::BadCell,
+        Refusal::BadValue,
+        Refusal::OutOfRange,
+        Refusal::SameCell,
+        Refusal::TickFull,
+        Refusal::BadLine,
     ];
 }
 
@@ -131,8 +146,13 @@ pub enum Fault {
 }
 
 impl Fault {
-    const ALL: [Fault; 5] =
-        [Fault::SegmentFull, Fault::LogDown, Fault::BatchTooLong, Fault::NoMemory, Fault::TicksEnded];
+    const ALL: [Fault; 5] = [
+        Fault::SegmentFull,
+        Fault::LogDown,
+        Fault::BatchTooLong,
+        Fault::NoMemory,
+        Fault::TicksEnded,
+    ];
 }
 
 impl fmt::Display for Fault {
@@ -192,15 +212,25 @@ pub enum Error {
 impl fmt::Display for Error {
     fn fmt(&self, to: &mut fmt::Formatter<'_>) -> fmt::Result {
         match self {
-            Error::BadAddress => to.write_str("the address is no port from 1 to 65535 and no path of a socket"),
-            Error::BadAction => to.write_str("there is no such action, or it changes the cell of the marker"),
+            Error::BadAddress => {
+                to.write_str("the address is no port from 1 to 65535 and no path of a socket")
+            }
+            Error::BadAction => {
+                to.write_str("there is no such action, or it changes the cell of the marker")
+            }
             Error::TooLarge => to.write_str("the batch is too large"),
-            Error::NotConnected(why) => write!(to, "no server answers, and nothing was sent: {why}"),
+            Error::NotConnected(why) => {
+                write!(to, "no server answers, and nothing was sent: {why}")
+            }
             Error::BatchRefused(fault) => write!(to, "fault {}: {fault}", *fault as u8),
-            Error::Unanswered(why) => write!(to, "nobody knows whether the batch was played: {why}"),
+            Error::Unanswered(why) => {
+                write!(to, "nobody knows whether the batch was played: {why}")
+            }
             Error::LogDown => write!(to, "fault {}: {}", Fault::LogDown as u8, Fault::LogDown),
             Error::Garbled(line) => write!(to, "the answer is of no worldd: {line:?}"),
-            Error::MarkerRefused => to.write_str("there is no such cell for the marker, or it holds a greater number"),
+            Error::MarkerRefused => {
+                to.write_str("there is no such cell for the marker, or it holds a greater number")
+            }
             Error::ActionRefused(action, refusal) => write!(to, "`{action}` is refused: {refusal}"),
         }
     }
@@ -226,12 +256,25 @@ pub fn batch_length(actions: &[Action]) -> usize {
 
 /// Whether these actions leave the same world if they are played twice, with nothing in between.
 pub fn does_no_harm_twice(actions: &[Action]) -> bool {
-    actions.iter().all(|action| matches!(action, Action::Set { .. } | Action::Cap { .. } | Action::Get { .. }))
+    actions.iter().all(|action| {
+        matches!(
+            action,
+            Action::Set { .. } | Action::Cap { .. } | Action::Get { .. }
+        )
+    })
 }
 
 /// Refuses what is no batch.
 fn check(actions: &[Action]) -> Result<(), Error> {
-    if actions.iter().any(|action| matches!(action, Action::Add { difference: i64::MIN, .. })) {
+    if actions.iter().any(|action| {
+        matches!(
+            action,
+            Action::Add {
+                difference: i64::MIN,
+                ..
+            }
+        )
+    }) {
         return Err(Error::BadAction);
     }
     if batch_length(actions) < actions.len() {
@@ -245,7 +288,10 @@ fn marker_of(cell: u32, number: u64) -> Result<Action, Error> {
     if number == 0 || number > LIMIT {
         return Err(Error::BadAction);
     }
-    Ok(Action::Set { cell, value: number })
+    Ok(Action::Set {
+        cell,
+        value: number,
+    })
 }
 
 /// A port of this machine, or the path of a socket.
@@ -336,7 +382,10 @@ impl Stream {
             None => self.read(&mut piece),
         };
         match read {
-            Ok(0) => Err(io::Error::new(ErrorKind::ConnectionReset, "the server closed the connection")),
+            Ok(0) => Err(io::Error::new(
+                ErrorKind::ConnectionReset,
+                "the server closed the connection",
+            )),
             Ok(count) => {
                 rest.extend_from_slice(&piece[..count]);
                 Ok(true)
@@ -358,7 +407,10 @@ impl AsRawFd for Stream {
 
 /// Whether a call failed only since it would have to wait.
 fn is_for_now(error: &io::Error) -> bool {
-    matches!(error.kind(), ErrorKind::WouldBlock | ErrorKind::TimedOut | ErrorKind::Interrupted)
+    matches!(
+        error.kind(),
+        ErrorKind::WouldBlock | ErrorKind::TimedOut | ErrorKind::Interrupted
+    )
 }
 
 fn silent() -> io::Error {
@@ -371,8 +423,13 @@ fn closed() -> io::Error {
 
 /// A number of at most 19 digits.
 fn number(word: &str) -> Option<u64> {
-    let is_number = !word.is_empty() && word.len() <= 19 && word.bytes().all(|byte| byte.is_ascii_digit());
-    if is_number { word.parse().ok() } else { None }
+    let is_number =
+        !word.is_empty() && word.len() <= 19 && word.bytes().all(|byte| byte.is_ascii_digit());
+    if is_number {
+        word.parse().ok()
+    } else {
+        None
+    }
 }
 
 /// What a word of an answer says.
@@ -384,7 +441,10 @@ fn answer_of(word: &str) -> Option<Answer> {
         return number(value).map(Answer::Value);
     }
     let code = number(word.strip_prefix('-')?)?;
-    Refusal::ALL.into_iter().find(|refusal| *refusal as u64 == code).map(Answer::Refused)
+    Refusal::ALL
+        .into_iter()
+        .find(|refusal| *refusal as u64 == code)
+        .map(Answer::Refused)
 }
 
 /// What a line says of a batch of so many actions. None: no `worldd` sends it.
@@ -392,12 +452,22 @@ fn line_of(line: &[u8], count: usize) -> Option<Result<Tick, Fault>> {
     let text = std::str::from_utf8(line).ok()?;
     if let Some(word) = text.strip_prefix("fault ") {
         let code = number(word)?;
-        return Fault::ALL.into_iter().find(|fault| *fault as u64 == code).map(Err);
+        return Fault::ALL
+            .into_iter()
+            .find(|fault| *fault as u64 == code)
+            .map(Err);
     }
     let (head, words) = text.strip_prefix("tick ")?.split_once(':')?;
     let answers: Option<Vec<Answer>> = words.split(' ').skip(1).map(answer_of).collect();
-    let tick = Tick { number: number(head)?, answers: answers? };
-    if tick.answers.len() == count { Some(Ok(tick)) } else { None }
+    let tick = Tick {
+        number: number(head)?,
+        answers: answers?,
+    };
+    if tick.answers.len() == count {
+        Some(Ok(tick))
+    } else {
+        None
+    }
 }
 
 /// A connection to a server. It bears so much silence as `open` says. One that broke stays broken until `reconnect`.
@@ -424,7 +494,9 @@ impl World {
     /// silence; None waits for ever.
     pub fn open(address: &str, timeout: Option<Duration>) -> Result<World, Error> {
         let address = Address::of(address)?;
-        let stream = address.connect(timeout.unwrap_or(Duration::from_secs(60))).map_err(Error::NotConnected)?;
+        let stream = address
+            .connect(timeout.unwrap_or(Duration::from_secs(60)))
+            .map_err(Error::NotConnected)?;
         Ok(World {
             address,
             timeout,
@@ -489,7 +561,11 @@ impl World {
         if self.answers.is_empty() && !self.sent.is_empty() {
             self.take_some(None)?;
         }
-        if self.answers.is_empty() { Ok(None) } else { self.next_answer().map(Some) }
+        if self.answers.is_empty() {
+            Ok(None)
+        } else {
+            self.next_answer().map(Some)
+        }
     }
 
     /// Plays a batch exactly once, though its connection breaks, and returns its tick. None: it was played, and its answer is
@@ -502,7 +578,11 @@ impl World {
     /// It gives up after `patience`: by `Unanswered` if the batch may have been played. The same call goes on once the server
     /// was started again. `MarkerRefused` if the world has no such cell, or if it holds a greater number.
     pub fn play_once(
-        &mut self, cell: u32, number: u64, actions: &[Action], patience: Duration,
+        &mut self,
+        cell: u32,
+        number: u64,
+        actions: &[Action],
+        patience: Duration,
     ) -> Result<Option<Tick>, Error> {
         let mut batch = vec![marker_of(cell, number)?];
         batch.extend_from_slice(actions);
@@ -510,7 +590,9 @@ impl World {
         if actions.iter().any(|action| action.changes(cell)) {
             return Err(Error::BadAction);
         }
-        self.insist(patience, |world, limit| world.try_once(cell, number, &batch, limit))
+        self.insist(patience, |world, limit| {
+            world.try_once(cell, number, &batch, limit)
+        })
     }
 
     /// Plays a batch that does no harm twice. If the connection breaks, it connects again and sends the batch again. It gives
@@ -531,13 +613,25 @@ impl World {
     pub fn read(&mut self, cells: &[u32], patience: Duration) -> Result<Vec<u64>, Error> {
         let gets: Vec<Action> = cells.iter().map(|&cell| Action::Get { cell }).collect();
         let answers = self.play_bulk(&gets, patience)?;
-        Ok(answers.into_iter().filter_map(|it| if let Answer::Value(word) = it { Some(word) } else { None }).collect())
+        Ok(answers
+            .into_iter()
+            .filter_map(|it| {
+                if let Answer::Value(word) = it {
+                    Some(word)
+                } else {
+                    None
+                }
+            })
+            .collect())
     }
 
     /// Sets the cells from `first` on to any number of words, 256 in a tick. No other client should write these cells
     /// meanwhile. The rest is as for `read`.
     pub fn load(&mut self, first: u32, words: &[u64], patience: Duration) -> Result<(), Error> {
-        let sets: Vec<Action> = (first..).zip(words).map(|(cell, &value)| Action::Set { cell, value }).collect();
+        let sets: Vec<Action> = (first..)
+            .zip(words)
+            .map(|(cell, &value)| Action::Set { cell, value })
+            .collect();
         self.play_bulk(&sets, patience).map(|_| ())
     }
 
@@ -566,7 +660,8 @@ impl World {
         }
     }
 
-    /// One step of `reconnect`, which doesn't wait. None: the server hasn't answered yet.
+    /// One step of `reconnect`, which doesn't wait, except for a socket whose server accepts no client. None: the server hasn't
+    /// answered yet.
     pub fn try_reconnect(&mut self) -> Result<Option<Vec<Batch>>, Error> {
         Ok(self.come_back(None)?.ok().map(|()| self.doubtful.clone()))
     }
@@ -586,13 +681,23 @@ impl World {
     /// What a call returns. It is called again if the connection breaks, and after a refusal that passes. It gets the time that
     /// is left: a server that is silent has the batch, so nothing is sent again before the connection ends.
     fn insist<T>(
-        &mut self, patience: Duration, mut call: impl FnMut(&mut World, Duration) -> Result<T, Error>,
+        &mut self,
+        patience: Duration,
+        mut call: impl FnMut(&mut World, Duration) -> Result<T, Error>,
     ) -> Result<T, Error> {
         let (deadline, mut pause) = (Instant::now() + patience, PAUSE);
         loop {
-            let left = deadline.saturating_duration_since(Instant::now()).max(PAUSE);
-            let back = if self.stream.is_none() { self.reconnect(left).map(|_| ()) } else { Ok(()) };
-            let left = deadline.saturating_duration_since(Instant::now()).max(PAUSE);
+            let left = deadline
+                .saturating_duration_since(Instant::now())
+                .max(PAUSE);
+            let back = if self.stream.is_none() {
+                self.reconnect(left).map(|_| ())
+            } else {
+                Ok(())
+            };
+            let left = deadline
+                .saturating_duration_since(Instant::now())
+                .max(PAUSE);
             let error = match back.and_then(|()| call(self, left)) {
                 Err(error) => error,
                 done => return done,
@@ -600,7 +705,9 @@ impl World {
             let passes = matches!(
                 error,
                 Error::BatchRefused(Fault::SegmentFull | Fault::NoMemory)
-                    | Error::NotConnected(_) | Error::Unanswered(_) | Error::LogDown
+                    | Error::NotConnected(_)
+                    | Error::Unanswered(_)
+                    | Error::LogDown
             );
             if matches!(error, Error::Garbled(_) | Error::MarkerRefused) {
                 return Err(error);
@@ -618,7 +725,10 @@ impl World {
         if self.doubtful.is_empty() && self.sent.is_empty() {
             return match error {
                 Error::Unanswered(why) => Error::NotConnected(why),
-                Error::LogDown => Error::NotConnected(io::Error::new(ErrorKind::Other, Fault::LogDown.to_string())),
+                Error::LogDown => Error::NotConnected(io::Error::new(
+                    ErrorKind::Other,
+                    Fault::LogDown.to_string(),
+                )),
                 other => other,
             };
         }
@@ -632,7 +742,13 @@ impl World {
     }
 
     /// Plays a batch with a marker, unless the marker shows that it was played.
-    fn try_once(&mut self, cell: u32, number: u64, batch: &[Action], limit: Duration) -> Result<Option<Tick>, Error> {
+    fn try_once(
+        &mut self,
+        cell: u32,
+        number: u64,
+        batch: &[Action],
+        limit: Duration,
+    ) -> Result<Option<Tick>, Error> {
         let held = match self.marks.get(&cell) {
             Some(&held) => held,
             None => self.held(cell, Some(limit))?,
@@ -641,7 +757,8 @@ impl World {
         if held > number {
             return Err(Error::MarkerRefused);
         }
-        self.doubtful.retain(|doubtful| !doubtful.contains(&batch[0]));
+        self.doubtful
+            .retain(|doubtful| !doubtful.contains(&batch[0]));
         if held == number {
             return Ok(None);
         }
@@ -665,7 +782,10 @@ impl World {
     /// What a marker's cell holds. Such a batch changes nothing, so it leaves nothing in doubt if its answer is lost.
     fn held(&mut self, cell: u32, limit: Option<Duration>) -> Result<u64, Error> {
         let played = self.play_in(&[Action::Get { cell }], limit);
-        if matches!(played, Err(Error::Garbled(_) | Error::Unanswered(_) | Error::LogDown)) {
+        if matches!(
+            played,
+            Err(Error::Garbled(_) | Error::Unanswered(_) | Error::LogDown)
+        ) {
             self.sent.clear();
         }
         match played?.answers[0] {
@@ -693,7 +813,10 @@ impl World {
 
     /// Plays a batch, and bears so much silence. It panics if answers of this connection wait.
     fn play_in(&mut self, batch: &[Action], limit: Option<Duration>) -> Result<Tick, Error> {
-        assert!(self.stream.is_none() || self.waiting() == self.kept, "batches wait for their answers: receive them first");
+        assert!(
+            self.stream.is_none() || self.waiting() == self.kept,
+            "batches wait for their answers: receive them first"
+        );
         let mut played = self.send_in(batch, limit);
         while played.is_ok() && !self.sent.is_empty() {
             played = self.wait_for_some(limit);
@@ -703,7 +826,10 @@ impl World {
             played?;
         }
         // Answers of earlier connections are before this one.
-        self.answers.pop_back().unwrap_or(Err(Fault::NoMemory)).map_err(Error::BatchRefused)
+        self.answers
+            .pop_back()
+            .unwrap_or(Err(Fault::NoMemory))
+            .map_err(Error::BatchRefused)
     }
 
     fn next_answer(&mut self) -> Result<Tick, Error> {
@@ -712,18 +838,31 @@ impl World {
         } else {
             self.doubtful.clear();
         }
-        self.answers.pop_front().unwrap_or(Err(Fault::NoMemory)).map_err(Error::BatchRefused)
+        self.answers
+            .pop_front()
+            .unwrap_or(Err(Fault::NoMemory))
+            .map_err(Error::BatchRefused)
     }
 
     /// Sends a batch, and takes what the server sends meanwhile. So no answer that nobody receives holds up the server, which
     /// would read no more.
     fn send_in(&mut self, batch: &[Action], limit: Option<Duration>) -> Result<(), Error> {
-        let stream = self.stream.as_mut().ok_or_else(|| Error::NotConnected(closed()))?;
-        let lines: String = batch.iter().map(|action| format!("{action}\n")).chain([String::from("end\n")]).collect();
+        let stream = self
+            .stream
+            .as_mut()
+            .ok_or_else(|| Error::NotConnected(closed()))?;
+        let lines: String = batch
+            .iter()
+            .map(|action| format!("{action}\n"))
+            .chain([String::from("end\n")])
+            .collect();
         self.sent.push_back(batch.to_vec());
         let (mut left, mut heard) = (lines.as_bytes(), Instant::now());
         while !left.is_empty() {
-            let moved = match stream.write(left) {
+            let written = stream
+                .take(&mut self.rest, None)
+                .and_then(|_| stream.write(left));
+            let moved = match written {
                 Ok(count) => {
                     left = &left[count..];
                     Ok(count > 0)
@@ -783,7 +922,10 @@ impl World {
     /// Makes answers of the lines that have come, up to one that `refuse_answer` refuses.
     fn sort(&mut self) {
         let mut at = 0;
-        while let (Some(batch), Some(length)) = (self.sent.front(), self.rest[at..].iter().position(|byte| *byte == b'\n')) {
+        while let (Some(batch), Some(length)) = (
+            self.sent.front(),
+            self.rest[at..].iter().position(|byte| *byte == b'\n'),
+        ) {
             match line_of(&self.rest[at..at + length], batch.len()) {
                 None | Some(Err(Fault::LogDown)) => break,
                 Some(answer) => self.answers.push_back(answer),
@@ -803,7 +945,11 @@ impl World {
         let line = String::from_utf8_lossy(&self.rest[..end.unwrap_or(80)]).into_owned();
         self.close();
         self.rest.clear();
-        Err(if line == "fault 12" { Error::LogDown } else { Error::Garbled(line) })
+        Err(if line == "fault 12" {
+            Error::LogDown
+        } else {
+            Error::Garbled(line)
+        })
     }
 
     /// Closes the connection, and returns what says so. Its batches are kept for `reconnect`.
@@ -832,7 +978,10 @@ impl World {
                     }
                     Some(Err(Fault::LogDown)) => {
                         self.close();
-                        Ok(Err(io::Error::new(ErrorKind::Other, Fault::LogDown.to_string())))
+                        Ok(Err(io::Error::new(
+                            ErrorKind::Other,
+                            Fault::LogDown.to_string(),
+                        )))
                     }
                     Some(_) => {
                         self.stream = self.coming.take();

@@ -401,14 +401,13 @@ class World:
         ready.register(stream, select.POLLIN | select.POLLOUT)
         try:
             while left:
+                self._take(stream)
                 with contextlib.suppress(BlockingIOError):
                     left = left[stream.send(left) :]
                     continue
                 events = ready.poll(None if seconds is None else seconds * 1000)
                 if not events:
                     raise TimeoutError("the server is silent")
-                if events[0][1] & ~select.POLLOUT:
-                    self._take(stream)
         except OSError as error:
             raise self._broken(str(error)) from error
         finally:
