@@ -959,9 +959,10 @@ TRADE, BUYER, ESCROW, SELLER, STOCK, BOUGHT = range(6, 12)
 
 def try_patterns(worldd: pathlib.Path, room: pathlib.Path) -> None:
     """Two patterns of docs/CLIENT.md: a turn over two batches with a kill in between, and trades by escrow."""
-    trial = Trial(PythonPlayer(), worldd, room / "patterns", PORT, 12)
+    trial = Trial(PythonPlayer(), worldd, room / "patterns", PORT, 3000)
     trial.serve()
     try:
+        try_progress(trial)
         halves = try_turns_of_two_batches(trial)
         world = cektaulis.World(trial.address, SECONDS)
         world.play(Set(BUYER, 10), Set(STOCK, 1))
@@ -971,6 +972,30 @@ def try_patterns(worldd: pathlib.Path, room: pathlib.Path) -> None:
     finally:
         trial.kill()
     print(f"patterns: {halves} turns over two batches were halved by a kill and made whole; trades: {', '.join(trades)}")
+
+
+def try_progress(trial: Trial) -> None:
+    """The client in Python reports at a terminal how many cells it has loaded and dumped."""
+    given, got = trial.room / "given", trial.room / "got"
+    given.write_text("".join(f"{number * number}\n" for number in range(3000)))
+    for flag, path, done, step in (("--load", given, "loaded", 256), ("--dump", got, "dumped", 1024)):
+        terminal, end = pty.openpty()
+        run = subprocess.Popen([sys.executable, "-m", "cektaulis", trial.address, flag, path], env=BY_HAND, stderr=end)
+        os.close(end)
+        printed = b""
+        # The read of a terminal that nobody writes any more fails.
+        with contextlib.suppress(OSError):
+            while piece := os.read(terminal, 4096):
+                printed += piece
+        os.close(terminal)
+        counts = (*range(step, 3000, step), 3000)
+        wanted = "".join(f"\r{done} {count} of 3000 cells" for count in counts) + "\r\n"
+        if run.wait(SECONDS) or printed.decode() != wanted:
+            raise Wrong(f"{flag} prints {printed}")
+    if got.read_text() != given.read_text():
+        raise Wrong("a dump differs from what was loaded")
+    with cektaulis.World(trial.address, SECONDS) as world:
+        world.load([0] * 12)
 
 
 def try_turns_of_two_batches(trial: Trial) -> int:

@@ -198,6 +198,10 @@ def try_games(worldd: pathlib.Path, room: pathlib.Path) -> None:
         # A game that begins late has its words before the first kill.
         time.sleep(2)
         while time.monotonic() < end:
+            # Turns that a held server has are to be sent again.
+            if kills % 2:
+                server.send_signal(signal.SIGSTOP)
+                time.sleep(0.1)
             server.kill()
             server.communicate()
             time.sleep(0.1)
