@@ -16,7 +16,6 @@ import argparse
 import collections
 import concurrent.futures
 import contextlib
-import ctypes
 import dataclasses
 import importlib.util
 import itertools
@@ -37,14 +36,15 @@ import time
 import zipfile
 
 from check_docs import TOP
+from client_players import (
+    ACTION_REFUSED, ANSWER_LOST, BAD_ACTION, BAD_ADDRESS, GARBLED, MARKER_REFUSED, NONE, NOT_CONNECTED, SECONDS, TOO_LARGE,
+    UNANSWERED, CPlayer, PythonPlayer, RustPlayer, build_players, cektaulis, compile_header, lessen_buffers,
+)
 from example_trial import Script, Step, Wrong, free_port
-from kill_trial import PORT, TRANSPORTS, answer
+from kill_trial import PORT, TRANSPORTS, answer as answer_of_model
 
-sys.path.insert(0, str(TOP / "clients" / "python"))
-import cektaulis
 from cektaulis import Action, Add, Cap, Get, Move, Set, Swap, Unanswered
 
-SECONDS = 30
 # How long a client waits that is to see a silent server.
 SHORT = 0.3
 # How long a call tries that is to give up. A server of the trial's own answers meanwhile: on a busy system the next bound holds.
@@ -54,13 +54,9 @@ BOUNDS = 1, 5, 20
 KILLING_SECONDS, MOST_KILLING_SECONDS = 5, 60
 AHEAD = 1000
 MODEL_LINES = 5000
-# The number of the system's call that takes a descriptor of another process.
-PIDFD_GETFD = 438
 OWN = 0
 LIMIT = cektaulis.LIMIT
-UNANSWERED, NOT_CONNECTED, GARBLED, TOO_LARGE = "unanswered", "not connected", "garbled", "too large"
-ANSWER_LOST, MARKER_REFUSED, BAD_ADDRESS, BAD_ACTION = "answer lost", "marker refused", "bad address", "bad action"
-NONE, ACTION_REFUSED, KEPT, MODEL = "none", "action refused", "answers kept over a loss", "lines as the model"
+KEPT, MODEL = "answers kept over a loss", "lines as the model"
 WANTED = (
     *(f"refusal {refusal.code}" for refusal in cektaulis.Refusal),
     *(f"fault {fault.code}" for fault in cektaulis.Fault),
@@ -74,187 +70,6 @@ ENDS = (ANSWERED, ANSWERED_LATER, ANSWER_LOST)
 COUNTERS, TRADERS = (0, 1), (2, 3)
 COUNT, SHOP, PURSES = 4, 5, {2: 6, 3: 7}
 GOLD = 10**9
-
-
-class PythonPlayer:
-    """The client in Python. Its calls return what came of them in the words of scripts/client_player.c."""
-
-    def __init__(self) -> None:
-        self.world: cektaulis.World | None = None
-
-    def open(self, address: str, seconds: float) -> str:
-        try:
-            self.world = cektaulis.World(address, seconds)
-        except OSError:
-            return NOT_CONNECTED
-        except ValueError:
-            return BAD_ADDRESS
-        return "ok"
-
-    def reconnect(self, seconds: float) -> str:
-        return self.answer(lambda: (self.world.reconnect(seconds), "ok")[1])
-
-    def send(self, batch: list[Action]) -> str:
-        return self.answer(lambda: self.world.send(*batch) or "ok")
-
-    def receive(self, _count: int) -> str:
-        return self.answer(lambda: text_of(self.world.receive()))
-
-    def play(self, batch: list[Action]) -> str:
-        return self.answer(lambda: text_of(self.world.play(*batch)))
-
-    def poll(self, _count: int) -> str:
-        return self.answer(lambda: text_of(tick) if (tick := self.world.receive(wait=False)) else NONE)
-
-    def step(self) -> str:
-        return self.answer(lambda: NONE if self.world.reconnect(wait=False) is None else "ok")
-
-    def again(self, seconds: float, batch: list[Action]) -> str:
-        return self.answer(lambda: text_of(self.world.play_again(*batch, patience=seconds)))
-
-    def read(self, cells: list[int]) -> str:
-        return self.answer(lambda: " ".join(map(str, self.world.read(cells))))
-
-    def load(self, first: int, words: list[int]) -> str:
-        return self.answer(lambda: "ok" if self.world.load(words, first) == len(words) else "too few")
-
-    def once(self, cell: int, number: int, seconds: float, batch: list[Action]) -> str:
-        def call() -> str:
-            tick = self.world.play_once(cell, number, *batch, patience=seconds)
-            return text_of(tick) if tick else ANSWER_LOST
-
-        return self.answer(call)
-
-    def connections(self) -> int:
-        return self.world.connections
-
-    def lessen_buffers(self) -> None:
-        lessen_buffers(self.world._stream)
-
-    def no_action(self) -> str:
-        return self.answer(lambda: self.world.send([Set(0, 1)]))
-
-    def played(self, cell: int, number: int) -> str:
-        return self.answer(lambda: "yes" if self.world.was_played(cell, number) else "no")
-
-    def batch(self, actions: list[Action]) -> int:
-        return len(next(cektaulis.batches(actions)))
-
-    def close(self) -> None:
-        if self.world is not None:
-            self.world.close()
-
-    def answer(self, call) -> str:
-        try:
-            return call()
-        except cektaulis.BatchRefused as refused:
-            return f"fault {refused.fault.code}: {refused.fault.text}"
-        except cektaulis.TooLarge:
-            return TOO_LARGE
-        except cektaulis.MarkerRefused:
-            return MARKER_REFUSED
-        except cektaulis.ActionRefused as refused:
-            return f"{ACTION_REFUSED}: {refused.refusal.text}"
-        except (TypeError, ValueError):
-            return BAD_ACTION
-        except cektaulis.LogDown:
-            return f"fault 12: {cektaulis.Fault.LOG_DOWN.text}"
-        except cektaulis.Unanswered:
-            return UNANSWERED
-        except cektaulis.Garbled:
-            return GARBLED
-        except OSError:
-            return NOT_CONNECTED
-
-
-class CPlayer:
-    """The client in C, by scripts/client_player.c."""
-
-    program: pathlib.Path
-
-    def __init__(self) -> None:
-        self.process = subprocess.Popen([self.program], stdin=subprocess.PIPE, stdout=subprocess.PIPE, text=True, bufsize=1)
-
-    def ask(self, command: str) -> str:
-        self.process.stdin.write(f"{command}\n")
-        return self.process.stdout.readline().removesuffix("\n")
-
-    def open(self, address: str, seconds: float) -> str:
-        return self.ask(f"open {address} {seconds * 1000:.0f}")
-
-    def reconnect(self, seconds: float) -> str:
-        return self.ask(f"reconnect {seconds * 1000:.0f}")
-
-    def send(self, batch: list[Action]) -> str:
-        return self.ask(f"send {', '.join(map(str, batch))}")
-
-    def receive(self, count: int) -> str:
-        return self.ask(f"receive {count}")
-
-    def play(self, batch: list[Action]) -> str:
-        return self.ask(f"play {', '.join(map(str, batch))}")
-
-    def poll(self, count: int) -> str:
-        return self.ask(f"poll {count}")
-
-    def step(self) -> str:
-        return self.ask("step")
-
-    def again(self, seconds: float, batch: list[Action]) -> str:
-        return self.ask(f"again {seconds * 1000:.0f} {', '.join(map(str, batch))}")
-
-    def read(self, cells: list[int]) -> str:
-        return self.ask(f"read {' '.join(map(str, cells))}")
-
-    def load(self, first: int, words: list[int]) -> str:
-        return self.ask(f"load {first} {' '.join(map(str, words))}")
-
-    def once(self, cell: int, number: int, seconds: float, batch: list[Action]) -> str:
-        return self.ask(f"once {cell} {number} {seconds * 1000:.0f} {', '.join(map(str, batch))}")
-
-    def connections(self) -> int:
-        return int(self.ask("connections"))
-
-    def lessen_buffers(self) -> None:
-        self.ask("least buffers")
-
-    def no_action(self) -> str:
-        return self.ask("no action")
-
-    def played(self, cell: int, number: int) -> str:
-        return self.ask(f"played {cell} {number}")
-
-    def batch(self, actions: list[Action]) -> int:
-        return int(self.ask(f"batch {', '.join(map(str, actions))}"))
-
-    def close(self) -> None:
-        self.process.stdin.close()
-        self.process.wait(SECONDS)
-
-
-class RustPlayer(CPlayer):
-    """The client in Rust, by scripts/client_player.rs."""
-
-    program: pathlib.Path
-
-    def lessen_buffers(self) -> None:
-        """The standard library of Rust can't, so this takes the client's connection."""
-        process = os.pidfd_open(self.process.pid)
-        taken = ctypes.CDLL(None, use_errno=True).syscall(PIDFD_GETFD, process, int(self.ask("descriptor")), 0)
-        os.close(process)
-        if taken < 0:
-            raise OSError(ctypes.get_errno(), "pidfd_getfd")
-        with socket.socket(fileno=taken) as stream:
-            lessen_buffers(stream)
-
-
-def text_of(tick: cektaulis.Tick) -> str:
-    """A tick in the words of the protocol, each refusal with its text."""
-    words = (
-        "+" if it is None else f"-{it.code}({it.text})" if isinstance(it, cektaulis.Refusal) else f"={it}"
-        for it in tick.answers
-    )
-    return " ".join((f"tick {tick.number}:", *words))
 
 
 class Trial:
@@ -389,7 +204,7 @@ def try_model(trial: Trial, chance: random.Random) -> None:
     trial.expect(trial.play(*itertools.starmap(Set, enumerate(words))).partition(":")[2], " +" * 4)
     while lines < MODEL_LINES:
         batch = [random_action(chance) for _ in range(chance.choice((1, 3, 20, 256)))]
-        line = answer(words, [(kind, *map(int, numbers)) for kind, *numbers in (str(it).split() for it in batch)], 0)
+        line = answer_of_model(words, [(kind, *map(int, numbers)) for kind, *numbers in (str(it).split() for it in batch)], 0)
         line = re.sub(r" -(\d+)", lambda found: f" {text_of_refusal(int(found[1]))}", line)
         trial.expect(trial.play(*batch).partition(":")[2], line.partition(":")[2])
         lines += len(batch)
@@ -569,12 +384,6 @@ def play_ahead(trial: Trial) -> None:
         trial.expect(trial.player.send([Get(2)] * 4), "ok")
     for _ in range(AHEAD):
         trial.expect(trial.player.receive(4).partition(":")[2], f" ={LIMIT}" * 4)
-
-
-def lessen_buffers(stream: socket.socket) -> None:
-    """Makes the buffers of a connection as small as the system allows."""
-    for buffer in (socket.SO_SNDBUF, socket.SO_RCVBUF):
-        stream.setsockopt(socket.SOL_SOCKET, buffer, 1)
 
 
 def answer_slowly(listener: socket.socket) -> None:
@@ -1026,31 +835,6 @@ def trade(world: cektaulis.World, number: int, price: int) -> str:
     return "bought" if is_bought else "paid back"
 
 
-STRICT = "-Wall", "-Wextra", "-Wpedantic", "-Werror", f"-I{TOP}/clients/c"
-IN_C = "-std=c11", "-D_POSIX_C_SOURCE=200809L"
-
-
-def build_players(room: pathlib.Path) -> None:
-    """Compiles the players in C and, with rustc, in Rust."""
-    CPlayer.program, RustPlayer.program = room / "player-c", room / "player-rust"
-    subprocess.run(["cc", *IN_C, "-O2", *STRICT, "-o", CPlayer.program, TOP / "scripts" / "client_player.c"], check=True)
-    if not shutil.which("rustc"):
-        print("client_trial: there is no rustc, so the client in Rust isn't tried")
-        return
-    build = ["rustc", "--edition", "2021", "-O", "-D", "warnings", "-o", RustPlayer.program]
-    subprocess.run([*build, TOP / "scripts" / "client_player.rs"], check=True)
-
-
-def compile_header() -> None:
-    """Compiles the header alone by each compiler that is there, as C and as C++."""
-    ways = (("gcc", "c", IN_C), ("clang", "c", IN_C), *((it, "c++", (f"-std={by}",)) for it in ("g++", "clang++") for by in ("c++17", "c++20")))
-    tried = [(compiler, language, flags) for compiler, language, flags in ways if shutil.which(compiler)]
-    for compiler, language, flags in tried:
-        command = [compiler, *flags, *STRICT, "-fsyntax-only", "-x", language, "-"]
-        subprocess.run(command, input=b'#include "cektaulis.h"\n', check=True)
-    print("header: compiles by " + ", ".join(f"{compiler} {flags[0]}" for compiler, _, flags in tried))
-
-
 PACKAGE = TOP / "clients" / "python"
 # Builds a wheel in the folder of its command line, as pip does.
 BUILD = "import sys, flit_core.buildapi as it; print(it.build_wheel(sys.argv[1]))"
@@ -1061,8 +845,8 @@ def try_package(room: pathlib.Path, version: str) -> None:
     pkg_config = re.search(r"^Version: (.*)$", (TOP / "clients" / "c" / "cektaulis.pc").read_text(), re.MULTILINE)
     if {cektaulis.__version__, pkg_config[1]} != {version}:
         raise Wrong(f"the versions differ: {version}, {cektaulis.__version__} in Python, {pkg_config[1]} for pkg-config")
-    has_builder = [sys.executable, "/usr/bin/python3"]
-    has_builder = [it for it in has_builder if not subprocess.run([it, "-c", "import flit_core"], stderr=subprocess.DEVNULL).returncode]
+    pythons = sys.executable, "/usr/bin/python3"
+    has_builder = [it for it in pythons if not subprocess.run([it, "-c", "import flit_core"], stderr=subprocess.DEVNULL).returncode]
     if not has_builder:
         print("client_trial: there is no flit_core, so the package isn't tried")
         return

@@ -189,11 +189,10 @@ def try_games(worldd: pathlib.Path, room: pathlib.Path) -> None:
     programs = {"game.py": [sys.executable, EXAMPLES / "game.py"], "game.c": [in_c]}
     environment = os.environ | {"PYTHONPATH": str(CLIENTS / "python"), "PYTHONDONTWRITEBYTECODE": "1"}
     server, kills, end = serve(worldd, folder), 0, time.monotonic() + GAME_SECONDS - 1
-    games = {
-        name: subprocess.Popen([*programs[name], folder / "socket", str(GAME_SECONDS), str(first)], stdout=subprocess.PIPE, text=True,
-                               env=environment)
-        for name, first in GAMES.items()
-    }
+    games = {}
+    for name, first in GAMES.items():
+        command = [*programs[name], folder / "socket", str(GAME_SECONDS), str(first)]
+        games[name] = subprocess.Popen(command, stdout=subprocess.PIPE, text=True, env=environment)
     try:
         # A game that begins late has its words before the first kill.
         time.sleep(2)

@@ -12,7 +12,6 @@ import argparse
 import dataclasses
 import pathlib
 import re
-import shlex
 import shutil
 import subprocess
 import sys
@@ -77,11 +76,9 @@ def help_of(program: pathlib.Path, name: str, *command: str) -> Help:
     commands = dict(re.findall(r"^  (\w+) +(.*)$", parts.get("Commands", ""), re.MULTILINE))
     usage = " ".join([name, *parts["Usage"].split()[1:]])
     flags = tuple(map(flag_of, parts["Options"].strip("\n").splitlines()))
-    # The statuses are told in a sentence, whose codes of faults follow it.
-    told = re.search(r"Its status is(.*?)(?:After 1 and 13|\Z)", run.stdout, re.DOTALL)
-    statuses = frozenset(re.findall(r"\b\d+\b", told[1])) if told else frozenset()
-    if told and "else 1" in " ".join(told[1].split()):
-        statuses |= {"1"}
+    # The codes of faults follow the sentence with the statuses.
+    stated = re.search(r"Its status is(.*?)(?:After 1 and 13|\Z)", run.stdout, re.DOTALL)
+    statuses = frozenset(re.findall(r"\b\d+\b", stated[1])) if stated else frozenset()
     return Help(run.stdout.partition("\n")[0], usage, flags, commands, statuses)
 
 
@@ -149,7 +146,7 @@ class Shell:
         command = {
             "bash": ["bash", "-c", ASK_BASH, "bash", str(self.file()), *line],
             "zsh": ["zsh", "-f", "-c", ASK_ZSH, "zsh", str(self.file()), *line],
-            "fish": ["fish", "--no-config", "-c", f"source {shlex.quote(str(self.file()))}; complete -C {shlex.quote(' '.join(line))}"],
+            "fish": ["fish", "--no-config", "-c", "source $argv[1]; complete -C $argv[2]", str(self.file()), " ".join(line)],
         }[self.name]
         run = subprocess.run(command, capture_output=True, text=True, timeout=SECONDS)
         compare(f"{self.file()}: the run of {self.name}", (run.returncode, run.stderr), (0, ""))
