@@ -5,7 +5,7 @@
 
 It runs examples/session.txt as a script, each block of a page that is marked as run, and the client in C on a connection
 that breaks before the answer comes. Then it lets both games play for ten seconds on a server that is killed. Each turn has to
-count once. Port 7070 stands for a free port. It needs a C compiler, as cc.
+count once, and no step may wait for the server. Port 7070 stands for a free port. It needs a C compiler, as cc.
 """
 import argparse
 import contextlib
@@ -29,7 +29,9 @@ PORT = "7070"
 IN_C = "cc", "-Wall", "-Wextra", "-Werror", f"-I{CLIENTS}/c"
 # What examples/game.py and examples/game.c play for, and their first cells. Each has 602, and gives a player so much gold.
 GAME_SECONDS, GAMES, PLAYERS, GOLD = 10, {"game.py": 0, "game.c": 602}, 300, 1000
-GAME_LINE = r"steps (\d+), turns (\d+), late (\d+), losses (\d+), sent again (\d+), longest step \d+ ms\n"
+GAME_LINE = r"steps (\d+), turns (\d+), late (\d+), losses (\d+), sent again (\d+), longest step (\d+) ms\n"
+# For so many seconds the server is away once in a while. No step of a game may take as long as the bound in milliseconds.
+AWAY_SECONDS, STEP_BOUND = 0.8, 600
 
 sys.path.insert(0, str(CLIENTS / "python"))
 import cektaulis
@@ -180,6 +182,24 @@ def serve(worldd: pathlib.Path, folder: pathlib.Path) -> subprocess.Popen:
     return server
 
 
+def lose(server: subprocess.Popen, games: list[subprocess.Popen], way: int) -> None:
+    """Kills the server of some games: at once; when it has turns that it hasn't played, for longer; or when it has played turns
+    whose answers no game has seen."""
+    if way:
+        server.send_signal(signal.SIGSTOP)
+        time.sleep(0.1)
+    if way == 2:
+        for game in games:
+            game.send_signal(signal.SIGSTOP)
+        server.send_signal(signal.SIGCONT)
+        time.sleep(0.2)
+    server.kill()
+    server.communicate()
+    for game in games:
+        game.send_signal(signal.SIGCONT)
+    time.sleep(AWAY_SECONDS if way == 1 else 0.1)
+
+
 def try_games(worldd: pathlib.Path, room: pathlib.Path) -> None:
     """Both games play at once while their server is killed. Prints what they print."""
     folder, in_c = room / "games", room / "game"
@@ -197,24 +217,22 @@ def try_games(worldd: pathlib.Path, room: pathlib.Path) -> None:
         # A game that begins late has its words before the first kill.
         time.sleep(2)
         while time.monotonic() < end:
-            # Turns that a held server has are to be sent again.
-            if kills % 2:
-                server.send_signal(signal.SIGSTOP)
-                time.sleep(0.1)
-            server.kill()
-            server.communicate()
-            time.sleep(0.1)
+            lose(server, list(games.values()), kills % 3)
             server, kills = serve(worldd, folder), kills + 1
-            time.sleep(1)
+            time.sleep(0.7)
         print(f"games: the server is killed {kills} times")
+        if kills < 3:
+            raise Wrong("the server wasn't killed in each way")
         for name, game in games.items():
             line = game.communicate(timeout=SECONDS)[0]
             if game.returncode or not (found := re.fullmatch(GAME_LINE, line)):
                 raise Wrong(f"{name} ends with {game.returncode}, and prints {line}")
-            steps, turns, late, losses, again = map(int, found.groups())
+            steps, turns, late, losses, again, longest = map(int, found.groups())
             print(f"  {name}: {line}", end="")
             if not (0 < turns <= steps and late and losses and again):
                 raise Wrong(f"{name} never met a turn, a late one, a lost connection or a turn that is sent again")
+            if longest >= STEP_BOUND:
+                raise Wrong(f"{name} waits for the server: a step takes {longest} ms")
             first = GAMES[name]
             with cektaulis.World(folder / "socket", SECONDS) as world:
                 words = world.read(range(first, first + 2 + 2 * PLAYERS))
