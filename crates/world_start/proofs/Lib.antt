@@ -4,6 +4,7 @@ pub mod Faults
 pub mod Following
 pub mod LogRuns
 pub mod Made
+pub mod NewWorld
 pub mod Recovered
 pub mod Rounds
 pub mod Sound

@@ -1,5 +1,5 @@
 -- The result of recovering the files of a world, and the definition of sound files.
-use Rattle.std.specs.Prelude.{◌≡◌, ◌⊎◌, ◌<◌, ℕ, Bool, IsTrue, List, length, take, slice_index, Ok, Err}
+use Rattle.std.specs.Prelude.{◌≡◌, ◌⊎◌, ◌<◌, ◌≤◌, ℕ, Bool, IsTrue, List, [], length, take, slice_index, Ok, Err}
 use Rattle.world_actions.specs.declared.action.Action.{Action}
 use Rattle.world_actions.specs.declared.refusal.Refusal.{Refusal}
 use Rattle.world_actions.specs.declared.refusal.Refusal.TheVariants.{Device, NoMemory}
@@ -8,7 +8,7 @@ use Rattle.disk_model.specs.Disk.{Only, Grew}
 use Rattle.disk_model.specs.FourFiles.{fault_counts}
 use Rattle.disk_model.specs.declared.four_files.FourFiles.{FourFiles}
 use Rattle.recovery.specs.Recovery.{Recovery, Recovers}
-use Rattle.recovery.specs.Sound.{IsSound}
+use Rattle.recovery.specs.Sound.{IsSound, IsFresh}
 use Rattle.world_start.specs.declared.engine.Engine.{Engine}
 use Rattle.world_start.specs.Running.{HasNewest}
 use Rattle.world_start.specs.Engine.{Follows}
@@ -27,6 +27,14 @@ module _ {D : Type 0} (file : D → List ℕ) (leaves : D → List ℕ → Type 
   -- for some n not below the acknowledged count. Each open image is the world after its tick.
   abbrev pub AreSound : FourFiles D → (first : List ℕ) → List (List Action) → (acknowledged : ℕ) → Type 0
   AreSound files first ticks acknowledged = IsSound (leaves files.image_a) (leaves files.image_b) (leaves files.log_a) (leaves files.log_b) first ticks acknowledged
+
+module _ {D : Type 0} (file : D → List ℕ) (leaves : D → List ℕ → Type 0) where
+  -- Nothing of the files is unsynced. They are sound for these ticks and this acknowledged count, or those of a new world, of
+  -- which no tick has ended.
+  pub record AreOfWorld (files : FourFiles D) (first : List ℕ) (ticks : List (List Action)) (acknowledged : ℕ) : Type 0 where
+    pub synced : AreSynced file leaves files
+    pub world : AreSound file leaves files first ticks acknowledged
+        ⊎ (IsFresh (leaves files.image_a) (leaves files.image_b) (leaves files.log_a) (leaves files.log_b) first × (ticks ≡ []) × (acknowledged ≡ 0))
 
 module _ {D : Type 0} (file : D → List ℕ) where
   -- recovery of the bytes that reads of the files give has this result
@@ -84,11 +92,11 @@ pub record MatchesRecovery {C D : Type 0} (content : C → Content) (file : D �
   pub since : engine.since ≡ 0
 
 module _ {C D : Type 0} (content : C → Content) (file : D → List ℕ) (leaves : D → List ℕ → Type 0) where
-  -- The engine begins the start of the recovered world. If the files were synced and sound for some ticks, it follows the
-  -- recovered ones among them.
+  -- The engine begins the start of the recovered world. If the files were those of a world, it follows the recovered ones of
+  -- its ticks. All acknowledged ticks are among these, and each of these counts as acknowledged.
   pub record IsRead (files : FourFiles D) (engine : Engine C) (from : ℕ) (left : FourFiles D) : Type 0 where
     pub matches : MatchesRecovery content file files engine from
     pub open matches use *
     pub newest : HasNewest engine.images
-    pub follows : (first : List ℕ) (ticks : List (List Action)) (acknowledged : ℕ) → AreSynced file leaves files → AreSound file leaves files first ticks acknowledged
-        → Follows content file leaves engine left first (take recovery.tick ticks) acknowledged
+    pub follows : (first : List ℕ) (ticks : List (List Action)) (acknowledged : ℕ) → AreOfWorld file leaves files first ticks acknowledged
+        → (acknowledged ≤ recovery.tick) × Follows content file leaves engine left first (take recovery.tick ticks) recovery.tick

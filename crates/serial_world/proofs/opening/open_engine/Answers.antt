@@ -1,4 +1,4 @@
-use Rattle.std.proofs.Common.{◌≡◌, ℕ, List, subst, ◌∙◌, arith, take}
+use Rattle.std.proofs.Common.{◌≡◌, ℕ, List, inl, subst, ◌∙◌, arith, take}
 use Rattle.world_actions.specs.declared.refusal.Refusal.TheVariants.{Device}
 use Rattle.disk_model.specs.FourFiles.{fault_counts}
 use Rattle.world_start.specs.Opening.{SomeGrew}
@@ -20,11 +20,11 @@ returns-in_err-start-clause-left g c = λ honest.
     (record {
       kept = λ other. absurd (other c.in_err-start.ensures.refused);
       sound = λ first ticks acknowledged synced sound.
-          (let f = read.follows first ticks acknowledged synced sound in
-          let on = c.start.ensures.follows honest first (take read.recovery.tick ticks) acknowledged f in
+          (let f = read.follows first ticks acknowledged (record { synced = synced; world = inl sound }) in
+          let on = c.start.ensures.follows honest first (take read.recovery.tick ticks) read.recovery.tick f.1 in
           let has = c.start.ensures.newest read.newest in
-          let s = c.followed_files_are_sound.ensures.begun c.start.new.self after first (take read.recovery.tick ticks) acknowledged has on in
-          sound_of_more (leaves after.image_a) (leaves after.image_b) (leaves after.log_a) (leaves after.log_b) first ticks read.recovery.tick acknowledged acknowledged (omega arith) s);
+          let s = c.followed_files_are_sound.ensures.begun c.start.new.self after first (take read.recovery.tick ticks) read.recovery.tick has on in
+          sound_of_more (leaves after.image_a) (leaves after.image_b) (leaves after.log_a) (leaves after.log_b) first ticks read.recovery.tick acknowledged read.recovery.tick f.0 s);
     })
 
 pub returns-clause-started : goal.returns-clause-started
@@ -41,8 +41,8 @@ returns-clause-started g c = λ honest.
         since = c.start.ensures.ended.1 ∙ read.since;
       };
       follows = λ first ticks acknowledged synced sound.
-          (let f = read.follows first ticks acknowledged synced sound in
-          subst (λ n. Follows g.C.Capture.content g.D.Disk.content g.D.Disk.may_leave c.start.new.self c.start.new.files first (take read.recovery.tick ticks) n) ended (c.in_ok-start.ensures.acknowledges honest first (take read.recovery.tick ticks) acknowledged f));
+          (let f = read.follows first ticks acknowledged (record { synced = synced; world = inl sound }) in
+          subst (λ n. Follows g.C.Capture.content g.D.Disk.content g.D.Disk.may_leave c.start.new.self c.start.new.files first (take read.recovery.tick ticks) n) ended (c.in_ok-start.ensures.acknowledges honest first (take read.recovery.tick ticks) read.recovery.tick f.1));
     }
 
 pub returns-clause-recovered : goal.returns-clause-recovered
