@@ -20,5 +20,5 @@ pub use accept::{Accepted, Admission, Closed, accept_sessions};
 pub use door::{Door, Unserved};
 pub use pulse::{Counts, Pulse};
 pub use remote::Remote;
-pub use server::{FilesNotServed, NotServed, Stopped, serve_files, serve_tcp};
+pub use server::{NotServed, Stopped, serve_tcp};
 pub use session::{Joined, Over, serve_batches, serve_session};

@@ -2,11 +2,10 @@ ghost use Rattle.std.specs.Prelude.{◌≡◌, ◌≢◌, ◌+◌, ◌≤◌, Is
 ghost use Rattle.workers.specs.Meeting.{HeardOnlyOfDown};
 ghost use Rattle.worker_steps.specs.Stopped.{StaysSound};
 ghost use Rattle.worker_steps.specs.Begun.{IsWhole};
-ghost use Rattle.tcp_service.specs.Serving.{GoesOnFrom};
 
 use crate::accept::{Accepted, Admission, Closed, accept_sessions};
 use crate::door::Door;
-use disk_model::{Disk, FourFiles};
+use disk_model::Disk;
 use shared_capture::Method;
 use std::alloc::{AllocError, Global};
 use std::sync::Wait;
@@ -14,11 +13,8 @@ use std::thread::Threads;
 use std::time::Clock;
 use transports::Listener;
 use worker_steps::{Gates, Opened};
-use worker_threads::{
-    NotStarted, Seats, StoppedWorkers, Watch, meet_stopped, open_world, start, stop,
-};
+use worker_threads::{NotStarted, StoppedWorkers, Watch, meet_stopped, start, stop};
 use workers::{Gate, Looks};
-use world_actions::Refusal;
 
 /// The workers and the listener of a server that has stopped.
 #[derive(Drop)]
@@ -96,6 +92,7 @@ pub fn serve_tcp<
     ensures sound { IsTrue D.honest → IfOk result (λ stopped.
         StaysSound D.content D.may_leave opened.front.live opened.images opened.log opened.ended
         stopped.workers.mutator stopped.workers.checkpointer stopped.workers.log_writer) }
+    ensures acked { IfOk result (λ stopped. opened.ended ≤ stopped.workers.log_writer.acked) }
     ensures every { IfOk result (λ stopped. stopped.workers.mutator.every ≡ every) }
     ensures heard { IfOk result (λ stopped.
         HeardOnlyOfDown stopped.workers.mutator.heard.ticks stopped.workers.log_writer.down) }
@@ -114,46 +111,4 @@ pub fn serve_tcp<
         workers: stopped,
         accepted,
     })
-}
-
-/// Why the world in some files isn't served to the end.
-#[derive(Drop)]
-pub enum FilesNotServed<D: Disk + Drop> {
-    /// It isn't opened: its files, and why.
-    Unopened(FourFiles<D>, Refusal),
-    NotServed(NotServed),
-}
-
-/// Opens the world of the files, and serves it to the connections of a listener. On disks that keep to the disk model,
-/// sound files are left sound, for the recovered ticks and all that were played.
-pub fn serve_files<
-    R: Threads + Wait + Clock + Copy + Send + 'static,
-    M: Seats + Send + 'static,
-    D: Disk + Drop + Send + 'static,
-    A: Gate + Drop + Send + 'static,
-    B: Gate + Drop + Send + 'static,
-    C: Gate + Drop + Send + 'static,
-    W: Watch<D> + Door + Clone + Drop + Send + 'static,
->(
-    rt: &R,
-    alloc: Global,
-    gates: Gates<A, B, C>,
-    watch: W,
-    files: FourFiles<D>,
-    every: u32,
-    listener: Listener,
-    admission: Admission,
-) -> Result<Stopped<M, D, A, B, C>, FilesNotServed<D>>
-    ensures sound { IsTrue D.honest → IfOk result (λ stopped. GoesOnFrom D.content D.may_leave files
-        stopped.workers.mutator stopped.workers.checkpointer stopped.workers.log_writer) }
-    ensures every { IfOk result (λ stopped. stopped.workers.mutator.every ≡ every) }
-{
-    let opened = match open_world::<M, D>(alloc, files) {
-        Ok((opened, _)) => opened,
-        Err((files, refusal)) => return Err(FilesNotServed::Unopened(files, refusal)),
-    };
-    match serve_tcp(rt, alloc, gates, watch, opened, every, listener, admission) {
-        Ok(stopped) => Ok(stopped),
-        Err(reason) => Err(FilesNotServed::NotServed(reason)),
-    }
 }

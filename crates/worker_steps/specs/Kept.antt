@@ -1,5 +1,5 @@
 -- The parts that a worker keeps over its steps. (The checkpointer's are in `KeepsBack` of workers.)
-use Rattle.std.specs.Prelude.{◌≡◌, ◌++◌, List}
+use Rattle.std.specs.Prelude.{◌≡◌, ◌≤◌, ◌++◌, List}
 use Rattle.workers.specs.declared.item.Item.{Item}
 use Rattle.workers.specs.Mutating.{Playing}
 use Rattle.workers.specs.Logging.{Logging}
@@ -15,9 +15,10 @@ pub record KeepsFront (old new : Playing) : Type 0 where
   pub every : new.every ≡ old.every
 
 -- The log writer stays at its end of the channel and at its two words. It still knows the keeper and the files that it began
--- with.
+-- with. No tick stops being acknowledged.
 pub record KeepsLog {D : Type 0} (old new : Logging D) : Type 0 where
   pub end : new.from.end ≡ old.from.end
   pub word : new.covers.pair ≡ old.covers.pair
   pub flag : new.told_down.pair ≡ old.told_down.pair
   pub opening : new.opening ≡ old.opening
+  pub acked : old.acked ≤ new.acked

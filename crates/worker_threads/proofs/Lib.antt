@@ -1,3 +1,4 @@
 mod Hearing
 mod Keeping
+mod Opening
 mod Sends

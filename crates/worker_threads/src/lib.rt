@@ -1,5 +1,5 @@
 //! The workers of a world, each in a thread of its own: their start, the work of each until it ends, and their ends.
-//! `open_world` opens a world of four files for them. `start_world` opens a world that was already recovered.
+//! `start_world` opens a world for them that was recovered from its four files.
 #![tactic(auto)]
 
 mod asked;
@@ -16,4 +16,4 @@ pub use cuts::stop_after;
 pub use meeting::meet_stopped;
 pub use threads::{NotStarted, StoppedWorkers, Workers, start, stop};
 pub use watch::{TickWatch, Watch};
-pub use world_opening::{Seats, open_world, start_world};
+pub use world_opening::{Seats, start_world};

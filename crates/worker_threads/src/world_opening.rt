@@ -1,4 +1,4 @@
-ghost use Rattle.std.specs.Prelude.{◌≡◌, ◌⊎◌, ℕ, List, false, length, All, IsTrue, IfOk, IfErr};
+ghost use Rattle.std.specs.Prelude.{◌≡◌, ◌⊎◌, ℕ, List, false, length, All, IsTrue, IfOk, IfErr, MatchResult};
 ghost use Rattle.world_actions.specs.World.{IsWord};
 ghost use Rattle.world_actions.specs.declared.action.Action.{Action};
 ghost use Rattle.disk_model.specs.FourFiles.{fault_counts};
@@ -6,20 +6,21 @@ ghost use Rattle.image_files.specs.declared.phase.Phase.TheVariants.{Idle};
 ghost use Rattle.world_start.specs.Engine.{Follows};
 ghost use Rattle.world_start.specs.Steps.{IsAhead};
 ghost use Rattle.world_start.specs.Parts.{AreAtRest, AreSettled};
-ghost use Rattle.world_start.specs.Opening.{IsRefused, SomeGrew};
+ghost use Rattle.world_start.specs.Opening.{AreSound, SomeGrew};
+ghost use Rattle.world_start.specs.Running.{HasNewest};
 ghost use Rattle.shared_capture.specs.States.{IsStart};
 ghost use Rattle.worker_steps.specs.Begun.{IsWhole};
 ghost use Rattle.worker_steps.specs.Stopped.{WorldStands};
-ghost use Rattle.worker_threads.specs.Opening.{IsRecovered, StandsOpened};
+ghost use Rattle.worker_threads.specs.Opening.{files_of};
 
-use capture_core::{Capture, PlainCopy};
+use capture_core::Capture;
 use disk_model::{Disk, FourFiles};
 use shared_capture::{Back, Front, Method, Pong, Zig, ping_pong_pair, zigzag_pair};
 use std::alloc::Global;
 use worker_steps::Opened;
 use workers::{ImageWriter, Log};
 use world_actions::Refusal;
-use world_start::{Parts, Start, recover_world};
+use world_start::{Parts, Start, followed_files_are_sound};
 
 /// A method whose two seats can be made.
 pub trait Seats: Method {
@@ -42,35 +43,8 @@ impl Seats for Pong {
     }
 }
 
-/// Opens the world in the files for its workers: recovers it, and runs its start to the end. It also returns the tick of the
-/// image that the world was built from. If it is refused, it gives the files back.
-pub fn open_world<M: Seats, D: Disk + Drop>(
-    alloc: Global,
-    files: FourFiles<D>,
-) -> Result<(Opened<M, D>, u64), (FourFiles<D>, Refusal)>
-    ensures whole { IfOk result (λ made.
-        IsWhole D.honest D.content made.0.front made.0.back made.0.images made.0.log made.0.ended) }
-    ensures recovered { IsTrue D.honest → IfOk result (λ made.
-        IsRecovered D.content files made.0.front.live made.0.ended made.1) }
-    ensures stands { IsTrue D.honest → IfOk result (λ made.
-        StandsOpened D.content D.may_leave files made.0.front.live made.0.images made.0.log made.0.ended) }
-    ensures refused { IfErr result (λ refused. IsRefused D.content D.honest files refused.1) }
-    ensures device { IfErr result (λ refused. refused.1 ≡ Refusal.Device
-        → SomeGrew (fault_counts D.faults files) (fault_counts D.faults refused.0)) }
-{
-    let mut files = files;
-    match recover_world::<PlainCopy, D>(alloc, &mut files) {
-        Ok(begun) => {
-            let from = begun.from;
-            let opened = start_world(alloc, begun, files)?;
-            Ok((opened, from))
-        }
-        Err(refusal) => Err((files, refusal)),
-    }
-}
-
 /// Opens a world for its workers that was recovered from these files, and runs its start to the end. The front keeps the
-/// list of the recovered words. If it is refused, it gives the files back.
+/// list of the recovered words. If it is refused, it gives the files back: they still recover to that world.
 pub fn start_world<M: Seats, C: Capture, D: Disk + Drop>(
     alloc: Global,
     begun: Start<C>,
@@ -85,10 +59,17 @@ pub fn start_world<M: Seats, C: Capture, D: Disk + Drop>(
         → Follows C.content D.content D.may_leave begun.engine files first ticks acknowledged
         → WorldStands D.content D.may_leave first ticks opened.front.live opened.images opened.log
         × (opened.ended ≡ length ticks)) }
+    ensures sound { IsTrue D.honest → HasNewest begun.engine.images
+        → (first : List ℕ) (ticks : List (List Action)) (acknowledged : ℕ)
+        → Follows C.content D.content D.may_leave begun.engine files first ticks acknowledged
+        → MatchResult result
+        (λ opened. AreSound D.content D.may_leave (files_of opened.images opened.log) first ticks acknowledged)
+        (λ refused. AreSound D.content D.may_leave refused.0 first ticks acknowledged) }
     ensures refused { IfErr result (λ refused. (refused.1 ≡ Refusal.NoMemory) ⊎ (refused.1 ≡ Refusal.Device)) }
     ensures device { IfErr result (λ refused. refused.1 ≡ Refusal.Device
         → SomeGrew (fault_counts D.faults files) (fault_counts D.faults refused.0)) }
 {
+    followed_files_are_sound::<C, D>();
     let mut files = files;
     let Start {
         mut engine,
@@ -114,6 +95,7 @@ fn seated<M: Seats, D: Disk + Drop>(
         IsWhole D.honest D.content opened.front opened.back opened.images opened.log opened.ended) }
     ensures words { IfOk result (λ opened. opened.front.live ≡ parts.words.items) }
     ensures ended { IfOk result (λ opened. opened.ended ≡ parts.ended) }
+    ensures files { IfOk result (λ opened. files_of opened.images opened.log ≡ parts.files) }
     ensures settled { IfOk result (λ opened. (first : List ℕ) (ticks : List (List Action))
         → AreSettled D.content D.may_leave parts first ticks → WorldStands D.content D.may_leave first ticks opened.front.live opened.images opened.log
         × (opened.ended ≡ length ticks)) }

@@ -2,6 +2,7 @@ use Rattle.std.proofs.Common.{sym, ap, ◌∙◌}
 use Rattle.std.proofs.lemmas.Result.{IfOk-weaker}
 use Rattle.image_files.specs.Progress.{Progress as ImageProgress}
 use Rattle.action_log.specs.declared.progress.Progress.{Progress as LogProgress}
+use Rattle.worker_threads.proofs.Opening.{both_sound}
 use Rattle.worker_threads.proofs.world_opening.start_world.Goals as goal
 
 pub into_parts-requires-clause-words : goal.into_parts-requires-clause-words
@@ -18,3 +19,17 @@ returns-in-Ok-clause-stands g c = λ honest.
     (λ opened settled first ticks acknowledged follows.
     settled first ticks (taken.settled up idle none first ticks acknowledged (c.start.ensures.follows honest first ticks acknowledged follows)))
     c.seated.ensures.settled
+
+pub returns-in-Ok-clause-sound : goal.returns-in-Ok-clause-sound
+returns-in-Ok-clause-sound g c = λ honest newest first ticks acknowledged follows.
+    let D = g.D.Disk in
+    let left = c.start.new.files in
+    let on = c.start.ensures.follows honest first ticks acknowledged follows in
+    let sound = c.followed_files_are_sound.ensures.begun c.start.new.self left first ticks acknowledged (c.start.ensures.newest newest) on in
+    both_sound D.content D.may_leave first ticks acknowledged c.into_parts.result.files left c.seated.result (λ opened. opened.images) (λ opened. opened.log)
+    (c.into_parts.ensures.files) c.seated.ensures.files c.seated.ensures.refused sound
+
+pub returns-in-Err-clause-sound : goal.returns-in-Err-clause-sound
+returns-in-Err-clause-sound g c = λ honest newest first ticks acknowledged follows.
+    c.followed_files_are_sound.ensures.begun c.start.new.self c.start.new.files first ticks acknowledged (c.start.ensures.newest newest)
+    (c.start.ensures.follows honest first ticks acknowledged follows)

@@ -1,4 +1,4 @@
-use Rattle.std.proofs.Common.{◌∙◌}
+use Rattle.std.proofs.Common.{◌∙◌, arith}
 use Rattle.worker_steps.proofs.Keeping.{then}
 use Rattle.worker_steps.proofs.together.Together.run.Goals as goal
 
@@ -21,5 +21,6 @@ loop-next-preserved g c =
         word = e.log_writer.word ∙ was.log_writer.word;
         flag = e.log_writer.flag ∙ was.log_writer.flag;
         opening = e.log_writer.opening ∙ was.log_writer.opening;
+        acked = omega (arith, was.log_writer.acked, e.log_writer.acked);
       };
     }
