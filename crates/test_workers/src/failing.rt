@@ -3,7 +3,7 @@ ghost use Rattle.std.specs.Prelude.{◌≤◌};
 
 use crate::running::{Page, begin, end, is_page, play};
 use crate::same::same;
-use crate::worlds::{Told, fused_files, stands_in_fused};
+use crate::worlds::{Told, fused_files, open_world, stands_in_fused};
 use crossbeam_channel::{Receiver, unbounded};
 use disk_model::{FourFiles, Fused, ModelFile};
 use shared_capture::{Method, Pong, Zig};
@@ -12,7 +12,7 @@ use std::process::Abort;
 use std::sync::Wait;
 use std::thread::Threads;
 use worker_steps::Gates;
-use worker_threads::{Seats, StoppedWorkers, open_world};
+use worker_threads::{Seats, StoppedWorkers};
 use workers::Open;
 
 const BATCHES: &[u8] =

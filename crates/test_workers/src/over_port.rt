@@ -1,21 +1,23 @@
-//! A world on files in memory, served over a port from its opening to its end.
+//! A world on files in memory, served over a port from its four files to their end.
 use crate::same::same;
 use crate::tcp::try_client;
 use crate::worlds::{Teller, new_files};
 use crossbeam_channel::unbounded;
 use disk_model::ModelFile;
-use shared_capture::{Pong, Zig};
+use shared_capture::{Method, Pong, Zig};
 use std::alloc::Global;
 use std::net::{Net, TcpListener, TcpStream};
 use std::process::Abort;
 use std::sync::Wait;
 use std::thread::{self, JoinHandle, Threads};
 use std::time::Clock;
-use tcp_service::{Admission, serve_files};
+use tcp_service::Admission;
 use transports::Listener;
-use worker_steps::Gates;
+use worker_steps::Opened;
 use worker_threads::Seats;
-use workers::Open;
+use world_actions::Refusal;
+use world_folder::{Ending, WorldTold};
+use world_server::{Every, Front, Line, Losses, serve_world};
 
 const BATCHES: &[u8] = b"add 0 1\nget 0\nend\nadd 0 1\nget 0\nend\n";
 
@@ -26,33 +28,102 @@ const ONE: Admission = Admission {
     idle: None,
 };
 
-// Serves a new world of two cells to one client. Returns how many ticks ended, and how many are acknowledged.
+// A port at which clients come, and the numbers of the lines that are printed.
+#[derive(Drop)]
+struct Desk<R: Wait + Copy> {
+    listener: Option<Listener>,
+    watch: Option<Teller<R>>,
+    recovered: Option<(u64, u64)>,
+    stopped: Option<(u64, u64)>,
+    others: u32,
+}
+
+impl<R: Wait + Copy, M: Method> Front<M, ModelFile, Teller<R>> for Desk<R> {
+    ghost use Rattle.std.specs.Prelude.{false, []};
+
+    ghost known = { false };
+
+    ghost printed = { λ desk. [] };
+
+    ghost noted = { λ desk. [] };
+
+    fn print(&mut self, line: Line) {
+        match line {
+            Line::Recovered { ended, from } => self.recovered = Some((ended, from)),
+            Line::Stopped { ended, acked } => self.stopped = Some((ended, acked)),
+            _ => self.others = self.others.saturating_add(1),
+        }
+    }
+
+    fn note(&mut self, _line: Line) {
+        self.others = self.others.saturating_add(1);
+    }
+
+    fn open(&mut self, _opened: &Opened<M, ModelFile>) -> Result<(Listener, Teller<R>), Ending> {
+        match (self.listener.take(), self.watch.take()) {
+            (Some(listener), Some(watch)) => Ok((listener, watch)),
+            _ => Err(Ending::Fault(Refusal::Device)),
+        }
+    }
+
+    fn losses(&self) -> Losses {
+        Losses {
+            log: false,
+            images: false,
+            listener: false,
+        }
+    }
+}
+
+// Serves a new world of two cells to one client. Checks what is printed, and which world was recovered.
 fn serve_one<M: Seats + Send + 'static, R: Threads + Wait + Clock + Abort + Copy + Send + 'static>(
     rt: &R,
     alloc: Global,
     listener: Listener,
-) -> (u64, u64) {
-    let gates = Gates {
-        mutator: Open,
-        checkpointer: Open,
-        log_writer: Open,
-    };
+) {
     let (to, _heard) = unbounded(alloc).expect(rt, "a channel");
-    let watch = Teller { rt: *rt, to };
+    let mut desk = Desk {
+        listener: Some(listener),
+        watch: Some(Teller { rt: *rt, to }),
+        recovered: None,
+        stopped: None,
+        others: 0,
+    };
     let files = new_files(rt, alloc, 2);
-    let served = serve_files::<R, M, ModelFile, Open, Open, Open, Teller<R>>(
-        rt, alloc, gates, watch, files, 1, listener, ONE,
+    let served = serve_world::<R, M, ModelFile, Teller<R>, Desk<R>>(
+        rt,
+        alloc,
+        &mut desk,
+        files,
+        Every(1),
+        ONE,
     );
     match served {
-        Ok(stopped) => (stopped.workers.mutator.ended(), stopped.workers.acked()),
+        Ok(served) => {
+            same(
+                rt,
+                "the world",
+                served.recovered,
+                WorldTold { tick: 0, from: 0 },
+            );
+            same(
+                rt,
+                "ends well",
+                matches!(served.ending(), Ending::Ran),
+                true,
+            );
+        }
         Err(_) => panic!(rt; "not served"),
     }
+    same(rt, "recovered", desk.recovered, Some((0, 0)));
+    same(rt, "stopped", desk.stopped, Some((2, 2)));
+    same(rt, "other lines", desk.others, 0);
 }
 
 fn start_server<
     M: Seats + Send + 'static,
     R: Threads + Wait + Clock + Abort + Copy + Send + 'static,
->(rt: &R, alloc: Global, listener: Listener) -> JoinHandle<(u64, u64)> {
+>(rt: &R, alloc: Global, listener: Listener) -> JoinHandle<()> {
     let here = *rt;
     let serve = move || serve_one::<M, R>(&here, alloc, listener);
     match thread::spawn(rt, serve) {
@@ -76,8 +147,7 @@ fn try_served<
     let to = listener.local_addr().expect(rt, "an address");
     let server = start_server::<M, R>(rt, alloc, Listener::Tcp(listener));
     try_client(rt, alloc, to, BATCHES, ANSWERS);
-    let ticks = server.join(rt);
-    same(rt, "ticks ended and acknowledged", ticks, (2, 2));
+    server.join(rt);
 }
 
 #[test]

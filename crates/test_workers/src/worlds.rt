@@ -1,7 +1,8 @@
-ghost use Rattle.std.specs.Prelude.{◌≤◌};
+ghost use Rattle.std.specs.Prelude.{◌≤◌, IfOk};
 ghost use Rattle.world_actions.specs.declared.world.TheConstants.{CELLS};
 ghost use Rattle.worker_steps.specs.Begun.{IsWhole};
 
+use capture_core::PlainCopy;
 use crossbeam_channel::Sender;
 use disk_model::{Disk, FourFiles, Fused, ModelFile};
 use recovery::recover;
@@ -11,9 +12,10 @@ use std::process::Abort;
 use std::sync::Wait;
 use tcp_service::{Door, Unserved};
 use worker_steps::Opened;
-use worker_threads::{Seats, TickWatch, Watch, open_world};
+use worker_threads::{Seats, TickWatch, Watch, start_world};
 use workers::{ImageWriter, Log};
-use world_start::fresh_files;
+use world_actions::Refusal;
+use world_start::{fresh_files, recover_world};
 
 /// The reports of a running world.
 #[derive(Clone, Copy, Debug, PartialEq, Eq)]
@@ -134,6 +136,25 @@ pub fn fused_files(rt: &impl Abort, alloc: Global) -> FourFiles<Fused<ModelFile>
         image_b: Fused::new(image_b),
         log_a: Fused::new(log_a),
         log_b: Fused::new(log_b),
+    }
+}
+
+/// The world in these files, recovered and started for its workers, and the tick of the image that it was built from.
+pub fn open_world<M: Seats, D: Disk + Drop>(
+    alloc: Global,
+    files: FourFiles<D>,
+) -> Result<(Opened<M, D>, u64), (FourFiles<D>, Refusal)>
+    ensures { IfOk result (λ made.
+        IsWhole D.honest D.content made.0.front made.0.back made.0.images made.0.log made.0.ended) }
+{
+    let mut files = files;
+    match recover_world::<PlainCopy, D>(alloc, &mut files) {
+        Ok(begun) => {
+            let from = begun.from;
+            let opened = start_world(alloc, begun, files)?;
+            Ok((opened, from))
+        }
+        Err(refusal) => Err((files, refusal)),
     }
 }
 

@@ -1,5 +1,6 @@
 ghost use Rattle.std.specs.Prelude.{◌≤◌};
 
+use crate::opening::open_world;
 use crate::player::{one_more, tick_in};
 use crate::quiet::start_quiet;
 use crossbeam_channel::Sender;
@@ -11,7 +12,7 @@ use std::sync::Wait;
 use std::thread::Threads;
 use tcp_service::Remote;
 use trial_kit::{FAILING_FILES, FailureTally};
-use worker_threads::{Seats, StoppedWorkers, Workers, meet_stopped, open_world, stop};
+use worker_threads::{Seats, StoppedWorkers, Workers, meet_stopped, stop};
 use workers::{Ask, Open};
 use world_actions::Refusal;
 use world_start::fresh_files;
@@ -56,7 +57,7 @@ fn fail_call<R: Threads + Wait + Copy + Send + 'static, M: Seats + Send + 'stati
 {
     let files = failing_files(alloc, file, call)?;
     match open_world::<M, File>(alloc, files) {
-        Ok((opened, _)) => {
+        Ok(opened) => {
             let (workers, requests) = start_quiet(rt, alloc, opened, EVERY)?;
             play(rt, alloc, workers, requests, failures)
         }

@@ -8,6 +8,7 @@
 
 mod cuts;
 mod failing;
+mod opening;
 mod player;
 mod power;
 mod quiet;

@@ -1,3 +1,4 @@
+use crate::opening::open_world;
 use crate::player::{Answered, play};
 use crate::quiet::start_quiet;
 use crate::recorded::{Clock, Recorded};
@@ -6,7 +7,7 @@ use disk_model::FourFiles;
 use std::alloc::Global;
 use std::sync::Wait;
 use std::thread::{self, JoinHandle, Threads};
-use worker_threads::{Seats, StoppedWorkers, Workers, meet_stopped, open_world, stop};
+use worker_threads::{Seats, StoppedWorkers, Workers, meet_stopped, stop};
 use workers::{Ask, Open};
 use world_actions::Refusal;
 
@@ -36,7 +37,7 @@ pub fn serve<R: Threads + Wait + Copy + Send + 'static, M: Seats + Send + 'stati
     clock: &Clock,
 ) -> Result<Served<M>, Refusal> {
     match open_world::<M, Recorded>(alloc, files) {
-        Ok((opened, _)) => {
+        Ok(opened) => {
             let (workers, requests) = start_quiet(rt, alloc, opened, EVERY)?;
             let_play(rt, alloc, workers, requests, clock)
         }

@@ -1,4 +1,5 @@
 use crate::flaky::Flaky;
+use crate::opening::open_world;
 use crate::quiet::Quiet;
 use crate::session::{Answer, Session, sessions};
 use crate::stand::Stand;
@@ -9,7 +10,7 @@ use shared_capture::Method;
 use std::sync::Wait;
 use std::thread::Threads;
 use worker_steps::Gates;
-use worker_threads::{Seats, StoppedWorkers, open_world, stop_after};
+use worker_threads::{Seats, StoppedWorkers, stop_after};
 use workers::{Ask, Cut};
 use world_actions::Refusal;
 
@@ -65,7 +66,7 @@ fn cut_once<R: Threads + Wait + Copy + Send + 'static, M: Seats + Send + 'static
     let files = trial.files()?;
     let (alloc, every, cuts) = (trial.alloc, trial.every(), cuts(trial));
     match open_world::<M, Flaky>(alloc, files) {
-        Ok((opened, _)) => {
+        Ok(opened) => {
             let play = |asks: Sender<Ask>| played.play(rt, trial, &asks);
             match stop_after(rt, alloc, cuts, Quiet, opened, every, play) {
                 Ok(stopped) => judge(rt, trial, played, stopped),

@@ -13,6 +13,7 @@ mod flaky;
 mod hold;
 mod model;
 mod moment;
+mod opening;
 mod quiet;
 mod run;
 mod runs;

@@ -1,12 +1,13 @@
 use crate::flaky::Flaky;
 use crate::hold::Hold;
+use crate::opening::open_world;
 use crate::stand::Stand;
 use disk_model::FourFiles;
 use shared_capture::Method;
 use std::alloc::Global;
 use std::sync::Wait;
 use worker_steps::{Gates, Next, Together};
-use worker_threads::{Seats, open_world};
+use worker_threads::Seats;
 use workers::{Checkpointer, LogWriter};
 use world_actions::Refusal;
 
@@ -34,7 +35,7 @@ impl<M: Seats> World<M> {
         every: u32,
     ) -> Result<Self, NotOpened> {
         match open_world::<M, Flaky>(alloc, files) {
-            Ok((opened, _)) => match Together::begin(rt, alloc, gates, opened, every) {
+            Ok(opened) => match Together::begin(rt, alloc, gates, opened, every) {
                 Ok(workers) => Ok(World { workers }),
                 Err(_) => Err(NotOpened::NoMemory),
             },

@@ -25,6 +25,7 @@ pub mod Reports
 pub mod StatusReport
 pub mod Inspection
 pub mod Verified
+pub mod Unrecovered
 -- inside: for private functions alone
 pub mod Looks
 pub mod Tried

@@ -1,8 +1,10 @@
 //! Recovery of a world of which nothing was lost.
-ghost use Rattle.std.specs.Prelude.{◌≡◌, None, take, option_map, IsTrue, IfOk};
+ghost use Rattle.std.specs.Prelude.{◌≡◌, None, take, option_map, IsTrue, IfOk, IfErr};
 ghost use Rattle.disk_model.specs.FourFiles.{EachFile, KeepsFile};
+ghost use Rattle.world_start.specs.Opening.{IsRead};
 ghost use Rattle.world_start.specs.Steps.{IsAhead};
 ghost use Rattle.world_folder.specs.Lost.{DoubtfulIn, NothingLost};
+ghost use Rattle.world_folder.specs.Unrecovered.{IsUnrecovered};
 
 use crate::lost::{Doubtful, Lost, doubtful_log, lost_of, read_heads};
 use capture_core::Capture;
@@ -36,10 +38,13 @@ pub fn recover_whole<C: Capture + Drop, D: Disk>(
 ) -> Result<Whole<C>, NotRecovered>
     ensures kept { IsTrue D.honest → EachFile files.old files.new (KeepsFile D.content D.may_leave) }
     ensures ahead { IfOk result (λ found. IsAhead C.content D.content D.honest found.begun files.new) }
+    ensures read { IsTrue D.honest → IfOk result (λ found.
+        IsRead C.content D.content D.may_leave files.old found.begun.engine found.begun.from files.new) }
     ensures whole { IsTrue D.honest
         → IfOk result (λ found. NothingLost D.content found.begun.engine.ended found.begun.from files.old) }
     ensures doubtful { IsTrue D.honest → IfOk result (λ found. DoubtfulIn D.content found.begun.engine.ended
         files.old (option_map (λ doubtful. doubtful.0) found.doubtful)) }
+    ensures refused { IfErr result (IsUnrecovered D.content D.honest files.old) }
 {
     let heads = match read_heads(alloc, files) {
         Ok(heads) => heads,

@@ -3,3 +3,4 @@ pub mod Socket
 pub mod Lines
 pub mod Methods
 pub mod Paths
+pub mod Served

@@ -1,7 +1,8 @@
 //! A server of the world in a folder: what it needs of the system, what it prints, and how it ends.
 //!
-//! `serve` recovers the world, prints which one it is, runs its start, listens and serves. Lines leave by a thread for
-//! each standard stream, so nobody waits for their readers.
+//! `serve_world` serves the world of any four files to the clients of any front. It recovers the world, prints which one it
+//! is, runs its start, lets the clients in, and prints how far play came. `serve` does that with the files of a folder and the
+//! system's front. Lines leave by a thread for each standard stream, so nobody waits for their readers.
 #![tactic(auto)]
 
 mod front;
@@ -11,14 +12,18 @@ mod lines;
 mod place;
 mod printer;
 mod reporter;
+mod served;
 mod service;
 mod serving;
 mod socket;
 mod standing;
 mod streams;
+mod system_front;
 
-pub use lines::Announce;
+pub use front::Front;
+pub use line::Line;
+pub use served::{Served, WorldFailure, serve_world};
 pub use service::{Address, Clients, Every, Service};
-pub use serving::{serve, serve_opened};
+pub use serving::serve;
 pub use socket::SocketMode;
 pub use standing::Losses;

@@ -5,7 +5,7 @@ use crate::kept::KeptFile;
 use crate::line::{Failure, Line};
 use crate::place::Place;
 use crate::printer::Printer;
-use crate::standing::{Losses, Standing, have_passed};
+use crate::standing::{Standing, have_passed};
 use disk_model::FourFiles;
 use file_disk::FileDisk;
 use std::alloc::{AllocError, Global};
@@ -94,25 +94,6 @@ impl<R: Wait + Clock + Net + Copy> Lines<R> {
     // Prints a line on standard error.
     fn note(&self, line: Line) {
         self.errors.print(&self.rt, line);
-    }
-}
-
-/// Prints how far play came, and knows what is down.
-pub trait Announce {
-    /// So many ticks ended, and those up to the second number are acknowledged.
-    fn stopped(&self, ended: u64, acked: u64);
-
-    /// What of the server is down so far.
-    fn losses(&self) -> Losses;
-}
-
-impl<R: Wait + Clock + Net + Copy> Announce for Lines<R> {
-    fn stopped(&self, ended: u64, acked: u64) {
-        self.output.print(&self.rt, Line::Stopped { ended, acked });
-    }
-
-    fn losses(&self) -> Losses {
-        self.standing.losses()
     }
 }
 

@@ -4,6 +4,7 @@ ghost use Rattle.world_server.specs.Lines.{report_text};
 
 use crate::line::Line;
 use crate::printer::Printer;
+use crossbeam_channel::{Sender, bounded};
 use std::alloc::Global;
 use std::fmt;
 use std::sync::{Arc, Wait};
@@ -32,19 +33,25 @@ impl fmt::Display for Report {
     }
 }
 
-/// Starts a thread that prints the figures each time so many seconds have passed. It runs on up to the program's end.
+/// Starts a thread that waits for the counts of a server on the returned channel, and then prints its figures each time so
+/// many seconds have passed. It runs on up to the program's end, or ends if no counts can come.
 pub fn start_reporter<R: Threads + Wait + Clock + Copy + Send + 'static>(
     rt: &R,
+    alloc: Global,
     seconds: u32,
-    pulse: Arc<Pulse, Global>,
     errors: Printer,
-) -> Result<(), NotStarted>
+) -> Result<Sender<Arc<Pulse, Global>>, NotStarted>
     requires { 0 < seconds }
 {
+    let (to, begins) = bounded::<Arc<Pulse, Global>, _>(alloc, 1)?;
     let here = *rt;
-    let run = move || report_on(&here, seconds, &pulse, &errors);
+    let run = move || {
+        if let Ok(pulse) = begins.recv(&here) {
+            report_on(&here, seconds, &pulse, &errors);
+        }
+    };
     match thread::spawn(rt, run) {
-        Ok(_) => Ok(()),
+        Ok(_) => Ok(to),
         Err(_) => Err(NotStarted::NoThread),
     }
 }

@@ -1,5 +1,5 @@
 use crate::same::same;
-use crate::worlds::{files_of, new_files};
+use crate::worlds::{files_of, new_files, open_world};
 use capture_core::PlainCopy;
 use disk_model::{FourFiles, ModelFile};
 use recovery::{Recovered, recover};
@@ -9,7 +9,7 @@ use shared_capture::{Front, Method, Pong, Zig};
 use std::alloc::Global;
 use std::process::Abort;
 use worker_steps::Opened;
-use worker_threads::{Seats, open_world};
+use worker_threads::Seats;
 use world_actions::Refusal;
 use world_ticks::Cells;
 

@@ -1,0 +1,116 @@
+-- The files of a world that is served, from its opening to the stop of its workers.
+use Rattle.std.proofs.Common.{◌≡◌, ◌≤◌, ℕ, Bool, List, [], ◌∷◌, ◌++◌, length, take, max, Result, Ok, Err, refl, sym, ap, subst, ◌∙◌, arith}
+use Rattle.std.proofs.lemmas.List.{append_assoc}
+use Rattle.std.specs.Prelude.{IfOk, IfErr, MatchResult}
+use Rattle.world_actions.specs.declared.action.Action.{Action}
+use Rattle.capture_core.specs.Content.{Content}
+use Rattle.disk_model.specs.declared.four_files.FourFiles.{FourFiles}
+use Rattle.recovery.specs.Events.{ticks_in}
+use Rattle.world_start.specs.declared.engine.Engine.{Engine}
+use Rattle.world_start.specs.Engine.{Follows}
+use Rattle.world_start.specs.Opening.{AreSound, IsRead}
+use Rattle.workers.specs.declared.checkpointer.round.ImageWriter.{ImageWriter}
+use Rattle.workers.specs.declared.log_writer.Log.{Log}
+use Rattle.workers.specs.Items.{records_of}
+use Rattle.workers.specs.Mutating.{Playing}
+use Rattle.workers.specs.Imaging.{Imaging}
+use Rattle.workers.specs.Logging.{Logging}
+use Rattle.worker_steps.specs.Stopped.{WorldStands, StaysSound, acknowledged_by}
+use Rattle.worker_threads.specs.Opening.{files_of}
+use Rattle.world_folder.specs.declared.found.WorldTold.{WorldTold}
+use Rattle.world_server.specs.declared.line.Line.{Line}
+use Rattle.world_server.specs.declared.served.WorldFailure.{WorldFailure}
+use Rattle.world_server.specs.declared.served.WorldFailure.TheVariants as failure
+use Rattle.world_server.specs.Served.{recovered_line, stopped_line, failure_lines, KeepsWorld, StandsOpened, GoesOnSound, LeavesWorld, FailsFor, GivesBack}
+
+-- ---- the opening
+
+module _ {C D : Type 0} (content : C → Content) (file : D → List ℕ) (leaves : D → List ℕ → Type 0) where
+  -- a start that was run to its end holds the recovered world at rest
+  pub stands_opened : (files left : FourFiles D) (engine : Engine C) (from : ℕ) (words : List ℕ) (writer : ImageWriter D) (log : Log D) (ended : ℕ)
+      → IsRead content file leaves files engine from left
+      → ((first : List ℕ) (ticks : List (List Action)) (acknowledged : ℕ) → Follows content file leaves engine left first ticks acknowledged → WorldStands file leaves first ticks words writer log × (ended ≡ length ticks))
+      → ended ≡ engine.ended → StandsOpened file leaves files engine.ended words writer log
+  stands_opened files left engine from words writer log ended read opens is = λ first ticks acknowledged w.
+      let f = read.follows first ticks acknowledged w in
+      let same : read.recovery.tick ≡ engine.ended = sym read.ended in
+      let s = opens first (take read.recovery.tick ticks) read.recovery.tick f.1 in
+      subst (λ n. WorldStands file leaves first (take n ticks) words writer log × (n ≡ length (take n ticks))) same (s.0, same ∙ sym is ∙ s.1)
+
+  -- files that are sound for the ticks that the start followed keep the recovered world
+  pub keeps_world : (files left : FourFiles D) (engine : Engine C) (from : ℕ) (after : FourFiles D) → IsRead content file leaves files engine from left
+      → ((first : List ℕ) (ticks : List (List Action)) (acknowledged : ℕ) → Follows content file leaves engine left first ticks acknowledged → AreSound file leaves after first ticks acknowledged)
+      → KeepsWorld file leaves files engine.ended after
+  keeps_world files left engine from after read sound = λ first ticks acknowledged w.
+      let f = read.follows first ticks acknowledged w in
+      subst (λ n. (acknowledged ≤ n) × AreSound file leaves after first (take n ticks) n) (sym read.ended) (f.0, sound first (take read.recovery.tick ticks) read.recovery.tick f.1)
+
+-- ---- the stop
+
+most : (x y z t : ℕ) → x ≤ t → t ≤ y → max x (max y z) ≡ max y z
+most x y z t few more = omega (arith, few, more)
+
+module _ {D : Type 0} (file : D → List ℕ) (leaves : D → List ℕ → Type 0) where
+  -- workers that keep the files of an open world sound go on from the files that it was opened from
+  pub goes_on : (files : FourFiles D) (tick : ℕ) (words : List ℕ) (writer : ImageWriter D) (log : Log D) (ended : ℕ) (m : Playing) (c : Imaging D) (w : Logging D)
+      → StandsOpened file leaves files tick words writer log → KeepsWorld file leaves files tick (files_of writer log) → ended ≡ tick
+      → StaysSound file leaves words writer log ended m c w → ended ≤ w.acked → GoesOnSound file leaves files tick m c w
+  goes_on files tick words writer log ended m c w stands keeps is stays more = λ first ticks acknowledged world.
+      let s = stands first ticks acknowledged world in
+      let left = stays first (take tick ticks) s.0 (is ∙ s.1) in
+      let few : acknowledged ≤ tick = (keeps first ticks acknowledged world).0 in
+      let all : List (List Action) = take tick ticks ++ ticks_in (records_of m.to.items) in
+      let count = most acknowledged w.acked _ tick few (subst (λ n. n ≤ w.acked) is more) in
+      (subst (AreSound file leaves (files_of c.images w.log) first all) (sym count) left.0, left.1)
+
+  -- the files that an open world gives back still have it
+  pub given_left : (files given : FourFiles D) (world : WorldTold) → KeepsWorld file leaves files world.tick given → (f : WorldFailure D) → GivesBack world given f → LeavesWorld file leaves files f
+  given_left files given world keeps (failure.NotRecovered left why) g = absurd g
+  given_left files given world keeps (failure.NotStarted recovered left refusal) g = absurd g
+  given_left files given world keeps (failure.NotOpened recovered left ending) g =
+      subst (λ r. KeepsWorld file leaves files r.tick left) (sym g.0) (subst (KeepsWorld file leaves files world.tick) (sym g.1) keeps)
+  given_left files given world keeps (failure.NotRun recovered ending) g = tt
+
+pub given_reason : {D S : Type 0} (file : D → List ℕ) (honest : Bool) (files given : FourFiles D) (world : WorldTold) (r : Result S (WorldFailure D)) → IfErr r (GivesBack world given) → IfErr r (FailsFor file honest files)
+given_reason file honest files given world (Ok s) g = tt
+given_reason file honest files given world (Err (failure.NotRecovered left why)) g = absurd g
+given_reason file honest files given world (Err (failure.NotStarted recovered left refusal)) g = absurd g
+given_reason file honest files given world (Err (failure.NotOpened recovered left ending)) g = tt
+given_reason file honest files given world (Err (failure.NotRun recovered ending)) g = tt
+
+-- ---- the lines
+
+pub given_lines : {D : Type 0} (given : FourFiles D) (world : WorldTold) (f : WorldFailure D) → GivesBack world given f → recovered_line world ∷ [] ≡ failure_lines f
+given_lines given world (failure.NotRecovered left why) g = absurd g
+given_lines given world (failure.NotStarted recovered left refusal) g = absurd g
+given_lines given world (failure.NotOpened recovered left ending) g = ap (λ r. recovered_line r ∷ []) (sym g.0)
+given_lines given world (failure.NotRun recovered ending) g = ap (λ r. recovered_line r ∷ []) (sym g)
+
+-- ---- the answer of a server
+
+module _ {D S : Type 0} (file : D → List ℕ) (leaves : D → List ℕ → Type 0) where
+  pub served_sound : (files : FourFiles D) (world : WorldTold) (words : List ℕ) (writer : ImageWriter D) (log : Log D) (ended : ℕ) (r : Result S (WorldFailure D))
+      (told : S → WorldTold) (m : S → Playing) (c : S → Imaging D) (w : S → Logging D)
+      → StandsOpened file leaves files world.tick words writer log → KeepsWorld file leaves files world.tick (files_of writer log) → ended ≡ world.tick
+      → IfOk r (λ s. told s ≡ world) → IfOk r (λ s. StaysSound file leaves words writer log ended (m s) (c s) (w s)) → IfOk r (λ s. ended ≤ (w s).acked)
+      → IfOk r (λ s. GoesOnSound file leaves files (told s).tick (m s) (c s) (w s))
+  served_sound files world words writer log ended (Ok s) told m c w stands keeps is same stays more =
+      subst (λ (t : WorldTold). GoesOnSound file leaves files t.tick (m s) (c s) (w s)) (sym same)
+      (goes_on file leaves files world.tick words writer log ended (m s) (c s) (w s) stands keeps is stays more)
+  served_sound files world words writer log ended (Err f) told m c w stands keeps is same stays more = tt
+
+  pub given_back : (files given : FourFiles D) (world : WorldTold) (r : Result S (WorldFailure D)) → KeepsWorld file leaves files world.tick given
+      → IfErr r (GivesBack world given) → IfErr r (LeavesWorld file leaves files)
+  given_back files given world (Ok s) keeps g = tt
+  given_back files given world (Err f) keeps g = given_left file leaves files given world keeps f g
+
+pub printed_on : {D S : Type 0} (world : WorldTold) (given : FourFiles D) (r : Result S (WorldFailure D)) (told : S → WorldTold) (m : S → Playing) (c : S → Imaging D) (w : S → Logging D)
+    (before between after : List Line) → between ≡ before ++ recovered_line world ∷ []
+    → MatchResult r (λ s. after ≡ between ++ stopped_line (m s) (c s) (w s) ∷ []) (λ f. after ≡ between) → IfOk r (λ s. told s ≡ world) → IfErr r (GivesBack world given)
+    → MatchResult r (λ s. after ≡ before ++ recovered_line (told s) ∷ stopped_line (m s) (c s) (w s) ∷ []) (λ f. after ≡ before ++ failure_lines f)
+printed_on world given (Ok s) told m c w before between after first next same g =
+    next ∙ ap (λ (l : List Line). l ++ stopped_line (m s) (c s) (w s) ∷ []) first
+    ∙ append_assoc before (recovered_line world ∷ []) (stopped_line (m s) (c s) (w s) ∷ [])
+    ∙ ap (λ (t : WorldTold). before ++ recovered_line t ∷ stopped_line (m s) (c s) (w s) ∷ []) (sym same)
+printed_on world given (Err f) told m c w before between after first next same g =
+    next ∙ first ∙ ap (λ (l : List Line). before ++ l) (given_lines given world f g)

@@ -1,0 +1,277 @@
+//! A world that a server serves, from its four files as they were to the files as they are left.
+ghost use Rattle.std.specs.Prelude.{◌≡◌, ◌≤◌, ◌++◌, ◌∷◌, [], Option, option_map, IsTrue, IfOk, IfErr, MatchResult};
+ghost use Rattle.worker_steps.specs.Begun.{IsWhole};
+ghost use Rattle.worker_steps.specs.Stopped.{StaysSound};
+ghost use Rattle.worker_threads.specs.Opening.{files_of};
+ghost use Rattle.world_folder.specs.declared.lost.Doubtful.{Doubtful as Doubt};
+ghost use Rattle.world_folder.specs.Lost.{DoubtfulIn, NothingLost};
+ghost use Rattle.world_server.specs.Serving.{EndsServing, StopsWith, left_ending};
+ghost use Rattle.world_server.specs.Served.{recovered_line, doubtful_lines, stopped_line, failure_lines};
+ghost use Rattle.world_server.specs.Served.{RecoversTo, KeepsWorld, StandsOpened, GoesOnSound};
+ghost use Rattle.world_server.specs.Served.{LeavesWorld, FailsFor, GivesBack, EndsAsFailed};
+
+use crate::front::Front;
+use crate::line::Line;
+use crate::service::Every;
+use crate::standing::{Losses, ending_of_left};
+use capture_core::PlainCopy;
+use disk_model::{Disk, FourFiles};
+use shared_capture::Method;
+use std::alloc::Global;
+use std::sync::Wait;
+use std::thread::Threads;
+use std::time::Clock;
+use tcp_service::{Admission, Closed, Door, NotServed, Stopped, serve_tcp};
+use worker_steps::{Gates, Opened};
+use worker_threads::{Seats, Watch, start_world};
+use workers::{ImageWriter, Log, Open};
+use world_actions::Refusal;
+use world_folder::{Doubtful, Ending, NotRecovered, ServerEnding, Whole, WorldTold, recover_whole};
+
+/// A world that was served, once its server has stopped.
+#[derive(Drop)]
+pub struct Served<M: Method, D: Disk + Drop> {
+    /// The world with which it began.
+    pub recovered: WorldTold,
+    pub stopped: Stopped<M, D, Open, Open, Open>,
+}
+
+/// Why a world isn't served to its end.
+#[derive(Drop)]
+pub enum WorldFailure<D: Disk + Drop> {
+    /// No world is recovered from the files.
+    NotRecovered(FourFiles<D>, NotRecovered),
+    /// The start of this world failed.
+    NotStarted(WorldTold, FourFiles<D>, Refusal),
+    /// No client can come to it.
+    NotOpened(WorldTold, FourFiles<D>, Ending),
+    /// Its workers couldn't be started, or the server was left while they run on.
+    NotRun(WorldTold, Ending),
+}
+
+/// Serves the world of four files. It recovers the world, prints which one it is, runs its start, lets the clients in, and
+/// stops the workers after the last client. It then prints how far play came. On disks that keep to the disk model the files
+/// are sound throughout: a refusal leaves them with the same world, and a server with all that was acknowledged.
+pub fn serve_world<
+    R: Threads + Wait + Clock + Copy + Send + 'static,
+    M: Seats + Send + 'static,
+    D: Disk + Drop + Send + 'static,
+    W: Watch<D> + Door + Clone + Drop + Send + 'static,
+    F: Front<M, D, W>,
+>(
+    rt: &R,
+    alloc: Global,
+    front: &mut F,
+    files: FourFiles<D>,
+    every: Every,
+    admission: Admission,
+) -> Result<Served<M, D>, WorldFailure<D>>
+    ensures recovered { IsTrue D.honest → IfOk result (λ served.
+        RecoversTo D.content files served.stopped.workers.mutator.opening served.recovered) }
+    ensures whole { IsTrue D.honest → IfOk result (λ served.
+        NothingLost D.content served.recovered.tick served.recovered.from files) }
+    ensures sound { IsTrue D.honest → IfOk result (λ served.
+        GoesOnSound D.content D.may_leave files served.recovered.tick served.stopped.workers.mutator
+        served.stopped.workers.checkpointer served.stopped.workers.log_writer) }
+    ensures left { IsTrue D.honest → IfErr result (LeavesWorld D.content D.may_leave files) }
+    ensures reason { IfErr result (FailsFor D.content D.honest files) }
+    ensures printed { IsTrue F.known → MatchResult result
+        (λ served. F.printed front.new ≡ F.printed front.old ++ recovered_line served.recovered
+        ∷ stopped_line served.stopped.workers.mutator served.stopped.workers.checkpointer served.stopped.workers.log_writer ∷ [])
+        (λ failure. F.printed front.new ≡ F.printed front.old ++ failure_lines failure) }
+    ensures doubtful { IsTrue F.known → IsTrue D.honest → IfOk result (λ served. (doubtful : Option Doubt)
+        × DoubtfulIn D.content served.recovered.tick files (option_map (λ doubt. doubt.0) doubtful)
+        × (F.noted front.new ≡ F.noted front.old ++ doubtful_lines doubtful)) }
+    ensures ends { IfErr result EndsAsFailed }
+    ensures all { IfOk result (λ served. served.stopped.accepted.closed ≡ Closed.AllCame
+        → served.stopped.accepted.connections ≡ admission.clients) }
+    ensures every { IfOk result (λ served. served.stopped.workers.mutator.every ≡ every.0) }
+{
+    let (recovered, opened) = open_files::<M, D, W, F>(alloc, front, files)?;
+    serve_opened(rt, alloc, front, recovered, opened, every, admission)
+}
+
+// Recovers the world of the files, prints which one it is, and runs its start to the end.
+fn open_files<M: Seats, D: Disk + Drop, W, F: Front<M, D, W>>(
+    alloc: Global,
+    front: &mut F,
+    files: FourFiles<D>,
+) -> Result<(WorldTold, Opened<M, D>), WorldFailure<D>>
+    ensures begins { IfOk result (λ made.
+        IsWhole D.honest D.content made.1.front made.1.back made.1.images made.1.log made.1.ended) }
+    ensures tick { IfOk result (λ made. made.1.ended ≡ made.0.tick) }
+    ensures recovered { IsTrue D.honest → IfOk result (λ made. RecoversTo D.content files made.1.front.live made.0) }
+    ensures whole { IsTrue D.honest → IfOk result (λ made. NothingLost D.content made.0.tick made.0.from files) }
+    ensures stands { IsTrue D.honest → IfOk result (λ made. StandsOpened D.content D.may_leave files made.0.tick
+        made.1.front.live made.1.images made.1.log) }
+    ensures keeps { IsTrue D.honest → IfOk result (λ made.
+        KeepsWorld D.content D.may_leave files made.0.tick (files_of made.1.images made.1.log)) }
+    ensures left { IsTrue D.honest → IfErr result (LeavesWorld D.content D.may_leave files) }
+    ensures reason { IfErr result (FailsFor D.content D.honest files) }
+    ensures printed { IsTrue F.known → MatchResult result
+        (λ made. F.printed front.new ≡ F.printed front.old ++ recovered_line made.0 ∷ [])
+        (λ failure. F.printed front.new ≡ F.printed front.old ++ failure_lines failure) }
+    ensures doubtful { IsTrue F.known → IsTrue D.honest → IfOk result (λ made. (doubtful : Option Doubt)
+        × DoubtfulIn D.content made.0.tick files (option_map (λ doubt. doubt.0) doubtful)
+        × (F.noted front.new ≡ F.noted front.old ++ doubtful_lines doubtful)) }
+    ensures ends { IfErr result EndsAsFailed }
+{
+    let mut files = files;
+    match recover_whole::<PlainCopy, D>(alloc, &mut files) {
+        Ok(found) => {
+            let Whole { begun, doubtful } = found;
+            let recovered = WorldTold {
+                tick: begun.engine.ended,
+                from: begun.from,
+            };
+            announce::<M, D, W, F>(front, recovered, doubtful);
+            match start_world::<M, PlainCopy, D>(alloc, begun, files) {
+                Ok(opened) => Ok((recovered, opened)),
+                Err((files, refusal)) => Err(WorldFailure::NotStarted(recovered, files, refusal)),
+            }
+        }
+        Err(why) => Err(WorldFailure::NotRecovered(files, why)),
+    }
+}
+
+// Prints which world was recovered, and names the log that may have been lost.
+fn announce<M: Method, D: Disk + Drop, W, F: Front<M, D, W>>(
+    front: &mut F,
+    recovered: WorldTold,
+    doubtful: Option<Doubtful>,
+)
+    ensures printed { IsTrue F.known → F.printed front.new ≡ F.printed front.old ++ recovered_line recovered ∷ [] }
+    ensures noted { IsTrue F.known → F.noted front.new ≡ F.noted front.old ++ doubtful_lines doubtful }
+{
+    front.print(Line::Recovered {
+        ended: recovered.tick,
+        from: recovered.from,
+    });
+    if let Some(doubtful) = doubtful {
+        front.note(Line::Doubtful(doubtful));
+    }
+}
+
+// Lets the clients of an open world in, and serves them until the last one has gone.
+fn serve_opened<
+    R: Threads + Wait + Clock + Copy + Send + 'static,
+    M: Method + Send + 'static,
+    D: Disk + Drop + Send + 'static,
+    W: Watch<D> + Door + Clone + Drop + Send + 'static,
+    F: Front<M, D, W>,
+>(
+    rt: &R,
+    alloc: Global,
+    front: &mut F,
+    recovered: WorldTold,
+    opened: Opened<M, D>,
+    every: Every,
+    admission: Admission,
+) -> Result<Served<M, D>, WorldFailure<D>>
+    requires { IsWhole D.honest D.content opened.front opened.back opened.images opened.log opened.ended }
+    ensures recovered { IfOk result (λ served. served.recovered ≡ recovered) }
+    ensures opening { IfOk result (λ served. served.stopped.workers.mutator.opening ≡ opened.front.live) }
+    ensures sound { IsTrue D.honest → IfOk result (λ served.
+        StaysSound D.content D.may_leave opened.front.live opened.images opened.log opened.ended
+        served.stopped.workers.mutator served.stopped.workers.checkpointer served.stopped.workers.log_writer) }
+    ensures acked { IfOk result (λ served. opened.ended ≤ served.stopped.workers.log_writer.acked) }
+    ensures left { IfErr result (GivesBack recovered (files_of opened.images opened.log)) }
+    ensures printed { IsTrue F.known → MatchResult result
+        (λ served. F.printed front.new ≡ F.printed front.old
+        ++ stopped_line served.stopped.workers.mutator served.stopped.workers.checkpointer served.stopped.workers.log_writer ∷ [])
+        (λ failure. F.printed front.new ≡ F.printed front.old) }
+    ensures noted { IsTrue F.known → F.noted front.new ≡ F.noted front.old }
+    ensures ends { IfErr result EndsAsFailed }
+    ensures all { IfOk result (λ served. served.stopped.accepted.closed ≡ Closed.AllCame
+        → served.stopped.accepted.connections ≡ admission.clients) }
+    ensures every { IfOk result (λ served. served.stopped.workers.mutator.every ≡ every.0) }
+{
+    let gates = Gates {
+        mutator: Open,
+        checkpointer: Open,
+        log_writer: Open,
+    };
+    match front.open(&opened) {
+        Ok((listener, watch)) => match serve_tcp(
+            rt, alloc, gates, watch, opened, every.0, listener, admission,
+        ) {
+            Ok(stopped) => {
+                front.print(line_of(&stopped));
+                Ok(Served { recovered, stopped })
+            }
+            Err(reason) => Err(WorldFailure::NotRun(recovered, not_served(reason, front.losses()))),
+        },
+        Err(ending) => Err(WorldFailure::NotOpened(recovered, into_files(opened), ending)),
+    }
+}
+
+// The four files of an open world.
+fn into_files<M: Method, D: Disk + Drop>(opened: Opened<M, D>) -> FourFiles<D>
+    ensures { result ≡ files_of opened.images opened.log }
+{
+    let Opened {
+        front: _,
+        back: _,
+        images,
+        log,
+        ended: _,
+    } = opened;
+    let ImageWriter {
+        keeper: _,
+        image_a,
+        image_b,
+    } = images;
+    let Log { keeper: _, a, b } = log;
+    FourFiles {
+        image_a,
+        image_b,
+        log_a: a,
+        log_b: b,
+    }
+}
+
+// The line of a server that has stopped.
+fn line_of<M: Method, D: Disk + Drop>(stopped: &Stopped<M, D, Open, Open, Open>) -> Line
+    ensures { result ≡ stopped_line stopped.now.workers.mutator stopped.now.workers.checkpointer stopped.now.workers.log_writer }
+{
+    Line::Stopped {
+        ended: stopped.workers.mutator.ended(),
+        acked: stopped.workers.acked(),
+    }
+}
+
+// How the program ends if a server doesn't run to its end, of which so much is lost.
+fn not_served(reason: NotServed, lost: Losses) -> Ending
+    ensures ends { EndsServing result }
+    ensures memory { reason ≡ NotServed.NoMemory → result ≡ Ending.Fault Refusal.NoMemory }
+    ensures thread { reason ≡ NotServed.NoThread → result ≡ Ending.Server ServerEnding.NoThread }
+    ensures left { reason ≡ NotServed.Left → result ≡ left_ending lost }
+{
+    match reason {
+        NotServed::NoMemory => Ending::Fault(Refusal::NoMemory),
+        NotServed::NoThread => Ending::Server(ServerEnding::NoThread),
+        NotServed::Left => ending_of_left(lost),
+    }
+}
+
+impl<M: Method, D: Disk + Drop> Served<M, D> {
+    /// How the program ends: by the log, else by the images, else by the listener.
+    pub fn ending(&self) -> Ending
+        ensures stops { StopsWith self.now.stopped.workers.log_writer.down
+            self.now.stopped.workers.checkpointer.images.keeper.phase self.now.stopped.accepted.closed result }
+        ensures ends { EndsServing result }
+    {
+        if self.stopped.workers.log_writer.is_down() {
+            return Ending::Server(ServerEnding::LogDown);
+        }
+        if self.stopped.workers.checkpointer.is_down() {
+            return Ending::Server(ServerEnding::ImagesDown);
+        }
+        match self.stopped.accepted.closed {
+            Closed::AllCame => Ending::Ran,
+            Closed::NoMemory => Ending::Fault(Refusal::NoMemory),
+            Closed::Failed(_) => Ending::Server(ServerEnding::ListenerFailed),
+            Closed::Left => Ending::Server(ServerEnding::LogDown),
+        }
+    }
+}
