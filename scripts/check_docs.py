@@ -9,6 +9,7 @@ It takes seconds, and prints the page, the line and the reason of each of these:
 - a block of code that differs from the file that it quotes
 - a wrong body of the gate that no table has, and a row on one that is not there
 - a function of the walk of a tick that its file does not have
+- a function that README promises something of, and that worldd does not call
 
 A block between fences is a quote, whole or in part: of the file in a marker on a line above it, `<!-- examples/FILE -->` or
 `<!-- clients/.. -->`, or without a language of any file in src/ or specs/ of a crate. An indented block is text. The marker `<!-- run -->` makes it
@@ -22,6 +23,7 @@ from collections.abc import Iterator
 
 from code_names import TOP, Names
 from map import Refused, below, read_crates
+import reached
 import walk
 
 # Pages whose names in backquotes are looked up.
@@ -202,6 +204,14 @@ def wrong_citations(page: Page, names: Names, libraries: set[str]) -> Iterator[F
                 yield page.name, page.line_of(found.start()), f"`{found[1]}` has no clause `{clause}`"
 
 
+def uncalled(page: Page, names: Names) -> Iterator[Finding]:
+    """Rows on promises of functions that worldd does not call."""
+    called, functions = reached.reached(), set().union(*names.functions.values())
+    for line, row in rows_of(page):
+        for name in reached.unreached(row.get("contract", ""), called, functions):
+            yield page.name, line, f"`main` of worldd does not reach `{name}`"
+
+
 def anchors(text: str) -> set[str]:
     """The anchors of a page's headings."""
     heads = re.findall(r"^#+ (.*)$", text, re.MULTILINE)
@@ -267,6 +277,8 @@ def findings() -> Iterator[Finding]:
             yield from wrong_counts(page, counts)
         if page.name.startswith(CITING):
             yield from wrong_citations(page, names, libraries)
+        if page.name == "README.md":
+            yield from uncalled(page, names)
         yield from wrong_links(page)
         yield from wrong_quotes(page, code)
     yield from ((walk.PAGE, line, reason) for line, reason in walk.findings())

@@ -345,7 +345,8 @@ def main() -> int:
     folder = pathlib.Path(tempfile.mkdtemp(prefix="device-trial-", dir=here_machine.MEMORY if given.here else None))
     trial = Trial(given, folder, "DROP_LEFT_OUT=1" if given.show else "")
     try:
-        print(trial.run(given.failures))
+        with here_machine.writing_late() if given.here else contextlib.nullcontext():
+            print(trial.run(given.failures))
         if given.show:
             raise Wrong("no loss was seen without the drop of copies")
     except (Wrong, OSError, subprocess.SubprocessError) as wrong:

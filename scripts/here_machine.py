@@ -1,5 +1,6 @@
 """This machine in the place of one of QEMU's, for device_trial.py: much faster, and for root alone. The disk is a file that is
 served from here by the protocol of FUSE, with a loop device over it. A power cut is a copy of what that disk holds then."""
+import contextlib
 import ctypes
 import os
 import pathlib
@@ -22,6 +23,8 @@ from power_machine import DISK, FAILED, FLUSH, READ, WRITE, Disk, Rig
 # Of the protocol: the kinds of requests, and the attributes of a folder and of the file in it.
 INIT, LOOKUP, GETATTR, OPEN, OPENDIR, READS, WRITES, SYNCS = 26, 1, 3, 14, 27, 15, 16, 20
 UNANSWERED, EMPTY, NO_SYSTEM_CALL, DIRECT = (2, 36, 42), (18, 25, 29, 38), 38, 1
+# How often the system writes back by itself, in hundredths of a second.
+WRITE_BACK = pathlib.Path("/proc/sys/vm/dirty_writeback_centisecs")
 # Files of disks that are looked at are in memory.
 MEMORY, ZEROS = "/dev/shm", bytes(1 << 18)
 HEAD, ATTRIBUTES = struct.Struct("<IIQQIIII"), struct.Struct("<6Q10I")
@@ -160,6 +163,17 @@ class Here(Served):
                 raise Wrong("the script has ended")
             *lines, self.rests[number] = (self.rests[number] + data).split(b"\n")
             yield from ((number, line.decode(errors="replace").strip()) for line in lines)
+
+
+@contextlib.contextmanager
+def writing_late() -> Iterator[None]:
+    """Lets the system write nothing back by itself for ten minutes: such a write would meet a refusal that is for a call."""
+    was = WRITE_BACK.read_text()
+    WRITE_BACK.write_text("60000")
+    try:
+        yield
+    finally:
+        WRITE_BACK.write_text(was)
 
 
 def lacking() -> list[str]:
