@@ -11,6 +11,7 @@ start, which has to lose ticks.
 """
 import argparse
 import contextlib
+import itertools
 import os
 import pathlib
 import random
@@ -86,6 +87,10 @@ def step_of(name: str, at: int, count: int, first: int) -> str:
     return "words" if name.startswith("image") else "gate" if count == 1 else "body"
 
 
+class Strayed(Exception):
+    """The disk refused a write of the system's own in the place of a call's, and a file of the server failed by it."""
+
+
 class Trial(Rig):
     """A trial on a file system: what was answered, what waits, and the call that is to fail."""
 
@@ -152,7 +157,9 @@ class Trial(Rig):
             if self.wanted and int(words[0]) < 0 and (self.hits or self.way is None):
                 self.failed_now, self.wanted_now = self.wanted, ()
                 self.tally.update([self.wanted])
-            self.tally["failed elsewhere"] += bool(self.hits and int(words[0]) >= 0)
+            if self.hits and int(words[0]) >= 0:
+                # The file that the write was of reports it at its next sync: in this case or in the next one.
+                self.tally["failed elsewhere"], self.strayed = self.tally["failed elsewhere"] + 1, 2
             self.wanted, self.way, self.hits, self.is_journal, self.is_asked = None, None, 0, False, False
         else:
             self.is_asked = True
@@ -221,6 +228,8 @@ class Trial(Rig):
         """Nothing is down if no call failed. What came of the call may arrive behind the line that something is down."""
         if self.down and not self.failed_now:
             self.until(lambda: not self.is_asked, "a call goes on")
+            if not self.failed_now and self.strayed:
+                raise Strayed
             if not self.failed_now:
                 raise Wrong(f"{self.down} in {self.phase}, though no call failed: {self.told_by_server}")
 
@@ -268,6 +277,7 @@ class Trial(Rig):
 
     def case(self) -> None:
         """Lets a call fail, does what the manual says, starts the server again, and cuts the power."""
+        self.strayed = max(self.strayed - 1, 0)
         if not self.fail():
             self.tally["not met"] += 1
             return
@@ -287,7 +297,7 @@ class Trial(Rig):
         self.answered = {tick: told for tick, told in self.answered.items() if tick > found.tick}
 
     def serve(self, run: int, upto: int) -> None:
-        """Lets calls fail in a new machine."""
+        """Lets calls fail in a new machine. One whose server fell by a refusal that strayed is judged, and left."""
         self.plans = [batches(f"{self.given.seed} {run} {client}", client, run) for client in range(CLIENTS)]
         self.before = Found("recovered 0 from 0", 0, 0, "image.a", [0] * self.given.cells, False)
         self.answered: dict[int, tuple[Batch, str]] = {}
@@ -295,18 +305,24 @@ class Trial(Rig):
         self.dead: list[Batch] = []
         self.gone: set[int] = set()
         self.wanted, self.wanted_now, self.failed_now, self.told_by_server, self.until_cut = None, (), None, "", 0
+        self.strayed = 0
         words = {"method": METHODS[run % 2], "every": random.choice(EVERY)}
         with self.start(**words) as self.running:
             self.running.refused = self.refused
-            self.again()
-            while self.tally["failed calls"] < upto:
-                self.case()
+            try:
+                self.again()
+                while self.tally["failed calls"] < upto:
+                    self.case()
+            except Strayed:
+                self.look("elsewhere")
 
     def run(self, count: int) -> str:
         """Lets so many calls fail, and gives the counts. Each kind has to be met."""
         with contextlib.nullcontext() if self.given.here else self.reading() as self.reader:
-            for run, done in enumerate(range(0, count, FAILURES_OF_A_MACHINE)):
-                self.serve(run, min(done + FAILURES_OF_A_MACHINE, count))
+            for run in itertools.count():
+                if self.tally["failed calls"] >= count:
+                    break
+                self.serve(run, min(self.tally["failed calls"] + FAILURES_OF_A_MACHINE, count))
         never = [" ".join(kind) for kind in self.kinds if not self.tally[kind]]
         if never:
             raise Wrong(f"never met: {', '.join(never)}: {self.counts()}")
@@ -315,7 +331,7 @@ class Trial(Rig):
     def counts(self) -> str:
         """What was met: all in all, and of each file in each step, in starts and in play."""
         names = ("failed calls", *(f"by a {way}" for way in (CALL, *REFUSED)), "images down", "log down", "fault 18", "file system stopped")
-        names += ("failed elsewhere", "not met", "batches refused", "ticks answered", "cuts", *CUTS, "in play", *WAYS)
+        names += ("failed elsewhere", "not met", "batches refused", "ticks answered", "cuts", *CUTS, "in play", "elsewhere", *WAYS)
         told = [f"{name} {self.tally[name]}" for name in names]
         for phase, file in dict.fromkeys(kind[:2] for kind in self.kinds):
             steps = dict.fromkeys(kind[2] for kind in self.kinds if kind[:2] == (phase, file))
