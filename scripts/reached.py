@@ -12,9 +12,8 @@ from map import below, read_crates
 FUNCTION = re.compile(r"^( *)(?:pub |pub\(\w+\) )?fn (\w+)")
 CALL = re.compile(r"\b(\w+)(?:::<[^;{}]*?>)?\(")
 NAMED = re.compile(r"`(?:\w+::)?([a-z]\w*)`")
-# Functions of README's table that worldd doesn't call, and who calls them.
+# Functions of README's table that worldd doesn't call, and why.
 OTHERS = {
-    "stop_after": "trial_steps, which holds the workers of a server wherever they are",
     "images_stay": "a law: it has no body",
 }
 
