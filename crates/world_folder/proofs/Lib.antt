@@ -8,3 +8,4 @@ pub mod LostLemmas
 pub mod EndingLemmas
 pub mod FoundLemmas
 pub mod CopyLemmas
+pub mod CompletingLemmas

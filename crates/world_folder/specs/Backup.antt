@@ -1,5 +1,5 @@
 -- A copy of a world in another folder.
-use Rattle.std.specs.Prelude.{◌≡◌, ℕ, nat_lt, if◌then◌else◌, List, ◌∷◌, Some}
+use Rattle.std.specs.Prelude.{◌≡◌, ℕ, nat_lt, if◌then◌else◌, List, ◌∷◌}
 use Rattle.disk_model.specs.Disk.{Only}
 use Rattle.disk_model.specs.declared.four_files.FourFiles.{FourFiles}
 use Rattle.file_format.specs.declared.slot.Slot.{Slot}
@@ -18,7 +18,7 @@ use Rattle.world_folder.specs.Verified.{IsVerified}
 
 -- it is named on standard error how often a copy was begun, if it was begun anew
 abbrev pub with_tries : (tries : ℕ) → List Act → List Act
-with_tries tries acts = if nat_lt 1 tries then Warned (Some (begun_text tries)) ∷ acts else acts
+with_tries tries acts = if nat_lt 1 tries then Warned (begun_text tries) ∷ acts else acts
 
 module _ {D : Type 0} (content : D → List ℕ) (leaves : D → List ℕ → Type 0) where
   -- a file was made under its name, and has these bytes, which are durable
@@ -62,4 +62,4 @@ module _ {D : Type 0} (content : D → List ℕ) (leaves : D → List ℕ → Ty
     pub is_room : room ≡ FoundEmpty ∷ before
     pub are_written : AreWritten read.slot copied made room written
     pub is_verified : IsVerified read told written verified
-    pub printed : after ≡ Printed (Some (backed_up_text told.tick told.from)) ∷ with_tries tries verified
+    pub printed : after ≡ Printed (backed_up_text told.tick told.from) ∷ with_tries tries verified

@@ -1,10 +1,11 @@
 -- A world that was made in a folder.
-use Rattle.std.specs.Prelude.{◌≡◌, ℕ, List, [], ◌∷◌, length, replicate, Some}
+use Rattle.std.specs.Prelude.{◌≡◌, ℕ, List, [], ◌∷◌, length, replicate, Option}
+use Rattle.disk_model.specs.FourFiles.{EachFile}
 use Rattle.disk_model.specs.declared.four_files.FourFiles.{FourFiles}
 use Rattle.world_actions.specs.declared.refusal.Refusal.TheVariants.{NoMemory}
 use Rattle.world_start.specs.Fresh.{AreMade}
 use Rattle.world_start.specs.Opening.{AreSound, AreSynced}
-use Rattle.world_folder.specs.Completing.{AreTaken}
+use Rattle.world_folder.specs.Completing.{AreFound, AreTaken, KeepsThere, TellsOpen}
 use Rattle.world_folder.specs.Making.{HoldsWords}
 use Rattle.world_folder.specs.History.{Act, Printed}
 use Rattle.world_folder.specs.Texts.{created_text}
@@ -35,13 +36,22 @@ module _ {D : Type 0} (identity : D → Identity) (content : D → List ℕ) (le
   pub record IsCreated (cells : ℕ) (made : FourFiles D) (before after : List Act) : Type 0 where
     pub acts : List Act
     pub zeros : AreZeros cells made before acts
-    pub printed : after ≡ Printed (Some (created_text cells)) ∷ acts
+    pub printed : after ≡ Printed (created_text cells) ∷ acts
 
   -- a world of these words was made, and then its number of cells was printed
   pub record IsCreatedOfWords (words : List ℕ) (made : FourFiles D) (before after : List Act) : Type 0 where
     pub acts : List Act
     pub is_words : AreWords words made before acts
-    pub printed : after ≡ Printed (Some (created_text (length words))) ∷ acts
+    pub printed : after ≡ Printed (created_text (length words)) ∷ acts
+
+  -- No world was made, since a file that is there may hold one. The ending names the first such file. No file was made. Those that
+  -- are there were opened, and then only read.
+  pub record IsRefused (folder : List ℕ) (ending : Ending) (before after : List Act) : Type 0 where
+    pub there : FourFiles (Option D)
+    pub left : FourFiles (Option D)
+    pub found : AreFound identity there before after
+    pub told : TellsOpen content folder there ending
+    pub kept : EachFile there left (KeepsThere content leaves)
 
 -- the ending of a command that made these files: it names them, if a file failed or memory was wanting
 abbrev pub IsUnfinished : MadeFiles → Ending → Ending → Type 0

@@ -1,5 +1,5 @@
 -- The calls that a program made in a folder, and the lines that it printed: its history, the latest one first.
-use Rattle.std.specs.Prelude.{ℕ, List, ◌∷◌, Option}
+use Rattle.std.specs.Prelude.{◌≡◌, ℕ, List, ◌∷◌, Option, Some, None}
 use Rattle.world_folder.specs.declared.entry.Entry.{Entry}
 use Rattle.world_folder.specs.declared.locks.LockState.{LockState}
 use Rattle.world_folder.specs.declared.world_file.WorldFile.{WorldFile}
@@ -27,9 +27,19 @@ pub data Act : Type 0 where
   OwnNameSynced : Act
   -- the folder has no file
   FoundEmpty : Act
-  -- a line was printed, on standard output or on standard error: its text, if that is stated
-  Printed : Option (List ℕ) → Act
-  Warned : Option (List ℕ) → Act
+  -- a line with this text was printed, on standard output or on standard error
+  Printed : List ℕ → Act
+  Warned : List ℕ → Act
+
+-- a line was printed on standard output: the one whose text is stated, if it is
+abbrev pub IsPrinted : Option (List ℕ) → (before after : List Act) → Type 0
+IsPrinted (Some text) before after = after ≡ Printed text ∷ before
+IsPrinted None before after = (text : List ℕ) × (after ≡ Printed text ∷ before)
+
+-- the same of standard error
+abbrev pub IsWarned : Option (List ℕ) → (before after : List Act) → Type 0
+IsWarned (Some text) before after = after ≡ Warned text ∷ before
+IsWarned None before after = (text : List ℕ) × (after ≡ Warned text ∷ before)
 
 -- the lock of image.a is taken, and that of no other file
 abbrev pub with_lock : WorldFile → Entry → List Act → List Act

@@ -5,7 +5,7 @@ use Rattle.std.specs.declared.alloc.Global.{Global}
 use Rattle.std.specs.declared.io.Error.{Error}
 use Rattle.recovery.specs.declared.recovered.Recovered.{Recovered}
 use Rattle.world_folder.specs.Fault.{Files, AreRead, Stands}
-use Rattle.world_folder.specs.History.{Act, Printed}
+use Rattle.world_folder.specs.History.{Act, Printed, IsPrinted}
 use Rattle.world_folder.specs.Looking.{IsSeen}
 use Rattle.world_folder.specs.Texts.{image_told_text, log_told_text, counted_text, recovered_text}
 use Rattle.world_folder.specs.Told.{IsImageTold, IsLogTold}
@@ -52,7 +52,7 @@ IsLineOf file (Err error) known line = (line.file ≡ file) × (line.told ≡ Un
 abbrev pub IsFileLine : Named (Result (Vec ℕ Global) Error) → Option ℕ → FileLine → Type 0
 IsFileLine named known line = IsLineOf named.file named.value known line
 
--- the line on each file was printed
+-- the line on each file was printed, image.a first
 pub record AreFilesReported (seen : Seen) (before after : List Act) : Type 0 where
   pub image_a : FileLine
   pub image_b : FileLine
@@ -62,7 +62,13 @@ pub record AreFilesReported (seen : Seen) (before after : List Act) : Type 0 whe
   pub is_image_b : IsFileLine seen.files.image_b seen.lengths.image_b image_b
   pub is_log_a : IsFileLine seen.files.log_a seen.lengths.log_a log_a
   pub is_log_b : IsFileLine seen.files.log_b seen.lengths.log_b log_b
-  pub printed : after ≡ Printed (file_line_text log_b) ∷ Printed (file_line_text log_a) ∷ Printed (file_line_text image_b) ∷ Printed (file_line_text image_a) ∷ before
+  pub with_image_a : List Act
+  pub with_image_b : List Act
+  pub with_log_a : List Act
+  pub image_a_printed : IsPrinted (file_line_text image_a) before with_image_a
+  pub image_b_printed : IsPrinted (file_line_text image_b) with_image_a with_image_b
+  pub log_a_printed : IsPrinted (file_line_text log_a) with_image_b with_log_a
+  pub log_b_printed : IsPrinted (file_line_text log_b) with_log_a after
 
 -- all words in decimal, one space between
 abbrev pub words_text : List ℕ → List ℕ
@@ -71,7 +77,7 @@ words_text (first ∷ rest) = decimal first ++ flat_map (λ word. 32 ∷ decimal
 
 -- the words are printed, if they are asked for
 abbrev pub words_printed : (with_words : Bool) → (words : List ℕ) → List Act → List Act
-words_printed true words acts = Printed (Some (words_text words)) ∷ acts
+words_printed true words acts = Printed (words_text words) ∷ acts
 words_printed false words acts = acts
 
 -- The files were seen, and the line on each was printed. Then the world was printed that recovery finds in them.
@@ -85,4 +91,4 @@ pub record IsInspected (with_words : Bool) (before after : List Act) : Type 0 wh
   pub files : AreFilesReported seen looked reported
   pub are_read : AreRead seen.files bytes
   pub stands : Stands bytes found
-  pub printed : after ≡ words_printed with_words found.words.items (Printed (Some (recovered_text found.tick found.from found.slot)) ∷ reported)
+  pub printed : after ≡ words_printed with_words found.words.items (Printed (recovered_text found.tick found.from found.slot) ∷ reported)

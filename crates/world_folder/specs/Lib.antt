@@ -26,6 +26,7 @@ pub mod StatusReport
 pub mod Inspection
 pub mod Verified
 pub mod Unrecovered
+pub mod ModelFolder
 -- inside: for private functions alone
 pub mod Looks
 pub mod Tried

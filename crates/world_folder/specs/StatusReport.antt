@@ -1,5 +1,5 @@
 -- The report on the status of a world.
-use Rattle.std.specs.Prelude.{◌≡◌, ℕ, List, ◌∷◌, Some}
+use Rattle.std.specs.Prelude.{◌≡◌, ℕ, List, ◌∷◌}
 use Rattle.disk_model.specs.declared.four_files.FourFiles.{FourFiles}
 use Rattle.world_folder.specs.Copying.{IsCopied}
 use Rattle.world_folder.specs.Fault.{Files}
@@ -19,14 +19,14 @@ pub record AreFiguresReported (before after : List Act) : Type 0 where
   pub acts : List Act
   pub copy : IsCopied Newest copied lengths before acts
   pub are_figures : AreFigures copied figures
-  pub printed : after ≡ Printed (Some (lengths_text lengths)) ∷ Printed (Some (figures_text figures)) ∷ acts
+  pub printed : after ≡ Printed (lengths_text lengths) ∷ Printed (figures_text figures) ∷ acts
 
 -- the locks were asked for, and what they say was printed
 pub record IsServerReported (before after : List Act) : Type 0 where
   pub told : ServerTold
   pub acts : List Act
   pub is_told : IsServerTold told before acts
-  pub printed : after ≡ Printed (Some (server_text told)) ∷ acts
+  pub printed : after ≡ Printed (server_text told) ∷ acts
 
 pub record IsStatusReported (before after : List Act) : Type 0 where
   pub acts : List Act

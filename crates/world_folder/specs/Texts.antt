@@ -9,6 +9,8 @@ use Rattle.file_format.specs.declared.slot.Slot.{Slot}
 use Rattle.file_format.specs.declared.slot.Slot.TheVariants.{A, B}
 use Rattle.action_log.specs.declared.format.TheConstants.{SEGMENT_TICKS}
 use Rattle.world_folder.specs.declared.fault.Damaged.{Damaged}
+use Rattle.world_folder.specs.declared.fault.Fault.{Fault}
+use Rattle.world_folder.specs.declared.fault.Fault.TheVariants as fault
 use Rattle.world_folder.specs.declared.lost.Lost.{Lost}
 use Rattle.world_folder.specs.declared.lost.Lost.TheVariants as lost
 use Rattle.world_folder.specs.declared.told.ImageTold.{ImageTold}
@@ -93,6 +95,15 @@ abbrev pub lost_text : Lost → List ℕ
 lost_text (lost.Image slot) = image_name slot ++ codes " is empty, so it was lost"
 lost_text (lost.Log slot) = log_name slot ++ codes " is empty, so it was lost"
 lost_text (lost.Gap slot) = log_name slot ++ codes " begins after ticks that were lost"
+
+-- why four files hold no world, beside the refusal
+abbrev pub reason_text : Fault → List ℕ
+reason_text fault.NoMemory = []
+reason_text fault.NoImage = []
+reason_text (fault.Images damaged) = damaged_names damaged IMAGE_A.now IMAGE_B.now
+reason_text (fault.Segments damaged) = damaged_names damaged LOG_A.now LOG_B.now
+reason_text fault.Replay = codes "an action of the log is refused in replay"
+reason_text (fault.Lost lost) = lost_text lost
 
 -- an empty log of a world at tick 0
 abbrev pub doubtful_text : Slot → List ℕ

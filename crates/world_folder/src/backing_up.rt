@@ -63,18 +63,19 @@ pub fn copy_into<F: Folder, T: Folder>(
     };
     let files = write_files(alloc, into, to, &copied.files, read.slot)?;
     let verified = verify(alloc, into, to, &read)?;
-    warn_of_tries(into, copied.tries);
+    warn_of_tries(into, copied.tries)?;
     into.print(BackedUp(verified))?;
     Ok(files)
 }
 
 // Names how often a copy was begun, if it was begun anew.
-fn warn_of_tries<F: Folder>(into: &mut F, tries: u32)
-    ensures { IsTrue F.honest → F.history into.new ≡ with_tries tries (F.history into.old) }
+fn warn_of_tries<F: Folder>(into: &mut F, tries: u32) -> io::Result<()>
+    ensures { IsTrue F.honest → OnOk result (F.history into.new ≡ with_tries tries (F.history into.old)) }
 {
     if tries > 1 {
-        into.warn(BegunAnew(tries));
+        into.warn(BegunAnew(tries))?;
     }
+    Ok(())
 }
 
 /// Refuses a folder that has a file.

@@ -2,15 +2,15 @@ ghost use Rattle.std.specs.Prelude.{◌≡◌, ◌≢◌, ◌∷◌, ◌≤◌, 
 ghost use Rattle.std.specs.Io.KnownBytes.{Consumes, IsAtEnd};
 ghost use Rattle.world_actions.specs.declared.world.TheConstants.{CELLS};
 ghost use Rattle.world_actions.specs.World.{IsWorld};
-ghost use Rattle.world_folder.specs.Completing.{AreTaken};
-ghost use Rattle.world_folder.specs.Creating.{AreZeros, AreWords, IsCreated, IsCreatedOfWords, IsUnfinished};
+ghost use Rattle.world_folder.specs.Completing.{AreTaken, IsOccupied};
+ghost use Rattle.world_folder.specs.Creating.{AreZeros, AreWords, IsCreated, IsCreatedOfWords, IsRefused, IsUnfinished};
 ghost use Rattle.world_folder.specs.Ending.{IsFault, TellsFailure};
 ghost use Rattle.world_folder.specs.Failing.{failure_there, first_failure};
 ghost use Rattle.world_folder.specs.History.{Printed};
 ghost use Rattle.world_folder.specs.Texts.{created_text};
 
 use crate::completing::complete;
-use crate::ending::{Ending, Unlisted};
+use crate::ending::{Ending, Unlisted, unprinted};
 use crate::folders::{Folder, WorldDisk};
 use crate::forward::read_forward;
 use crate::making::{Made, make_in, make_of_words};
@@ -55,14 +55,16 @@ pub fn create_zeros<F: Folder>(
     ensures created { IsTrue F.honest → IsTrue F.File.honest → IfOk result (λ created.
         IsCreated F.identity F.File.content F.File.may_leave cells created.0 (F.history folder.old) (F.history folder.new)) }
     ensures cells { IfOk result (λ created. created.1.cells ≡ cells) }
+    ensures refused { IsTrue F.honest → IsTrue F.File.honest → IfErr result (λ ending. IsOccupied ending
+        → IsRefused F.identity F.File.content F.File.may_leave path.now ending (F.history folder.old) (F.history folder.new)) }
     ensures fault { IfErr result IsFault }
 {
     let mut made = MadeFiles::none();
     match make_zeros(alloc, folder, path, cells, &mut made) {
-        Ok((files, world)) => {
-            folder.print(world)?;
-            Ok((files, world))
-        }
+        Ok((files, world)) => match folder.print(world) {
+            Ok(()) => Ok((files, world)),
+            Err(error) => Err(unprinted(error)),
+        },
         Err(ending) => Err(unfinished(made, ending)),
     }
 }
@@ -78,6 +80,8 @@ fn make_zeros<F: Folder>(
     ensures zeros { IsTrue F.honest → IsTrue F.File.honest → IfOk result (λ made.
         AreZeros F.identity F.File.content F.File.may_leave cells made.0 (F.history folder.old) (F.history folder.new)) }
     ensures cells { IfOk result (λ made. made.1.cells ≡ cells) }
+    ensures refused { IsTrue F.honest → IsTrue F.File.honest → IfErr result (λ ending. IsOccupied ending
+        → IsRefused F.identity F.File.content F.File.may_leave path.now ending (F.history folder.old) (F.history folder.new)) }
     ensures fault { IfErr result IsFault }
 {
     let files = four_files(alloc, folder, path, made)?;
@@ -115,14 +119,16 @@ pub fn create_listed<F: Folder>(
     ensures created { IsTrue F.honest → IsTrue F.File.honest → IfOk result (λ created.
         IsCreatedOfWords F.identity F.File.content F.File.may_leave listed.now.words.items created.0 (F.history folder.old) (F.history folder.new)) }
     ensures cells { IfOk result (λ created. created.1.cells ≡ length listed.now.words.items) }
+    ensures refused { IsTrue F.honest → IsTrue F.File.honest → IfErr result (λ ending. IsOccupied ending
+        → IsRefused F.identity F.File.content F.File.may_leave path.now ending (F.history folder.old) (F.history folder.new)) }
     ensures fault { IfErr result IsFault }
 {
     let mut made = MadeFiles::none();
     match make_listed(alloc, folder, path, listed, &mut made) {
-        Ok((files, world)) => {
-            folder.print(world)?;
-            Ok((files, world))
-        }
+        Ok((files, world)) => match folder.print(world) {
+            Ok(()) => Ok((files, world)),
+            Err(error) => Err(unprinted(error)),
+        },
         Err(ending) => Err(unfinished(made, ending)),
     }
 }
@@ -138,6 +144,8 @@ fn make_listed<F: Folder>(
     ensures words { IsTrue F.honest → IsTrue F.File.honest → IfOk result (λ made.
         AreWords F.identity F.File.content F.File.may_leave listed.now.words.items made.0 (F.history folder.old) (F.history folder.new)) }
     ensures cells { IfOk result (λ made. made.1.cells ≡ length listed.now.words.items) }
+    ensures refused { IsTrue F.honest → IsTrue F.File.honest → IfErr result (λ ending. IsOccupied ending
+        → IsRefused F.identity F.File.content F.File.may_leave path.now ending (F.history folder.old) (F.history folder.new)) }
     ensures fault { IfErr result IsFault }
 {
     let files = four_files(alloc, folder, path, made)?;
@@ -156,6 +164,8 @@ fn four_files<F: Folder>(
 ) -> Result<FourFiles<F::File>, Ending>
     ensures taken { IsTrue F.honest → IsTrue F.File.honest → IfOk result (λ files.
         AreTaken F.File.content F.File.may_leave F.identity files (F.history folder.old) (F.history folder.new)) }
+    ensures refused { IsTrue F.honest → IsTrue F.File.honest → IfErr result (λ ending. IsOccupied ending
+        → IsRefused F.identity F.File.content F.File.may_leave path.now ending (F.history folder.old) (F.history folder.new)) }
     ensures fault { IfErr result IsFault }
 {
     let mut present = open_present(alloc, folder, path)?;
@@ -213,6 +223,7 @@ fn not_made<D: WorldDisk + Drop>(
     ensures other { ending ≢ Ending.Fault Refusal.Device → result ≡ ending }
     ensures device { IsTrue D.honest → ending ≡ Ending.Fault Refusal.Device → TellsFailure folder.now (first_failure (D.failure files.image_a)
         (D.failure files.image_b) (D.failure files.log_a) (D.failure files.log_b)) result }
+    ensures same { IsOccupied result → result ≡ ending }
     ensures fault { IsFault result }
 {
     match ending {
@@ -232,6 +243,7 @@ fn not_read<D: WorldDisk + Drop>(
     ensures other { ending ≢ Ending.Fault Refusal.Device → result ≡ ending }
     ensures device { IsTrue D.honest → ending ≡ Ending.Fault Refusal.Device → TellsFailure folder.now (first_failure (failure_there D.failure present.image_a)
         (failure_there D.failure present.image_b) (failure_there D.failure present.log_a) (failure_there D.failure present.log_b)) result }
+    ensures same { IsOccupied result → result ≡ ending }
     ensures fault { IsFault result }
 {
     match ending {
@@ -244,6 +256,7 @@ fn not_read<D: WorldDisk + Drop>(
 fn unfinished(made: MadeFiles, ending: Ending) -> Ending
     requires { IsFault ending }
     ensures made { IsUnfinished made ending result }
+    ensures same { IsOccupied result → result ≡ ending }
     ensures fault { IsFault result }
 {
     match ending {

@@ -1,7 +1,8 @@
 ghost use Rattle.std.specs.Prelude.{◌≡◌, Some, true, false};
 ghost use Rattle.std.specs.Path.{path_buf_bytes};
 ghost use Rattle.std.specs.Process.{exit_status};
-ghost use Rattle.world_folder.specs.Ending.{IsStatusOfError, IsStatusOfRefusal, IsStatusOfServer, IsStatusOfUnfinished};
+ghost use Rattle.world_folder.specs.Completing.{IsOccupied};
+ghost use Rattle.world_folder.specs.Ending.{IsFault, IsStatusOfError, IsStatusOfRefusal, IsStatusOfServer, IsStatusOfUnfinished};
 ghost use Rattle.world_folder.specs.Texts.{fault_text, filled_text, unlisted_text};
 
 use crate::escaped::Escaped;
@@ -187,13 +188,21 @@ impl From<io::Error> for Ending {
     ghost from_gives = { λ _ ending. IsFault ending };
 
     fn from(error: io::Error) -> Self {
-        match refusal_of(&error) {
-            Refusal::Device => Ending::Stream(StreamFailure {
-                stream: Stream::Output,
-                error,
-            }),
-            refusal => Ending::Fault(refusal),
-        }
+        unprinted(error)
+    }
+}
+
+/// How the program ends if a line can't be printed.
+pub fn unprinted(error: io::Error) -> Ending
+    ensures fault { IsFault result }
+    ensures other { ¬ IsOccupied result }
+{
+    match refusal_of(&error) {
+        Refusal::Device => Ending::Stream(StreamFailure {
+            stream: Stream::Output,
+            error,
+        }),
+        refusal => Ending::Fault(refusal),
     }
 }
 

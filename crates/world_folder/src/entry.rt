@@ -28,6 +28,12 @@ pub struct Entry {
     pub names: u64,
 }
 
+impl Identity {
+    pub fn new(device: u64, inode: u64) -> Self {
+        Identity { device, inode }
+    }
+}
+
 impl Entry {
     pub fn of(metadata: &Metadata) -> Self {
         let kind = if metadata.is_symlink() {

@@ -1,9 +1,9 @@
-ghost use Rattle.std.specs.Prelude.{◌≡◌, ◌⊎◌, ◌↔◌, ◌++◌, IsTrue, Err, IfOk, IfErr};
+ghost use Rattle.std.specs.Prelude.{◌≡◌, ◌⊎◌, ◌↔◌, ◌++◌, Some, IsTrue, Err, IfOk, IfErr};
 ghost use Rattle.image_files.specs.Image.{image_of};
 ghost use Rattle.action_log.specs.Segment.{MalformedSegment, IsSegment};
 ghost use Rattle.recovery.specs.Recovery.{Recovers, is_bad_image};
 ghost use Rattle.world_folder.specs.Fault.{Stands, IsWhole, Explains};
-ghost use Rattle.world_folder.specs.Texts.{damaged_names};
+ghost use Rattle.world_folder.specs.Texts.{damaged_names, reason_text};
 
 use crate::lost::{Lost, lost_of};
 use crate::world_file::{IMAGE_A, IMAGE_B, LOG_A, LOG_B};
@@ -63,16 +63,31 @@ impl fmt::Display for Fault {
         let refusal = self.refusal();
         match self {
             Fault::NoMemory | Fault::NoImage => write!(f, "{refusal}"),
+            _ => write!(f, "{refusal}: {}", FaultReason(*self)),
+        }
+    }
+}
+
+// Why four files hold no world, beside the refusal.
+#[derive(Clone, Copy)]
+struct FaultReason(Fault);
+
+impl fmt::Display for FaultReason {
+    ghost output = { λ reason. Some (reason_text reason.0) };
+
+    fn fmt<W: fmt::Write>(&self, f: &mut fmt::Formatter<W>) -> fmt::Result {
+        match self.0 {
+            Fault::NoMemory | Fault::NoImage => Ok(()),
             Fault::Images(damaged) => {
-                let names = names_of(*damaged, IMAGE_A, IMAGE_B);
-                write!(f, "{refusal}: {}{}{}", names.0, names.1, names.2)
+                let names = names_of(damaged, IMAGE_A, IMAGE_B);
+                write!(f, "{}{}{}", names.0, names.1, names.2)
             }
             Fault::Segments(damaged) => {
-                let names = names_of(*damaged, LOG_A, LOG_B);
-                write!(f, "{refusal}: {}{}{}", names.0, names.1, names.2)
+                let names = names_of(damaged, LOG_A, LOG_B);
+                write!(f, "{}{}{}", names.0, names.1, names.2)
             }
-            Fault::Replay => write!(f, "{refusal}: an action of the log is refused in replay"),
-            Fault::Lost(lost) => write!(f, "{refusal}: {lost}"),
+            Fault::Replay => f.write_str("an action of the log is refused in replay"),
+            Fault::Lost(lost) => write!(f, "{lost}"),
         }
     }
 }

@@ -105,7 +105,7 @@ fn print_server<F: Folder>(folder: &mut F) -> Result<(), Ending>
     ensures reported { IsTrue F.honest → OnOk result (IsServerReported (F.history folder.old) (F.history folder.new)) }
     ensures fault { IfErr result IsFault }
 {
-    let told = server_in(folder);
+    let told = server_in(folder)?;
     folder.print(told)?;
     Ok(())
 }

@@ -1,8 +1,9 @@
 //! The calls of the system that the commands make in one folder, and the lines that they print.
 ghost use Rattle.std.specs.Prelude.{◌≡◌, ◌∷◌, [], ℕ, Bool, true, Ok, List, Option, Some, None, IsTrue, IfOk, OnOk, OnErr};
 ghost use Rattle.std.specs.declared.io.Error.{Error};
+ghost use Rattle.std.proofs.lemmas.Bool.{false≢true};
 ghost use Rattle.disk_model.specs.Disk.{Only};
-ghost use Rattle.world_folder.specs.History.{Act, Looked, Opened, Made, Locked, Read, Measured, Asked, NamesSynced, OwnNameSynced, FoundEmpty, Printed, Warned};
+ghost use Rattle.world_folder.specs.History.{Act, Looked, Opened, Made, Locked, Read, Measured, Asked, NamesSynced, OwnNameSynced, FoundEmpty, IsPrinted, IsWarned};
 ghost use Rattle.world_folder.specs.declared.entry.Entry.{Entry as FileEntry};
 ghost use Rattle.world_folder.specs.declared.entry.Identity.{Identity as FileIdentity};
 
@@ -10,6 +11,7 @@ use crate::entry::Entry;
 use crate::locks::LockState;
 use crate::world_file::WorldFile;
 use disk_model::Disk;
+use file_disk::FileDisk;
 use std::fmt::Display;
 use std::io;
 
@@ -30,6 +32,14 @@ pub trait WorldDisk: Disk {
     /// Takes the error of the last call that failed.
     fn take_failure(&mut self) -> Option<io::Error>
         ensures { IsTrue Self.honest → result ≡ failure self.old };
+}
+
+impl WorldDisk for FileDisk {
+    ghost failure = { λ _. None };
+
+    fn take_failure(&mut self) -> Option<io::Error> {
+        FileDisk::take_failure(self)
+    }
 }
 
 /// A folder of the system with the four files of a world. A call that fails is no part of its history.
@@ -99,11 +109,11 @@ pub trait Folder {
 
     /// Prints a line on standard output.
     fn print<T: Display + Drop>(&mut self, line: T) -> io::Result<()>
-        ensures printed { IsTrue honest → OnOk result (history self.new ≡ Printed (T.output line) ∷ history self.old) };
+        ensures printed { IsTrue honest → OnOk result (IsPrinted (T.output line) (history self.old) (history self.new)) };
 
-    /// Prints a line on standard error, if that can be written.
-    fn warn<T: Display + Drop>(&mut self, line: T)
-        ensures { IsTrue honest → history self.new ≡ Warned (T.output line) ∷ history self.old };
+    /// Prints a line on standard error, if that can be written. It is no error if it can't.
+    fn warn<T: Display + Drop>(&mut self, line: T) -> io::Result<()>
+        ensures warned { IsTrue honest → OnOk result (IsWarned (T.output line) (history self.old) (history self.new)) };
 
     /// True if the folder has no file.
     fn is_empty(&mut self) -> io::Result<bool>
@@ -114,9 +124,9 @@ pub trait Folder {
         ensures length { IsTrue honest → IfOk result (λ length. history self.new ≡ Measured file length ∷ history self.old) }
         ensures failed { IsTrue honest → OnErr result (history self.new ≡ history self.old) };
 
-    /// Asks for the lock of the file to which a name leads, as a reader does.
-    fn lock_state(&mut self, file: WorldFile) -> LockState
-        ensures { IsTrue honest → history self.new ≡ Asked file result ∷ history self.old };
+    /// Asks for the lock of the file to which a name leads, as a reader does. It is no error if the system can't say.
+    fn lock_state(&mut self, file: WorldFile) -> io::Result<LockState>
+        ensures asked { IsTrue honest → IfOk result (λ state. history self.new ≡ Asked file state ∷ history self.old) };
 
     /// Waits a moment.
     fn pause(&mut self)

@@ -2,6 +2,7 @@ ghost use Rattle.std.specs.Prelude.{◌≡◌, ◌∷◌, [], Some, Ok, IsTrue, 
 ghost use Rattle.std.specs.Path.{path_buf_bytes, path_join};
 ghost use Rattle.disk_model.specs.FourFiles.{EachFile};
 ghost use Rattle.world_folder.specs.Ending.{IsFault, TellsOf, NamesFile, TellsFailure};
+ghost use Rattle.world_folder.specs.Completing.{IsOccupied};
 ghost use Rattle.world_folder.specs.Failing.{failure_there, first_failure};
 ghost use Rattle.world_folder.specs.History.{NamesSynced, synced};
 ghost use Rattle.world_folder.specs.OwnFile.{AreApart, AreHeld, AreOwn, IsOwn};
@@ -38,6 +39,7 @@ impl fmt::Display for Unreadable {
 /// Makes the names of a folder's files durable, and its own.
 pub fn sync_names<F: Folder>(alloc: Global, folder: &mut F, path: &str) -> Result<(), Ending>
     ensures synced { IsTrue F.honest → OnOk result (F.history folder.new ≡ synced (F.history folder.old)) }
+    ensures other { IfErr result (λ ending. ¬ IsOccupied ending) }
     ensures fault { IfErr result IsFault }
 {
     let named = folder.sync_names();
@@ -181,6 +183,7 @@ pub fn path_of(alloc: Global, folder: &str, name: &str) -> Result<PathBuf, Alloc
 pub fn failure_of<D: WorldDisk + Drop>(alloc: Global, folder: &str, files: FourFiles<D>) -> Ending
     ensures first { IsTrue D.honest → TellsFailure folder.now (first_failure (D.failure files.image_a) (D.failure files.image_b)
         (D.failure files.log_a) (D.failure files.log_b)) result }
+    ensures other { ¬ IsOccupied result }
     ensures fault { IsFault result }
 {
     let FourFiles {
@@ -206,6 +209,7 @@ pub fn failure_of_present<D: WorldDisk + Drop>(
 ) -> Ending
     ensures first { IsTrue D.honest → TellsFailure folder.now (first_failure (failure_there D.failure files.image_a)
         (failure_there D.failure files.image_b) (failure_there D.failure files.log_a) (failure_there D.failure files.log_b)) result }
+    ensures other { ¬ IsOccupied result }
     ensures fault { IsFault result }
 {
     let mut files = files;

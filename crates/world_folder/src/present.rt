@@ -3,7 +3,7 @@ ghost use Rattle.std.specs.Prelude.{◌≡◌, ◌∷◌, [], option_map, IsTrue
 ghost use Rattle.disk_model.specs.Disk.{Only};
 ghost use Rattle.disk_model.specs.FourFiles.{EachFile};
 ghost use Rattle.world_folder.specs.Ending.{IsFault, NamesFile};
-ghost use Rattle.world_folder.specs.Completing.{AreFound, EachSynced};
+ghost use Rattle.world_folder.specs.Completing.{AreFound, EachSynced, IsOccupied};
 ghost use Rattle.world_folder.specs.OwnFile.{AreLookedFor, IsOwnIfThere};
 
 use crate::ending::Ending;
@@ -24,6 +24,7 @@ pub fn open_present<F: Folder>(
 ) -> Result<FourFiles<Option<F::File>>, Ending>
     ensures found { IsTrue F.honest → IfOk result (λ files. AreFound F.identity files (F.history folder.old) (F.history folder.new)) }
     ensures synced { IsTrue F.honest → IsTrue F.File.honest → IfOk result (EachSynced F.File.content F.File.may_leave) }
+    ensures other { IfErr result (λ ending. ¬ IsOccupied ending) }
     ensures fault { IfErr result IsFault }
 {
     let files = find_each(alloc, folder, path)?;
@@ -42,6 +43,7 @@ fn find_each<F: Folder>(
     ensures identities { IsTrue F.honest → IfOk result (λ files. EachFile files files (λ found _. IfSome found (λ own. own.identity ≡ F.identity own.disk))) }
     ensures synced { IsTrue F.honest → IsTrue F.File.honest → IfOk result (λ files. EachFile files files
         (λ found _. IfSome found (λ own. Only (F.File.content own.disk) (F.File.may_leave own.disk)))) }
+    ensures other { IfErr result (λ ending. ¬ IsOccupied ending) }
     ensures fault { IfErr result IsFault }
 {
     Ok(FourFiles {
@@ -64,6 +66,7 @@ fn find_named<F: Folder>(
     ensures synced { IsTrue F.honest → IsTrue F.File.honest → IfOk result (λ found.
         IfSome found (λ own. Only (F.File.content own.disk) (F.File.may_leave own.disk))) }
     ensures named { IfErr result (NamesFile path.now file) }
+    ensures other { IfErr result (λ ending. ¬ IsOccupied ending) }
     ensures fault { IfErr result IsFault }
 {
     let found = find_own(folder, file);

@@ -43,19 +43,20 @@ pub fn report_world<F: Folder>(alloc: Global, folder: &mut F, path: &str) -> Res
         Ok(found) => found,
         Err(fault) => return Err(Ending::NoWorld(fault)),
     };
-    warn_of_doubt(folder, found.tick, &files);
+    warn_of_doubt(folder, found.tick, &files)?;
     folder.print(RecoveredLine(WorldTold::of(&found)))?;
     Ok(())
 }
 
 // Names a log that may have been lost of a world at this tick.
-fn warn_of_doubt<F: Folder>(folder: &mut F, tick: u64, files: &FourFiles<Vec<u8>>)
-    ensures { IsTrue F.honest → F.history folder.new
-        ≡ with_doubt (doubtful_log tick files.now.log_a.items files.now.log_b.items) (F.history folder.old) }
+fn warn_of_doubt<F: Folder>(folder: &mut F, tick: u64, files: &FourFiles<Vec<u8>>) -> io::Result<()>
+    ensures { IsTrue F.honest → OnOk result (F.history folder.new
+        ≡ with_doubt (doubtful_log tick files.now.log_a.items files.now.log_b.items) (F.history folder.old)) }
 {
     if let Some(slot) = doubtful_log(tick, files) {
-        folder.warn(DoubtfulLine(Doubtful(slot)));
+        folder.warn(DoubtfulLine(Doubtful(slot)))?;
     }
+    Ok(())
 }
 
 // The line on a world that was recovered.

@@ -2,7 +2,7 @@
 ghost use Rattle.std.specs.Prelude.{◌≡◌, ◌↔◌, ◌++◌, codes, Some, IsTrue, IfOk, IfErr, OnOk};
 ghost use Rattle.world_actions.specs.World.{IsWorld};
 ghost use Rattle.world_folder.specs.Ending.{IsFault};
-ghost use Rattle.world_folder.specs.Salvaging.{IsLost, parts_printed};
+ghost use Rattle.world_folder.specs.Salvaging.{IsLost, AreBytesOf, NamesLost, AreTakenOf, IsSalvagedOf, IsSalvagedInto, parts_printed};
 ghost use Rattle.world_folder.specs.Texts.{image_part_text, log_part_text, run_text};
 ghost use Rattle.world_folder.specs.WorldFile.{name_of};
 
@@ -53,7 +53,9 @@ pub fn salvage_into<F: Folder, T: Folder>(
     into: &mut T,
     to: &str,
 ) -> Result<FourFiles<T::File>, Ending>
-    ensures { IfErr result IsFault }
+    ensures salvaged { IsTrue F.honest → IsTrue F.File.honest → IsTrue T.honest → IsTrue T.File.honest → IfOk result (λ files.
+        IsSalvagedInto T.File.content T.File.may_leave files (F.history from.old) (F.history from.new) (T.history into.old) (T.history into.new)) }
+    ensures fault { IfErr result IsFault }
 {
     look_for_room(alloc, into, to)?;
     let read = read_folder(alloc, from);
@@ -74,7 +76,8 @@ fn readable_in<T: Folder>(
     read: FourFiles<Named<io::Result<Vec<u8>>>>,
     into: &mut T,
 ) -> Result<FourFiles<Vec<u8>>, Ending>
-    ensures { IfErr result IsFault }
+    ensures taken { IsTrue T.honest → IfOk result (λ files. AreTakenOf read files (T.history into.old) (T.history into.new)) }
+    ensures fault { IfErr result IsFault }
 {
     let FourFiles {
         image_a,
@@ -96,7 +99,9 @@ fn readable<T: Folder>(
     file: Named<io::Result<Vec<u8>>>,
     into: &mut T,
 ) -> Result<Vec<u8>, Ending>
-    ensures { IfErr result IsFault }
+    ensures bytes { IfOk result (AreBytesOf file.value) }
+    ensures named { IsTrue T.honest → OnOk result (NamesLost file.value (T.history into.old) (T.history into.new)) }
+    ensures fault { IfErr result IsFault }
 {
     match file.value {
         Err(error) if is_lost(&error) => {
@@ -125,6 +130,7 @@ fn is_lost(error: &io::Error) -> bool
 }
 
 fn salvaged_of(alloc: Global, files: &FourFiles<Vec<u8>>) -> Result<Salvaged, Ending>
+    ensures salvaged { IfOk result (IsSalvagedOf files.now) }
     ensures world { IfOk result (λ salvaged. IsWorld salvaged.found.words.items) }
     ensures fault { IfErr result IsFault }
 {

@@ -1,12 +1,12 @@
 //! The report on the server of a world, by the locks of its files.
-ghost use Rattle.std.specs.Prelude.{◌≡◌, Some, IsTrue};
+ghost use Rattle.std.specs.Prelude.{◌≡◌, Some, IsTrue, IfOk};
 ghost use Rattle.world_folder.specs.Served.{IsServerTold, asked, part_told, server_told};
 ghost use Rattle.world_folder.specs.Texts.{part_text, server_text};
 
 use crate::folders::Folder;
 use crate::locks::LockState;
 use crate::world_file::WorldFile;
-use std::fmt;
+use std::{fmt, io};
 
 /// The report on a part of a server. A part that is down stays so up to the server's end.
 #[derive(Clone, Copy, Debug, PartialEq, Eq)]
@@ -38,24 +38,25 @@ pub struct Locks {
 }
 
 /// Reports on the server of the world in a folder. It asks for locks, and gives them back at once.
-pub fn server_in<F: Folder>(folder: &mut F) -> ServerTold
-    ensures { IsTrue F.honest → IsServerTold result (F.history folder.old) (F.history folder.new) }
+pub fn server_in<F: Folder>(folder: &mut F) -> io::Result<ServerTold>
+    ensures { IsTrue F.honest → IfOk result (λ told. IsServerTold told (F.history folder.old) (F.history folder.new)) }
 {
-    tell_server(&locks_in(folder))
+    let locks = locks_in(folder)?;
+    Ok(tell_server(&locks))
 }
 
 // Asks for the lock of image.a last. A server that starts or ends meanwhile is then reported as one without a fault, or as none.
-fn locks_in<F: Folder>(folder: &mut F) -> Locks
-    ensures { IsTrue F.honest → F.history folder.new ≡ asked result (F.history folder.old) }
+fn locks_in<F: Folder>(folder: &mut F) -> io::Result<Locks>
+    ensures { IsTrue F.honest → IfOk result (λ locks. F.history folder.new ≡ asked locks (F.history folder.old)) }
 {
-    let image_b = folder.lock_state(WorldFile::ImageB);
-    let log_a = folder.lock_state(WorldFile::LogA);
-    let image_a = folder.lock_state(WorldFile::ImageA);
-    Locks {
+    let image_b = folder.lock_state(WorldFile::ImageB)?;
+    let log_a = folder.lock_state(WorldFile::LogA)?;
+    let image_a = folder.lock_state(WorldFile::ImageA)?;
+    Ok(Locks {
         image_a,
         image_b,
         log_a,
-    }
+    })
 }
 
 // What the locks say of the server.

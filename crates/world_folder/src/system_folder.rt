@@ -1,11 +1,11 @@
 //! A folder of the operating system.
-ghost use Rattle.std.specs.Prelude.{◌≡◌, ◌<ℤ◌, pos, false, [], None, IfOk};
-ghost use Rattle.std.specs.Fd.{file_raw_fd};
+ghost use Rattle.std.specs.Prelude.{◌≡◌, false, []};
 ghost use Rattle.std.proofs.lemmas.Bool.{false≢true};
 ghost use Rattle.world_folder.specs.OwnFile.{no_entry, no_identity};
 
+use crate::descriptors::{above_streams, open_by};
 use crate::entry::Entry;
-use crate::folders::{Folder, Reading, WorldDisk};
+use crate::folders::{Folder, Reading};
 use crate::locks::{self, LockState};
 use crate::own_file::NOT_REGULAR;
 use crate::world_file::WorldFile;
@@ -14,7 +14,6 @@ use std::alloc::AllocError;
 use std::fmt::Display;
 use std::fs::{self, File, Files, OpenOptions};
 use std::io::{self, ErrorKind};
-use std::os::fd::AsRawFd;
 use std::os::unix::fs::{MetadataExt, OpenOptionsExt};
 use std::path::{Path, PathBuf};
 use std::thread;
@@ -23,22 +22,11 @@ use std::time::{Clock, Duration};
 /// The permissions of a new file.
 const OWNER_ALONE: u32 = 0o600;
 
-/// The highest descriptor of a standard stream.
-const STANDARD_ERROR: i32 = 2;
-
 /// How long a pause is.
 const PAUSE_MILLISECONDS: u64 = 1;
 
 /// The name of the folder above a folder.
 pub const ABOVE: &str = "..";
-
-impl WorldDisk for FileDisk {
-    ghost failure = { λ _. None };
-
-    fn take_failure(&mut self) -> Option<io::Error> {
-        FileDisk::take_failure(self)
-    }
-}
 
 /// The folder at a path. Contracts state nothing of its calls: it is not `honest`.
 #[derive(Drop)]
@@ -145,8 +133,9 @@ impl<R: Files<File = File> + Clock + Print + Eprint + AllocGlobal> Folder for Sy
         self.rt.println(line)
     }
 
-    fn warn<T: Display + Drop>(&mut self, line: T) {
+    fn warn<T: Display + Drop>(&mut self, line: T) -> io::Result<()> {
         let _ = self.rt.eprintln(line);
+        Ok(())
     }
 
     fn is_empty(&mut self) -> io::Result<bool> {
@@ -158,34 +147,15 @@ impl<R: Files<File = File> + Clock + Print + Eprint + AllocGlobal> Folder for Sy
         Ok(fs::metadata(self.rt, self.path_of(file)?.as_path())?.len())
     }
 
-    fn lock_state(&mut self, file: WorldFile) -> LockState {
+    fn lock_state(&mut self, file: WorldFile) -> io::Result<LockState> {
         match self.open_plain(file) {
-            Ok(opened) => locks::lock_state(&opened),
-            Err(_) => LockState::Unknown,
+            Ok(opened) => Ok(locks::lock_state(&opened)),
+            Err(_) => Ok(LockState::Unknown),
         }
     }
 
     fn pause(&mut self) {
         thread::sleep(self.rt, Duration::from_millis(PAUSE_MILLISECONDS));
-    }
-}
-
-// Opens a file so. It is none of the standard streams.
-fn open_by<R: Files<File = File>>(rt: &R, how: &OpenOptions, path: Path<'_>) -> io::Result<File>
-    ensures { IfOk result (λ file. pos 2 <ℤ file_raw_fd file) }
-{
-    above_streams(how.open(rt, path)?)
-}
-
-/// Refuses a file at the descriptor of a standard stream, which text for people would be written into.
-pub fn above_streams(file: File) -> io::Result<File>
-    ensures above { IfOk result (λ same. pos 2 <ℤ file_raw_fd same) }
-    ensures same { IfOk result (λ same. same ≡ file) }
-{
-    if file.as_raw_fd() > STANDARD_ERROR {
-        Ok(file)
-    } else {
-        Err(io::Error::other("a standard stream is closed"))
     }
 }
 

@@ -1,4 +1,4 @@
-use Rattle.std.proofs.Common.{◌∙◌, ◌∷◌, Some}
+use Rattle.std.proofs.Common.{◌∙◌, ◌∷◌}
 use Rattle.world_folder.specs.History.{Printed}
 use Rattle.world_folder.specs.Texts.{lengths_text}
 use Rattle.world_folder.proofs.figures.print_figures.Goals as goal
@@ -11,5 +11,5 @@ returns-clause-reported g c = λ honest honest_files. record {
   acts = g.F.Folder.history c.copy_world.new.folder;
   copy = c.in-Ok.ensures.copied honest honest_files;
   are_figures = c.in-Ok-figures_of.ensures.figures;
-  printed = c.in_ok-print-2.ensures.printed honest ∙ (λ i. Printed (Some (lengths_text c.in-Ok.copied.lengths)) ∷ c.in_ok-print.ensures.printed honest i);
+  printed = c.in_ok-print-2.ensures.printed honest ∙ (λ i. Printed (lengths_text c.in-Ok.copied.lengths) ∷ c.in_ok-print.ensures.printed honest i);
 }

@@ -1,4 +1,4 @@
-use Rattle.std.proofs.Common.{◌∙◌, ◌∷◌, Some}
+use Rattle.std.proofs.Common.{◌∙◌, ◌∷◌}
 use Rattle.world_folder.specs.History.{Printed}
 use Rattle.world_folder.specs.Inspection.{words_printed}
 use Rattle.world_folder.specs.Texts.{recovered_text}
@@ -22,5 +22,5 @@ returns-clause-reported g c = λ honest honest_files.
       printed = c.in_ok-print_words.ensures.printed honest
           ∙ ((λ i. words_printed c.args.with_words words (c.in_ok-print.ensures.printed honest i))
           ∙ (λ i. words_printed c.args.with_words words
-          (Printed (Some (recovered_text (c.of.ensures.world i).tick (c.of.ensures.world i).from (c.of.ensures.slot i))) ∷ reported)));
+          (Printed (recovered_text (c.of.ensures.world i).tick (c.of.ensures.world i).from (c.of.ensures.slot i)) ∷ reported)));
     }

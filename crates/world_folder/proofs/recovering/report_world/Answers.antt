@@ -1,4 +1,4 @@
-use Rattle.std.proofs.Common.{◌∙◌, ◌∷◌, Some}
+use Rattle.std.proofs.Common.{◌∙◌, ◌∷◌}
 use Rattle.world_folder.specs.History.{Printed}
 use Rattle.world_folder.specs.Texts.{recovered_line}
 use Rattle.world_folder.proofs.recovering.report_world.Goals as goal
@@ -14,5 +14,5 @@ returns-clause-reported g c = λ honest honest_files. record {
   stands = c.in-Ok.ensures.recovered;
   whole = c.in-Ok.ensures.whole;
   printed = c.in_ok-print.ensures.printed honest
-      ∙ (λ i. Printed (Some (recovered_line (c.of.ensures i).tick (c.of.ensures i).from)) ∷ c.warn_of_doubt.ensures honest i);
+      ∙ (λ i. Printed (recovered_line (c.of.ensures i).tick (c.of.ensures i).from) ∷ c.warn_of_doubt.ensures honest i);
 }

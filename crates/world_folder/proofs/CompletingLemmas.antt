@@ -1,0 +1,85 @@
+-- Files of which none is open hold no world.
+use Rattle.std.proofs.Common.{◌≡◌, ℕ, List, Bool, true, false, Option, Some, None, length, refl, sym, subst, ap, ◌∙◌, inl, inr, ⊎_elim, arith}
+use Rattle.std.specs.Prelude.{get_or, nat_le, ◌==◌}
+use Rattle.std.proofs.lemmas.Bool.{cases_lt}
+use Rattle.std.proofs.lemmas.Grind.{common_steps}
+use Rattle.std.proofs.lemmas.Bool.Decides.{nat_tests}
+use Rattle.world_actions.specs.declared.refusal.Refusal.TheVariants.{NotEmpty}
+use Rattle.file_format.specs.Gate.{HasClosedGate}
+use Rattle.file_format.specs.declared.gate.TheConstants.{OPEN_GATE}
+use Rattle.disk_model.specs.declared.four_files.FourFiles.{FourFiles}
+use Rattle.image_files.specs.Image.{Closed, image_of}
+use Rattle.image_files.proofs.GateLemmas.{shut_reads_closed}
+use Rattle.action_log.specs.Segment.{ClosedSegment, IsSegment}
+use Rattle.world_start.specs.Fresh.{FilesAreClosed}
+use Rattle.world_folder.specs.Completing.{IsOpenFile, IsOpenThere, IsOccupied, KeepsThere, IsReady, AreTaken}
+use Rattle.world_folder.specs.History.{Act}
+use Rattle.world_folder.specs.Making.{TellsUnmade}
+use Rattle.world_folder.specs.declared.ending.Ending.{Ending}
+use Rattle.world_folder.specs.declared.ending.Ending.TheVariants.{Fault, Occupied}
+use Rattle.world_folder.specs.declared.entry.Identity.{Identity}
+use Rattle.world_folder.specs.declared.look.TheConstants.{IMAGE_HEAD, SEGMENT_HEAD}
+use Rattle.world_folder.specs.declared.world_file.WorldFile.{WorldFile}
+use Rattle.world_folder.specs.declared.world_file.WorldFile.TheVariants.{ImageA, ImageB, LogA, LogB}
+
+image_closed : (bytes : List ℕ) → ¬ IsOpenFile IMAGE_HEAD bytes → image_of bytes ≡ Closed
+unfolding image_of
+image_closed bytes not =
+    elim (cases_lt (length bytes) 17) [
+      | inl short ↦ (let no : nat_le 17 (length bytes) ≡ false = grind (arith, nat_tests, short) in rw no refl)
+      | inr long ↦ (
+        let shut : (get_or bytes 0 0 ≡ OPEN_GATE) → ⊥ = (λ gate. not (long, gate)) in
+        let yes : nat_le 17 (length bytes) ≡ true = grind (arith, nat_tests, long) in
+        let no : (get_or bytes 0 0 == OPEN_GATE) ≡ false = grind (arith, nat_tests, common_steps, shut) in
+        rw (yes, no) refl)
+    ]
+
+segment_closed : (bytes : List ℕ) → ¬ IsOpenFile SEGMENT_HEAD bytes → IsSegment bytes ClosedSegment
+segment_closed bytes not =
+    elim (cases_lt (length bytes) 10) [
+      | inl short ↦ inl short
+      | inr long ↦ inr (λ gate. not (long, gate))
+    ]
+
+gate_apart : (gate : ℕ) → gate ≡ 0 → gate ≡ 1 → ⊥
+gate_apart gate closed open = absurd cc
+
+module _ {D : Type 0} (content : D → List ℕ) (leaves : D → List ℕ → Type 0) where
+  image_ready : (file : WorldFile) (there read : Option D) (disk : D) (before after : List Act)
+      → ¬ IsOpenThere content IMAGE_HEAD there → KeepsThere content leaves there read → IsReady content leaves file read disk before after → image_of (content disk) ≡ Closed
+  image_ready file None None disk before after not kept ready = shut_reads_closed (content disk) (ready.2.0, gate_apart _ ready.2.1)
+  image_ready file None (Some new) disk before after not kept ready = absurd cc
+  image_ready file (Some old) None disk before after not kept ready = absurd kept
+  image_ready file (Some old) (Some new) disk before after not kept ready = ap image_of (ap content ready.0 ∙ kept.same_content) ∙ image_closed (content old) not
+
+  segment_ready : (file : WorldFile) (there read : Option D) (disk : D) (before after : List Act)
+      → ¬ IsOpenThere content SEGMENT_HEAD there → KeepsThere content leaves there read → IsReady content leaves file read disk before after → IsSegment (content disk) ClosedSegment
+  segment_ready file None None disk before after not kept ready = inr (gate_apart _ ready.2.1)
+  segment_ready file None (Some new) disk before after not kept ready = absurd cc
+  segment_ready file (Some old) None disk before after not kept ready = absurd kept
+  segment_ready file (Some old) (Some new) disk before after not kept ready =
+      subst (λ (bytes : List ℕ). IsSegment bytes ClosedSegment) (sym (ap content ready.0 ∙ kept.same_content)) (segment_closed (content old) not)
+
+  pub taken_closed : (identity : D → Identity) (files : FourFiles D) (before after : List Act) → AreTaken content leaves identity files before after → FilesAreClosed content files
+  taken_closed identity files before after taken =
+      let none = taken.none_open in
+      let kept = taken.completed.kept in
+      let ready = taken.completed.ready in
+      record {
+        image_a_closed = image_ready ImageA _ _ files.image_a _ _ none.image_a kept.image_a ready.image_a;
+        image_b_closed = image_ready ImageB _ _ files.image_b _ _ none.image_b kept.image_b ready.image_b;
+        log_a_closed = segment_ready LogA _ _ files.log_a _ _ none.log_a kept.log_a ready.log_a;
+        log_b_closed = segment_ready LogB _ _ files.log_b _ _ none.log_b kept.log_b ready.log_b;
+      }
+
+-- closed files are no reason to name one
+pub closed_not_occupied : {D : Type 0} (file : D → List ℕ) (folder : List ℕ) (files : FourFiles D) (ending : Ending)
+    → FilesAreClosed file files → TellsUnmade file folder files ending → IsOccupied ending → ⊥
+closed_not_occupied file folder files (Fault NotEmpty) closed told occupied =
+    ⊎_elim (λ is. absurd cc) (⊎_elim (λ is. absurd cc) (λ is. is.1 closed)) told
+closed_not_occupied file folder files (Fault refusal) closed told occupied = absurd occupied
+closed_not_occupied file folder files (Occupied named) closed told occupied =
+    ⊎_elim (λ is. is.1 closed.image_a_closed)
+    (⊎_elim (λ is. is.2 closed.image_b_closed)
+    (⊎_elim (λ is. is.3 closed.log_a_closed) (λ is. is.4 closed.log_b_closed))) told.2
+closed_not_occupied file folder files other closed told occupied = absurd told

@@ -1,0 +1,280 @@
+//! A folder in memory. It shows that the promises of a folder's calls can be kept, and tests run commands on it.
+ghost use Rattle.std.specs.Prelude.{◌≡◌, ◌∷◌, true, None, Option, IsTrue, OnOk, OnErr, IfOk, min};
+ghost use Rattle.disk_model.specs.Disk.{Only, last_count, min-last_count};
+ghost use Rattle.disk_model.specs.CrashOutcome.{IsCrashOutcome, content_stays};
+ghost use Rattle.disk_model.specs.FileState.{Calls};
+ghost use Rattle.world_folder.specs.ModelFolder.{act_of, acts_of};
+
+use crate::entry::{Entry, FileKind, Identity};
+use crate::folders::{Folder, Reading, WorldDisk};
+use crate::locks::LockState;
+use crate::noted::Noted;
+use crate::system_error::error_of;
+use crate::world_file::WorldFile;
+use disk_model::{Disk, FourFiles, ModelFile};
+use std::alloc::Global;
+use std::fmt::Display;
+use std::io;
+use world_actions::Refusal;
+
+/// The number of the device on which the files lie.
+const DEVICE: u64 = 1;
+
+/// A file of a `ModelFolder` that is open to be written.
+#[derive(Drop)]
+pub struct ModelHandle {
+    entry: Entry,
+    bytes: Vec<u8>,
+}
+
+/// A file of a `ModelFolder`.
+#[derive(Drop)]
+pub struct ModelDisk {
+    file: ModelFile,
+    identity: Identity,
+}
+
+impl Disk for ModelDisk {
+    ghost content = { λ disk. disk.file.content };
+
+    ghost may_leave = { λ disk left. IsCrashOutcome disk.file left };
+
+    ghost honest = { true };
+
+    ghost faults = { λ disk. min disk.file.faults last_count };
+
+    ghost called = { λ before call succeeded after. Calls before.file call succeeded after.file };
+
+    ghost stays = { λ disk _. content_stays disk.file };
+
+    ghost are_bytes = { λ disk left _ outcome. outcome.are_bytes };
+
+    ghost few_faults = { λ disk. min-last_count disk.file.faults };
+
+    fn len(&mut self) -> Result<u64, Refusal> {
+        self.file.len()
+    }
+
+    fn read_at(&mut self, at: u64, into: &mut [u8]) -> Result<(), Refusal> {
+        self.file.read_at(at, into)
+    }
+
+    fn write_at(&mut self, at: u64, bytes: &[u8]) -> Result<(), Refusal> {
+        self.file.write_at(at, bytes)
+    }
+
+    fn sync(&mut self) -> Result<(), Refusal> {
+        self.file.sync()
+    }
+}
+
+impl WorldDisk for ModelDisk {
+    ghost failure = { λ _. None };
+
+    fn take_failure(&mut self) -> Option<io::Error> {
+        None
+    }
+}
+
+/// A folder in memory. A read of a name gives the bytes that the folder was made with, whatever is written meanwhile. So a test
+/// gives the bytes of files that are to be made, too.
+#[derive(Drop)]
+pub struct ModelFolder {
+    alloc: Global,
+    bytes: FourFiles<Vec<u8>>,
+    there: FourFiles<bool>,
+    // The latest one first.
+    noted: Vec<Noted>,
+}
+
+impl ModelFolder {
+    /// A folder of which each file that is there has these bytes. A file that isn't there has them once it was made.
+    pub fn new(alloc: Global, bytes: FourFiles<Vec<u8>>, there: FourFiles<bool>) -> Self {
+        ModelFolder {
+            alloc,
+            bytes,
+            there,
+            noted: Vec::new(alloc),
+        }
+    }
+
+    /// The calls that succeeded, and the lines that were printed, the latest one first.
+    pub fn noted(&self) -> &[Noted]
+        ensures { acts_of result.now ≡ acts_of self.now.noted.items }
+    {
+        &self.noted
+    }
+
+    fn note(&mut self, noted: Noted) -> io::Result<()>
+        ensures noted { OnOk result (acts_of self.new.noted.items ≡ act_of noted ∷ acts_of self.old.noted.items) }
+        ensures failed { OnErr result (acts_of self.new.noted.items ≡ acts_of self.old.noted.items) }
+    {
+        match self.noted.insert(0, noted) {
+            Ok(()) => Ok(()),
+            Err(_) => Err(io::Error::from_raw_os_error(libc::ENOMEM)),
+        }
+    }
+
+    fn bytes_of(&self, file: WorldFile) -> &Vec<u8> {
+        match file {
+            WorldFile::ImageA => &self.bytes.image_a,
+            WorldFile::ImageB => &self.bytes.image_b,
+            WorldFile::LogA => &self.bytes.log_a,
+            WorldFile::LogB => &self.bytes.log_b,
+        }
+    }
+
+    fn is_there(&self, file: WorldFile) -> bool {
+        match file {
+            WorldFile::ImageA => self.there.image_a,
+            WorldFile::ImageB => self.there.image_b,
+            WorldFile::LogA => self.there.log_a,
+            WorldFile::LogB => self.there.log_b,
+        }
+    }
+
+    fn copy_of(&self, file: WorldFile) -> io::Result<Vec<u8>> {
+        if !self.is_there(file) {
+            return Err(io::Error::from_raw_os_error(libc::ENOENT));
+        }
+        Ok(Vec::from_slice(self.alloc, self.bytes_of(file))?)
+    }
+}
+
+// The entry of a file, which has a number by its name.
+fn entry_of(file: WorldFile) -> Entry {
+    let inode = match file {
+        WorldFile::ImageA => 1,
+        WorldFile::ImageB => 2,
+        WorldFile::LogA => 3,
+        WorldFile::LogB => 4,
+    };
+    Entry {
+        kind: FileKind::Regular,
+        identity: Identity::new(DEVICE, inode),
+        names: 1,
+    }
+}
+
+// A file with these bytes, which are durable.
+fn disk_of(alloc: Global, bytes: Vec<u8>, identity: Identity) -> io::Result<ModelDisk>
+    ensures content { IfOk result (λ disk. disk.file.content ≡ bytes.items) }
+    ensures synced { IfOk result (λ disk. Only bytes.items (IsCrashOutcome disk.file)) }
+    ensures identity { IfOk result (λ disk. disk.identity ≡ identity) }
+{
+    match ModelFile::new(alloc, bytes) {
+        Ok(file) => Ok(ModelDisk { file, identity }),
+        Err(refusal) => Err(error_of(refusal)),
+    }
+}
+
+impl Folder for ModelFolder {
+    type Handle = ModelHandle;
+
+    type File = ModelDisk;
+
+    ghost honest = { true };
+
+    ghost history = { λ folder. acts_of folder.noted.items };
+
+    ghost entry_of = { λ handle. handle.entry };
+
+    ghost content_of = { λ handle. handle.bytes.items };
+
+    ghost identity = { λ disk. disk.identity };
+
+    fn look(&mut self, file: WorldFile) -> io::Result<Option<Entry>> {
+        let there = if self.is_there(file) {
+            Some(entry_of(file))
+        } else {
+            None
+        };
+        self.note(Noted::Looked(file, there))?;
+        Ok(there)
+    }
+
+    fn open(&mut self, file: WorldFile) -> io::Result<ModelHandle> {
+        let bytes = self.copy_of(file)?;
+        let entry = entry_of(file);
+        self.note(Noted::Opened(file, entry))?;
+        Ok(ModelHandle { entry, bytes })
+    }
+
+    fn make(&mut self, file: WorldFile) -> io::Result<ModelHandle> {
+        if self.is_there(file) {
+            return Err(io::Error::from_raw_os_error(libc::EEXIST));
+        }
+        let entry = entry_of(file);
+        self.note(Noted::Made(file, entry))?;
+        match file {
+            WorldFile::ImageA => self.there.image_a = true,
+            WorldFile::ImageB => self.there.image_b = true,
+            WorldFile::LogA => self.there.log_a = true,
+            WorldFile::LogB => self.there.log_b = true,
+        }
+        Ok(ModelHandle {
+            entry,
+            bytes: Vec::new(self.alloc),
+        })
+    }
+
+    fn open_to_read(&mut self, file: WorldFile, _how: Reading) -> io::Result<ModelDisk> {
+        let disk = disk_of(self.alloc, self.copy_of(file)?, entry_of(file).identity)?;
+        let read = Vec::from_slice(self.alloc, disk.file.now())?;
+        self.note(Noted::Read(file, read))?;
+        Ok(disk)
+    }
+
+    fn entry(&mut self, handle: &ModelHandle) -> io::Result<Entry> {
+        Ok(handle.entry)
+    }
+
+    fn lock(&mut self, handle: &ModelHandle) -> io::Result<()> {
+        self.note(Noted::Locked(handle.entry))
+    }
+
+    fn take(&mut self, handle: ModelHandle) -> io::Result<ModelDisk> {
+        let ModelHandle { entry, bytes } = handle;
+        disk_of(self.alloc, bytes, entry.identity)
+    }
+
+    fn sync_names(&mut self) -> io::Result<()> {
+        self.note(Noted::NamesSynced)
+    }
+
+    fn sync_own_name(&mut self) -> io::Result<()> {
+        self.note(Noted::OwnNameSynced)
+    }
+
+    fn print<T: Display + Drop>(&mut self, line: T) -> io::Result<()> {
+        let text = line.to_string(self.alloc)?;
+        self.note(Noted::Printed(text))
+    }
+
+    fn warn<T: Display + Drop>(&mut self, line: T) -> io::Result<()> {
+        let text = line.to_string(self.alloc)?;
+        self.note(Noted::Warned(text))
+    }
+
+    fn is_empty(&mut self) -> io::Result<bool> {
+        let there = &self.there;
+        if there.image_a || there.image_b || there.log_a || there.log_b {
+            return Ok(false);
+        }
+        self.note(Noted::FoundEmpty)?;
+        Ok(true)
+    }
+
+    fn length(&mut self, file: WorldFile) -> io::Result<u64> {
+        let length = self.copy_of(file)?.len() as u64;
+        self.note(Noted::Measured(file, length))?;
+        Ok(length)
+    }
+
+    fn lock_state(&mut self, file: WorldFile) -> io::Result<LockState> {
+        self.note(Noted::Asked(file, LockState::Free))?;
+        Ok(LockState::Free)
+    }
+
+    fn pause(&mut self) {}
+}

@@ -1,0 +1,33 @@
+//! The calls and lines that a folder in memory notes.
+use crate::entry::Entry;
+use crate::locks::LockState;
+use crate::world_file::WorldFile;
+
+/// A call of a folder that succeeded, with its answer, or a line that was printed.
+#[derive(Debug, Drop)]
+pub enum Noted {
+    /// This is what stands under a name, if anything does.
+    Looked(WorldFile, Option<Entry>),
+    /// The file to which a name leads was opened to be written.
+    Opened(WorldFile, Entry),
+    /// A new file was made under a name.
+    Made(WorldFile, Entry),
+    /// A file was locked.
+    Locked(Entry),
+    /// A file was opened to be read, and has these bytes.
+    Read(WorldFile, Vec<u8>),
+    /// A file is so long.
+    Measured(WorldFile, u64),
+    /// A reader asked for the lock of a file.
+    Asked(WorldFile, LockState),
+    /// The names of the files are durable.
+    NamesSynced,
+    /// The name of the folder is durable.
+    OwnNameSynced,
+    /// The folder has no file.
+    FoundEmpty,
+    /// A line was printed on standard output.
+    Printed(String),
+    /// A line was printed on standard error.
+    Warned(String),
+}
