@@ -1,10 +1,13 @@
 #!/usr/bin/env python3
-"""Counts the lines that a reader has to believe: the contracts of what each crate hands out, and
-the definitions in specs/ that they reach. Run at the top of the repository:
+"""Counts the lines that a reader has to believe. Run at the top of the repository:
 
-    scripts/trusted_lines.py                  the counts
-    scripts/trusted_lines.py unreached        the definitions that no such contract reaches, too
-    scripts/trusted_lines.py of CRATE NAME    the lines that one function's contract asks one to believe
+    scripts/trusted_lines.py                  for README's table, and for all that crates hand out
+    scripts/trusted_lines.py unreached        the definitions that no contract of a crate reaches, too
+    scripts/trusted_lines.py of CRATE NAME    for one function's contract
+
+For README's table these are the contracts that it cites, those of all traits, which are premises on disks, folders
+and sessions, and the definitions in specs/ that they reach. The prover shows these contracts from those of the
+functions below them, which need no belief. The other count has the contracts of all that each crate hands out.
 
 A line counts unless it is blank, a comment or an import; tests don't count. It goes by the text:
 a name stands for the definition that its file has or imports.
@@ -21,6 +24,10 @@ DEFINITION = re.compile(r"(?:unfoldable |abbrev )?pub (?:record |data )?([^\s:({
 CASE = re.compile(r"  (\w+) :")
 ITEM = re.compile(r"(pub |pub\(\w+\) )?(?:const )?(fn|trait|struct|enum) (\w+)")
 IMPL = re.compile(r"impl(?:<.*?>)? (?:(\w[\w:]*)(?:<.*>)? for )?(\w+)")
+# A row of README's table of promises: its crates and its contracts. What follows a colon are names of clauses.
+ROW = re.compile(r"^\| .* \| (`\w+`(?:, `\w+`)*) \| (`.*`) \|$", re.MULTILINE)
+CLAUSES = re.compile(r"(?<=`): (?:`\w+`(?:, )?)+")
+CITED = re.compile(r"`(?:\w+::)?(\w+)`")
 CLAUSE = re.compile(r"(?:requires|ensures|decreases|ghost (?!use))")
 
 
@@ -96,6 +103,24 @@ def clauses(path, exported):
     return found
 
 
+def cited_in_readme():
+    """The functions and types whose contracts README's table cites, each with the crates of its row."""
+    rows = ROW.findall(pathlib.Path("README.md").read_text())
+    return {(crate, name) for crates, cited in rows for crate in CITED.findall(crates) for name in CITED.findall(CLAUSES.sub("", cited))}
+
+
+def of_traits(path):
+    """The names of a file's traits and of their functions."""
+    found, inside = set(), False
+    for line in path.read_text().splitlines():
+        item = ITEM.match(line.strip())
+        if line[:1].strip():
+            inside = bool(item) and item[2] == "trait"
+        if inside and item:
+            found.add(item[3])
+    return found
+
+
 def is_test(path):
     return path.stem == "tests" or "tests" in path.parts
 
@@ -113,7 +138,9 @@ def reached_from(names, known):
 
 def main():
     one = sys.argv[2:] if sys.argv[1:2] == ["of"] else None
-    known, lines, believed, waiting = {}, collections.Counter(), collections.Counter(), []
+    known, lines, cited = {}, collections.Counter(), cited_in_readme()
+    # The clauses of one count, and the names that they reach.
+    counted = {"the table of README": ([], []), "all that crates hand out": ([], []), "one": ([], [])}
     for crate in sorted(pathlib.Path("crates").iterdir()):
         for kind in ("src", "specs", "proofs"):
             for path in (crate / kind).rglob("*.*t*"):
@@ -126,16 +153,22 @@ def main():
             continue
         exported = {name.strip() for _, group, one in EXPORT.findall(lib.read_text()) for name in (group or one).split(",")}
         for path in filter(lambda path: not is_test(path), (crate / "src").rglob("*.rt")):
-            found = [line for name, line in clauses(path, exported) if one in (None, [crate.name, name])]
-            believed["contracts"] += len(found)
-            names = imported(path.read_text())
-            waiting += [names[word] for word in NAME.findall("\n".join(found)) if word in names]
-    reached = reached_from(waiting, known)
-    believed["definitions"] = sum(known[name][0] for name in reached)
-    everything, all_believed = sum(lines.values()), sum(believed.values())
+            found, traits, names = clauses(path, exported), of_traits(path), imported(path.read_text())
+            for which, wanted in (
+                ("the table of README", lambda name: name in traits or (crate.name, name) in cited),
+                ("all that crates hand out", lambda name: True),
+                ("one", lambda name: [crate.name, name] == one),
+            ):
+                own = [line for name, line in found if wanted(name)]
+                counted[which][0].extend(own)
+                counted[which][1].extend(names[word] for word in NAME.findall("\n".join(own)) if word in names)
+    everything = sum(lines.values())
     print(f"code {lines['src']}, specs {lines['specs']}, proofs {lines['proofs']}: {everything} lines")
-    print(f"contracts {believed['contracts']}, definitions {believed['definitions']}")
-    print(f"to believe: {all_believed} lines, {100 * all_believed / everything:.1f}%")
+    for which in ["one"] if one else ["the table of README", "all that crates hand out"]:
+        contracts, reached = len(counted[which][0]), reached_from(counted[which][1], known)
+        defined = sum(known[name][0] for name in reached)
+        believed = contracts + defined
+        print(f"to believe for {' '.join(one or [which])}: {believed} lines, {100 * believed / everything:.1f}%: contracts {contracts}, definitions {defined}")
     if sys.argv[1:] == ["unreached"]:
         for crate, file, name in sorted(name for name in known if known[name][0] and name not in reached):
             print(f"{crate}/specs/{file}.antt: {name}")

@@ -42,7 +42,7 @@ segment_closed bytes not =
     ]
 
 gate_apart : (gate : ℕ) → gate ≡ 0 → gate ≡ 1 → ⊥
-gate_apart gate closed open = absurd cc
+gate_apart gate is_closed is_open = absurd cc
 
 module _ {D : Type 0} (content : D → List ℕ) (leaves : D → List ℕ → Type 0) where
   image_ready : (file : WorldFile) (there read : Option D) (disk : D) (before after : List Act)

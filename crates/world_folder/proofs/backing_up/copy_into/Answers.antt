@@ -20,5 +20,5 @@ returns-clause-backed_up g c = λ honest honest_files honest_into honest_copies.
   are_written = c.in_ok-files.ensures.written honest_into honest_copies;
   is_verified = c.in_ok-verified.ensures.verified honest_into honest_copies;
   printed = c.in_ok-print.ensures.printed honest_into
-      ∙ (λ i. Printed (backed_up_text c.in_ok-verified.verified.world.tick c.in_ok-verified.verified.world.from) ∷ c.warn_of_tries.ensures honest_into i);
+      ∙ (λ i. Printed (backed_up_text c.in_ok-verified.verified.world.tick c.in_ok-verified.verified.world.from) ∷ c.in_ok-warn_of_tries.ensures honest_into i);
 }

@@ -1,3 +1,6 @@
+use Rattle.std.proofs.Common.{subst}
+use Rattle.world_folder.specs.Completing.{IsOccupied}
+use Rattle.world_folder.proofs.CompletingLemmas.{taken_closed, closed_not_occupied}
 use Rattle.world_folder.proofs.creating.make_zeros.Goals as goal
 
 pub returns-in-Ok-clause-zeros : goal.returns-in-Ok-clause-zeros
@@ -11,3 +14,9 @@ returns-in-Ok-clause-zeros g c = λ honest honest_files.
       sound = made.sound taken.synced_files;
       durable = made.synced taken.synced_files;
     }
+
+pub returns-in-Err-clause-refused : goal.returns-in-Err-clause-refused
+returns-in-Err-clause-refused g c = λ honest honest_files occupied.
+    let closed = taken_closed g.F.File.Disk.content g.F.File.Disk.may_leave g.F.Folder.identity c.in_ok-files.files _ _ (c.in_ok-files.ensures.taken honest honest_files) in
+    let told = (c.in-Err.ensures.unmade honest_files).told in
+    absurd (closed_not_occupied g.F.File.Disk.content c.args.path.now c.in_ok-files.files c.in-Err.ending closed told (subst IsOccupied (c.not_made.ensures.same occupied) occupied))

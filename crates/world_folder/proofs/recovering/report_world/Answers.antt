@@ -14,5 +14,5 @@ returns-clause-reported g c = λ honest honest_files. record {
   stands = c.in-Ok.ensures.recovered;
   whole = c.in-Ok.ensures.whole;
   printed = c.in_ok-print.ensures.printed honest
-      ∙ (λ i. Printed (recovered_line (c.of.ensures i).tick (c.of.ensures i).from) ∷ c.warn_of_doubt.ensures honest i);
+      ∙ (λ i. Printed (recovered_line (c.of.ensures i).tick (c.of.ensures i).from) ∷ c.in_ok-warn_of_doubt.ensures honest i);
 }
