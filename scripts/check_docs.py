@@ -7,7 +7,7 @@ It takes seconds, and prints the page, the line and the reason of each of these:
 - a name in backquotes that no crate has, or a clause that its function does not have
 - a link, an anchor, a page, a folder or a script that does not exist
 - a block of code that differs from the file that it quotes
-- a wrong body of the gate that no table has, and a row on one that is not there
+- a wrong body of the gate that scripts/wrong_bodies.tsv lacks, and a line there on one, a function or a clause that is not there
 - a function of the walk of a tick that its file does not have
 - a function that README promises something of, and that worldd does not call
 
@@ -25,6 +25,7 @@ from code_names import TOP, Names
 from map import Refused, below, read_crates
 import reached
 import walk
+from wrong_bodies import PROMISES, read_promises
 
 # Pages whose names in backquotes are looked up.
 CITING = ("README.md", "docs/PROOFS.md", "docs/proofs/", "docs/HEADLINE.md", "docs/ARCHITECTURE.md", "docs/MODEL.md")
@@ -168,37 +169,48 @@ def rows_of(page: Page) -> Iterator[tuple[int, dict[str, str]]]:
             yield number, dict(zip(head, cells))
 
 
-def wrong_tables(every: list[Page], names: Names) -> Iterator[Finding]:
-    """Rows on wrong bodies that are not those of the tree, and wrong bodies of the gate without a row."""
-    rows = [(page.name, line, row) for page in every for line, row in rows_of(page) if "crate" in row]
-    known: set[tuple[str, str]] = set()
-    for page, line, row in rows:
-        crate, bodies = row["crate"].strip("`"), re.findall(r"`(\w+)`", row.get("wrong body", ""))
-        known |= {(crate, body) for body in bodies}
-        for body in bodies:
-            if body not in names.bodies[crate]:
-                yield page, line, f"must-fail/ of {crate} has no wrong body {body}"
-        for head, folder in (("wrong bodies: gate", "must-fail"), ("others", "wrong-bodies")):
-            count = len(list((TOP / "crates" / crate / folder).glob("*.edit")))
-            if "wrong bodies: gate" in row and (row[head] or "0") != str(count):
-                yield page, line, f"{folder}/ of {crate} has {count} wrong bodies, not {row[head]}"
+def wrong_tables(every: list[Page]) -> Iterator[Finding]:
+    """Rows on a crate's number of wrong bodies that is not that of the tree."""
+    for page in every:
+        for line, row in rows_of(page):
+            for head, folder in (("wrong bodies: gate", "must-fail"), ("others", "wrong-bodies")):
+                if "wrong bodies: gate" in row:
+                    crate = row["crate"].strip("`")
+                    count = len(list((TOP / "crates" / crate / folder).glob("*.edit")))
+                    if (row[head] or "0") != str(count):
+                        yield page.name, line, f"{folder}/ of {crate} has {count} wrong bodies, not {row[head]}"
+
+
+def wrong_promises(names: Names) -> Iterator[Finding]:
+    """Lines on wrong bodies of the gate that are not those of the tree, and wrong bodies without a line."""
+    page, known = str(PROMISES.relative_to(TOP)), set()
+    for it in read_promises():
+        known.add((it.crate, it.body))
+        if it.body not in names.bodies[it.crate]:
+            yield page, it.line, f"must-fail/ of {it.crate} has no wrong body {it.body}"
+        function, _, clauses = it.refused_by.partition(": ")
+        if function not in names.functions[it.crate]:
+            yield page, it.line, f"{it.crate} has no function {function}"
+        # What a function that it calls requires.
+        callee, requires, named = clauses.partition(" requires")
+        if requires:
+            function, clauses = callee, named
+        for clause in re.findall(r"\w+", re.sub(r"(loop|type) invariant", "", clauses)):
+            if not names.has_clause(function, clause):
+                yield page, it.line, f"{function} has no clause {clause}"
     for crate, bodies in names.bodies.items():
         for body in sorted(bodies):
             if (crate, body) not in known:
-                yield "docs/PROOFS.md", 1, f"no table has the wrong body {crate}/{body}"
+                yield page, 1, f"the wrong body {crate}/{body} is missing"
 
 
 def wrong_citations(page: Page, names: Names, libraries: set[str]) -> Iterator[Finding]:
     """Names in backquotes that the crates don't have, and clauses that a function doesn't have."""
     text = sentences(page.prose)
-    # A row on a wrong body names the check that refuses it, which may be that of a function that is called.
-    refusals = {line for line, row in rows_of(page) if "wrong body" in row}
     for found in re.finditer(r"`([A-Za-z_]\w*(?:::\w+)*)(?:\(\))?`", text):
         if len(found[1]) > 2 and found[1] not in libraries | NOT_OF_CRATES and not names.has_path(found[1]):
             yield page.name, page.line_of(found.start()), f"`{found[1]}` is the name of nothing in the crates"
     for found in re.finditer(r"`([A-Za-z_][\w:]*)`(?:'s? type)?: ((?:`[a-z]\w*`(?:, )?)+)(?! [a-z])", text):
-        if page.line_of(found.start()) in refusals:
-            continue
         for clause in re.findall(r"`(\w+)`", found[2]):
             if clause not in NOT_OF_CRATES and names.has_path(found[1]) and not names.has_clause(found[1], clause):
                 yield page.name, page.line_of(found.start()), f"`{found[1]}` has no clause `{clause}`"
@@ -259,7 +271,7 @@ def unnamed_files(every: list[Page]) -> Iterator[Finding]:
     """Scripts that the index does not have, and examples that no page names."""
     texts = {page.name: (TOP / page.name).read_text() for page in every}
     for path in sorted(path for folder in ("scripts", "bench") for path in (TOP / folder).glob("*.*")):
-        if path.name not in texts["docs/CONTRIBUTING.md"]:
+        if path != PROMISES and path.name not in texts["docs/CONTRIBUTING.md"]:
             yield "docs/CONTRIBUTING.md", 1, f"the index lacks {path.parent.name}/{path.name}"
     for path in sorted((TOP / "examples").glob("*")):
         if not any(f"examples/{path.name}" in text for text in texts.values()):
@@ -282,7 +294,8 @@ def findings() -> Iterator[Finding]:
         yield from wrong_links(page)
         yield from wrong_quotes(page, code)
     yield from ((walk.PAGE, line, reason) for line, reason in walk.findings())
-    yield from wrong_tables(every, names)
+    yield from wrong_tables(every)
+    yield from wrong_promises(names)
     yield from unnamed_files(every)
 
 
