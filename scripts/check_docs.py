@@ -4,7 +4,8 @@
 It takes seconds, and prints the page, the line and the reason of each of these:
 
 - a number of crates, of wrong bodies or of things in the gate that is not the number of the tree
-- a name in backquotes that no crate has, or a clause that its function does not have
+- a name in backquotes that no crate, client or unit has, or a clause that its function does not have
+- a definition that the file named beside it in docs/MODEL.md does not have
 - a link, an anchor, a page, a folder or a script that does not exist
 - a block of code that differs from the file that it quotes
 - a wrong body of the gate that scripts/wrong_bodies.tsv lacks, and a line there on one, a function or a clause that is not there
@@ -27,11 +28,14 @@ import reached
 import walk
 from wrong_bodies import PROMISES, read_promises
 
-# Pages whose names in backquotes are looked up.
-CITING = ("README.md", "docs/PROOFS.md", "docs/proofs/", "docs/HEADLINE.md", "docs/ARCHITECTURE.md", "docs/MODEL.md")
-# Names in backquotes that are not of the crates: words of contracts, words in place of a name, and names of the system. A
-# name of one or two letters is a variable or a command.
-NOT_OF_CRATES = {"requires", "ensures", "decreases", "function", "clause", "PATH", "eof", "stdout", "pwrite", "fdatasync"}
+# Names in backquotes that no file here has: words of contracts, words in place of a name, and names of the system. A name of one or
+# two letters is a variable or a command.
+NOT_OF_CRATES = {"requires", "ensures", "decreases", "function", "clause", "PATH", "foo", "args", "stdout", "Makefile"}
+NOT_OF_CRATES |= {"pwrite", "fdatasync", "rename", "O_NOFOLLOW", "AF_UNIX", "nobarrier", "chown", "dmesg", "readlink", "sysctl"}
+NOT_OF_CRATES |= {"fs::read", "postgresql"}
+# Files beside the crates whose words pages name, and files of which they name words in quotes: commands, arguments and lines.
+WORDED = ("clients/**/*.py", "clients/**/*.h", "clients/**/*.rs", "examples/*.*", "worldd.service")
+QUOTED = ("scripts/*.py", "crates/*/src/**/*.rt")
 # What may be counted before or behind these words. A number behind "at most" is a bound.
 COUNTED = (
     (r"{} of the (?:\d+) crates", ("crates of worldd", "other crates")),
@@ -54,6 +58,7 @@ FOLDERS = (".", "docs", "docs/proofs", "scripts", "bench", "examples", "clients/
 FILE = re.compile(r"(?<![\w/.*-])(\w+\.(?:md|py|sh|c))\b")
 PLACEHOLDERS = re.compile(r"\b(?:NAME|CRATE|FILE)\b")
 LINK = re.compile(r"\[[^\]\n]*\]\(([^)\s]+)\)")
+DEFINED = re.compile(r"^ *(?:(?:unfoldable|opaque|abbrev|pub|record|data) +)*(\w+)", re.MULTILINE)
 MARKER = re.compile(r"<!-- (run|(?:examples|clients)/[\w./]+) -->")
 FENCE = re.compile(r"```(\w*)")
 # A block between fences that name no language.
@@ -171,14 +176,13 @@ def rows_of(page: Page) -> Iterator[tuple[int, dict[str, str]]]:
 
 def wrong_tables(every: list[Page]) -> Iterator[Finding]:
     """Rows on a crate's number of wrong bodies that is not that of the tree."""
+    head = "wrong bodies of the gate"
     for page in every:
         for line, row in rows_of(page):
-            for head, folder in (("wrong bodies: gate", "must-fail"), ("others", "wrong-bodies")):
-                if "wrong bodies: gate" in row:
-                    crate = row["crate"].strip("`")
-                    count = len(list((TOP / "crates" / crate / folder).glob("*.edit")))
-                    if (row[head] or "0") != str(count):
-                        yield page.name, line, f"{folder}/ of {crate} has {count} wrong bodies, not {row[head]}"
+            if head in row:
+                count = len(list((TOP / "crates" / row["crate"] / "must-fail").glob("*.edit")))
+                if row[head] != str(count):
+                    yield page.name, line, f"must-fail/ of {row['crate']} has {count} wrong bodies, not {row[head]}"
 
 
 def wrong_promises(names: Names) -> Iterator[Finding]:
@@ -204,16 +208,44 @@ def wrong_promises(names: Names) -> Iterator[Finding]:
                 yield page, 1, f"the wrong body {crate}/{body} is missing"
 
 
-def wrong_citations(page: Page, names: Names, libraries: set[str]) -> Iterator[Finding]:
+def other_names() -> set[str]:
+    """What pages may name beside the crates' items: other words of code, words in quotes, and the names of the crates' libraries."""
+    found = set(NOT_OF_CRATES)
+    for path in (path for pattern in WORDED for path in TOP.glob(pattern)):
+        found |= set(re.findall(r"\w+", path.read_text()))
+    for path in (path for pattern in QUOTED for path in TOP.glob(pattern)):
+        text = re.sub(r"//.*", "", path.read_text())
+        for words in (r"\b(\w+)\(", r"libc::(\w+)", r"\"(\w+)[\" ]"):
+            found |= set(re.findall(words, text))
+    lines = (TOP / "crates.txt").read_text().splitlines()
+    return found | {word for line in lines if not line.startswith("#") for word in line.partition(":")[2].split()}
+
+
+def wrong_citations(page: Page, names: Names, others: set[str]) -> Iterator[Finding]:
     """Names in backquotes that the crates don't have, and clauses that a function doesn't have."""
     text = sentences(page.prose)
     for found in re.finditer(r"`([A-Za-z_]\w*(?:::\w+)*)(?:\(\))?`", text):
-        if len(found[1]) > 2 and found[1] not in libraries | NOT_OF_CRATES and not names.has_path(found[1]):
-            yield page.name, page.line_of(found.start()), f"`{found[1]}` is the name of nothing in the crates"
+        is_other = found[1] in others or found[1].endswith("_") and any(name.startswith(found[1]) for name in others)
+        if len(found[1]) > 2 and not is_other and not names.has_path(found[1]):
+            yield page.name, page.line_of(found.start()), f"`{found[1]}` is the name of nothing here"
     for found in re.finditer(r"`([A-Za-z_][\w:]*)`(?:'s? type)?: ((?:`[a-z]\w*`(?:, )?)+)(?! [a-z])", text):
         for clause in re.findall(r"`(\w+)`", found[2]):
             if clause not in NOT_OF_CRATES and names.has_path(found[1]) and not names.has_clause(found[1], clause):
                 yield page.name, page.line_of(found.start()), f"`{found[1]}` has no clause `{clause}`"
+
+
+def wrong_glossary(page: Page) -> Iterator[Finding]:
+    """Definitions beside a file of specs/ that doesn't have them. The file is of one of the crates in the last bold words."""
+    text, crates = sentences(page.prose), set(read_crates())
+    heads = [(found.start(), found[1].split(", ")) for found in re.finditer(r"\*\*(\w+(?:, \w+)*)\*\*", text)]
+    heads = [(place, words) for place, words in heads if crates.issuperset(words)]
+    for found in re.finditer(r"\b([A-Z]\w+)(?: \(inside\))?: ((?:`\w+`(?:, )?)+)", text):
+        here = [words for place, words in heads if place < found.start()][-1:]
+        files = [TOP / "crates" / crate / "specs" / f"{found[1]}.antt" for words in here for crate in words]
+        known = set().union(*(DEFINED.findall(file.read_text()) for file in files if file.is_file()))
+        for name in re.findall(r"`(\w+)`", found[2]):
+            if name not in known:
+                yield page.name, page.line_of(found.start()), f"specs/{found[1]} has no `{name}`"
 
 
 def uncalled(page: Page, names: Names) -> Iterator[Finding]:
@@ -282,13 +314,13 @@ def findings() -> Iterator[Finding]:
     """All that is wrong."""
     every, names, counts = pages(), Names(), tree_counts()
     code = [path.read_text() for kind in ("src/**/*.rt", "specs/**/*.antt") for path in TOP.glob(f"crates/*/{kind}")]
-    lines = (TOP / "crates.txt").read_text().splitlines()
-    libraries = {word for line in lines if not line.startswith("#") for word in line.partition(":")[2].split()}
+    others = other_names()
     for page in every:
         if page.name != "CHANGELOG.md":
             yield from wrong_counts(page, counts)
-        if page.name.startswith(CITING):
-            yield from wrong_citations(page, names, libraries)
+            yield from wrong_citations(page, names, others)
+        if page.name == "docs/MODEL.md":
+            yield from wrong_glossary(page)
         if page.name == "README.md":
             yield from uncalled(page, names)
         yield from wrong_links(page)
