@@ -8,7 +8,8 @@ It takes seconds, and prints the page, the line and the reason of each of these:
 - a definition that the file named beside it in docs/MODEL.md does not have
 - a link, an anchor, a page, a folder or a script that does not exist
 - a block of code that differs from the file that it quotes
-- a wrong body of the gate that scripts/wrong_bodies.tsv lacks, and a line there on one, a function or a clause that is not there
+- a wrong body of the gate that scripts/wrong_bodies.tsv lacks, and a line there on a body, a function or a clause that is
+  not in the tree
 - a function of the walk of a tick that its file does not have
 - a function that README promises something of, and that worldd does not call
 
@@ -209,7 +210,7 @@ def wrong_promises(names: Names) -> Iterator[Finding]:
 
 
 def other_names() -> set[str]:
-    """What pages may name beside the crates' items: other words of code, words in quotes, and the names of the crates' libraries."""
+    """What pages may name beside the crates' items: other words of code, words in quotes, and the crates' libraries."""
     found = set(NOT_OF_CRATES)
     for path in (path for pattern in WORDED for path in TOP.glob(pattern)):
         found |= set(re.findall(r"\w+", path.read_text()))
