@@ -4,10 +4,12 @@
 It takes seconds, and prints the page, the line and the reason of each of these:
 
 - a number of crates, of wrong bodies or of things in the gate that is not the number of the tree
-- a name in backquotes that no crate has, or a clause that its function does not have
+- a name in backquotes that no crate, client or unit has, or a clause that its function does not have
+- a definition that the file named beside it in docs/MODEL.md does not have
 - a link, an anchor, a page, a folder or a script that does not exist
 - a block of code that differs from the file that it quotes
-- a wrong body of the gate that no table has, and a row on one that is not there
+- a wrong body of the gate that scripts/wrong_bodies.tsv lacks, and a line there on a body, a function or a clause that is
+  not in the tree
 - a function of the walk of a tick that its file does not have
 - a function that README promises something of, and that worldd does not call
 
@@ -25,12 +27,16 @@ from code_names import TOP, Names
 from map import Refused, below, read_crates
 import reached
 import walk
+from wrong_bodies import PROMISES, read_promises
 
-# Pages whose names in backquotes are looked up.
-CITING = ("README.md", "docs/PROOFS.md", "docs/proofs/", "docs/HEADLINE.md", "docs/ARCHITECTURE.md", "docs/MODEL.md")
-# Names in backquotes that are not of the crates: words of contracts, words in place of a name, and names of the system. A
-# name of one or two letters is a variable or a command.
-NOT_OF_CRATES = {"requires", "ensures", "decreases", "function", "clause", "PATH", "eof", "stdout", "pwrite", "fdatasync"}
+# Names in backquotes that no file here has: words of contracts, words in place of a name, and names of the system. A name of one or
+# two letters is a variable or a command.
+NOT_OF_CRATES = {"requires", "ensures", "decreases", "function", "clause", "PATH", "foo", "args", "stdout", "Makefile"}
+NOT_OF_CRATES |= {"pwrite", "fdatasync", "rename", "O_NOFOLLOW", "AF_UNIX", "nobarrier", "chown", "dmesg", "readlink", "sysctl"}
+NOT_OF_CRATES |= {"fs::read", "postgresql"}
+# Files beside the crates whose words pages name, and files of which they name words in quotes: commands, arguments and lines.
+WORDED = ("clients/**/*.py", "clients/**/*.h", "clients/**/*.rs", "examples/*.*", "worldd.service")
+QUOTED = ("scripts/*.py", "crates/*/src/**/*.rt")
 # What may be counted before or behind these words. A number behind "at most" is a bound.
 COUNTED = (
     (r"{} of the (?:\d+) crates", ("crates of worldd", "other crates")),
@@ -53,6 +59,7 @@ FOLDERS = (".", "docs", "docs/proofs", "scripts", "bench", "examples", "clients/
 FILE = re.compile(r"(?<![\w/.*-])(\w+\.(?:md|py|sh|c))\b")
 PLACEHOLDERS = re.compile(r"\b(?:NAME|CRATE|FILE)\b")
 LINK = re.compile(r"\[[^\]\n]*\]\(([^)\s]+)\)")
+DEFINED = re.compile(r"^ *(?:(?:unfoldable|opaque|abbrev|pub|record|data) +)*(\w+)", re.MULTILINE)
 MARKER = re.compile(r"<!-- (run|(?:examples|clients)/[\w./]+) -->")
 FENCE = re.compile(r"```(\w*)")
 # A block between fences that name no language.
@@ -168,40 +175,80 @@ def rows_of(page: Page) -> Iterator[tuple[int, dict[str, str]]]:
             yield number, dict(zip(head, cells))
 
 
-def wrong_tables(every: list[Page], names: Names) -> Iterator[Finding]:
-    """Rows on wrong bodies that are not those of the tree, and wrong bodies of the gate without a row."""
-    rows = [(page.name, line, row) for page in every for line, row in rows_of(page) if "crate" in row]
-    known: set[tuple[str, str]] = set()
-    for page, line, row in rows:
-        crate, bodies = row["crate"].strip("`"), re.findall(r"`(\w+)`", row.get("wrong body", ""))
-        known |= {(crate, body) for body in bodies}
-        for body in bodies:
-            if body not in names.bodies[crate]:
-                yield page, line, f"must-fail/ of {crate} has no wrong body {body}"
-        for head, folder in (("wrong bodies: gate", "must-fail"), ("others", "wrong-bodies")):
-            count = len(list((TOP / "crates" / crate / folder).glob("*.edit")))
-            if "wrong bodies: gate" in row and (row[head] or "0") != str(count):
-                yield page, line, f"{folder}/ of {crate} has {count} wrong bodies, not {row[head]}"
+def wrong_tables(every: list[Page]) -> Iterator[Finding]:
+    """Rows on a crate's number of wrong bodies that is not that of the tree."""
+    head = "wrong bodies of the gate"
+    for page in every:
+        for line, row in rows_of(page):
+            if head in row:
+                count = len(list((TOP / "crates" / row["crate"] / "must-fail").glob("*.edit")))
+                if row[head] != str(count):
+                    yield page.name, line, f"must-fail/ of {row['crate']} has {count} wrong bodies, not {row[head]}"
+
+
+def wrong_promises(names: Names) -> Iterator[Finding]:
+    """Lines on wrong bodies of the gate that are not those of the tree, and wrong bodies without a line."""
+    page, known = str(PROMISES.relative_to(TOP)), set()
+    for it in read_promises():
+        known.add((it.crate, it.body))
+        if it.body not in names.bodies[it.crate]:
+            yield page, it.line, f"must-fail/ of {it.crate} has no wrong body {it.body}"
+        function, _, clauses = it.refused_by.partition(": ")
+        if function not in names.functions[it.crate]:
+            yield page, it.line, f"{it.crate} has no function {function}"
+        # What a function that it calls requires.
+        callee, requires, named = clauses.partition(" requires")
+        if requires:
+            function, clauses = callee, named
+        # A method of a trait has its clauses where the trait is, and what is called may be of another crate.
+        own = names.contracts[it.crate, function] or names.clauses[function]
+        for clause in re.findall(r"\w+", re.sub(r"(loop|type) invariant", "", clauses)):
+            if clause not in own:
+                yield page, it.line, f"{function} has no clause {clause}"
     for crate, bodies in names.bodies.items():
         for body in sorted(bodies):
             if (crate, body) not in known:
-                yield "docs/PROOFS.md", 1, f"no table has the wrong body {crate}/{body}"
+                yield page, 1, f"the wrong body {crate}/{body} is missing"
 
 
-def wrong_citations(page: Page, names: Names, libraries: set[str]) -> Iterator[Finding]:
+def other_names() -> set[str]:
+    """What pages may name beside the crates' items: other words of code, words in quotes, and the crates' libraries."""
+    found = set(NOT_OF_CRATES)
+    for path in (path for pattern in WORDED for path in TOP.glob(pattern)):
+        found |= set(re.findall(r"\w+", path.read_text()))
+    for path in (path for pattern in QUOTED for path in TOP.glob(pattern)):
+        text = re.sub(r"//.*", "", path.read_text())
+        for words in (r"\b(\w+)\(", r"libc::(\w+)", r"\"(\w+)[\" ]"):
+            found |= set(re.findall(words, text))
+    lines = (TOP / "crates.txt").read_text().splitlines()
+    return found | {word for line in lines if not line.startswith("#") for word in line.partition(":")[2].split()}
+
+
+def wrong_citations(page: Page, names: Names, others: set[str]) -> Iterator[Finding]:
     """Names in backquotes that the crates don't have, and clauses that a function doesn't have."""
     text = sentences(page.prose)
-    # A row on a wrong body names the check that refuses it, which may be that of a function that is called.
-    refusals = {line for line, row in rows_of(page) if "wrong body" in row}
     for found in re.finditer(r"`([A-Za-z_]\w*(?:::\w+)*)(?:\(\))?`", text):
-        if len(found[1]) > 2 and found[1] not in libraries | NOT_OF_CRATES and not names.has_path(found[1]):
-            yield page.name, page.line_of(found.start()), f"`{found[1]}` is the name of nothing in the crates"
+        is_other = found[1] in others or found[1].endswith("_") and any(name.startswith(found[1]) for name in others)
+        if len(found[1]) > 2 and not is_other and not names.has_path(found[1]):
+            yield page.name, page.line_of(found.start()), f"`{found[1]}` is the name of nothing here"
     for found in re.finditer(r"`([A-Za-z_][\w:]*)`(?:'s? type)?: ((?:`[a-z]\w*`(?:, )?)+)(?! [a-z])", text):
-        if page.line_of(found.start()) in refusals:
-            continue
         for clause in re.findall(r"`(\w+)`", found[2]):
             if clause not in NOT_OF_CRATES and names.has_path(found[1]) and not names.has_clause(found[1], clause):
                 yield page.name, page.line_of(found.start()), f"`{found[1]}` has no clause `{clause}`"
+
+
+def wrong_glossary(page: Page) -> Iterator[Finding]:
+    """Definitions beside a file of specs/ that doesn't have them. The file is of one of the crates in the last bold words."""
+    text, crates = sentences(page.prose), set(read_crates())
+    heads = [(found.start(), found[1].split(", ")) for found in re.finditer(r"\*\*(\w+(?:, \w+)*)\*\*", text)]
+    heads = [(place, words) for place, words in heads if crates.issuperset(words)]
+    for found in re.finditer(r"\b([A-Z]\w+)(?: \(inside\))?: ((?:`\w+`(?:, )?)+)", text):
+        here = [words for place, words in heads if place < found.start()][-1:]
+        files = [TOP / "crates" / crate / "specs" / f"{found[1]}.antt" for words in here for crate in words]
+        known = set().union(*(DEFINED.findall(file.read_text()) for file in files if file.is_file()))
+        for name in re.findall(r"`(\w+)`", found[2]):
+            if name not in known:
+                yield page.name, page.line_of(found.start()), f"specs/{found[1]} has no `{name}`"
 
 
 def uncalled(page: Page, names: Names) -> Iterator[Finding]:
@@ -259,7 +306,7 @@ def unnamed_files(every: list[Page]) -> Iterator[Finding]:
     """Scripts that the index does not have, and examples that no page names."""
     texts = {page.name: (TOP / page.name).read_text() for page in every}
     for path in sorted(path for folder in ("scripts", "bench") for path in (TOP / folder).glob("*.*")):
-        if path.name not in texts["docs/CONTRIBUTING.md"]:
+        if path != PROMISES and path.name not in texts["docs/CONTRIBUTING.md"]:
             yield "docs/CONTRIBUTING.md", 1, f"the index lacks {path.parent.name}/{path.name}"
     for path in sorted((TOP / "examples").glob("*")):
         if not any(f"examples/{path.name}" in text for text in texts.values()):
@@ -270,19 +317,20 @@ def findings() -> Iterator[Finding]:
     """All that is wrong."""
     every, names, counts = pages(), Names(), tree_counts()
     code = [path.read_text() for kind in ("src/**/*.rt", "specs/**/*.antt") for path in TOP.glob(f"crates/*/{kind}")]
-    lines = (TOP / "crates.txt").read_text().splitlines()
-    libraries = {word for line in lines if not line.startswith("#") for word in line.partition(":")[2].split()}
+    others = other_names()
     for page in every:
         if page.name != "CHANGELOG.md":
             yield from wrong_counts(page, counts)
-        if page.name.startswith(CITING):
-            yield from wrong_citations(page, names, libraries)
+            yield from wrong_citations(page, names, others)
+        if page.name == "docs/MODEL.md":
+            yield from wrong_glossary(page)
         if page.name == "README.md":
             yield from uncalled(page, names)
         yield from wrong_links(page)
         yield from wrong_quotes(page, code)
     yield from ((walk.PAGE, line, reason) for line, reason in walk.findings())
-    yield from wrong_tables(every, names)
+    yield from wrong_tables(every)
+    yield from wrong_promises(names)
     yield from unnamed_files(every)
 
 

@@ -27,6 +27,8 @@ class Names:
         # What can stand behind "`NAME`:", of a function, a type or a definition.
         self.clauses: dict[str, set[str]] = collections.defaultdict(set)
         self.functions: dict[str, set[str]] = collections.defaultdict(set)
+        # The clauses of the functions of a crate that have a name, by crate and name.
+        self.contracts: dict[tuple[str, str], set[str]] = collections.defaultdict(set)
         self.bodies: dict[str, set[str]] = collections.defaultdict(set)
         for crate in sorted(folder for folder in (TOP / "crates").iterdir() if (folder / "src").is_dir()):
             self.add_crate(crate)
@@ -65,6 +67,7 @@ class Names:
                     function = (name, *inside, *(f"{owner}::{name}" for owner in inside))
             elif clause := CLAUSE.match(line):
                 self.all.add(clause[1])
+                self.contracts[crate, function[0]].add(clause[1])
                 for name in function:
                     self.clauses[name].add(clause[1])
             elif field := FIELD.match(line):

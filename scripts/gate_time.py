@@ -5,29 +5,22 @@
     scripts/gate_time.py total PID LOG    prints the cost so far of that process, and how much of it was kept work
     scripts/gate_time.py dearest          prints the dearest crates of the last run
     scripts/gate_time.py groups           prints what a change in each group of crates.txt costs, by the last run
-    scripts/gate_time.py unit             measures the unit, and prints the last run's cost in units
 
-Times are processor seconds, user and system. The unit is `rt verdict` in crates/packed_marks, alone on the machine:
-processors differ by as much as three times, and the unit makes runs on two machines comparable.
+Times are processor seconds, user and system.
 """
 import argparse
 import collections
 import os
 import pathlib
 import re
-import resource
-import subprocess
 import sys
 import time
 
 from map import below, read_crates
 
 TOP = pathlib.Path(__file__).resolve().parent.parent
-# Written by a run of the gate: seconds by crate and kind, and the seconds of the whole run.
+# Written by a run of the gate: seconds by crate and kind.
 TIMES = TOP / "out" / "gate_times"
-TOTAL = TOP / "out" / "gate_total"
-UNIT_CRATE = "packed_marks"
-BOUND_UNITS = 144
 TICKS = os.sysconf("SC_CLK_TCK")
 KINDS = ("proof", "tests", "wrong bodies", "programs")
 
@@ -141,8 +134,6 @@ def total(pid: int, log: pathlib.Path) -> None:
     uptime = float(pathlib.Path("/proc/uptime").read_text().split()[0])
     wall = uptime - int(fields[19]) / TICKS
     processor = sum(int(ticks) for ticks in fields[13:15]) / TICKS
-    TOTAL.parent.mkdir(exist_ok=True)
-    TOTAL.write_text(f"{processor:.1f}\n")
     print(f"gate: {wall / 60:.1f} minutes, {processor / 60:.1f} processor minutes; {kept_of(log.read_text())}")
 
 
@@ -171,22 +162,6 @@ def groups() -> None:
         print(f"{group:12}{len(again):14}{checks / 60:10.0f}{bodies:20}{tries / 60:10.0f}")
 
 
-def unit() -> int:
-    """Measures the unit, and prints the last run's cost in units."""
-    begun = resource.getrusage(resource.RUSAGE_CHILDREN)
-    run = subprocess.run(["rt", "verdict"], cwd=TOP / "crates" / UNIT_CRATE, capture_output=True, text=True)
-    ended = resource.getrusage(resource.RUSAGE_CHILDREN)
-    if run.returncode:
-        print(f"gate_time: the verdict on {UNIT_CRATE} failed:\n{run.stdout[-500:]}{run.stderr[-500:]}", file=sys.stderr)
-        return 1
-    seconds = ended.ru_utime + ended.ru_stime - begun.ru_utime - begun.ru_stime
-    print(f"the unit is {seconds:.0f} processor seconds here; {BOUND_UNITS} units are {BOUND_UNITS * seconds / 60:.0f} processor minutes")
-    if TOTAL.exists():
-        cost = float(TOTAL.read_text())
-        print(f"the last run took {cost / 60:.1f} processor minutes, {cost / seconds:.0f} units")
-    return 0
-
-
 def main() -> int:
     """Does what the command line asks for."""
     parser = argparse.ArgumentParser(description=__doc__.splitlines()[0])
@@ -197,7 +172,6 @@ def main() -> int:
     whole.add_argument("log", type=pathlib.Path)
     commands.add_parser("dearest", help="print the dearest crates of the last run").add_argument("--most", type=int, default=20)
     commands.add_parser("groups", help="print what a change in each group of crates costs, by the last run")
-    commands.add_parser("unit", help="measure the unit, and print the last run's cost in units")
     given = parser.parse_args()
     if given.command == "watch":
         watch(given.pid)
@@ -205,10 +179,8 @@ def main() -> int:
         total(given.pid, given.log)
     elif given.command == "dearest":
         dearest(given.most)
-    elif given.command == "groups":
-        groups()
     else:
-        return unit()
+        groups()
     return 0
 
 

@@ -5,6 +5,10 @@
     scripts/wrong_bodies.py --since main            those of the crates that changed since a commit
     scripts/wrong_bodies.py --all --jobs 4          those of every crate, four crates at a time (hours)
     scripts/wrong_bodies.py --can-be-applied        only whether each can still be applied (seconds; `.ci/run` asks)
+    scripts/wrong_bodies.py --list action_log       prints those of a crate, the gate's too, and tries nothing
+
+The name of a wrong body says what its bug is. `--list` prints the file and the function that it edits. Of each that the gate
+tries it also prints the promise that it breaks, and what refuses it. scripts/wrong_bodies.tsv has these.
 
 The gate tries crates/*/must-fail one by one; this tries crates/*/wrong-bodies by `rt check` on a copy of the repository. A
 function is proved from the contracts of those that it calls. So wrong bodies of different functions are tried in one check,
@@ -26,6 +30,9 @@ from concurrent.futures import ThreadPoolExecutor
 from map import below, read_crates
 
 TOP = pathlib.Path(__file__).resolve().parent.parent
+# The wrong bodies of the gate: of each the crate, the name, the bug, the promise that it breaks, and what refuses it. That is
+# a function, alone or with one of these: a clause of its contract, an invariant, or what a function that it calls requires.
+PROMISES = TOP / "scripts" / "wrong_bodies.tsv"
 FOLDERS = ("must-fail", "wrong-bodies", "trial-bodies")
 # The most wrong bodies in one check.
 MOST = 10
@@ -50,6 +57,24 @@ class Function:
         module = "" if self.file in ("lib.rt", "main.rt") else self.file.removesuffix(".rt") + "/"
         modules = [module] + [f"{above}/" for above in pathlib.PurePath(self.file).parents[:-1]]
         return any(path.startswith(it) and self.name in path.removeprefix(it).split("/") for it in modules)
+
+
+@dataclasses.dataclass(frozen=True)
+class Promise:
+    """A line of PROMISES, with its number."""
+
+    line: int
+    crate: str
+    body: str
+    bug: str
+    promise: str
+    refused_by: str
+
+
+def read_promises() -> list[Promise]:
+    """The lines of PROMISES below its head."""
+    lines = PROMISES.read_text().splitlines()[1:]
+    return [Promise(number, *line.split("\t")) for number, line in enumerate(lines, 2)]
 
 
 def bodies_of(crate: pathlib.Path, folder: str = "wrong-bodies") -> list[pathlib.Path]:
@@ -154,6 +179,17 @@ def changed_by(body: pathlib.Path, crate: pathlib.Path) -> set[Function | None]:
             if one != other:
                 found.add(function_of(name.removeprefix("src/"), old, at) if name.startswith("src/") else None)
     return found
+
+
+def print_bodies(crates: list[str]) -> None:
+    """Prints the wrong bodies of some crates: those that the gate tries, and then the others."""
+    promises = {(it.crate, it.body): it for it in read_promises()}
+    for crate in (TOP / "crates" / name for name in crates):
+        for body in [body for folder in FOLDERS for body in bodies_of(crate, folder)]:
+            functions = sorted({it.name if it else "a place outside of bodies" for it in changed_by(body, crate)})
+            print(f"{body.relative_to(TOP)}: edits {', '.join(functions)}")
+            if it := promises.get((crate.name, body.stem)):
+                print(f"    the bug: {it.bug}\n    breaks: {it.promise}\n    refused by {it.refused_by}")
 
 
 def groups_of(bodies: list[pathlib.Path], crate: pathlib.Path) -> list[dict[pathlib.Path, set]]:
@@ -289,6 +325,7 @@ def main() -> int:
     parser.add_argument("--since", metavar="COMMIT", help="try those of the crates that changed since this commit")
     parser.add_argument("--all", action="store_true", help="try those of every crate")
     parser.add_argument("--can-be-applied", action="store_true", help="only check that each can still be applied")
+    parser.add_argument("--list", action="store_true", help="print them, and the gate's, and try none")
     parser.add_argument("--jobs", type=int, default=1, help="how many crates are tried at a time")
     given = parser.parse_args()
     if given.can_be_applied:
@@ -305,6 +342,9 @@ def main() -> int:
         crates = given.crates
     if not crates and not given.since:
         parser.error("name a crate, or give --since COMMIT or --all")
+    if given.list:
+        print_bodies(crates)
+        return 0
     return attempt(crates, given.jobs)
 
 

@@ -14,7 +14,7 @@ use world_folder::Escaped;
 /// How many lines may wait for a stream.
 const LINES: usize = 256;
 
-/// For how many seconds the end of the program waits for a stream that isn't read.
+/// For how many seconds the end of the program waits for room in a stream that isn't read, and then for its last line.
 const PATIENCE_SECONDS: u64 = 1;
 
 /// A standard stream.

@@ -56,6 +56,7 @@ impl<S: Write + Drop> Write for Watched<S> {
 }
 
 /// Runs a script of these streams. A stream that fails ends the program with its name and its reason.
+/// The writer must not buffer, since a script doesn't flush it.
 pub fn run_steps<R: Read + Drop, W: Write + Drop>(alloc: Global, input: R, output: W) -> Ending {
     let mut input = Watched::new(input);
     let mut output = Watched::new(output);
