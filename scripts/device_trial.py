@@ -42,6 +42,8 @@ JOURNALS = b"\xc0\x3b\x39\x98", b"\xfe\xed\xba\xbe"
 CALL, JOURNAL = "call", "journal"
 REFUSED = {"write": WRITE, "flush": FLUSH, "read": READ, JOURNAL: WRITE}
 START, PLAY = "start", "play"
+# The words of the system for a refused write.
+IO_ERROR = "Input/output error"
 SETTLED = "dmesg -n 1; echo 60000 >/proc/sys/vm/dirty_writeback_centisecs; echo 4 >/sys/block/vda/queue/max_sectors_kb"
 SERVES = f"""{{settled}}
 {MOUNTED} >/dev/null
@@ -88,7 +90,7 @@ def step_of(name: str, at: int, count: int, first: int) -> str:
 
 
 class Strayed(Exception):
-    """The disk refused a write of the system's own in the place of a call's, and a file of the server failed by it."""
+    """The disk also refused a write of another file, which failed by it at a later sync."""
 
 
 class Trial(Rig):
@@ -157,9 +159,9 @@ class Trial(Rig):
             if self.wanted and int(words[0]) < 0 and (self.hits or self.way is None):
                 self.failed_now, self.wanted_now = self.wanted, ()
                 self.tally.update([self.wanted])
-            if self.hits and int(words[0]) >= 0:
-                # The file that the write was of reports it at its next sync: in this case or in the next one.
-                self.tally["failed elsewhere"], self.strayed = self.tally["failed elsewhere"] + 1, 2
+            if self.hits:
+                # A refused write may be of another file. That file reports it at its next sync: in this case or in the next one.
+                self.strayed = 2
             self.wanted, self.way, self.hits, self.is_journal, self.is_asked = None, None, 0, False, False
         else:
             self.is_asked = True
@@ -228,7 +230,7 @@ class Trial(Rig):
         """Nothing is down if no call failed. What came of the call may arrive behind the line that something is down."""
         if self.down and not self.failed_now:
             self.until(lambda: not self.is_asked, "a call goes on")
-            if not self.failed_now and self.strayed:
+            if not self.failed_now and self.strayed and IO_ERROR in self.told_by_server:
                 raise Strayed
             if not self.failed_now:
                 raise Wrong(f"{self.down} in {self.phase}, though no call failed: {self.told_by_server}")
@@ -314,6 +316,7 @@ class Trial(Rig):
                 while self.tally["failed calls"] < upto:
                     self.case()
             except Strayed:
+                self.tally["failed elsewhere"] += 1
                 self.look("elsewhere")
 
     def run(self, count: int) -> str:

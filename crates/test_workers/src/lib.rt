@@ -14,6 +14,8 @@ mod cut_off;
 #[cfg(test)]
 mod failing;
 #[cfg(test)]
+mod folders;
+#[cfg(test)]
 mod held;
 #[cfg(test)]
 mod orders;
