@@ -12,10 +12,13 @@ It takes seconds, and prints the page, the line and the reason of each of these:
   not in the tree
 - a function of the walk of a tick that its file does not have
 - a function that README promises something of, and that worldd does not call
+- a page that has more words than its budget, or a page of docs/ that no budget has
 
 A block between fences is a quote, whole or in part: of the file in a marker on a line above it, `<!-- examples/FILE -->` or
 `<!-- clients/.. -->`, or without a language of any file in src/ or specs/ of a crate. An indented block is text. The marker `<!-- run -->` makes it
 commands with their output, which scripts/example_trial.py runs.
+
+The words of a page are those outside of its blocks. Those of tables count too; the lines between their heads and rows don't.
 """
 import dataclasses
 import pathlib
@@ -50,6 +53,23 @@ COUNTED = (
     (r"{} passed", ("things in the gate",)),
 )
 NUMBER = r"(?<![\d,.])(\d[\d,]*)"
+# How many words a page may have, or the pages together that one reader reads. A folder has its pages that no other entry names.
+BUDGETS = {
+    ("README.md",): 1_250,
+    ("docs/OPERATIONS.md",): 4_800,
+    ("docs/CLIENT.md",): 2_200,
+    ("docs/FORMATS.md",): 2_500,
+    ("docs/DISK.md",): 2_000,
+    ("docs/ARCHITECTURE.md", "docs/LIBRARIES.md"): 4_300,
+    ("docs/HEADLINE.md",): 2_000,
+    ("docs/PROOFS.md", "docs/proofs/cost.md"): 1_500,
+    ("docs/proofs/",): 12_000,
+    ("docs/MODEL.md",): 2_500,
+    ("docs/DECISIONS.md",): 4_000,
+    ("docs/PERFORMANCE.md",): 2_000,
+    ("docs/CONTRIBUTING.md",): 2_000,
+    ("docs/STANDBY.md",): 1_200,
+}
 # What follows these words speaks of an earlier tree.
 PAST = re.compile(r"\b(?:[Bb]efore|Until then),[^.|\n]*")
 # A path of the repository. What a program's folder out/ has is made by a run of the gate.
@@ -302,6 +322,26 @@ def wrong_quotes(page: Page, code: list[str]) -> Iterator[Finding]:
             yield page.name, block.line, "the block has no marker with the file that it quotes"
 
 
+def words_of(page: Page) -> int:
+    """How many words a page has outside of its blocks."""
+    return sum(1 for word in page.prose.split() if re.search(r"\w", word))
+
+
+def over_budget(every: list[Page]) -> Iterator[Finding]:
+    """Pages with more words than their budget, and pages of docs/ without one."""
+    named = {name for names in BUDGETS for name in names}
+    words: dict[str, int] = {}
+    for page in every:
+        name = page.name if page.name in named else f"{pathlib.Path(page.name).parent}/"
+        words[name] = words.get(name, 0) + words_of(page)
+        if name not in named and name != "./":
+            yield page.name, 1, "no budget has this page"
+    for names, budget in BUDGETS.items():
+        found = {name: words[name] for name in names if name in words}
+        if sum(found.values()) > budget:
+            yield names[0], 1, f"{sum(found.values()):,} words in {', '.join(found)}: the budget is {budget:,}"
+
+
 def unnamed_files(every: list[Page]) -> Iterator[Finding]:
     """Scripts that the index does not have, and examples that no page names."""
     texts = {page.name: (TOP / page.name).read_text() for page in every}
@@ -332,6 +372,7 @@ def findings() -> Iterator[Finding]:
     yield from wrong_tables(every)
     yield from wrong_promises(names)
     yield from unnamed_files(every)
+    yield from over_budget(every)
 
 
 def main() -> int:

@@ -1,8 +1,8 @@
 #!/usr/bin/env python3
 """Writes the map of the crates in docs/ARCHITECTURE.md from crates.txt.
 
-    scripts/map.py            writes the drawing and the table between their two markers
-    scripts/map.py --check    fails if they are not what it would write (`.ci/run` does this)
+    scripts/map.py            writes the drawing between its two markers
+    scripts/map.py --check    fails if it is not what it would write (`.ci/run` does this)
 
 In crates.txt the comment right above a crate says what that crate does. Any other comment is the heading of a group. A
 crate uses only crates that come before it, so the drawing shows each crate above those that it uses.
@@ -24,11 +24,10 @@ class Refused(Exception):
 
 @dataclasses.dataclass(frozen=True)
 class Crate:
-    """A line of crates.txt with its heading and its comment. `uses` leaves out the crates of the kit."""
+    """A line of crates.txt with its heading. `uses` leaves out the crates of the kit."""
 
     name: str
     group: str
-    text: str
     uses: tuple[str, ...]
 
 
@@ -49,7 +48,7 @@ def read_crates() -> dict[str, Crate]:
         late = [library for library in uses if library not in found]
         if late:
             raise Refused(f"{name}: it comes before {late[0]}, which it uses")
-        found[name] = Crate(name, group, comment, uses)
+        found[name] = Crate(name, group, uses)
         comment = ""
     folders = {folder.name for folder in (TOP / "crates").iterdir() if (folder / "src").is_dir()}
     if folders != found.keys():
@@ -83,25 +82,13 @@ def drawing(crates: dict[str, Crate]) -> str:
     return "".join(lines)
 
 
-def table(crates: dict[str, Crate]) -> str:
-    """A row for each crate, the lowest first. What a used crate uses itself is left out."""
-    lines = ["| crate | uses | what it does or promises |\n|---|---|---|\n"]
-    lower = below(crates)
-    for crate in crates.values():
-        behind = set().union(*(lower[use] for use in crate.uses))
-        direct = ", ".join(use for use in crate.uses if use not in behind)
-        lines.append(f"| {crate.name} | {direct or 'none'} | {crate.text} |\n")
-    return "".join(lines)
-
-
 def with_map(page: str) -> str:
     """The page with the map as crates.txt has it."""
     before, begin, rest = page.partition(BEGIN)
     _, end, after = rest.partition(END)
     if not begin or not end:
         raise Refused(f"{PAGE.name} lacks a marker of the map")
-    crates = read_crates()
-    return f"{before}{BEGIN}\n{drawing(crates)}\n{table(crates)}\n{END}{after}"
+    return f"{before}{BEGIN}\n{drawing(read_crates())}\n{END}{after}"
 
 
 def main() -> int:

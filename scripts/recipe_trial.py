@@ -3,12 +3,12 @@
 
     scripts/recipe_trial.py crates/worldd/out/worldd
 
-The manual makes a user and a world. The world is served as that user, and a client plays. The manual takes a backup meanwhile
-and restores it. Then the files are removed under the server, and the manual saves them. What comes of both has to belong to the
-user, to be served by it, and to hold each tick that was answered before. All of it runs in a mount namespace in which the
-folders of the system are copies or empty. This needs root; else it says so and doesn't try it. Before that install.sh runs
-on odd prefixes, over a stand-in for the kit: each gets a unit with its path and each file that install.sh names, or is refused
-and nothing is made. A program in C includes the header that was installed.
+The manual makes a user and a world, and a larger world of its words. The world is served as that user, and a client plays. The
+manual takes a backup meanwhile and restores it. Then the files are removed under the server, and the manual saves them. What
+comes of both has to belong to the user, to be served by it, and to hold each tick that was answered before. All of it runs in a
+mount namespace in which the folders of the system are copies or empty. This needs root; else it says so and doesn't try it.
+Before that install.sh runs on odd prefixes, over a stand-in for the kit: each gets a unit with its path and each file that
+install.sh names, or is refused and nothing is made. A program in C includes the header that was installed.
 """
 import argparse
 import collections
@@ -45,15 +45,16 @@ INSTALLED = {"include/cektaulis.h", "share/pkgconfig/cektaulis.pc", "share/world
 ))
 # The words of the manual in front of each recipe.
 MAKING, BACKUP = "**2. Make a user, its folder, and a world**", "**While it serves**"
-RESTORE, SAVING = "**Restore.**", "**Files are removed**"
+RESTORE, SAVING, LARGER = "**Restore.**", "**Files are removed**", "**A world gets more cells**"
 USER, PROGRAM = "world", "/usr/local/bin/worldd"
+AS_USER = {"user": USER, "group": USER, "extra_groups": []}
 WORLD, OTHER, COPY = (pathlib.Path(path) for path in ("/var/lib/world", "/var/lib/world2", "/var/backups/world.1"))
 # The folder of the sockets, in the namespace.
 SOCKETS = pathlib.Path("/var/sockets")
 ROUNDS, SECONDS, INSIDE = 3, 60, "--inside"
 CASES = (
-    "worlds made", "copies while it serves", "copies ahead of the answers", "copies restored", "lost files saved",
-    "worlds served again",
+    "worlds made", "worlds made larger", "copies while it serves", "copies ahead of the answers", "copies restored",
+    "lost files saved", "worlds served again",
 )
 
 
@@ -66,13 +67,15 @@ def recipe(name: str) -> str:
     return "\n".join(line[4:] for line in lines[begin:end])
 
 
-def follow(name: str, **words: object) -> str:
-    """Runs the commands of a recipe as root, with these words in their places. It gives what they print."""
+def follow(name: str, room: pathlib.Path | None = None, **words: object) -> str:
+    """Runs the commands of a recipe as root, or in a folder as the user of the world, with these words in their places. It gives
+    what they print."""
     text = recipe(name)
     for word, given in words.items():
         want(word in text, f"the recipe behind `{name}` has no {word}")
         text = re.sub(rf"\b{word}\b", str(given), text)
-    run = subprocess.run(["sh", "-e", "-u", "-c", text], capture_output=True, text=True, timeout=SECONDS)
+    who = AS_USER | {"cwd": room} if room else {}
+    run = subprocess.run(["sh", "-e", "-u", "-c", text], capture_output=True, text=True, timeout=SECONDS, **who)
     want(run.returncode == 0, f"the recipe behind `{name}` ends with {run.returncode}: {run.stdout}{run.stderr}")
     return run.stdout
 
@@ -101,8 +104,7 @@ class Trial:
         """A server of a folder, as the user of the world: its process, the tick that it recovered, and a client that plays."""
         place = SOCKETS / str(next(self.sockets))
         command = [PROGRAM, "serve", "--dir", folder, "--method", "zigzag", "--every", "8", "--socket", place, "--clients", "10"]
-        as_user = {"user": USER, "group": USER, "extra_groups": []}
-        server = subprocess.Popen(command, stdout=subprocess.PIPE, stderr=subprocess.DEVNULL, text=True, **as_user)
+        server = subprocess.Popen(command, stdout=subprocess.PIPE, stderr=subprocess.DEVNULL, text=True, **AS_USER)
         self.servers.append(server)
         lines = [server.stdout.readline() for _ in range(2)]
         told = re.fullmatch(r"recovered (\d+) from \d+\n", lines[0])
@@ -142,6 +144,14 @@ class Trial:
         self.met["worlds served again"] += 1
         shutil.rmtree(folder)
 
+    def enlarge(self) -> None:
+        """The user makes a larger world of the words of this one, and serves it."""
+        want(follow(LARGER, SOCKETS) == "created 2000\n", "the manual made no larger world")
+        self.holds(SOCKETS / "larger", 0)
+        self.met["worlds made larger"] += 1
+        (SOCKETS / "words").unlink()
+        self.serves_again(SOCKETS / "larger", 0)
+
     def round(self) -> None:
         """A backup under a server, its restore, and files that are removed under the server."""
         server, _, player = self.serve(WORLD)
@@ -170,6 +180,7 @@ class Trial:
             want(follow(MAKING) == "created 1000\n", "the manual made no world")
             self.met["worlds made"] += 1
             shutil.chown(SOCKETS, USER, USER)
+            self.enlarge()
             self.round()
             shutil.rmtree(WORLD)
             subprocess.run(["userdel", USER], check=True, capture_output=True)
