@@ -17,6 +17,8 @@ import pathlib
 import re
 import sys
 
+from map import below, read_crates
+
 NAME = re.compile(r"[^\s(){}\[\],;.:λ∀×→⊎¬=]+")
 IMPORT = re.compile(r"use Rattle\.(\w+)\.specs\.(\w+)(?:\.\w+)*\.\{([^}]*)\}")
 EXPORT = re.compile(r"^pub use ([\w:]+)::(?:\{([^}]*)\}|(\w+));", re.MULTILINE)
@@ -24,8 +26,9 @@ DEFINITION = re.compile(r"(?:unfoldable |abbrev )?pub (?:record |data )?([^\s:({
 CASE = re.compile(r"  (\w+) :")
 ITEM = re.compile(r"(pub |pub\(\w+\) )?(?:const )?(fn|trait|struct|enum) (\w+)")
 IMPL = re.compile(r"impl(?:<.*?>)? (?:(\w[\w:]*)(?:<.*>)? for )?(\w+)")
-# A row of README's table of promises: its crates and its contracts. What follows a colon are names of clauses.
-ROW = re.compile(r"^\| .* \| (`\w+`(?:, `\w+`)*) \| (`.*`) \|$", re.MULTILINE)
+# README's table of promises, and the contracts of a row. What follows a colon are names of clauses.
+TABLE = re.compile(r"^## What is proved$(.*?)^## ", re.MULTILINE | re.DOTALL)
+ROW = re.compile(r"^\| .* \| (`.*`) \|$", re.MULTILINE)
 CLAUSES = re.compile(r"(?<=`): (?:`\w+`(?:, )?)+")
 CITED = re.compile(r"`(?:\w+::)?(\w+)`")
 CLAUSE = re.compile(r"(?:requires|ensures|decreases|ghost (?!use))")
@@ -104,9 +107,9 @@ def clauses(path, exported):
 
 
 def cited_in_readme():
-    """The functions and types whose contracts README's table cites, each with the crates of its row."""
-    rows = ROW.findall(pathlib.Path("README.md").read_text())
-    return {(crate, name) for crates, cited in rows for crate in CITED.findall(crates) for name in CITED.findall(CLAUSES.sub("", cited))}
+    """The functions and types whose contracts README's table cites."""
+    table = TABLE.search(pathlib.Path("README.md").read_text())[1]
+    return {name for cited in ROW.findall(table) for name in CITED.findall(CLAUSES.sub("", cited))}
 
 
 def of_traits(path):
@@ -139,6 +142,7 @@ def reached_from(names, known):
 def main():
     one = sys.argv[2:] if sys.argv[1:2] == ["of"] else None
     known, lines, cited = {}, collections.Counter(), cited_in_readme()
+    served = {"worldd"} | below(read_crates())["worldd"]
     # The clauses of one count, and the names that they reach.
     counted = {"the table of README": ([], []), "all that crates hand out": ([], []), "one": ([], [])}
     for crate in sorted(pathlib.Path("crates").iterdir()):
@@ -155,7 +159,7 @@ def main():
         for path in filter(lambda path: not is_test(path), (crate / "src").rglob("*.rt")):
             found, traits, names = clauses(path, exported), of_traits(path), imported(path.read_text())
             for which, wanted in (
-                ("the table of README", lambda name: name in traits or (crate.name, name) in cited),
+                ("the table of README", lambda name: name in traits or (crate.name in served and name in cited)),
                 ("all that crates hand out", lambda name: True),
                 ("one", lambda name: [crate.name, name] == one),
             ):
