@@ -1,0 +1,49 @@
+//! A world in a program of its own: one thread, the four files of a folder, and a client on standard input.
+//!
+//! The folder is `world`, which `worldd create` makes. Lines are those of docs/FORMATS.md, and each batch is answered once its
+//! tick is durable. The status is that of `worldd`.
+#![tactic(auto)]
+
+use command_line::take_standard_streams;
+use file_disk::FileDisk;
+use serial_world::SerialWorld;
+use sessions::serve_lines;
+use std::fs::{File, Files};
+use std::io;
+use std::time::Clock;
+use world_folder::{Ending, failure_of, open_existing, opened};
+use world_actions::Refusal;
+use zigzag::Zigzag;
+
+/// The folder of the world.
+const FOLDER: &str = "world";
+
+/// An image is written after so many ticks.
+const EVERY: u32 = 4096;
+
+fn main(rt: HostRuntime) -> Ending {
+    // Before a file of a world: it must not get the descriptor of a standard stream that is closed.
+    let null = opened(rt.alloc(), "/dev", "null", take_standard_streams(&rt));
+    let _null = match null {
+        Ok(null) => null,
+        Err(ending) => return ending,
+    };
+    Ending::of_command(play(&rt))
+}
+
+// Opens the world, answers the batches of standard input, and gives the files back at its end.
+fn play<R: Input + Print + Eprint + Clock + Files<File = File> + AllocGlobal + Clone + Drop>(
+    rt: &R,
+) -> Result<(), Ending> {
+    let files = open_existing(rt, FOLDER)?;
+    let mut world = match SerialWorld::<Zigzag, FileDisk>::open(rt.alloc(), files, EVERY) {
+        Ok(world) => world,
+        Err((files, Refusal::Device)) => return Err(failure_of(rt.alloc(), FOLDER, files)),
+        Err((_, refusal)) => return Err(Ending::Fault(refusal)),
+    };
+    let (mut input, mut output) = (rt.reader(), io::writer(rt));
+    match serve_lines(rt.alloc(), &mut input, &mut output, &mut world) {
+        Ok(()) => Ok(()),
+        Err(refusal) => Err(Ending::Fault(refusal)),
+    }
+}

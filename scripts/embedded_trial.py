@@ -1,0 +1,114 @@
+#!/usr/bin/env python3
+"""Runs examples/embedded, the example of a program that serves a world by itself, and judges what it prints and leaves.
+
+    scripts/embedded_trial.py crates/embedded/out/embedded crates/worldd/out/worldd
+
+It plays two batches, twice, and `worldd recover` has to find each tick. Of two that run at once one is refused, and the other
+goes on. With each set of standard streams closed, the files have to stay a world.
+"""
+import argparse
+import itertools
+import os
+import pathlib
+import subprocess
+import sys
+import tempfile
+
+SECONDS = 60
+CELLS = 2
+BATCHES = "add 0 5\nget 0\nend\nmove 0 1 2\nget 1\nget 2\nend\n"
+
+
+class Wrong(Exception):
+    """What the program should not have done."""
+
+
+def expect(what: str, got: object, want: object) -> None:
+    """Refuses an answer that differs."""
+    if got != want:
+        raise Wrong(f"{what}: {got!r} instead of {want!r}")
+
+
+class Trial:
+    """A world in a folder, and the programs that work on it."""
+
+    def __init__(self, embedded: str, worldd: str, folder: pathlib.Path) -> None:
+        self.embedded, self.worldd, self.folder = embedded, worldd, folder
+        (folder / "world").mkdir()
+        self.run_worldd("create", "--cells", str(CELLS))
+
+    def run_worldd(self, command: str, *words: str) -> str:
+        """What `worldd` prints on the world."""
+        run = subprocess.run([self.worldd, command, "--dir", self.folder / "world", *words], capture_output=True, text=True, timeout=SECONDS)
+        expect(f"status of worldd {command}", (run.returncode, run.stderr), (0, ""))
+        return run.stdout
+
+    def start(self, **streams: object) -> subprocess.Popen:
+        """The program, with pipes unless its streams are said."""
+        how = {"stdin": subprocess.PIPE, "stdout": subprocess.PIPE, "stderr": subprocess.PIPE, "text": True, "cwd": self.folder}
+        return subprocess.Popen([self.embedded], **(how | streams))
+
+    def tick(self) -> int:
+        """The tick that recovery finds."""
+        return int(self.run_worldd("recover").split()[1])
+
+    def play(self, first: int, total: int, moved: int) -> None:
+        """Two batches are answered, and are there afterwards."""
+        said, errors = self.start().communicate(BATCHES, timeout=SECONDS)
+        expect("answers", said, f"tick {first}: + ={total}\ntick {first + 1}: + ={moved} -1\n")
+        expect("standard error", errors, "")
+        expect("recovered tick", self.tick(), first + 1)
+
+    def play_two(self) -> None:
+        """Of two at once the second is refused, and the first goes on."""
+        one = self.start()
+        one.stdin.write("get 0\nend\n")
+        one.stdin.flush()
+        answer = one.stdout.readline()
+        two = self.start()
+        said, errors = two.communicate(BATCHES, timeout=SECONDS)
+        expect("the second program", (two.returncode, said), (1, ""))
+        if "another program writes this world" not in errors:
+            raise Wrong(f"the second program said {errors!r}")
+        one.communicate(timeout=SECONDS)
+        expect("the first program", (one.returncode, answer.startswith("tick ")), (0, True))
+
+    def play_closed(self, closed: tuple[int, ...]) -> None:
+        """With these standard streams closed, no text gets into a file, and no tick is lost."""
+        before = self.tick()
+        streams = {("stdin", "stdout", "stderr")[at]: subprocess.DEVNULL for at in closed}
+        program = self.start(**streams, preexec_fn=lambda: [os.close(at) for at in closed])
+        program.communicate(None if 0 in closed else BATCHES, timeout=SECONDS)
+        ticks = self.tick() - before
+        if ticks not in ((0,) if 0 in closed else (0, 1, 2)):
+            raise Wrong(f"with {closed} closed {ticks} ticks came")
+
+
+def run(given: argparse.Namespace) -> str:
+    """Runs all of it, and gives the counts."""
+    sets = [closed for count in (1, 2, 3) for closed in itertools.combinations(range(3), count)]
+    with tempfile.TemporaryDirectory() as folder:
+        trial = Trial(given.embedded, given.worldd, pathlib.Path(folder))
+        trial.play(1, 5, 2)
+        trial.play(3, 8, 4)
+        trial.play_two()
+        for closed in sets:
+            trial.play_closed(closed)
+    return f"embedded: 2 runs, 2 at once, {len(sets)} sets of closed streams, nothing wrong"
+
+
+def main() -> int:
+    """Runs the trial."""
+    parser = argparse.ArgumentParser(description=__doc__.splitlines()[0])
+    parser.add_argument("embedded", type=os.path.abspath, help="the built example")
+    parser.add_argument("worldd", type=os.path.abspath, help="the built worldd")
+    try:
+        print(run(parser.parse_args()))
+    except (Wrong, OSError, subprocess.SubprocessError) as wrong:
+        print(f"embedded_trial: {wrong}", file=sys.stderr)
+        return 1
+    return 0
+
+
+if __name__ == "__main__":
+    sys.exit(main())
