@@ -1,11 +1,26 @@
 //! The calls that settle a file before it is read.
-ghost use Rattle.std.specs.Prelude.{◌≡◌, ◌≢◌, ◌↔◌, pos, Ok, Err, Some, IsTrue, IsErrAnd, IfErr};
+ghost use Rattle.std.specs.Prelude.{◌≡◌, ◌≢◌, ◌↔◌, ◌<ℤ◌, pos, Ok, Err, Some, IsTrue, IsOk, IsErrAnd, IfErr};
+ghost use Rattle.std.specs.Fd.{file_raw_fd};
 ghost use Rattle.std.specs.IoError.{raw_os_error};
 ghost use Rattle.file_disk.specs.Opening.{IsUnwritable};
 
 use std::fs::File;
 use std::io;
 use std::os::fd::AsRawFd;
+
+/// The highest descriptor of a standard stream.
+const STANDARD_ERROR: i32 = 2;
+
+/// Refuses a file at the descriptor of a standard stream, which text for people would be written into.
+pub fn above_streams(file: &File) -> io::Result<()>
+    ensures { IsOk result → pos 2 <ℤ file_raw_fd file.now }
+{
+    if file.as_raw_fd() > STANDARD_ERROR {
+        Ok(())
+    } else {
+        Err(io::Error::other("a standard stream is closed"))
+    }
+}
 
 /// Drops the system's copies of a file's bytes, so that later reads ask the device. After a sync that failed, which may
 /// have been an earlier program's, the system keeps copies that the device doesn't have, and no later sync writes them.

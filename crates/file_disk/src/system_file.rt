@@ -1,10 +1,11 @@
-ghost use Rattle.std.specs.Prelude.{◌≡◌, ◌↔◌, false, min, max, [], Ok, Err, IsOk, IfOk, IfErr, IsOkAnd, IsErrAnd, OnOk, OnErr, ⊤};
+ghost use Rattle.std.specs.Prelude.{◌≡◌, ◌↔◌, ◌<ℤ◌, pos, false, min, max, [], Ok, Err, IsOk, IfOk, IfErr, IsOkAnd, IsErrAnd, OnOk, OnErr, ⊤};
+ghost use Rattle.std.specs.Fd.{file_raw_fd};
 ghost use Rattle.std.specs.Fs.{metadata_len};
 ghost use Rattle.std.proofs.lemmas.Bool.{false≢true};
 ghost use Rattle.disk_model.specs.Disk.{last_count, min-last_count, IsDeviceFault};
 ghost use Rattle.file_disk.specs.KnownFile.{after_failure, CallsFile};
 
-use crate::opening::{drop_copies, if_writable};
+use crate::opening::{above_streams, drop_copies, if_writable};
 use disk_model::Disk;
 use std::fs::{File, Metadata};
 use std::io::{self, ErrorKind};
@@ -34,10 +35,13 @@ impl Model for FileDisk {
 
 impl FileDisk {
     /// Takes a regular file that isn't open for appending, to write it. It is synced, and the system's copies of its bytes
-    /// are dropped: reads then give the bytes that the device has. The system's error is the reason of a refusal.
+    /// are dropped: reads then give the bytes that the device has. The system's error is the reason of a refusal. A file at the
+    /// descriptor of a standard stream is refused.
     pub fn open(file: File) -> io::Result<FileDisk>
         ensures no_faults { IfOk result (λ disk. disk.faults ≡ 0) }
+        ensures above { IsOk result → pos 2 <ℤ file_raw_fd file }
     {
+        above_streams(&file)?;
         let synced = file.sync_all();
         let dropped = drop_copies(&file);
         let metadata = file.metadata();
@@ -47,7 +51,9 @@ impl FileDisk {
     /// Takes a regular file that is only read. It is synced as far as it can be written, and the copies are dropped too.
     pub fn open_to_read(file: File) -> io::Result<FileDisk>
         ensures no_faults { IfOk result (λ disk. disk.faults ≡ 0) }
+        ensures above { IsOk result → pos 2 <ℤ file_raw_fd file }
     {
+        above_streams(&file)?;
         let synced = if_writable(file.sync_all());
         let dropped = drop_copies(&file);
         let metadata = file.metadata();
@@ -58,7 +64,9 @@ impl FileDisk {
     /// has.
     pub fn open_cached(file: File) -> io::Result<FileDisk>
         ensures no_faults { IfOk result (λ disk. disk.faults ≡ 0) }
+        ensures above { IsOk result → pos 2 <ℤ file_raw_fd file }
     {
+        above_streams(&file)?;
         let metadata = file.metadata();
         FileDisk::opened(file, Ok(()), Ok(()), metadata)
     }

@@ -12,7 +12,6 @@ mod completing;
 mod copying;
 mod counted;
 mod creating;
-mod descriptors;
 mod ending;
 mod entry;
 mod escaped;

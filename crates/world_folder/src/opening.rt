@@ -12,7 +12,7 @@ use crate::entry::Identity;
 use crate::folders::{Folder, WorldDisk};
 use crate::own_file::{OwnFile, are_apart, open_own};
 use crate::system_error::Reason;
-use crate::system_folder::{ABOVE, SystemFolder};
+use crate::system_folder::SystemFolder;
 use crate::world_file::WorldFile;
 use disk_model::FourFiles;
 use file_disk::FileDisk;
@@ -22,6 +22,9 @@ use std::path::{Path, PathBuf};
 use std::time::Clock;
 use std::{fmt, io};
 use world_actions::Refusal;
+
+/// The name of the folder above a folder.
+pub const ABOVE: &str = "..";
 
 /// A file that can't be read, and why.
 #[derive(Debug, Drop)]

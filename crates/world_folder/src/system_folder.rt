@@ -3,10 +3,10 @@ ghost use Rattle.std.specs.Prelude.{◌≡◌, false, []};
 ghost use Rattle.std.proofs.lemmas.Bool.{false≢true};
 ghost use Rattle.world_folder.specs.OwnFile.{no_entry, no_identity};
 
-use crate::descriptors::{above_streams, open_by};
 use crate::entry::Entry;
 use crate::folders::{Folder, Reading};
 use crate::locks::{self, LockState};
+use crate::opening::ABOVE;
 use crate::own_file::NOT_REGULAR;
 use crate::world_file::WorldFile;
 use file_disk::FileDisk;
@@ -24,9 +24,6 @@ const OWNER_ALONE: u32 = 0o600;
 
 /// How long a pause is.
 const PAUSE_MILLISECONDS: u64 = 1;
-
-/// The name of the folder above a folder.
-pub const ABOVE: &str = "..";
 
 /// The folder at a path. Contracts state nothing of its calls: it is not `honest`.
 #[derive(Drop)]
@@ -50,7 +47,7 @@ impl<'a, R: Files<File = File> + AllocGlobal> SystemFolder<'a, R> {
         if !fs::metadata(self.rt, path.as_path())?.is_file() {
             return Err(io::Error::other(NOT_REGULAR));
         }
-        above_streams(File::open(self.rt, path.as_path())?)
+        File::open(self.rt, path.as_path())
     }
 }
 
@@ -80,7 +77,7 @@ impl<R: Files<File = File> + Clock + Print + Eprint + AllocGlobal> Folder for Sy
     fn open(&mut self, file: WorldFile) -> io::Result<File> {
         let mut how = OpenOptions::new();
         how.read(true).write(true);
-        open_by(self.rt, &how, self.path_of(file)?.as_path())
+        how.open(self.rt, self.path_of(file)?.as_path())
     }
 
     fn make(&mut self, file: WorldFile) -> io::Result<File> {
@@ -89,7 +86,7 @@ impl<R: Files<File = File> + Clock + Print + Eprint + AllocGlobal> Folder for Sy
             .write(true)
             .create_new(true)
             .mode(OWNER_ALONE);
-        open_by(self.rt, &how, self.path_of(file)?.as_path())
+        how.open(self.rt, self.path_of(file)?.as_path())
     }
 
     fn open_to_read(&mut self, file: WorldFile, how: Reading) -> io::Result<FileDisk> {
@@ -139,8 +136,7 @@ impl<R: Files<File = File> + Clock + Print + Eprint + AllocGlobal> Folder for Sy
     }
 
     fn is_empty(&mut self) -> io::Result<bool> {
-        let mut names = fs::read_dir(&self.rt, self.path)?;
-        Ok(names.next().is_none())
+        Ok(fs::read_dir(&self.rt, self.path)?.next().is_none())
     }
 
     fn length(&mut self, file: WorldFile) -> io::Result<u64> {
