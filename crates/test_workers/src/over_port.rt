@@ -1,4 +1,6 @@
 //! A world on files in memory, served over a port from its four files to their end.
+ghost use Rattle.std.specs.Prelude.{◌≡◌, ◌++◌, ◌∷◌, []};
+
 use crate::same::same;
 use crate::tcp::try_client;
 use crate::worlds::{Teller, new_files};
@@ -28,35 +30,31 @@ const ONE: Admission = Admission {
     idle: None,
 };
 
-// A port at which clients come, and the numbers of the lines that are printed.
+// A port at which clients come, and the lines that are printed.
 #[derive(Drop)]
-struct Desk<R: Wait + Copy> {
+struct Desk<R: Wait + Abort + Copy> {
+    rt: R,
     listener: Option<Listener>,
     watch: Option<Teller<R>>,
-    recovered: Option<(u64, u64)>,
-    stopped: Option<(u64, u64)>,
-    others: u32,
+    printed: Vec<Line>,
+    noted: Vec<Line>,
 }
 
-impl<R: Wait + Copy, M: Method> Front<M, ModelFile, Teller<R>> for Desk<R> {
-    ghost use Rattle.std.specs.Prelude.{false, []};
+impl<R: Wait + Abort + Copy, M: Method> Front<M, ModelFile, Teller<R>> for Desk<R> {
+    ghost use Rattle.std.specs.Prelude.{true};
 
-    ghost known = { false };
+    ghost known = { true };
 
-    ghost printed = { λ desk. [] };
+    ghost printed = { λ desk. desk.printed.items };
 
-    ghost noted = { λ desk. [] };
+    ghost noted = { λ desk. desk.noted.items };
 
     fn print(&mut self, line: Line) {
-        match line {
-            Line::Recovered { ended, from } => self.recovered = Some((ended, from)),
-            Line::Stopped { ended, acked } => self.stopped = Some((ended, acked)),
-            _ => self.others = self.others.saturating_add(1),
-        }
+        keep(&self.rt, &mut self.printed, line);
     }
 
-    fn note(&mut self, _line: Line) {
-        self.others = self.others.saturating_add(1);
+    fn note(&mut self, line: Line) {
+        keep(&self.rt, &mut self.noted, line);
     }
 
     fn open(&mut self, _opened: &Opened<M, ModelFile>) -> Result<(Listener, Teller<R>), Ending> {
@@ -75,6 +73,15 @@ impl<R: Wait + Copy, M: Method> Front<M, ModelFile, Teller<R>> for Desk<R> {
     }
 }
 
+// Adds a line. A test has the memory for it, or ends.
+fn keep(rt: &impl Abort, lines: &mut Vec<Line>, line: Line)
+    ensures { lines.new.items ≡ lines.old.items ++ line ∷ [] }
+{
+    if lines.push(line).is_err() {
+        rt.abort();
+    }
+}
+
 // Serves a new world of two cells to one client. Checks what is printed, and which world was recovered.
 fn serve_one<M: Seats + Send + 'static, R: Threads + Wait + Clock + Abort + Copy + Send + 'static>(
     rt: &R,
@@ -83,11 +90,11 @@ fn serve_one<M: Seats + Send + 'static, R: Threads + Wait + Clock + Abort + Copy
 ) {
     let (to, _heard) = unbounded(alloc).expect(rt, "a channel");
     let mut desk = Desk {
+        rt: *rt,
         listener: Some(listener),
         watch: Some(Teller { rt: *rt, to }),
-        recovered: None,
-        stopped: None,
-        others: 0,
+        printed: Vec::new(alloc),
+        noted: Vec::new(alloc),
     };
     let files = new_files(rt, alloc, 2);
     let served = serve_world::<R, M, ModelFile, Teller<R>, Desk<R>>(
@@ -115,9 +122,15 @@ fn serve_one<M: Seats + Send + 'static, R: Threads + Wait + Clock + Abort + Copy
         }
         Err(_) => panic!(rt; "not served"),
     }
-    same(rt, "recovered", desk.recovered, Some((0, 0)));
-    same(rt, "stopped", desk.stopped, Some((2, 2)));
-    same(rt, "other lines", desk.others, 0);
+    let are_printed = match desk.printed.as_slice() {
+        [recovered, stopped] => {
+            matches!(recovered, Line::Recovered { ended: 0, from: 0 })
+                && matches!(stopped, Line::Stopped { ended: 2, acked: 2 })
+        }
+        _ => false,
+    };
+    same(rt, "the two lines", are_printed, true);
+    same(rt, "lines on standard error", desk.noted.len(), 0);
 }
 
 fn start_server<
