@@ -5,14 +5,13 @@ use crate::failure::{Failure, Shortage};
 use crate::incoming::Incoming;
 use crate::session::Joined;
 use crate::session_threads::{Sessions, Shared};
-use crossbeam_channel::Sender;
 use std::alloc::Global;
 use std::io;
 use std::sync::Wait;
 use std::thread::Threads;
 use std::time::Clock;
 use transports::Listener;
-use workers::{Ask, Looks};
+use workers::{AskChannel, Looks};
 
 /// Which clients a server takes.
 #[derive(Clone, Copy, Debug, PartialEq, Eq)]
@@ -59,7 +58,7 @@ pub fn accept_sessions<
     alloc: Global,
     listener: Listener,
     admission: Admission,
-    requests: Sender<Ask>,
+    channel: AskChannel,
     looks: Looks,
     door: W,
 ) -> Accepted
@@ -78,7 +77,7 @@ pub fn accept_sessions<
     let mut shared = Shared {
         alloc,
         idle: admission.idle,
-        requests,
+        channel,
         looks,
         door,
     };

@@ -1,5 +1,5 @@
 -- The effect of a step of one of the three workers.
-use Rattle.std.specs.Prelude.{◌≡◌, ◌≢◌, ◌⊎◌, ℕ, ◌<◌, ◌≤◌, Bool, true, false, [], Result}
+use Rattle.std.specs.Prelude.{◌≡◌, ◌≢◌, ◌⊎◌, ℕ, ◌<◌, ◌≤◌, Bool, true, false, Result}
 use Rattle.world_actions.specs.declared.refusal.Refusal.{Refusal}
 use Rattle.disk_model.specs.Disk.{Call, OneCalledAtMostOnce}
 use Rattle.image_files.specs.declared.phase.Phase.TheVariants.{Taking}
@@ -12,12 +12,11 @@ use Rattle.workers.specs.declared.gate.Place.{Place}
 use Rattle.workers.specs.declared.gate.Place.TheVariants.{Tick, Device}
 use Rattle.workers.specs.declared.gate.Pass.{Pass}
 use Rattle.workers.specs.declared.item.Item.{Item}
-use Rattle.workers.specs.Answering.{AreLater}
 use Rattle.workers.specs.Covering.{loaded, LoadsOn}
 use Rattle.workers.specs.Gates.{MayGo, MayStick}
 use Rattle.workers.specs.Mutating.{Playing, OpensNone, OwesSwitch, RunsBatch, Pays, StopsPlay}
 use Rattle.workers.specs.Imaging.{Imaging, place_of, HasRound, FindsNone, FindsRound, GoesOn}
-use Rattle.workers.specs.Logging.{Logging, Pops, Settles, LogTellsFaults}
+use Rattle.workers.specs.Logging.{Logging, Pops, refused as refuses, Settles, receipt_of, Acknowledges, LogTellsFaults}
 use Rattle.worker_steps.specs.Begun.{Started}
 use Rattle.worker_steps.specs.declared.next.Next.{Next}
 use Rattle.worker_steps.specs.declared.next.Next.TheVariants.{Play, Mark, Push, Stop, Pop, Log as Write, Image}
@@ -35,7 +34,8 @@ abbrev pub MayPop : {D : Type 0} → (old new : Logging D) → Type 0
 MayPop old new = (new ≡ old) ⊎ ((item : Item) × Pops old item new)
 
 -- A step of the log. It makes at most one call of a device, if the gate lets it, or takes the records that the newest open
--- image has. It posts the ticks that became durable. The log goes down only by a failed call, or by its gate.
+-- image has. It posts exactly the ticks that its receipt acknowledges. The log goes down only by a failed call, or by its
+-- gate, and then each answer that waits is refused.
 pub record LogSteps {D : Type 0} (go stuck : Type 0) (called : D → Call → Bool → D → Type 0) (faults : D → ℕ) (old new : Logging D) : Type 0 where
   pub same : new ≡ record old { covers = new.covers; told_down = new.told_down; log = new.log; ring = new.ring; answers = new.answers; acked = new.acked; down = new.down }
   pub loads : LoadsOn old.covers new.covers
@@ -43,13 +43,14 @@ pub record LogSteps {D : Type 0} (go stuck : Type 0) (called : D → Call → Bo
   pub covered : new.down ≡ false → (tick : ℕ) × (new.covers ≡ loaded old.covers tick)
       × (cover_answer old.log.keeper tick old.ring.items ≢ Idle → (new.log ≡ old.log) × (new.ring.items ≡ uncovered old.log.keeper tick old.ring.items))
   pub acked : old.acked ≤ new.acked
-  pub posts : (new.acked ≡ old.acked) ⊎ AreLater new.acked new.answers.waiting
+  pub posts : new.down ≡ false → (tick : ℕ) × (new.covers ≡ loaded old.covers tick)
+      × Acknowledges (receipt_of old.log.keeper tick old.ring.items new.log.keeper) old new
   pub lowers : new.down ≡ false → work_of new.log.keeper new.ring.items < work_of old.log.keeper old.ring.items
   pub failures : LogTellsFaults faults old.log new.log
   pub asks : (new.log ≡ old.log) ⊎ go
   pub calls : OneCalledAtMostOnce called old.log.a new.log.a old.log.b new.log.b
   pub cause : new.down ≡ true → (new.log.keeper.down ≡ true) ⊎ ((new.log ≡ old.log) × stuck)
-  pub refused : new.down ≡ true → new.answers.waiting ≡ []
+  pub refused : new.down ≡ true → (new.acked ≡ old.acked) × (new.answers ≡ refuses old.answers)
 
 -- The log stays down. Or a step is made, if work is left. Or no work is left, and no answer waits any more.
 abbrev pub LogGoes : {D G : Type 0} → (gate : G → Place → Pass → G → Type 0) → (called : D → Call → Bool → D → Type 0) → (faults : D → ℕ) → (old new : Logging D) → Type 0

@@ -13,3 +13,4 @@ pub mod Loggings
 mod Imagings
 mod Publishings
 mod Rounding
+mod Receipts

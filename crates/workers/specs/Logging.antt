@@ -1,13 +1,17 @@
 -- The log writer as contracts see it.
-use Rattle.std.specs.Prelude.{◌≡◌, ◌⊎◌, ℕ, ◌+◌, ◌<◌, ◌≤◌, Bool, true, false, IsTrue, List, [], ◌∷◌, ◌++◌, length, Some, IfSome}
+use Rattle.std.specs.Prelude.{◌≡◌, ◌⊎◌, ℕ, ◌+◌, ◌<◌, ◌≤◌, max, Bool, true, false, IsTrue, List, [], ◌∷◌, ◌++◌, length, Option, Some, None, IfSome}
 use Rattle.world_ticks.specs.declared.tick.TheConstants.{TICK_MAX}
 use Rattle.disk_model.specs.Disk.{FaultsBy}
 use Rattle.circular_buffer.specs.Buffer.{Buffer}
 use Rattle.action_log.specs.declared.record.Record.{Record}
 use Rattle.action_log.specs.declared.record.Record.TheVariants as records
-use Rattle.action_log.specs.declared.phase.Phase.TheVariants.{Ready}
+use Rattle.action_log.specs.declared.answer.LogAnswer.{LogAnswer}
+use Rattle.action_log.specs.declared.answer.LogAnswer.TheVariants as answer
+use Rattle.action_log.specs.declared.phase.Phase.{Phase}
+use Rattle.action_log.specs.declared.phase.Phase.TheVariants.{Ready, GateSync}
 use Rattle.action_log.specs.declared.progress.Progress.{Progress}
 use Rattle.action_log.specs.Segment.{Tick, Segment, OpenSegment}
+use Rattle.action_log.specs.Cover.{cover_answer}
 use Rattle.action_log.specs.Progress.{QueueFollows, end_of, work_of}
 use Rattle.action_log.specs.Logs.{Logs, Writing}
 use Rattle.action_log.specs.Files.{FitsFiles}
@@ -20,7 +24,7 @@ use Rattle.workers.specs.declared.log_writer.Log.{Log}
 use Rattle.restart.specs.declared.start.TheConstants.{QUEUE_RECORDS}
 use Rattle.workers.specs.Items.{items_end, records_of}
 use Rattle.workers.specs.Channel.{Popping}
-use Rattle.workers.specs.Answering.{Answering, answers_of, all_answers_of}
+use Rattle.workers.specs.Answering.{Answering, Posts, AreLater, answers_of, all_answers_of}
 use Rattle.workers.specs.Covering.{LeavesOut, IsCovered}
 use Rattle.workers.specs.Publishing.{told as with_told}
 
@@ -196,6 +200,32 @@ abbrev pub refused : Answering → Answering
 refused answers = record answers { waiting = []; answered = answers.answered + length answers.waiting }
 
 -- ---- a step
+
+-- the tick of a receipt, if the answer has one
+abbrev pub receipt_in : LogAnswer → Option ℕ
+receipt_in (answer.Acked tick) = Some tick
+receipt_in given = None
+
+-- the receipt of a keeper's step in this phase that doesn't fail: the last step of a group acknowledges this tick
+abbrev pub receipt_at : Phase → ℕ → Option ℕ
+receipt_at GateSync tick = Some tick
+receipt_at phase tick = None
+
+-- the receipt of a cover by this answer, or of the keeper's step if nothing is covered
+abbrev pub receipt_by : LogAnswer → Phase → ℕ → Option ℕ
+receipt_by answer.Idle phase tick = receipt_at phase tick
+receipt_by covered phase tick = receipt_in covered
+
+-- the receipt of a step of the log after which the keeper is up, with a cover of this tick
+abbrev pub receipt_of : (old : Progress) → (cover : ℕ) → List Record → (new : Progress) → Option ℕ
+receipt_of old cover queue new = receipt_by (cover_answer old cover queue) old.phase (new.base + new.count)
+
+-- The answers of the ticks up to the receipt's are posted, each once, and no others. Those ticks are acknowledged. Without a
+-- receipt nothing is posted, and no tick is acknowledged.
+abbrev pub Acknowledges : {D : Type 0} → Option ℕ → (old new : Logging D) → Type 0
+Acknowledges None old new = (new.acked ≡ old.acked) × (new.answers ≡ old.answers)
+Acknowledges (Some receipt) old new =
+    (new.acked ≡ max old.acked receipt) × Posts receipt old.answers new.answers × AreLater receipt new.answers.waiting
 
 -- With nothing left to do, an answer that still waits has no receipt. The log then goes down: the log writer reports it, and
 -- refuses each waiting answer. If none waits, nothing changes.

@@ -4,7 +4,7 @@ mod answers;
 mod holding;
 mod keep;
 
-ghost use Rattle.std.specs.Prelude.{◌≡◌, ◌≢◌, ◌↔◌, ◌⊎◌, ◌+◌, ◌<◌, ◌≤◌, ◌++◌, ◌∷◌, [], ℕ, true, false, List, length, IfOk, IsTrue};
+ghost use Rattle.std.specs.Prelude.{◌≡◌, ◌≢◌, ◌↔◌, ◌⊎◌, ◌+◌, ◌<◌, ◌≤◌, ◌++◌, ◌∷◌, [], ℕ, max, true, false, List, length, IfOk, IsTrue};
 ghost use Rattle.world_ticks.specs.declared.tick.TheConstants.{TICK_MAX};
 ghost use Rattle.disk_model.specs.Disk.{OneCalledAtMostOnce};
 ghost use Rattle.action_log.specs.declared.answer.LogAnswer.TheVariants.{Idle};
@@ -15,11 +15,10 @@ ghost use Rattle.restart.specs.declared.start.TheConstants.{QUEUE_RECORDS};
 ghost use Rattle.workers.specs.declared.gate.Place.TheVariants.{Device};
 ghost use Rattle.workers.specs.declared.item.Item.{Item as Popped};
 ghost use Rattle.workers.specs.declared.item.Item.TheVariants.{Start};
-ghost use Rattle.workers.specs.Answering.{AreLater};
 ghost use Rattle.workers.specs.Covering.{loaded, LoadsOn};
 ghost use Rattle.workers.specs.Gates.{MayGo, MayStick};
 ghost use Rattle.workers.specs.Publishing.{told as with_told};
-ghost use Rattle.workers.specs.Logging.{is_stop, has_stop, is_over, writer_at, Took, Loses, Pops, refused, Settles, IsReady, IsAtRest, LogTellsFaults, FallsBy, IsPosted, IsLogging};
+ghost use Rattle.workers.specs.Logging.{is_stop, has_stop, is_over, writer_at, Took, Loses, Pops, refused, Settles, receipt_of, Acknowledges, IsReady, IsAtRest, LogTellsFaults, FallsBy, IsPosted, IsLogging};
 
 use crate::gate::{Gate, Place, passes};
 use crate::item_channel::ItemReceiver;
@@ -224,7 +223,7 @@ impl<D: Disk + Drop, G: Gate + Drop> LogWriter<D, G> {
     }
 
     /// Leaves out the records that the newest open image has, or makes a step of the log, if the gate lets it. It posts the
-    /// answers of the ticks that became durable.
+    /// answers of the ticks that became durable. If the log goes down, it refuses each answer that waits.
     pub fn step<R: Wait>(&mut self, rt: &R)
         requires up { self.old.down ≡ false }
         ensures same { self.new
@@ -235,7 +234,8 @@ impl<D: Disk + Drop, G: Gate + Drop> LogWriter<D, G> {
             × (cover_answer self.old.log.keeper tick self.old.ring.items ≢ Idle → (self.new.log ≡ self.old.log)
             × (self.new.ring.items ≡ uncovered self.old.log.keeper tick self.old.ring.items)) }
         ensures acked { self.old.acked ≤ self.new.acked }
-        ensures posts { (self.new.acked ≡ self.old.acked) ⊎ AreLater self.new.acked self.new.answers.waiting }
+        ensures posts { self.new.down ≡ false → (tick : ℕ) × (self.new.covers ≡ loaded self.old.covers tick)
+            × Acknowledges (receipt_of self.old.log.keeper tick self.old.ring.items self.new.log.keeper) self.old self.new }
         ensures lowers { self.new.down ≡ false → 0 < work_of self.old.log.keeper self.old.ring.items
             → work_of self.new.log.keeper self.new.ring.items < work_of self.old.log.keeper self.old.ring.items }
         ensures faults { LogTellsFaults D.faults self.old.log self.new.log }
@@ -243,7 +243,7 @@ impl<D: Disk + Drop, G: Gate + Drop> LogWriter<D, G> {
         ensures calls { OneCalledAtMostOnce D.called self.old.log.a self.new.log.a self.old.log.b self.new.log.b }
         ensures cause { self.new.down ≡ true → (self.new.log.keeper.down ≡ true)
             ⊎ ((self.new.log ≡ self.old.log) × MayStick G.told Device) }
-        ensures refused { self.new.down ≡ true → self.new.answers.waiting ≡ [] }
+        ensures refused { self.new.down ≡ true → (self.new.acked ≡ self.old.acked) × (self.new.answers ≡ refused self.old.answers) }
     {
         if !passes(rt, &mut self.gate, Place::Device) {
             self.fall(rt);
@@ -385,6 +385,7 @@ impl<D: Disk + Drop, G: Gate + Drop> LogWriter<D, G> {
 }
 
 fn greater(x: u64, y: u64) -> u64
+    ensures is { result ≡ max x y }
     ensures least { (x ≤ result) × (y ≤ result) }
     ensures one { (result ≡ x) ⊎ (result ≡ y) }
 {

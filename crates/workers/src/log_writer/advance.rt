@@ -7,7 +7,7 @@ ghost use Rattle.action_log.specs.Files.{FitsFiles};
 ghost use Rattle.action_log.specs.Logs.{Logs};
 ghost use Rattle.action_log.specs.Progress.{QueueFollows, end_of, work_of};
 ghost use Rattle.workers.specs.Covering.{Advances};
-ghost use Rattle.workers.specs.Logging.{LogStands, LogTellsFaults};
+ghost use Rattle.workers.specs.Logging.{LogStands, LogTellsFaults, receipt_in, receipt_of};
 
 use super::Log;
 use action_log::{LogAnswer, Record, log_outcomes};
@@ -34,6 +34,8 @@ pub(crate) fn advance<D: Disk + Drop>(
     ensures follows { QueueFollows log.new.keeper queue.new.items }
     ensures end { end_of log.new.keeper queue.new.items ≡ end_of log.old.keeper queue.old.items }
     ensures ring { queue.new.capacity ≡ queue.old.capacity }
+    ensures receipt { result ≢ Down
+        → receipt_in result ≡ receipt_of log.old.keeper tick queue.old.items log.new.keeper }
     ensures down { (result ≡ Down) ↔ (log.new.keeper.down ≡ true) }
     ensures faults { LogTellsFaults D.faults log.old log.new }
     ensures calls { OneCalledAtMostOnce D.called log.old.a log.new.a log.old.b log.new.b }

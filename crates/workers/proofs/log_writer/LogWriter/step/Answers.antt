@@ -1,9 +1,10 @@
-use Rattle.std.proofs.Common.{arith, ◌≡◌, ◌⊎◌, inl, inr, ◌+◌, ◌≤◌, Bool, false, length, length-append, refl, sym, ap, ◌∙◌, subst}
+use Rattle.std.proofs.Common.{arith, ◌≡◌, ◌≢◌, ◌⊎◌, inl, inr, ℕ, ◌+◌, ◌≤◌, max, Bool, false, Some, None, length, length-append, refl, sym, ap, ◌∙◌, subst}
 use Rattle.action_log.specs.declared.answer.LogAnswer.TheVariants as answer
 use Rattle.workers.specs.Items.{records_of}
-use Rattle.workers.specs.Logging.{Logging, Writes, told_in}
+use Rattle.workers.specs.Logging.{Logging, Writes, told_in, receipt_in}
 use Rattle.workers.proofs.Coverings.{loads_one}
 use Rattle.workers.proofs.Loggings.{told_on, advanced}
+use Rattle.workers.proofs.Receipts.{acknowledged}
 use Rattle.workers.proofs.log_writer.LogWriter.step.Goals as goal
 
 pub post_all-requires : goal.post_all-requires
@@ -53,3 +54,19 @@ returns-in-Acked-clause-loads g c =
 pub returns-in-Idle-clause-loads : goal.returns-in-Idle-clause-loads
 returns-in-Idle-clause-loads g c =
     loads_one c.args.self.now.covers c.self.inside.covers c.latest-tick.new.self c.latest-tick.result (ap (λ (w : Logging g.row.D.Denot). w.covers) c.self.view_is) c.latest-tick.ensures
+
+pub returns-in-Acked-clause-posts : goal.returns-in-Acked-clause-posts
+returns-in-Acked-clause-posts g c = λ _.
+    let e = c.advance.ensures in
+    let up : c.advance.result ≢ answer.Down = λ down. (let is = c.in-Acked.is in cc) in
+    acknowledged c.args.self.now _ c.self.view_is c.latest-tick.new.self c.latest-tick.result c.advance.new.log c.advance.new.queue c.post_all.new.self c.greater-self-inside.result c.latest-tick.ensures
+    (Some c.in-Acked.receipt) (sym (ap receipt_in c.in-Acked.is) ∙ e.receipt up)
+    (c.greater-self-inside.ensures.is ∙ ap (λ (k : ℕ). max c.self.inside.acked k) c.tick.ensures, c.post_all.ensures.posts, c.post_all.ensures.others)
+
+pub returns-in-Idle-clause-posts : goal.returns-in-Idle-clause-posts
+returns-in-Idle-clause-posts g c = λ _.
+    let e = c.advance.ensures in
+    let up : c.advance.result ≢ answer.Down = λ down. elim c.in-Idle.is [ inl is ↦ cc | inr is ↦ cc ] in
+    let none : receipt_in c.advance.result ≡ None = elim c.in-Idle.is [ inl is ↦ ap receipt_in is | inr is ↦ ap receipt_in is ] in
+    acknowledged c.args.self.now _ c.self.view_is c.latest-tick.new.self c.latest-tick.result c.advance.new.log c.advance.new.queue c.self.inside.answers c.self.inside.acked c.latest-tick.ensures
+    None (sym none ∙ e.receipt up) (refl, refl)

@@ -1,10 +1,13 @@
-use Rattle.std.proofs.Common.{rules, ◌≡◌, false, inl, refl, subst}
+use Rattle.std.proofs.Common.{rules, ◌≡◌, ◌+◌, false, inl, refl, sym, ap, ◌∙◌, subst}
 use Rattle.circular_buffer.specs.Buffer.{Buffer}
+use Rattle.action_log.specs.declared.answer.LogAnswer.{LogAnswer}
 use Rattle.action_log.specs.declared.record.Record.{Record}
 use Rattle.action_log.specs.Logs.{LogPlace, Writing}
 use Rattle.action_log.specs.LogSteps.{LogsStep}
 use Rattle.action_log.specs.Stands.{Stands}
+use Rattle.workers.specs.Logging.{receipt_by}
 use Rattle.workers.proofs.Calling.{log_calls_one}
+use Rattle.workers.proofs.Receipts.{not_true, step_receipt}
 use Rattle.workers.proofs.log_writer.advance.advance.Goals as goal
 
 pub returns-in-Idle-clause-advances : goal.returns-in-Idle-clause-advances
@@ -22,3 +25,14 @@ returns-in-Idle-clause-calls g c =
     let keeper = c.args.log.now.keeper in
     let up : keeper.down ≡ false = search rules in
     log_calls_one g.D.Disk.called keeper.current keeper.phase c.cover.new.queue.items c.args.log.now.a c.step.new.a c.args.log.now.b c.step.new.b (c.step.ensures.calls up)
+
+pub returns-in-Idle-clause-receipt : goal.returns-in-Idle-clause-receipt
+returns-in-Idle-clause-receipt g c = λ stays.
+    let e = c.step.ensures in
+    let keeper = c.args.log.now.keeper in
+    let new = c.step.new.self in
+    let up : keeper.down ≡ false = search rules in
+    let still : new.down ≡ false = not_true new.down (λ down. stays (e.down.1 down)) in
+    let last = new.base + new.count in
+    step_receipt c.step.result keeper.phase last (λ tick is. ((e.receipt tick).0 is).0) (λ at. (e.receipt last).1 (at, up, still, refl))
+    ∙ ap (λ (a : LogAnswer). receipt_by a keeper.phase last) (sym c.in-Idle.is ∙ c.cover.ensures.answer)
