@@ -1,0 +1,145 @@
+#!/usr/bin/env python3
+"""Tries the client in JavaScript, clients/javascript/cektaulis.mjs, on a serving worldd.
+
+    scripts/javascript_trial.py crates/worldd/out/worldd
+    scripts/javascript_trial.py WORLDD --kills 200
+
+Over a port and over a socket, it plays 5,000 random lines that a plain model answers too. Some are bad, and some numbers are at or
+over their bounds. A server of the trial's own answers each code. Then the server is killed again and again while a client counts:
+each batch of `playOnce` has to count once. The trial prints how often it met what, and fails if an answer was never met. Without
+node it only says so.
+"""
+import argparse
+import json
+import pathlib
+import random
+import shutil
+import subprocess
+import sys
+import tempfile
+import time
+
+from check_docs import TOP
+from client_trial import MODEL, MODEL_LINES, MOST_KILLING_SECONDS, TEXTS, Trial
+from example_trial import Script, Step, Wrong
+from kill_trial import CELLS, LIMIT, PATIENCE_SECONDS, TRANSPORTS, Batch, Request, answer, difference, random_request
+
+CLIENT = TOP / "clients" / "javascript" / "cektaulis.mjs"
+MARKER, COUNT, BATCHES = 0, 1, 100
+LOST = "played, and the answer is lost"
+CODES = [f"fault {-code}" if code < 0 else f"tick 1: -{code}" for code in TEXTS]
+WANTED = "+", "value", *(code.removeprefix("tick 1: ") for code in CODES), MODEL, "kills", "counted once", LOST
+# Those of one word are bad lines for the model. They are sent as they are.
+EDGES: tuple[Request, ...] = (
+    ("set", 6, LIMIT), ("get", 6), ("add", 6, 1), ("add", 6, -LIMIT), ("set", 7, 2**53 + 1), ("get", 7), ("set", 6, 2**64 - 1),
+    ("add", 6, 2**63 - 1), ("add", 6, 1 - 2**63), ("get", 2**32 - 1), ("set 6 18446744073709551616",), ("cap 6 1e3",),
+    ("add 6 -9223372036854775808",), ("get 4294967296",), ("get 6\r",), ("end\r",), ("add 6 -0",), ("mark",), ("\0",), ("é",),
+)
+# Plays each line of its input, a batch in JSON, and prints what came of it.
+PLAYER = """
+import { createInterface } from "node:readline";
+import * as client from "CLIENT";
+const world = await client.World.connect(process.argv[1]);
+const request = ([kind, ...numbers]) => numbers.length ? client[kind](...numbers.map(BigInt)) : new client.Action(kind);
+const word = (answer) => answer === null ? " +" : answer instanceof client.Refused ? ` -${answer.code}` : ` =${answer}`;
+for await (const line of createInterface({ input: process.stdin })) {
+  await world.play(...JSON.parse(line).map(request)).then(
+    ({ number, answers }) => console.log(`tick ${number}:${answers.map(word).join("")}\\t${answers[0]?.text}`),
+    (error) => console.log(`${error.name} ${error.code ?? error.certain}\\t${error.message}`));
+}
+await world.close();
+""".replace("CLIENT", CLIENT.as_uri())
+
+
+def play(address: str, batches: list[Batch]) -> list[list[str]]:
+    """What comes of batches: each answer, and its text if it is a refusal."""
+    given = "".join(json.dumps([[str(word) for word in request] for request in batch]) + "\n" for batch in batches)
+    run = ["node", "--input-type=module", "--eval", PLAYER, address]
+    ended = subprocess.run(run, input=given, capture_output=True, text=True, timeout=2 * PATIENCE_SECONDS)
+    told = [line.split("\t") for line in ended.stdout.splitlines()]
+    if ended.returncode or len(told) != len(batches):
+        raise Wrong(f"the player ended with status {ended.returncode} after {len(told)} batches: {ended.stderr}")
+    return told
+
+
+def try_model(trial: Trial, chance: random.Random) -> None:
+    """Random lines are answered as by a plain model."""
+    batches, words = [EDGES], [0] * CELLS
+    while sum(map(len, batches)) < MODEL_LINES:
+        lines = range(chance.choice((0, 1, 3, 20, 600, 1024)))
+        batches.append(tuple(chance.choice(EDGES) if chance.random() < 0.1 else random_request(chance) for _ in lines))
+    for number, (batch, (line, _)) in enumerate(zip(batches, play(trial.address, batches)), 1):
+        if line != (wanted := answer(words, batch, number)):
+            raise Wrong(difference(batch, line, wanted))
+        trial.met.update("value" if word[0] == "=" else word for word in line.split(" ")[2:])
+        trial.met[MODEL] += len(batch)
+
+
+def try_codes(trial: Trial) -> None:
+    """Each code comes back with the text of docs/CLIENT.md, and so does the end of the connection."""
+    server = Script([Step("get 0", line) for line in (*CODES, None)])
+    told = play(server.address, [(("get", 0),)] * (len(CODES) + 1))
+    server.end()
+    wanted = [[code.replace("fault", "BatchRefused"), text] for code, text in zip(CODES, TEXTS.values())]
+    if told != [*wanted, ["Unanswered true", "the server closed the connection"]]:
+        raise Wrong(f"codes come back as {told}")
+    trial.met.update(code for code in CODES if "fault" in code)
+
+
+def try_kills(trial: Trial, chance: random.Random, kills: int) -> None:
+    """Each batch of `playOnce` counts once, though the server is killed so often or more."""
+    given, told, played, begun = trial.room / "batches", trial.room / "answers", 0, time.monotonic()
+    given.write_text(f"add {COUNT} 1, get {COUNT}\n" * BATCHES)
+    while trial.met["kills"] < kills or not trial.met[LOST] and time.monotonic() - begun < MOST_KILLING_SECONDS:
+        with given.open() as batches, told.open("w") as answers:
+            run = ["node", CLIENT, trial.address, str(MARKER), str(played + 1)]
+            client = subprocess.Popen(run, stdin=batches, stdout=answers)
+        while client.poll() is None:
+            time.sleep(chance.uniform(0, 0.2))
+            if told.stat().st_size:
+                trial.kill()
+                trial.serve()
+                trial.met["kills"] += 1
+        for played, line in enumerate(told.read_text().splitlines(), played + 1):
+            if line != LOST and not line.endswith(f": + ={played}"):
+                raise Wrong(f"batch {played} was answered `{line}`")
+            trial.met[LOST if line == LOST else "counted once"] += 1
+        if client.returncode or played % BATCHES:
+            raise Wrong(f"the client ended with status {client.returncode} after batch {played}")
+    line, _ = play(trial.address, [(("get", MARKER), ("get", COUNT))])[0]
+    if not line.endswith(f": ={played} ={played}"):
+        raise Wrong(f"{played} batches left the marker and the count as `{line}`")
+
+
+def main() -> int:
+    """Runs the trial over each transport."""
+    parser = argparse.ArgumentParser(description=__doc__.splitlines()[0])
+    parser.add_argument("worldd", type=pathlib.Path, help="the built program")
+    parser.add_argument("--kills", type=int, default=10, help="how often a server is killed at least, over each transport (10)")
+    parser.add_argument("--seed", type=int, default=time.time_ns() % 10**9, help="of the lines and the moments")
+    given = parser.parse_args()
+    if not shutil.which("node"):
+        print("javascript_trial: there is no node, so the client in JavaScript isn't tried")
+        return 0
+    for transport in TRANSPORTS:
+        chance = random.Random(f"{given.seed} {transport}")
+        with tempfile.TemporaryDirectory(prefix="javascript-trial-") as folder:
+            trial = Trial(None, given.worldd.resolve(), pathlib.Path(folder) / "world", transport, CELLS)
+            trial.serve()
+            try:
+                try_model(trial, chance)
+                try_codes(trial)
+                try_kills(trial, chance, given.kills)
+                if missing := [name for name in WANTED if not trial.met[name]]:
+                    raise Wrong(f"never met: {', '.join(missing)}")
+            except (Wrong, OSError, subprocess.SubprocessError) as wrong:
+                print(f"javascript_trial: over a {transport}, with seed {given.seed}: {wrong}", file=sys.stderr)
+                return 1
+            finally:
+                trial.kill()
+        print(f"javascript over a {transport}: {', '.join(f'{name} {trial.met[name]}' for name in WANTED)}")
+    return 0
+
+
+if __name__ == "__main__":
+    sys.exit(main())
