@@ -49,7 +49,7 @@ COUNTED = (
     (r"(?<!at most ){} (?:\w+ly )?wrong (?:function )?bodies", ("all wrong bodies", "wrong bodies of the gate", "wrong bodies beside it")),
     (r"\| wrong bodies that it tries \| {} \|", ("wrong bodies of the gate",)),
     (r"{} of `must-fail/`", ("wrong bodies of the gate",)),
-    (r"(?:other {} are in `wrong-bodies/`|{} others(?! ))", ("wrong bodies beside it",)),
+    (r"(?:other {} are in `wrong-bodies/`|{} others\b)", ("wrong bodies beside it",)),
     (r"{} passed", ("things in the gate",)),
 )
 NUMBER = r"(?<![\d,.])(\d[\d,]*)"
