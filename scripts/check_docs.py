@@ -13,6 +13,7 @@ It takes seconds, and prints the page, the line and the reason of each of these:
 - a function of the walk of a tick that its file does not have
 - a function that README promises something of, and that worldd does not call
 - a page that has more words than its budget, or a page of docs/ that no budget has
+- a version of the programs, of a client or of a manual page that isn't the first one of CHANGELOG.md
 
 A block between fences is a quote, whole or in part: of the file in a marker on a line above it, `<!-- examples/FILE -->` or
 `<!-- clients/.. -->`, or without a language of any file in src/ or specs/ of a crate. An indented block is text. The marker `<!-- run -->` makes it
@@ -49,7 +50,7 @@ COUNTED = (
     (r"(?<!at most ){} (?:\w+ly )?wrong (?:function )?bodies", ("all wrong bodies", "wrong bodies of the gate", "wrong bodies beside it")),
     (r"\| wrong bodies that it tries \| {} \|", ("wrong bodies of the gate",)),
     (r"{} of `must-fail/`", ("wrong bodies of the gate",)),
-    (r"(?:other {} are in `wrong-bodies/`|{} others(?! ))", ("wrong bodies beside it",)),
+    (r"(?:other {} are in `wrong-bodies/`|{} others\b)", ("wrong bodies beside it",)),
     (r"{} passed", ("things in the gate",)),
 )
 NUMBER = r"(?<![\d,.])(\d[\d,]*)"
@@ -70,12 +71,22 @@ BUDGETS = {
     ("docs/CONTRIBUTING.md",): 2_000,
     ("docs/STANDBY.md",): 1_200,
 }
+# The lines that state the version of this tree. Python has a form of its own for one that isn't released.
+VERSIONS = (
+    ("crates/command_line/src/version.rt", r'pub const VERSION\w*: &str = "([^" ]*)'),
+    ("clients/python/cektaulis/__init__.py", r'__version__ = "(.*)"'),
+    ("clients/c/cektaulis.pc", r"Version: (.*)"),
+    ("man/worldd.1", r'\.TH .*"worldd (.*)"'),
+    ("man/world_load.1", r'\.TH .*"worldd (.*)"'),
+    ("docs/OPERATIONS.md", r" {4}worldd (\d\S*) \("),
+    ("scripts/program_trial.py", r'.*"worldd (\d\S*) \('),
+)
 # What follows these words speaks of an earlier tree.
 PAST = re.compile(r"\b(?:[Bb]efore|Until then),[^.|\n]*")
 # A path of the repository. What a program's folder out/ has is made by a run of the gate.
 PATH = re.compile(r"(?<![\w/.-])((?:docs|scripts|bench|examples|clients|crates|\.ci)/[\w./*-]*[\w*/])")
 MADE = re.compile(r"crates/\w+/out/.*")
-FOLDERS = (".", "docs", "docs/proofs", "scripts", "bench", "examples", "clients/python", "clients/c", "clients/rust")
+FOLDERS = (".", "docs", "docs/proofs", "scripts", "bench", "examples", "clients/python", "clients/c", "clients/rust", "clients/javascript")
 FILE = re.compile(r"(?<![\w/.*-])(\w+\.(?:md|py|sh|c))\b")
 PLACEHOLDERS = re.compile(r"\b(?:NAME|CRATE|FILE)\b")
 LINK = re.compile(r"\[[^\]\n]*\]\(([^)\s]+)\)")
@@ -342,6 +353,25 @@ def over_budget(every: list[Page]) -> Iterator[Finding]:
             yield names[0], 1, f"{sum(found.values()):,} words in {', '.join(found)}: the budget is {budget:,}"
 
 
+def python_version(version: str) -> str:
+    """A version as Python writes it."""
+    return version.replace("-dev", ".dev0")
+
+
+def wrong_versions() -> Iterator[Finding]:
+    """Versions that differ from that of the changelog's first section, and files that state none."""
+    newest = re.search(r"^## (.*)$", (TOP / "CHANGELOG.md").read_text(), re.MULTILINE)[1]
+    for file, pattern in VERSIONS:
+        want, found = python_version(newest) if file.endswith("__init__.py") else newest, False
+        for number, line in enumerate((TOP / file).read_text().splitlines(), 1):
+            if stated := re.match(pattern, line.replace("\\-", "-")):
+                found = True
+                if stated[1] != want:
+                    yield file, number, f"the version is {stated[1]}, and CHANGELOG.md has {want}"
+        if not found:
+            yield file, 1, "no line states the version"
+
+
 def unnamed_files(every: list[Page]) -> Iterator[Finding]:
     """Scripts that the index does not have, and examples that no page names."""
     texts = {page.name: (TOP / page.name).read_text() for page in every}
@@ -371,6 +401,7 @@ def findings() -> Iterator[Finding]:
     yield from ((walk.PAGE, line, reason) for line, reason in walk.findings())
     yield from wrong_tables(every)
     yield from wrong_promises(names)
+    yield from wrong_versions()
     yield from unnamed_files(every)
     yield from over_budget(every)
 
@@ -385,7 +416,7 @@ def main() -> int:
     for page, line, reason in found:
         print(f"{page}:{line}: {reason}", file=sys.stderr)
     if not found:
-        print("docs: numbers, names, links and quotes are those of the tree")
+        print("docs: numbers, names, links, quotes and versions are those of the tree")
     return 1 if found else 0
 
 

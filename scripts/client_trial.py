@@ -35,7 +35,7 @@ import threading
 import time
 import zipfile
 
-from check_docs import TOP
+from check_docs import TOP, python_version
 from client_players import (
     ACTION_REFUSED, ANSWER_LOST, BAD_ACTION, BAD_ADDRESS, GARBLED, MARKER_REFUSED, NONE, NOT_CONNECTED, SECONDS, TOO_LARGE,
     UNANSWERED, CPlayer, PythonPlayer, RustPlayer, build_players, cektaulis, compile_header, lessen_buffers,
@@ -843,7 +843,8 @@ BUILD = "import sys, flit_core.buildapi as it; print(it.build_wheel(sys.argv[1])
 def try_package(room: pathlib.Path, version: str) -> None:
     """The client in Python makes a package with its types, which leaves nothing behind and runs. Versions are all the same."""
     pkg_config = re.search(r"^Version: (.*)$", (TOP / "clients" / "c" / "cektaulis.pc").read_text(), re.MULTILINE)
-    if {cektaulis.__version__, pkg_config[1]} != {version}:
+    in_python = python_version(version)
+    if (cektaulis.__version__, pkg_config[1]) != (in_python, version):
         raise Wrong(f"the versions differ: {version}, {cektaulis.__version__} in Python, {pkg_config[1]} for pkg-config")
     pythons = sys.executable, "/usr/bin/python3"
     has_builder = [it for it in pythons if not subprocess.run([it, "-c", "import flit_core"], stderr=subprocess.DEVNULL).returncode]
@@ -858,11 +859,11 @@ def try_package(room: pathlib.Path, version: str) -> None:
         names = set(wheel.namelist())
         wheel.extractall(room / "installed")
     wanted = {f"cektaulis/{path.name}" for path in (PACKAGE / "cektaulis").glob("*.*") if path.is_file()}
-    if not wanted | {f"cektaulis-{version}.dist-info/METADATA"} <= names or "cektaulis/py.typed" not in names:
+    if not wanted | {f"cektaulis-{in_python}.dist-info/METADATA"} <= names or "cektaulis/py.typed" not in names:
         raise Wrong(f"the package has {names}")
     command, path = [sys.executable, "-m", "cektaulis", "--version"], {"PYTHONPATH": str(room / "installed")}
     told = subprocess.run(command, cwd=room, env=BY_HAND | path, capture_output=True, text=True, check=True).stdout
-    if told != f"cektaulis {version}\n":
+    if told != f"cektaulis {in_python}\n":
         raise Wrong(f"the package prints {told}")
     print(f"package: {run.stdout.strip()} has its types, runs and leaves nothing behind")
 

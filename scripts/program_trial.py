@@ -155,7 +155,7 @@ def try_command_lines(trial: Trial) -> None:
         trial.ends(f"worldd {words}", trial.run(*words.split()), "", f"error: {text}{MORE}", 2)
     trial.ends("bytes that are no text", trial.run(b"\xff"), "", "error: a word of the command line isn't UTF-8: a path has to be\n", 2)
     for flag in ("--version", "-V"):
-        trial.ends(flag, trial.run(flag), "worldd 0.2.0 (reads file formats 1 and 2, writes 2)\n", "", 0)
+        trial.ends(flag, trial.run(flag), "worldd 0.3.0-dev (reads file formats 1 and 2, writes 2)\n", "", 0)
     for words in ("--version", "--help", "serve --help"):
         trial.ends(f"{words} to a full output", trial.run(*words.split(), full=True), "", FULL, 1)
     escaped = "fault 18\nworldd: no\\x1b[31m\\x07\\x0a\\x7f\\x9b\u00e9/image.a: " + NO_FILE + "\n"

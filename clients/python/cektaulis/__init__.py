@@ -20,7 +20,7 @@ from ._errors import (
 )
 from ._world import World
 
-__version__ = "0.2.0"
+__version__ = "0.3.0.dev0"
 
 __all__ = [
     "BATCH_CHANGES", "BATCH_LINES", "CELLS", "LIMIT", "Action", "ActionRefused", "Add", "Answer", "BatchRefused", "Cap", "Fault",

@@ -33,7 +33,7 @@ nothing to lose. It ends after S seconds, or once each connection has sent B bat
 prints ticks and actions a second, and how long batches waited for their answers. A
 worldd that serves as many clients ends then too:
   worldd create --dir D --cells 1000
-  worldd serve --dir D --method zigzag --port 7070 --clients 50 &
+  worldd serve --dir D --method zigzag --every 4096 --port 7070 --clients 50 &
   world_load --port 7070 --connections 50 --cells 1000
 A worldd that listens on a socket is loaded by --socket PATH in the place of --port P.
 Each second it prints on standard error how many ticks were answered. Its status is 0 if
