@@ -1,5 +1,5 @@
 #!/usr/bin/env python3
-"""Runs examples/embedded, the example of a program that serves a world by itself, and judges what it prints and leaves.
+"""Runs crates/embedded, the example of a program that serves a world by itself, and judges what it prints and leaves.
 
     scripts/embedded_trial.py crates/embedded/out/embedded crates/worldd/out/worldd
 

@@ -5,13 +5,14 @@ use crate::failure::{Failure, Shortage};
 use crate::incoming::Incoming;
 use crate::session::Joined;
 use crate::session_threads::{Sessions, Shared};
+use crossbeam_channel::Sender;
 use std::alloc::Global;
 use std::io;
 use std::sync::Wait;
 use std::thread::Threads;
 use std::time::Clock;
 use transports::Listener;
-use workers::{AskChannel, Looks};
+use workers::{Ask, Looks};
 
 /// Which clients a server takes.
 #[derive(Clone, Copy, Debug, PartialEq, Eq)]
@@ -58,7 +59,7 @@ pub fn accept_sessions<
     alloc: Global,
     listener: Listener,
     admission: Admission,
-    channel: AskChannel,
+    requests: Sender<Ask>,
     looks: Looks,
     door: W,
 ) -> Accepted
@@ -77,7 +78,7 @@ pub fn accept_sessions<
     let mut shared = Shared {
         alloc,
         idle: admission.idle,
-        channel,
+        requests,
         looks,
         door,
     };

@@ -3,21 +3,23 @@ ghost use Rattle.tcp_service.specs.Remote.{given_by};
 
 use crate::pulse::Pulse;
 use batches::Batch;
+use crossbeam_channel::{SendError, Sender};
 use sessions::World;
 use std::alloc::Global;
 use std::marker::Model;
 use std::mem;
 use std::snapshot::Snapshot;
 use std::sync::{Arc, Wait};
-use workers::{Asker, Looks, Post, Reply, ReplySender, ReplySlot};
+use workers::{Ask, Asker, Looks, Post, Reply, ReplySender, ReplySlot};
 use world_actions::Refusal;
 
-/// The world that the workers run, for one session. Contracts see the session's asks, and the post that answered its last
-/// batch.
+/// The world that the workers run, for one session. Contracts see the session's number, how often it asked, and the post
+/// that answered its last batch.
 #[derive(Drop)]
 pub struct Remote<R: Wait + Copy> {
     rt: R,
     alloc: Global,
+    requests: Sender<Ask>,
     asker: Asker,
     /// The place where its replies come, from its first ask on.
     slot: Option<ReplySlot>,
@@ -34,27 +36,27 @@ pub struct Remote<R: Wait + Copy> {
 
 impl<R: Wait + Copy> Model for Remote<R> {
     ghost use Rattle.std.specs.Prelude.{option_map};
-    ghost use Rattle.tcp_service.specs.Remote.{Session, IsLast};
+    ghost use Rattle.tcp_service.specs.Remote.{Asking, IsLast};
 
-    ghost Value = { Session };
+    ghost Value = { Asking };
 
-    ghost view = { λ remote. record { asker = remote.asker; last = option_map (λ post. post.value) remote.last } };
+    ghost view = { λ remote. record { session = remote.asker.session; asked = remote.asker.asked; last = option_map (λ post. post.value) remote.last } };
 
     ghost invariant = { λ remote. IsLast (option_map (λ post. post.value) remote.last) remote.tick };
 }
 
 impl<R: Wait + Copy> Remote<R> {
-    ghost use Rattle.std.specs.Prelude.{◌≡◌, ◌⊎◌, None, OnOk, OnErr};
-    ghost use Rattle.workers.specs.Posts.{with_ask};
+    ghost use Rattle.std.specs.Prelude.{◌≡◌, ◌⊎◌, ◌+◌, None, IfOk, OnOk, OnErr};
 
-    /// The world of the session whose asks are sent by this asker.
-    pub fn new(rt: R, alloc: Global, asker: Asker) -> Self
-        ensures { result ≡ record { asker = asker; last = None } }
+    /// The world of the session of this number, whose batches go to the mutator by this channel.
+    pub fn new(rt: R, alloc: Global, session: u64, requests: Sender<Ask>) -> Self
+        ensures { result ≡ record { session = session; asked = 0; last = None } }
     {
         Remote {
             rt,
             alloc,
-            asker,
+            requests,
+            asker: Asker::new(session),
             slot: None,
             looks: None,
             spare: Batch::empty(alloc),
@@ -110,15 +112,17 @@ impl<R: Wait + Copy> Remote<R> {
         Ok(sender?)
     }
 
-    // Sends a batch, with a buffer for its answer.
-    fn send(&mut self, b: &Batch, buffer: Vec<u8>) -> Result<(), Refusal>
-        ensures sent { OnOk result (self.new ≡ record self.old { asker = with_ask self.old.asker b.now.list }) }
-        ensures unsent { OnErr result (self.new ≡ self.old) }
+    // The ask for a batch.
+    fn asking(&mut self, b: &Batch, buffer: Vec<u8>) -> Result<Ask, Refusal>
+        ensures asks { IfOk result (λ ask. ask
+            ≡ record { session = self.old.session; ask = self.old.asked + 1; requests = b.now.list }) }
+        ensures counts { OnOk result (self.new ≡ record self.old { asked = self.old.asked + 1 }) }
+        ensures unchanged { OnErr result (self.new ≡ self.old) }
     {
         let spare = mem::replace(&mut self.spare, Batch::empty(self.alloc));
         let batch = b.try_copy(spare)?;
         let to = self.sender()?;
-        self.asker.send(&self.rt, batch, buffer, to)
+        self.asker.ask(batch, buffer, to)
     }
 
     // Waits for the reply to the last ask. A fault: none comes, since its sender is gone.
@@ -139,26 +143,31 @@ impl<R: Wait + Copy> Remote<R> {
         }
     }
 
-    // Sends a batch, and waits for its post.
-    fn exchange(&mut self, b: &Batch, buffer: Vec<u8>) -> Result<Post, Refusal>
-        ensures ok { OnOk result (self.new ≡ record self.old { asker = with_ask self.old.asker b.now.list }) }
-        ensures err { OnErr result ((self.new ≡ self.old)
-            ⊎ (self.new ≡ record self.old { asker = with_ask self.old.asker b.now.list })) }
-    {
-        self.send(b, buffer)?;
-        self.reply()
-    }
-
-    // The same, and counts it.
+    // The same as `send`, and counts it.
     fn ask(&mut self, b: &Batch, buffer: Vec<u8>) -> Result<Post, Refusal>
-        ensures ok { OnOk result (self.new ≡ record self.old { asker = with_ask self.old.asker b.now.list }) }
+        ensures ok { OnOk result (self.new ≡ record self.old { asked = self.old.asked + 1 }) }
         ensures err { OnErr result ((self.new ≡ self.old)
-            ⊎ (self.new ≡ record self.old { asker = with_ask self.old.asker b.now.list })) }
+            ⊎ (self.new ≡ record self.old { asked = self.old.asked + 1 })) }
     {
         self.count_asked();
-        let answer = self.exchange(b, buffer);
+        let answer = self.send(b, buffer);
         self.count_answered(&answer);
         answer
+    }
+
+    // Sends a batch with a buffer for its answer, and waits for its post.
+    fn send(&mut self, b: &Batch, buffer: Vec<u8>) -> Result<Post, Refusal>
+        ensures ok { OnOk result (self.new ≡ record self.old { asked = self.old.asked + 1 }) }
+        ensures err { OnErr result ((self.new ≡ self.old)
+            ⊎ (self.new ≡ record self.old { asked = self.old.asked + 1 })) }
+    {
+        let ask = self.asking(b, buffer)?;
+        match self.requests.send(&self.rt, ask) {
+            Ok(()) => {}
+            Err(SendError::OutOfMemory(_)) => return Err(Refusal::NoMemory),
+            Err(SendError::Disconnected(_)) => return Err(Refusal::LogDown),
+        }
+        self.reply()
     }
 }
 
@@ -170,7 +179,7 @@ impl<R: Wait + Copy> World for Remote<R> {
     fn batch(&mut self, b: &Batch, text: &mut Vec<u8>) -> Result<(), Refusal> {
         let buffer = mem::replace(text, Vec::new(self.alloc));
         let post = self.ask(b, buffer)?;
-        if post.tick() <= self.tick || !post.is_for(self.asker.last(), b) {
+        if post.tick() <= self.tick || !post.is_for(&self.asker, b) {
             return Err(Refusal::LogDown);
         }
         self.tick = post.tick();

@@ -1,6 +1,5 @@
 //! The sessions of a server, each in a thread of its own.
 ghost use Rattle.std.specs.Prelude.{◌≡◌, ◌+◌, ◌<◌, OnOk, OnErr, IfOk, IfSome};
-ghost use Rattle.std.specs.Thread.{IsSend};
 ghost use Rattle.slab.specs.Slab.{slab_len};
 
 use crate::door::{Door, Unserved};
@@ -12,7 +11,7 @@ use std::sync::Wait;
 use std::thread::{self, JoinHandle, Threads};
 use std::time::{Clock, Duration};
 use transports::Stream;
-use workers::{Ask, AskChannel, Asker, Looks};
+use workers::{Ask, Looks};
 
 /// The stack of a session's thread, which needs a tenth of it. The system's own would be 8 MiB, of which the C library keeps
 /// five for threads to come, and 160 of these.
@@ -27,7 +26,7 @@ pub struct Shared<W: Door + Clone + Drop> {
     pub alloc: Global,
     /// After how many seconds of silence it ends.
     pub idle: Option<u32>,
-    pub channel: AskChannel,
+    pub requests: Sender<Ask>,
     pub looks: Looks,
     pub door: W,
 }
@@ -58,14 +57,13 @@ impl Sessions {
         })
     }
 
-    /// Starts the session of a connection, the next one of the channel.
+    /// Starts the session of a connection.
     pub fn start<
         R: Threads + Wait + Copy + Send + 'static,
         W: Door + Clone + Drop + Send + 'static,
-    >(&mut self, rt: &R, stream: Stream, shared: &mut Shared<W>) -> Result<(), Unserved>
+    >(&mut self, rt: &R, stream: Stream, shared: &Shared<W>) -> Result<(), Unserved>
         requires { self.old.started < 4294967295 }
         ensures ok { OnOk result (self.new.started ≡ self.old.started + 1) }
-        ensures begun { OnOk result (shared.new.channel.sessions ≡ shared.old.channel.sessions + 1) }
         ensures err { OnErr result (self.new.started ≡ self.old.started) }
     {
         let Ok(()) = self.running.reserve(1) else {
@@ -75,7 +73,8 @@ impl Sessions {
             return Err(Unserved::NoMemory);
         };
         let key = self.running.vacant_key();
-        let session = start_thread(rt, stream, shared, ends, key)?;
+        let number = u64::from(self.started);
+        let session = start_thread(rt, stream, shared, number, ends, key)?;
         self.running.insert_reserved(session);
         self.started += 1;
         Ok(())
@@ -132,35 +131,27 @@ impl Sessions {
     }
 }
 
-// Shows that values of this type may cross threads.
-fn crosses<T: Send>()
-    ensures { IsSend T.row }
-{}
-
-// Begins the session of a connection in a thread of its own, which sends its key as it ends.
+// Gives the session of a connection a number and a thread, which sends its key as it ends.
 fn start_thread<R: Threads + Wait + Copy + Send + 'static, W: Door + Clone + Drop + Send + 'static>(
     rt: &R,
     stream: Stream,
-    shared: &mut Shared<W>,
+    shared: &Shared<W>,
+    number: u64,
     ends: Sender<usize>,
     key: usize,
-) -> Result<JoinHandle<Over>, Unserved>
-    ensures { OnOk result (shared.new.channel.sessions ≡ shared.old.channel.sessions + 1) }
-{
+) -> Result<JoinHandle<Over>, Unserved> {
+    let Ok(requests) = shared.requests.clone() else {
+        return Err(Unserved::NoMemory);
+    };
     let Ok(looks) = shared.looks.clone() else {
         return Err(Unserved::NoMemory);
     };
     let Ok(door) = shared.door.clone() else {
         return Err(Unserved::NoMemory);
     };
-    let Ok(asker) = shared.channel.begin_session() else {
-        return Err(Unserved::NoMemory);
-    };
-    crosses::<Sender<Ask>>();
-    crosses::<Asker>();
     let (here, alloc, idle) = (*rt, shared.alloc, shared.idle);
     let serve = move || {
-        let over = serve_session(&here, alloc, stream, idle, asker, looks, door);
+        let over = serve_session(&here, alloc, stream, idle, number, requests, looks, door);
         let _ = ends.try_send(&here, key);
         over
     };

@@ -1,8 +1,8 @@
 //! Sessions whose clients stop taking bytes, at each byte of the answers. Each answered tick is in the files.
-use crate::running::{begin, end, only_session};
+use crate::running::{begin, end};
 use crate::same::same;
 use crate::worlds::{new_files, stands_in};
-use crossbeam_channel::unbounded;
+use crossbeam_channel::{Sender, unbounded};
 use disk_model::ModelFile;
 use shared_capture::{Pong, Zig};
 use std::alloc::Global;
@@ -13,7 +13,7 @@ use std::thread::Threads;
 use tcp_service::{Remote, serve_batches};
 use worker_steps::Gates;
 use worker_threads::{Seats, StoppedWorkers};
-use workers::{Asker, Open};
+use workers::{Ask, Open};
 use world_actions::Refusal;
 
 /// Three batches that come in one piece.
@@ -47,10 +47,10 @@ impl Write for Client {
 fn play<R: Wait + Copy>(
     rt: &R,
     alloc: Global,
-    asker: Asker,
+    requests: Sender<Ask>,
     room: usize,
 ) -> (Result<(), Refusal>, Vec<u8>) {
-    let mut world = Remote::new(*rt, alloc, asker);
+    let mut world = Remote::new(*rt, alloc, 0, requests);
     let mut client = Client {
         taken: Vec::new(alloc),
         room,
@@ -93,10 +93,10 @@ fn cut_at<M: Seats + Send + 'static, R: Threads + Wait + Abort + Copy + Send + '
     };
     let (to, _heard) = unbounded(alloc).expect(rt, "a channel");
     let files = new_files(rt, alloc, 2);
-    let (workers, channel) = begin::<R, M, ModelFile, Open, Open, Open>(
+    let (workers, requests) = begin::<R, M, ModelFile, Open, Open, Open>(
         rt, alloc, files, gates, to, 2,
     );
-    let (served, taken) = play(rt, alloc, only_session(rt, channel), room);
+    let (served, taken) = play(rt, alloc, requests, room);
     let whole = room == ANSWERS.len();
     let wanted = if whole { Ok(()) } else { Err(Refusal::Device) };
     same(rt, "how the session ends", served, wanted);

@@ -1,7 +1,7 @@
 //! Workers in threads over files, one of which fails at one of its calls.
 ghost use Rattle.std.specs.Prelude.{◌≤◌};
 
-use crate::running::{Page, begin, end, is_page, only_session, play};
+use crate::running::{Page, begin, end, is_page, play};
 use crate::same::same;
 use crate::worlds::{Told, fused_files, open_world, stands_in_fused};
 use crossbeam_channel::{Receiver, unbounded};
@@ -93,8 +93,8 @@ fn play_broken<M: Seats + Send + 'static, R: Threads + Wait + Abort + Copy + Sen
     };
     let (to, heard) = unbounded(alloc).expect(rt, "a channel");
     let files = broken_files(rt, alloc, broken, call);
-    let (workers, channel) = begin(rt, alloc, files, gates, to, every);
-    let page = play(rt, alloc, only_session(rt, channel), BATCHES);
+    let (workers, requests) = begin(rt, alloc, files, gates, to, every);
+    let page = play(rt, alloc, requests, BATCHES);
     Left {
         stopped: end(rt, workers),
         page,

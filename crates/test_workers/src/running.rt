@@ -11,7 +11,7 @@ use std::thread::Threads;
 use tcp_service::{Remote, serve_batches};
 use worker_steps::Gates;
 use worker_threads::{Seats, StoppedWorkers, Workers, meet_stopped, start, stop};
-use workers::{AskChannel, Asker, Gate, Looks};
+use workers::{Ask, Gate, Looks};
 use world_actions::Refusal;
 
 /// Starts workers on the world in these files. A round is due after each `every` ticks.
@@ -29,7 +29,7 @@ pub fn begin<
     gates: Gates<A, B, C>,
     to: Sender<Told>,
     every: u32,
-) -> (Workers<M, D, A, B, C>, AskChannel) {
+) -> (Workers<M, D, A, B, C>, Sender<Ask>) {
     let opened = open_files::<M, D>(rt, alloc, files);
     let watch = Teller { rt: *rt, to };
     let looks = Looks::on_this_machine(rt, alloc).expect(rt, "a count");
@@ -53,15 +53,9 @@ pub struct Page {
     pub text: Vec<u8>,
 }
 
-/// The first session of a channel. No other session begins after it.
-pub fn only_session(rt: &impl Abort, channel: AskChannel) -> Asker {
-    let mut channel = channel;
-    channel.begin_session().expect(rt, "a session")
-}
-
-/// Serves a session on this input.
-pub fn play(rt: &(impl Wait + Copy), alloc: Global, asker: Asker, input: &[u8]) -> Page {
-    let mut world = Remote::new(*rt, alloc, asker);
+/// Serves a session on this input. No other session begins after it.
+pub fn play(rt: &(impl Wait + Copy), alloc: Global, requests: Sender<Ask>, input: &[u8]) -> Page {
+    let mut world = Remote::new(*rt, alloc, 0, requests);
     let mut text = Vec::new(alloc);
     let mut rest = input;
     let ends = serve_batches(alloc, &mut rest, &mut text, &mut world);

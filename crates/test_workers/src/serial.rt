@@ -20,7 +20,7 @@ use std::sync::{Arc, Wait};
 use worker_steps::Opened;
 use worker_threads::Seats;
 use workers::{
-    Ask, AskChannel, Checkpointer, ItemReceiver, ItemSender, LogWriter, Mutator, Open, Reply,
+    Ask, Asker, Checkpointer, ItemReceiver, ItemSender, LogWriter, Mutator, Open, Reply,
     ReplySender, ReplySlot, open,
 };
 use world_actions::Action;
@@ -158,16 +158,12 @@ pub fn send<M: Method>(
 }
 
 /// An ask for a batch that adds 1 to the first cell and reads it. The answer goes to this sender.
-pub fn ask_for(rt: &(impl Wait + Abort), alloc: Global, to: ReplySender) -> Ask {
+pub fn ask_for(rt: &impl Abort, alloc: Global, to: ReplySender) -> Ask {
     let mut batch = Batch::new(alloc).expect(rt, "a batch");
     batch.push_reserved(Request::Act(Action::Add { cell: 0, by: 1 }));
     batch.push_reserved(Request::Get(0));
-    let (mut channel, asks) = AskChannel::open(alloc, 1).expect(rt, "a channel");
-    let mut asker = channel.begin_session().expect(rt, "a session");
-    asker
-        .send(rt, batch, Vec::new(alloc), to)
-        .expect(rt, "a send");
-    asks.try_recv(rt).expect(rt, "an ask")
+    let mut asker = Asker::new(0);
+    asker.ask(batch, Vec::new(alloc), to).expect(rt, "an ask")
 }
 
 /// Lets the log writer take a turn, which logs the played ticks.

@@ -3,6 +3,7 @@ ghost use Rattle.std.specs.Prelude.{◌≤◌};
 use crate::opening::open_world;
 use crate::player::{one_more, tick_in};
 use crate::quiet::start_quiet;
+use crossbeam_channel::Sender;
 use disk_model::{FourFiles, Fused, ModelFile};
 use recovery::recover;
 use sessions::World;
@@ -12,7 +13,7 @@ use std::thread::Threads;
 use tcp_service::Remote;
 use trial_kit::{FAILING_FILES, FailureTally};
 use worker_threads::{Seats, StoppedWorkers, Workers, meet_stopped, stop};
-use workers::{AskChannel, Open};
+use workers::{Ask, Open};
 use world_actions::Refusal;
 use world_start::fresh_files;
 
@@ -57,8 +58,8 @@ fn fail_call<R: Threads + Wait + Copy + Send + 'static, M: Seats + Send + 'stati
     let files = failing_files(alloc, file, call)?;
     match open_world::<M, File>(alloc, files) {
         Ok(opened) => {
-            let (workers, channel) = start_quiet(rt, alloc, opened, EVERY)?;
-            play(rt, alloc, workers, channel, failures)
+            let (workers, requests) = start_quiet(rt, alloc, opened, EVERY)?;
+            play(rt, alloc, workers, requests, failures)
         }
         Err((files, _)) => {
             judge_opening(alloc, files, failures);
@@ -72,10 +73,10 @@ fn play<R: Threads + Wait + Copy, M: Seats>(
     rt: &R,
     alloc: Global,
     workers: Workers<M, File, Open, Open, Open>,
-    channel: AskChannel,
+    requests: Sender<Ask>,
     failures: &mut FailureTally,
 ) -> Result<bool, Refusal> {
-    let answered = run_batches(rt, alloc, channel);
+    let answered = run_batches(rt, alloc, requests);
     let mut stopped = stop(rt, workers);
     meet_stopped(&mut stopped);
     judge_end(alloc, &stopped, answered, failures)
@@ -142,9 +143,12 @@ fn empty_file(alloc: Global) -> Result<ModelFile, Refusal> {
 }
 
 // Plays the batches in a session, and returns the last answered tick.
-fn run_batches<R: Wait + Copy>(rt: &R, alloc: Global, channel: AskChannel) -> Result<u64, Refusal> {
-    let mut channel = channel;
-    let mut world = Remote::new(*rt, alloc, channel.begin_session()?);
+fn run_batches<R: Wait + Copy>(
+    rt: &R,
+    alloc: Global,
+    requests: Sender<Ask>,
+) -> Result<u64, Refusal> {
+    let mut world = Remote::new(*rt, alloc, 0, requests);
     let batch = one_more(alloc, 0)?;
     let mut answered = 0;
     let mut text = Vec::new(alloc);

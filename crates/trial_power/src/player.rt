@@ -1,11 +1,12 @@
 use crate::recorded::Clock;
 use batches::{Batch, Request};
+use crossbeam_channel::Sender;
 use sessions::World;
 use std::alloc::Global;
 use std::sync::Wait;
 use std::sync::atomic::Ordering;
 use tcp_service::Remote;
-use workers::Asker;
+use workers::Ask;
 use world_actions::{Action, Refusal};
 
 /// A tick that was answered to a player, the cell to which it added one, and the moment of the answer.
@@ -20,12 +21,12 @@ pub struct Answered {
 pub fn play<R: Wait + Copy>(
     rt: &R,
     alloc: Global,
-    asker: Asker,
+    requests: Sender<Ask>,
     clock: &Clock,
     cell: u32,
     batches: u32,
 ) -> Result<Vec<Answered>, Refusal> {
-    let mut world = Remote::new(*rt, alloc, asker);
+    let mut world = Remote::new(*rt, alloc, u64::from(cell), requests);
     let batch = one_more(alloc, cell)?;
     let mut answered = Vec::new(alloc);
     let mut text = Vec::new(alloc);

@@ -5,13 +5,13 @@ use crate::session::{Answer, Session, sessions};
 use crate::stand::Stand;
 use crate::tally::{Kind, Rule};
 use crate::trial::{Odds, Trial};
+use crossbeam_channel::Sender;
 use shared_capture::Method;
-use std::alloc::Global;
 use std::sync::Wait;
 use std::thread::Threads;
 use worker_steps::Gates;
 use worker_threads::{Seats, StoppedWorkers, stop_after};
-use workers::{AskChannel, Cut};
+use workers::{Ask, Cut};
 use world_actions::Refusal;
 
 /// How often the workers are cut for each method.
@@ -52,7 +52,7 @@ pub fn try_cuts<R: Threads + Wait + Copy + Send + 'static, M: Seats + Send + 'st
 ) -> Result<(), Refusal> {
     trial.begin_world(CELLS, 0, Odds::NONE)?;
     for _ in 0..CUTS {
-        let mut played = Played::new(trial.alloc);
+        let mut played = Played::new(sessions(trial.alloc, SESSIONS)?);
         cut_once::<R, M>(rt, trial, &mut played)?;
     }
     Ok(())
@@ -67,7 +67,7 @@ fn cut_once<R: Threads + Wait + Copy + Send + 'static, M: Seats + Send + 'static
     let (alloc, every, cuts) = (trial.alloc, trial.every(), cuts(trial));
     match open_world::<M, Flaky>(alloc, files) {
         Ok(opened) => {
-            let play = |channel: AskChannel| played.play(rt, trial, channel);
+            let play = |asks: Sender<Ask>| played.play(rt, trial, &asks);
             match stop_after(rt, alloc, cuts, Quiet, opened, every, play) {
                 Ok(stopped) => judge(rt, trial, played, stopped),
                 Err(_) => Err(Refusal::NoMemory),
@@ -102,41 +102,33 @@ fn cuts(trial: &mut Trial) -> Gates<Cut, Cut, Cut> {
 }
 
 impl Played {
-    // No session has begun.
-    fn new(alloc: Global) -> Self {
+    // The sessions before their first batch.
+    fn new(sessions: Vec<Session>) -> Self {
         Played {
-            sessions: Vec::new(alloc),
+            sessions,
             posted: 0,
             stopped: Ok(()),
         }
     }
 
-    // Plays the sessions of this channel, which then end: their askers are gone.
-    fn play<R: Wait>(&mut self, rt: &R, trial: &mut Trial, channel: AskChannel) {
-        self.stopped = self.play_all(rt, trial, channel);
-        for session in &mut self.sessions {
-            session.end();
-        }
-    }
-
     // Sends the batches, each of a random session, which first waits for its last answer.
-    fn play_all<R: Wait>(
-        &mut self,
-        rt: &R,
-        trial: &mut Trial,
-        channel: AskChannel,
-    ) -> Result<(), Refusal> {
-        let mut channel = channel;
-        self.sessions = sessions(trial.alloc, &mut channel, SESSIONS)?;
+    fn play<R: Wait>(&mut self, rt: &R, trial: &mut Trial, asks: &Sender<Ask>) {
         for _ in 0..BATCHES {
-            self.send(rt, trial)?;
+            self.stopped = self.send(rt, trial, asks);
+            if self.stopped.is_err() {
+                break;
+            }
         }
-        Ok(())
     }
 
     // Sends a batch. The model runs the batches in this order, and also those that the mutator won't run, which are the last
     // ones.
-    fn send<R: Wait>(&mut self, rt: &R, trial: &mut Trial) -> Result<(), Refusal> {
+    fn send<R: Wait>(
+        &mut self,
+        rt: &R,
+        trial: &mut Trial,
+        asks: &Sender<Ask>,
+    ) -> Result<(), Refusal> {
         let number = trial.random.below(SESSIONS) as usize;
         let Some(session) = self.sessions.get_mut(number) else {
             return Ok(());
@@ -145,9 +137,9 @@ impl Played {
             self.posted = self.posted.max(heed(answer, trial));
         }
         trial.draw_batch();
-        session.ask(rt, trial.alloc, trial.draft.batch())?;
+        let ask = session.ask(trial.alloc, trial.draft.batch())?;
         session.runs(trial.play()?, 0);
-        Ok(())
+        asks.send(rt, ask).map_err(|_: _| Refusal::LogDown)
     }
 
     // Judges the answers and the files that the workers left, and crashes.

@@ -1,21 +1,18 @@
 use crate::moment::Moment;
-use crate::session::{Answer, Session, sessions};
+use crate::session::{Answer, Session};
 use crate::stand::Stand;
 use crate::tally::{Kind, Rule};
 use crate::trial::Trial;
 use crate::world::World;
-use crossbeam_channel::Receiver;
 use shared_capture::Method;
-use std::alloc::Global;
 use std::sync::Wait;
 use trial_kit::Random;
 use worker_steps::Next;
-use workers::{Ask, AskChannel};
 use world_actions::Refusal;
 use world_ticks::TICK_MAX;
 
 /// How many sessions there are: more than items go into the channel.
-const SESSIONS: u64 = 80;
+pub const SESSIONS: u64 = 80;
 
 /// How many items go into the channel. A push on a full one waits for a pop, which can't come in one thread.
 const ROOM: u64 = 64;
@@ -31,28 +28,11 @@ const WEIGHTS: [[u64; 5]; 5] = [
 
 const STEPS: [Kind; 5] = [Kind::Play, Kind::Mark, Kind::End, Kind::Pop, Kind::Log];
 
-/// The sessions that play a world, and the end where their asks come.
-#[derive(Drop)]
-pub struct Players {
-    sessions: Vec<Session>,
-    asks: Receiver<Ask>,
-}
-
-impl Players {
-    /// Sessions that have asked for nothing.
-    pub fn new(alloc: Global) -> Result<Self, Refusal> {
-        let (mut channel, asks) = AskChannel::open(alloc, 1)?;
-        let sessions = sessions(alloc, &mut channel, SESSIONS)?;
-        Ok(Players { sessions, asks })
-    }
-}
-
 /// A running world, and the sessions that play it.
 #[derive(Drop)]
 pub struct Run<M: Method> {
     world: World<M>,
     sessions: Vec<Session>,
-    asks: Receiver<Ask>,
     every: u64,
     // The index of the weights in use.
     weights: u64,
@@ -73,13 +53,11 @@ pub struct Run<M: Method> {
 
 impl<M: Method> Run<M> {
     /// A world that has begun, and the sessions that play it. A round is due after each `every` ticks.
-    pub fn new(world: World<M>, players: Players, every: u32) -> Self {
+    pub fn new(world: World<M>, sessions: Vec<Session>, every: u32) -> Self {
         let ended = world.ended();
-        let Players { sessions, asks } = players;
         Run {
             world,
             sessions,
-            asks,
             every: u64::from(every),
             weights: 0,
             next: 0,
@@ -189,8 +167,7 @@ impl<M: Method> Run<M> {
             return Ok(());
         };
         let may_run = !self.is_held && !self.world.log_writer().is_down();
-        session.ask(rt, trial.alloc, trial.draft.batch())?;
-        let ask = self.asks.recv(rt).map_err(|_: _| Refusal::LogDown)?;
+        let ask = session.ask(trial.alloc, trial.draft.batch())?;
         self.world.step(rt, Next::Play(ask));
         match session.look(rt, &trial.model) {
             Some(answer) => self.heed_fault(answer, trial),

@@ -2,14 +2,13 @@ use crate::model::PlainModel;
 use batches::Batch;
 use std::alloc::Global;
 use std::sync::Wait;
-use workers::{AskChannel, AskNumber, Asker, Post, Reply, ReplySlot};
+use workers::{Ask, Asker, Post, Reply, ReplySender, ReplySlot};
 use world_actions::Refusal;
 
 /// A batch whose answer has not come.
 #[derive(Drop)]
 struct Pending {
     slot: ReplySlot,
-    number: AskNumber,
     batch: Batch,
     // If it was run, its tick, and how many items were pushed up to that tick's.
     run: Option<(u64, u64)>,
@@ -31,29 +30,24 @@ pub enum Answer {
 /// A session, which asks for one batch at a time.
 #[derive(Drop)]
 pub struct Session {
-    // None once it has ended.
-    asker: Option<Asker>,
+    asker: Asker,
     pending: Option<Pending>,
 }
 
-/// So many sessions of this channel.
-pub fn sessions(
-    alloc: Global,
-    channel: &mut AskChannel,
-    count: u64,
-) -> Result<Vec<Session>, Refusal> {
+/// The sessions of the numbers below this one.
+pub fn sessions(alloc: Global, count: u64) -> Result<Vec<Session>, Refusal> {
     let mut sessions = Vec::new(alloc);
-    for _ in 0..count {
-        sessions.push(Session::new(channel.begin_session()?))?;
+    for number in 0..count {
+        sessions.push(Session::new(number))?;
     }
     Ok(sessions)
 }
 
 impl Session {
-    /// The session of this asker, which has asked for nothing.
-    pub fn new(asker: Asker) -> Self {
+    /// The session of this number, which has asked for nothing.
+    pub fn new(number: u64) -> Self {
         Session {
-            asker: Some(asker),
+            asker: Asker::new(number),
             pending: None,
         }
     }
@@ -64,25 +58,22 @@ impl Session {
     }
 
     /// Asks for a batch.
-    pub fn ask<R: Wait>(&mut self, rt: &R, alloc: Global, batch: &Batch) -> Result<(), Refusal> {
-        let Some(asker) = &mut self.asker else {
-            return Err(Refusal::LogDown);
-        };
-        let slot = ReplySlot::new(alloc)?;
+    pub fn ask(&mut self, alloc: Global, batch: &Batch) -> Result<Ask, Refusal> {
+        let to = self.await_answer(alloc, batch.try_copy(Batch::empty(alloc))?)?;
         let copy = batch.try_copy(Batch::empty(alloc))?;
-        asker.send(rt, copy, Vec::new(alloc), slot.sender()?)?;
-        self.pending = Some(Pending {
-            slot,
-            number: asker.last(),
-            batch: batch.try_copy(Batch::empty(alloc))?,
-            run: None,
-        });
-        Ok(())
+        self.asker.ask(copy, Vec::new(alloc), to)
     }
 
-    /// Asks no more. An answer may still come.
-    pub fn end(&mut self) {
-        self.asker = None;
+    // Waits for the answer of a batch, which is sent to this sender.
+    fn await_answer(&mut self, alloc: Global, batch: Batch) -> Result<ReplySender, Refusal> {
+        let slot = ReplySlot::new(alloc)?;
+        let to = slot.sender()?;
+        self.pending = Some(Pending {
+            slot,
+            batch,
+            run: None,
+        });
+        Ok(to)
     }
 
     /// Notes that its batch was run as this tick, and that so many items were pushed up to the tick's.
@@ -137,7 +128,7 @@ impl Session {
 
     fn judge_post(&self, pending: &Pending, post: Post, model: &PlainModel) -> Answer {
         let tick = post.tick();
-        let is_own = post.is_for(pending.number, &pending.batch);
+        let is_own = post.is_for(&self.asker, &pending.batch);
         let (text, _) = post.into_answer();
         match pending.run {
             Some((own, _)) if is_own && own == tick && model.is_answer(tick, &text) => {

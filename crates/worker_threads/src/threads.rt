@@ -12,6 +12,7 @@ use crate::watch::{TickWatch, Watch};
 use crate::work::spawn;
 use action_log::Record;
 use circular_buffer::HeapCircularBuffer;
+use crossbeam_channel::{Sender, bounded};
 use disk_model::Disk;
 use shared_capture::{Back, CoverIn, CoverOut, Front, Method};
 use std::alloc::{AllocError, Global};
@@ -21,7 +22,7 @@ use std::sync::Wait;
 use std::thread::{PromisedHandle, Threads};
 use worker_steps::{Gates, Opened, Together};
 use workers::{
-    AskChannel, Checkpointer, Gate, ItemReceiver, ItemSender, LogWriter, Looks, Mutator, Waiting,
+    Ask, Checkpointer, Gate, ItemReceiver, ItemSender, LogWriter, Looks, Mutator, Waiting,
 };
 use world_ticks::Tick;
 
@@ -110,9 +111,8 @@ type Players<M, D, A, B> = (
     PromisedHandle<Checkpointer<M, D, B>, SameCheckpointer<M, D, B>>,
 );
 
-/// Starts the workers of a world. A round is due after every `every` ticks. The asks of the sessions that begin at the
-/// returned channel are run as batches. The workers look for work by these looks. If the start is refused, no thread is left
-/// running.
+/// Starts the workers of a world. A round is due after every `every` ticks. The asks that are sent on the returned channel
+/// are run as batches. The workers look for work by these looks. If the start is refused, no thread is left running.
 pub fn start<
     R: Threads + Wait + Copy + Send + 'static,
     M: Method + Send + 'static,
@@ -129,12 +129,11 @@ pub fn start<
     opened: Opened<M, D>,
     every: u32,
     looks: Looks,
-) -> Result<(Workers<M, D, A, B, C>, AskChannel), NotStarted>
+) -> Result<(Workers<M, D, A, B, C>, Sender<Ask>), NotStarted>
     requires { IsWhole D.honest D.content opened.front opened.back opened.images opened.log opened.ended }
-    ensures begun { IfOk result (λ made. IsBegun opened.front opened.back opened.images opened.log opened.ended every made.0) }
-    ensures sessions { IfOk result (λ made. made.1.sessions ≡ 0) }
+    ensures { IfOk result (λ made. IsBegun opened.front opened.back opened.images opened.log opened.ended every made.0) }
 {
-    let (sessions, asks) = AskChannel::open(alloc, ASKS)?;
+    let (to, asks) = bounded(alloc, ASKS)?;
     let looks_too = looks.clone()?;
     let Together {
         mutator,
@@ -144,7 +143,7 @@ pub fn start<
     log_writer.look_by(looks_too);
     let asked = Asked { asks, looks };
     let workers = start_threads(rt, watch, asked, mutator, checkpointer, log_writer)?;
-    Ok((workers, sessions))
+    Ok((workers, to))
 }
 
 // Starts the threads. If one can't be made, the others end, since the channels between them close.

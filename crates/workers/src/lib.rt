@@ -6,7 +6,6 @@
 //! held around the world. The workers meet once they have ended.
 #![tactic(auto)]
 
-mod asker;
 mod batch_run;
 mod channel_rule;
 mod checkpointer;
@@ -21,7 +20,6 @@ mod mutator;
 mod post;
 mod reply_slot;
 
-pub use asker::{AskChannel, Asker};
 pub use batch_run::play;
 pub use channel_rule::InOrder;
 pub use checkpointer::{Checkpointer, ImageWriter};
@@ -33,5 +31,5 @@ pub use log_writer::{Log, LogWriter};
 pub use looks::{Counted, Looks};
 pub use meeting::meet_workers;
 pub use mutator::Mutator;
-pub use post::{Ask, AskNumber, Post, Reply, SessionBatch, Waiting};
+pub use post::{Ask, Asker, Post, Reply, SessionBatch, Waiting};
 pub use reply_slot::{ReplySender, ReplySlot};

@@ -1,5 +1,5 @@
 //! A batch on its way: asked for, waiting for its tick to be durable, and posted.
-ghost use Rattle.std.specs.Prelude.{◌≡◌, ◌≤◌, ◌↔◌, IsTrue};
+ghost use Rattle.std.specs.Prelude.{◌≡◌, ◌+◌, ◌≤◌, ◌^◌, ◌↔◌, true, IsTrue, IfOk, IfErr, OnOk, OnErr};
 ghost use Rattle.workers.specs.Posts.{IsAnswer};
 ghost use Rattle.workers.specs.Logging.{IsDurable};
 
@@ -13,13 +13,6 @@ use std::marker::Model;
 use std::mem;
 use std::sync::Wait;
 use world_actions::Refusal;
-
-/// The number of a session, and which of its asks this is: 1, 2 and so on.
-#[derive(Clone, Copy, Debug, PartialEq, Eq)]
-pub struct AskNumber {
-    pub session: u64,
-    pub ask: u64,
-}
 
 /// A batch of a session. Contracts see the session's number, which of its asks this is, and the requests.
 #[derive(Drop)]
@@ -44,12 +37,12 @@ impl SessionBatch {
         &self.batch
     }
 
-    // True if it is the ask of this number, for this batch.
-    fn is_ask(&self, number: AskNumber, batch: &Batch) -> bool
+    // True if it is the last ask of this session, for this batch.
+    fn is_last_of(&self, asker: &Asker, batch: &Batch) -> bool
         ensures { IsTrue result
-            ↔ (self.now ≡ record { session = number.session; ask = number.ask; requests = batch.now.list }) }
+            ↔ (self.now ≡ record { session = asker.now.session; ask = asker.now.asked; requests = batch.now.list }) }
     {
-        if self.session != number.session || self.ask != number.ask {
+        if self.session != asker.session || self.ask != asker.asked {
             return false;
         }
         are_same(self.batch.requests(), batch.requests())
@@ -63,7 +56,45 @@ fn are_same(xs: &[Request], ys: &[Request]) -> bool
     xs == ys
 }
 
-/// A batch of a session. It alone knows where its answer goes, and only an `Asker` makes and sends one.
+/// Makes the asks of a session, each with a number of its own: 1, 2 and so on.
+#[derive(Drop)]
+pub struct Asker {
+    session: u64,
+    asked: u64,
+}
+
+impl Asker {
+    /// The asker of the session of this number, which has made no ask yet.
+    pub fn new(session: u64) -> Self
+        ensures { result ≡ record { session = session; asked = 0 } }
+    {
+        Asker { session, asked: 0 }
+    }
+
+    /// Asks for the answer of this batch, which is made in this buffer and goes to this sender. Batch and buffer come back
+    /// with the post.
+    pub fn ask(&mut self, batch: Batch, buffer: Vec<u8>, to: ReplySender) -> Result<Ask, Refusal>
+        ensures asks { IfOk result (λ ask.
+            ask ≡ record { session = self.old.session; ask = self.old.asked + 1; requests = batch.list }) }
+        ensures counts { OnOk result (self.new ≡ record self.old { asked = self.old.asked + 1 }) }
+        ensures unchanged { OnErr result (self.new ≡ self.old) }
+        ensures ended { IfErr result (λ refusal. refusal ≡ Refusal.TicksEnded) }
+        ensures last { OnErr result (self.old.asked + 1 ≡ 2 ^ 64) }
+    {
+        let Some(ask) = self.asked.checked_add(1) else {
+            return Err(Refusal::TicksEnded);
+        };
+        self.asked = ask;
+        let asked = SessionBatch {
+            session: self.session,
+            ask,
+            batch,
+        };
+        Ok(Ask { asked, buffer, to })
+    }
+}
+
+/// A batch of a session. It alone knows where its answer goes, and only an `Asker` makes one.
 #[derive(Drop)]
 pub struct Ask {
     asked: SessionBatch,
@@ -80,18 +111,6 @@ impl Model for Ask {
 }
 
 impl Ask {
-    /// The ask of this number.
-    pub(crate) fn new(number: AskNumber, batch: Batch, buffer: Vec<u8>, to: ReplySender) -> Self
-        ensures { result ≡ record { session = number.session; ask = number.ask; requests = batch.list } }
-    {
-        let asked = SessionBatch {
-            session: number.session,
-            ask: number.ask,
-            batch,
-        };
-        Ask { asked, buffer, to }
-    }
-
     /// The batch.
     pub fn batch(&self) -> &Batch
         ensures { result.now.list ≡ self.now.requests }
@@ -166,12 +185,12 @@ impl Post {
         self.tick
     }
 
-    /// True if it answers the ask of this number, which was for this batch.
-    pub fn is_for(&self, number: AskNumber, batch: &Batch) -> bool
+    /// True if it answers the last ask of this session, which was for this batch.
+    pub fn is_for(&self, asker: &Asker, batch: &Batch) -> bool
         ensures { IsTrue result ↔ (self.now.asked
-            ≡ record { session = number.session; ask = number.ask; requests = batch.now.list }) }
+            ≡ record { session = asker.now.session; ask = asker.now.asked; requests = batch.now.list }) }
     {
-        self.asked.is_ask(number, batch)
+        self.asked.is_last_of(asker, batch)
     }
 
     /// The line that answers the batch, with its newline, and the batch.
