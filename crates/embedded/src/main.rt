@@ -11,8 +11,8 @@ use sessions::serve_lines;
 use std::fs::{File, Files};
 use std::io;
 use std::time::Clock;
-use world_folder::{Ending, failure_of, open_existing, opened};
 use world_actions::Refusal;
+use world_folder::{Ending, failure_of, open_existing, opened};
 use zigzag::Zigzag;
 
 /// The folder of the world.

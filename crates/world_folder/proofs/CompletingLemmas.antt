@@ -28,10 +28,10 @@ image_closed bytes not =
     elim (cases_lt (length bytes) 17) [
       | inl short ↦ (let no : nat_le 17 (length bytes) ≡ false = grind (arith, nat_tests, short) in rw no refl)
       | inr long ↦ (
-        let shut : (get_or bytes 0 0 ≡ OPEN_GATE) → ⊥ = (λ gate. not (long, gate)) in
-        let yes : nat_le 17 (length bytes) ≡ true = grind (arith, nat_tests, long) in
-        let no : (get_or bytes 0 0 == OPEN_GATE) ≡ false = grind (arith, nat_tests, common_steps, shut) in
-        rw (yes, no) refl)
+          let shut : (get_or bytes 0 0 ≡ OPEN_GATE) → ⊥ = (λ gate. not (long, gate)) in
+          let yes : nat_le 17 (length bytes) ≡ true = grind (arith, nat_tests, long) in
+          let no : (get_or bytes 0 0 == OPEN_GATE) ≡ false = grind (arith, nat_tests, common_steps, shut) in
+          rw (yes, no) refl)
     ]
 
 segment_closed : (bytes : List ℕ) → ¬ IsOpenFile SEGMENT_HEAD bytes → IsSegment bytes ClosedSegment
