@@ -50,7 +50,7 @@ fn count_made(folder: &ModelFolder) -> usize {
     let mut made = 0;
     for noted in folder.noted() {
         if let Noted::Made(_, _) = noted {
-            made += 1;
+            made = made.saturating_add(1);
         }
     }
     made
