@@ -47,7 +47,7 @@ fn is_last(rt: &impl Abort, folder: &ModelFolder, line: &str) {
 
 // How many files were made.
 fn count_made(folder: &ModelFolder) -> usize {
-    let mut made = 0;
+    let mut made = 0usize;
     for noted in folder.noted() {
         if let Noted::Made(_, _) = noted {
             made = made.saturating_add(1);
