@@ -10,6 +10,7 @@ import argparse
 import collections
 import contextlib
 import fcntl
+import functools
 import itertools
 import os
 import pathlib
@@ -20,12 +21,15 @@ import subprocess
 import sys
 import tempfile
 import time
+from collections.abc import Iterator
 
 from kill_trial import SOCKET, TRANSPORTS, connect
 
 NAMES = ("image.a", "image.b", "log.a", "log.b")
 METHODS = ("zigzag", "pingpong")
 SECONDS = 60
+# A limit on a file's size that the log reaches soon.
+FILE_LIMIT = 400
 
 # Images of two cells: new ones of both words 0, and of 5 7 at tick 3 in format 1, of 5 9 at tick 2 in format 2.
 NEW_IMAGE = b"\1" + struct.pack("<QQQQ", 2 + (0x20 << 56), 0, 0, 0)
@@ -693,23 +697,46 @@ def try_serving(trial: Trial) -> None:
             trial.check("an image", recovered.output in ("recovered 2 from 1\n", "recovered 2 from 2\n"), True)
 
 
-def try_reporting(trial: Trial) -> None:
-    """Figures that a server prints: the last answered tick, its newest image, its clients and what waits."""
+@contextlib.contextmanager
+def reporting(trial: Trial, *flags: str, **process) -> Iterator[tuple[str, list[str]]]:
+    """A server that prints its figures each second: its address, and the list of the figures, which is filled at its end."""
     with new_folder(NEW_IMAGE, b"", b"", b"") as folder, open(folder / "errors", "w+") as errors:
-        line = f"serve --dir {folder} --method zigzag --port 0 --clients 2 --report 1".split()
-        with subprocess.Popen([trial.program, *line], stdout=subprocess.PIPE, stderr=errors, text=True) as server:
-            address = [server.stdout.readline() for _ in range(2)][-1].split()[-1]
-            trial.check("a first client", answer_to(address, b"end\nend\nend\n"), "tick 1:\ntick 2:\ntick 3:\n")
-            with connect(address) as client, client.makefile() as reader:
-                client.sendall(b"end\n")
-                trial.check("a second client", reader.readline(), "tick 4:\n")
-                time.sleep(2.5)
+        line = f"serve --dir {folder} --method zigzag --port 0 --report 1".split()
+        reports: list[str] = []
+        with subprocess.Popen([trial.program, *line, *flags], stdout=subprocess.PIPE, stderr=errors, text=True, **process) as server:
+            yield [server.stdout.readline() for _ in range(2)][-1].split()[-1], reports
             server.communicate(timeout=SECONDS)
         trial.runs += 1
-        trial.seen["served"] += 1
         errors.seek(0)
-        reports = [line for line in errors.read().splitlines() if " acked " in line]
-        trial.check("reports", bool(reports) and reports[-1], "worldd: tick 4 acked 4 image 0 sessions 1 batches/s 0 waiting 0")
+        reports += [line for line in errors.read().splitlines() if " acked " in line]
+
+
+def try_reporting(trial: Trial) -> None:
+    """Figures that a server prints: the last answered tick, its newest image, its clients and what waits."""
+    with reporting(trial, "--clients", "2", "--every", "3") as (address, reports):
+        trial.check("a first client", answer_to(address, b"end\nend\nend\n"), "tick 1:\ntick 2:\ntick 3:\n")
+        with connect(address) as client, client.makefile() as reader:
+            client.sendall(b"end\n")
+            trial.check("a second client", reader.readline(), "tick 4:\n")
+            time.sleep(2.5)
+    trial.seen["served"] += 1
+    trial.check("reports", reports and reports[-1], "worldd: tick 4 acked 4 image 3 sessions 1 batches/s 0 waiting 0")
+
+
+def try_reporting_down(trial: Trial) -> None:
+    """The same once the log is down: the tick that ended last was not acknowledged."""
+    limit = functools.partial(resource.setrlimit, resource.RLIMIT_FSIZE, (FILE_LIMIT, FILE_LIMIT))
+    with reporting(trial, "--clients", "1", "--every", "65536", preexec_fn=limit) as (address, reports):
+        with connect(address) as client, client.makefile() as reader:
+            answers = []
+            while not answers or answers[-1].startswith("tick"):
+                client.sendall(b"add 0 1\nend\n")
+                answers.append(reader.readline())
+            time.sleep(2.5)
+    ended = len(answers)
+    trial.check("the log's end", answers[-1], "fault 12\n")
+    trial.seen["reported with its log down"] += 1
+    trial.check("reports", reports and reports[-1], f"worldd: tick {ended} acked {ended - 1} image 0 sessions 1 batches/s 0 waiting 0")
 
 
 def main() -> int:
@@ -717,9 +744,9 @@ def main() -> int:
     parser = argparse.ArgumentParser(description=__doc__.splitlines()[0])
     parser.add_argument("program", type=pathlib.Path, help="the built worldd")
     trial = Trial(str(parser.parse_args().program.resolve()))
-    for part in (try_command_lines, try_scripts, try_creating, try_completing, try_not_creating, try_words, try_larger, try_found, try_figures, try_copies, try_lost, try_doubtful, try_long, try_missing, try_damaged, try_not_serving, try_serving, try_reporting):
+    for part in (try_command_lines, try_scripts, try_creating, try_completing, try_not_creating, try_words, try_larger, try_found, try_figures, try_copies, try_lost, try_doubtful, try_long, try_missing, try_damaged, try_not_serving, try_serving, try_reporting, try_reporting_down):
         part(trial)
-    wanted = ["status 0", "status 2", "served", "served beside an empty log", *(f"status 1, fault {code}" for code in (13, 14, 15, 16, 18, 22))]
+    wanted = ["status 0", "status 2", "served", "served beside an empty log", "reported with its log down", *(f"status 1, fault {code}" for code in (13, 14, 15, 16, 18, 22))]
     never = [kind for kind in wanted if not trial.seen[kind]]
     for kind, count in sorted(trial.seen.items()):
         print(f"  {kind}: {count}")

@@ -5,14 +5,13 @@ use crate::failure::{Failure, Shortage};
 use crate::incoming::Incoming;
 use crate::session::Joined;
 use crate::session_threads::{Sessions, Shared};
-use crossbeam_channel::Sender;
 use std::alloc::Global;
 use std::io;
 use std::sync::Wait;
 use std::thread::Threads;
 use std::time::Clock;
 use transports::Listener;
-use workers::{Ask, Looks};
+use workers::{AskChannel, Looks};
 
 /// Which clients a server takes.
 #[derive(Clone, Copy, Debug, PartialEq, Eq)]
@@ -59,7 +58,7 @@ pub fn accept_sessions<
     alloc: Global,
     listener: Listener,
     admission: Admission,
-    requests: Sender<Ask>,
+    asks: AskChannel,
     looks: Looks,
     door: W,
 ) -> Accepted
@@ -67,7 +66,7 @@ pub fn accept_sessions<
     ensures some { result.connections ≤ admission.clients }
     ensures joined { result.closed ≢ Closed.Left → result.connections ≡ result.sessions.count + result.unserved }
 {
-    let Ok(mut sessions) = Sessions::new(alloc, admission.clients) else {
+    let Ok(mut sessions) = Sessions::new(alloc, admission.clients, asks) else {
         return Accepted {
             connections: 0,
             sessions: Joined::none(),
@@ -78,7 +77,6 @@ pub fn accept_sessions<
     let mut shared = Shared {
         alloc,
         idle: admission.idle,
-        requests,
         looks,
         door,
     };

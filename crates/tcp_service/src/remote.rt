@@ -1,67 +1,62 @@
 ghost use Rattle.std.specs.Prelude.{◌≡◌};
-ghost use Rattle.tcp_service.specs.Remote.{given_by};
 
 use crate::pulse::Pulse;
 use batches::Batch;
-use crossbeam_channel::{SendError, Sender};
 use sessions::World;
 use std::alloc::Global;
 use std::marker::Model;
 use std::mem;
 use std::snapshot::Snapshot;
 use std::sync::{Arc, Wait};
-use workers::{Ask, Asker, Looks, Post, Reply, ReplySender, ReplySlot};
+use workers::{Asker, AwaitedReply, Fault, Looks, Post, ReplySender, ReplySlot};
 use world_actions::Refusal;
 
-/// The world that the workers run, for one session. Contracts see the session's number, how often it asked, and the post
-/// that answered its last batch.
+/// The world that the workers run, for one session. Contracts see its asker, its last post and its last
+/// fault.
 #[derive(Drop)]
 pub struct Remote<R: Wait + Copy> {
     rt: R,
     alloc: Global,
-    requests: Sender<Ask>,
     asker: Asker,
-    /// The place where its replies come, from its first ask on.
+    /// The place where its replies come. There is none before its first ask, and after one that wasn't sent.
     slot: Option<ReplySlot>,
     /// How often it looks for a reply before it sleeps. Without this it sleeps at once.
     looks: Option<Looks>,
     /// The memory for the next batch on its way: that of the last one that came back.
     spare: Batch,
     last: Option<Snapshot<Post>>,
-    /// The tick of the last post, or 0.
-    tick: u64,
+    fault: Option<Fault>,
     /// The counts of the server, if it has any.
     pulse: Option<Arc<Pulse, Global>>,
 }
 
 impl<R: Wait + Copy> Model for Remote<R> {
     ghost use Rattle.std.specs.Prelude.{option_map};
-    ghost use Rattle.tcp_service.specs.Remote.{Asking, IsLast};
+    ghost use Rattle.tcp_service.specs.Remote.{Asking};
 
     ghost Value = { Asking };
 
-    ghost view = { λ remote. record { session = remote.asker.session; asked = remote.asker.asked; last = option_map (λ post. post.value) remote.last } };
-
-    ghost invariant = { λ remote. IsLast (option_map (λ post. post.value) remote.last) remote.tick };
+    ghost view = { λ remote. record { asker = remote.asker; last = option_map (λ post. post.value) remote.last; fault = remote.fault } };
 }
 
 impl<R: Wait + Copy> Remote<R> {
-    ghost use Rattle.std.specs.Prelude.{◌≡◌, ◌⊎◌, ◌+◌, None, IfOk, OnOk, OnErr};
+    ghost use Rattle.std.specs.Prelude.{◌≡◌, None, Some, IfOk, IfErr};
+    ghost use Rattle.workers.specs.Asking.{IsNewPost, IsFaultOf};
+    ghost use Rattle.tcp_service.specs.Remote.{IsAnsweredBy, IsRefusedFor};
 
-    /// The world of the session of this number, whose batches go to the mutator by this channel.
-    pub fn new(rt: R, alloc: Global, session: u64, requests: Sender<Ask>) -> Self
-        ensures { result ≡ record { session = session; asked = 0; last = None } }
+    /// The world of a session, whose batches go to the mutator by this asker.
+    pub fn new(rt: R, alloc: Global, asker: Asker) -> Self
+        ensures { result ≡ record { asker = asker; last = None; fault = None } }
     {
         Remote {
             rt,
             alloc,
-            requests,
-            asker: Asker::new(session),
+            asker,
             slot: None,
             looks: None,
             spare: Batch::empty(alloc),
             last: None,
-            tick: 0,
+            fault: None,
             pulse: None,
         }
     }
@@ -99,55 +94,32 @@ impl<R: Wait + Copy> Remote<R> {
         remote
     }
 
-    // The end that sends the reply to the next ask.
-    fn sender(&mut self) -> Result<ReplySender, Refusal>
-        ensures { self.new ≡ self.old }
+    // The place of the next reply, and the end that sends it.
+    fn reply_place(&mut self) -> Result<(AwaitedReply, ReplySender), Refusal>
+        ensures same { self.new ≡ self.old }
+        ensures memory { IfErr result (λ refusal. refusal ≡ Refusal.NoMemory) }
     {
         let slot = match self.slot.take() {
             Some(slot) => slot,
             None => ReplySlot::new(self.alloc)?,
         };
-        let sender = slot.sender();
-        self.slot = Some(slot);
-        Ok(sender?)
+        Ok(slot.ask()?)
     }
 
-    // The ask for a batch.
-    fn asking(&mut self, b: &Batch, buffer: Vec<u8>) -> Result<Ask, Refusal>
-        ensures asks { IfOk result (λ ask. ask
-            ≡ record { session = self.old.session; ask = self.old.asked + 1; requests = b.now.list }) }
-        ensures counts { OnOk result (self.new ≡ record self.old { asked = self.old.asked + 1 }) }
-        ensures unchanged { OnErr result (self.new ≡ self.old) }
+    // A copy of a batch, in the memory of the last one that came back.
+    fn copy(&mut self, b: &Batch) -> Result<Batch, Refusal>
+        ensures same { self.new ≡ self.old }
+        ensures copied { IfOk result (λ batch. batch.list ≡ b.now.list) }
+        ensures memory { IfErr result (λ refusal. refusal ≡ Refusal.NoMemory) }
     {
         let spare = mem::replace(&mut self.spare, Batch::empty(self.alloc));
-        let batch = b.try_copy(spare)?;
-        let to = self.sender()?;
-        self.asker.ask(batch, buffer, to)
-    }
-
-    // Waits for the reply to the last ask. A fault: none comes, since its sender is gone.
-    fn reply(&self) -> Result<Post, Refusal> {
-        let Some(slot) = &self.slot else {
-            return Err(Refusal::LogDown);
-        };
-        let reply = match &self.looks {
-            Some(looks) => {
-                let _counted = looks.enter();
-                slot.wait(&self.rt, looks.of_session())
-            }
-            None => slot.wait(&self.rt, 0),
-        };
-        match reply {
-            Some(reply) => given_by(reply),
-            None => Err(Refusal::LogDown),
-        }
+        Ok(b.try_copy(spare)?)
     }
 
     // The same as `send`, and counts it.
     fn ask(&mut self, b: &Batch, buffer: Vec<u8>) -> Result<Post, Refusal>
-        ensures ok { OnOk result (self.new ≡ record self.old { asked = self.old.asked + 1 }) }
-        ensures err { OnErr result ((self.new ≡ self.old)
-            ⊎ (self.new ≡ record self.old { asked = self.old.asked + 1 })) }
+        ensures ok { IfOk result (IsAnsweredBy self.old b.now.list self.new) }
+        ensures err { IfErr result (IsRefusedFor self.old self.new) }
     {
         self.count_asked();
         let answer = self.send(b, buffer);
@@ -157,17 +129,55 @@ impl<R: Wait + Copy> Remote<R> {
 
     // Sends a batch with a buffer for its answer, and waits for its post.
     fn send(&mut self, b: &Batch, buffer: Vec<u8>) -> Result<Post, Refusal>
-        ensures ok { OnOk result (self.new ≡ record self.old { asked = self.old.asked + 1 }) }
-        ensures err { OnErr result ((self.new ≡ self.old)
-            ⊎ (self.new ≡ record self.old { asked = self.old.asked + 1 })) }
+        ensures ok { IfOk result (IsAnsweredBy self.old b.now.list self.new) }
+        ensures err { IfErr result (IsRefusedFor self.old self.new) }
     {
-        let ask = self.asking(b, buffer)?;
-        match self.requests.send(&self.rt, ask) {
-            Ok(()) => {}
-            Err(SendError::OutOfMemory(_)) => return Err(Refusal::NoMemory),
-            Err(SendError::Disconnected(_)) => return Err(Refusal::LogDown),
+        let batch = self.copy(b)?;
+        let (awaited, to) = self.reply_place()?;
+        match self.asker.send(&self.rt, batch, buffer, to) {
+            Ok(()) => self.wait(b, awaited),
+            Err(fault) => Err(self.refused(fault)),
         }
-        self.reply()
+    }
+
+    // Waits for the post of the last ask, which was for this batch.
+    fn wait(&mut self, b: &Batch, awaited: AwaitedReply) -> Result<Post, Refusal>
+        ensures ok { IfOk result (IsAnsweredBy self.old b.now.list self.new) }
+        ensures err { IfErr result (IsRefusedFor self.old self.new) }
+    {
+        let (answer, slot) = self.reply(b, awaited);
+        self.slot = Some(slot);
+        match answer {
+            Ok(post) => {
+                self.last = Some(Snapshot::of(&post));
+                Ok(post)
+            }
+            Err(fault) => Err(self.refused(fault)),
+        }
+    }
+
+    // The reply to the last ask, which was for this batch, and the slot.
+    fn reply(&mut self, b: &Batch, awaited: AwaitedReply) -> (Result<Post, Fault>, ReplySlot)
+        ensures ok { IfOk result.0 (λ post. IsNewPost self.old.asker b.now.list post
+            × (self.new ≡ record self.old { asker = record self.old.asker { posted = post.tick } })) }
+        ensures err { IfErr result.0 (λ fault. IsFaultOf self.old.asker fault × (self.new ≡ self.old)) }
+    {
+        match &self.looks {
+            Some(looks) => {
+                let _counted = looks.enter();
+                self.asker.wait(&self.rt, b, awaited, looks.of_session())
+            }
+            None => self.asker.wait(&self.rt, b, awaited, 0),
+        }
+    }
+
+    // Notes a fault, and returns its reason.
+    fn refused(&mut self, fault: Fault) -> Refusal
+        ensures noted { self.new ≡ record self.old { fault = Some fault } }
+        ensures reason { result ≡ fault.reason }
+    {
+        self.fault = Some(fault);
+        fault.reason()
     }
 }
 
@@ -179,24 +189,9 @@ impl<R: Wait + Copy> World for Remote<R> {
     fn batch(&mut self, b: &Batch, text: &mut Vec<u8>) -> Result<(), Refusal> {
         let buffer = mem::replace(text, Vec::new(self.alloc));
         let post = self.ask(b, buffer)?;
-        if post.tick() <= self.tick || !post.is_for(&self.asker, b) {
-            return Err(Refusal::LogDown);
-        }
-        self.tick = post.tick();
-        self.last = Some(Snapshot::of(&post));
         let (answer, batch) = post.into_answer();
         *text = answer;
         self.spare = batch;
         Ok(())
-    }
-}
-
-// The post or the refusal of a reply.
-fn given_by(reply: Reply) -> Result<Post, Refusal>
-    ensures { result ≡ given_by reply }
-{
-    match reply {
-        Reply::Post(post) => Ok(post),
-        Reply::Fault(refusal) => Err(refusal),
     }
 }

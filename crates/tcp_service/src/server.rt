@@ -100,8 +100,8 @@ pub fn serve_tcp<
     let door = watch.clone()?;
     let looks = Looks::on_this_machine(rt, alloc)?;
     let looks_too = looks.clone()?;
-    let (workers, requests) = start(rt, alloc, gates, watch, opened, every, looks_too)?;
-    let accepted = accept_sessions(rt, alloc, listener, admission, requests, looks, door);
+    let (workers, asks) = start(rt, alloc, gates, watch, opened, every, looks_too)?;
+    let accepted = accept_sessions(rt, alloc, listener, admission, asks, looks, door);
     if let Closed::Left = accepted.closed {
         return Err(NotServed::Left);
     }

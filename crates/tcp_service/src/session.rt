@@ -5,14 +5,13 @@ ghost use Rattle.tcp_service.specs.Remote.{IsPosted};
 
 use crate::door::{Door, Unserved};
 use crate::remote::Remote;
-use crossbeam_channel::Sender;
 use sessions::serve_lines;
 use std::alloc::Global;
 use std::io::{Read, Write};
 use std::sync::Wait;
 use std::time::Duration;
 use transports::Stream;
-use workers::{Ask, Looks};
+use workers::{Asker, Looks};
 use world_actions::Refusal;
 
 /// Shows that a session has ended: only `serve_session` makes one.
@@ -46,7 +45,7 @@ pub fn serve_batches<R: Wait + Copy, B: Read, W: Write>(
     serve_lines(alloc, r, w, world)
 }
 
-/// Serves a connection as the session of this number, until its client leaves. It also ends if the client neither sends
+/// Serves a connection as the session of this asker, until its client leaves. It also ends if the client neither sends
 /// nor takes a byte for so many seconds, or by a fault, which ends no other session. The bytes behind a batch that is too
 /// long are read and dropped, so that its answer arrives. The door hears of a session that has no memory.
 pub fn serve_session<R: Wait + Copy, W: Door + Drop>(
@@ -54,8 +53,7 @@ pub fn serve_session<R: Wait + Copy, W: Door + Drop>(
     alloc: Global,
     stream: Stream,
     idle: Option<u32>,
-    session: u64,
-    requests: Sender<Ask>,
+    asker: Asker,
     looks: Looks,
     door: W,
 ) -> Over {
@@ -66,7 +64,7 @@ pub fn serve_session<R: Wait + Copy, W: Door + Drop>(
     if let Some(pulse) = &pulse {
         pulse.session_began();
     }
-    let mut world = Remote::new(*rt, alloc, session, requests).looking(looks);
+    let mut world = Remote::new(*rt, alloc, asker).looking(looks);
     world.count_for(pulse);
     let served = serve_batches(alloc, &mut &stream, &mut &stream, &mut world);
     match served {

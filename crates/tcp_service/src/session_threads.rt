@@ -11,7 +11,7 @@ use std::sync::Wait;
 use std::thread::{self, JoinHandle, Threads};
 use std::time::{Clock, Duration};
 use transports::Stream;
-use workers::{Ask, Looks};
+use workers::{AskChannel, Asker, Looks};
 
 /// The stack of a session's thread, which needs a tenth of it. The system's own would be 8 MiB, of which the C library keeps
 /// five for threads to come, and 160 of these.
@@ -26,7 +26,6 @@ pub struct Shared<W: Door + Clone + Drop> {
     pub alloc: Global,
     /// After how many seconds of silence it ends.
     pub idle: Option<u32>,
-    pub requests: Sender<Ask>,
     pub looks: Looks,
     pub door: W,
 }
@@ -34,6 +33,7 @@ pub struct Shared<W: Door + Clone + Drop> {
 /// The sessions that run, each under a key that it sends as it ends.
 #[derive(Drop)]
 pub struct Sessions {
+    asks: AskChannel,
     running: Slab<JoinHandle<Over>>,
     ends: Sender<usize>,
     ended: Receiver<usize>,
@@ -43,12 +43,13 @@ pub struct Sessions {
 }
 
 impl Sessions {
-    /// No session yet, of so many that may start.
-    pub fn new(alloc: Global, most: u32) -> Result<Self, AllocError>
+    /// No session yet, of so many that may start. They ask on this channel.
+    pub fn new(alloc: Global, most: u32, asks: AskChannel) -> Result<Self, AllocError>
         ensures { IfOk result (λ sessions. sessions.started ≡ 0) }
     {
         let (ends, ended) = bounded(alloc, most as usize)?;
         Ok(Sessions {
+            asks,
             running: Slab::new(alloc),
             ends,
             ended,
@@ -57,13 +58,14 @@ impl Sessions {
         })
     }
 
-    /// Starts the session of a connection.
+    /// Starts the session of a connection, which has the channel's next number.
     pub fn start<
         R: Threads + Wait + Copy + Send + 'static,
         W: Door + Clone + Drop + Send + 'static,
     >(&mut self, rt: &R, stream: Stream, shared: &Shared<W>) -> Result<(), Unserved>
         requires { self.old.started < 4294967295 }
         ensures ok { OnOk result (self.new.started ≡ self.old.started + 1) }
+        ensures numbered { OnOk result (self.new.asks.next ≡ self.old.asks.next + 1) }
         ensures err { OnErr result (self.new.started ≡ self.old.started) }
     {
         let Ok(()) = self.running.reserve(1) else {
@@ -72,9 +74,11 @@ impl Sessions {
         let Ok(ends) = self.ends.clone() else {
             return Err(Unserved::NoMemory);
         };
+        let Some(asker) = self.asks.session() else {
+            return Err(Unserved::NoMemory);
+        };
         let key = self.running.vacant_key();
-        let number = u64::from(self.started);
-        let session = start_thread(rt, stream, shared, number, ends, key)?;
+        let session = start_thread(rt, stream, shared, asker, ends, key)?;
         self.running.insert_reserved(session);
         self.started += 1;
         Ok(())
@@ -131,18 +135,15 @@ impl Sessions {
     }
 }
 
-// Gives the session of a connection a number and a thread, which sends its key as it ends.
+// Gives the session of a connection a thread, which sends its key as it ends.
 fn start_thread<R: Threads + Wait + Copy + Send + 'static, W: Door + Clone + Drop + Send + 'static>(
     rt: &R,
     stream: Stream,
     shared: &Shared<W>,
-    number: u64,
+    asker: Asker,
     ends: Sender<usize>,
     key: usize,
 ) -> Result<JoinHandle<Over>, Unserved> {
-    let Ok(requests) = shared.requests.clone() else {
-        return Err(Unserved::NoMemory);
-    };
     let Ok(looks) = shared.looks.clone() else {
         return Err(Unserved::NoMemory);
     };
@@ -151,7 +152,7 @@ fn start_thread<R: Threads + Wait + Copy + Send + 'static, W: Door + Clone + Dro
     };
     let (here, alloc, idle) = (*rt, shared.alloc, shared.idle);
     let serve = move || {
-        let over = serve_session(&here, alloc, stream, idle, number, requests, looks, door);
+        let over = serve_session(&here, alloc, stream, idle, asker, looks, door);
         let _ = ends.try_send(&here, key);
         over
     };

@@ -14,7 +14,7 @@ use std::alloc::Global;
 use std::process::Abort;
 use std::sync::Wait;
 use worker_threads::Seats;
-use workers::{Checkpointer, Log, Reply, ReplySlot};
+use workers::{AwaitedReply, Checkpointer, Log, Reply};
 use world_actions::Refusal;
 
 type File = Fused<ModelFile>;
@@ -46,7 +46,7 @@ fn fall_behind<M: Method>(
     rt: &(impl Wait + Abort),
     alloc: Global,
     world: &mut Serial<M, File>,
-) -> [ReplySlot; 3]
+) -> [AwaitedReply; 3]
     requires { MayTake world.old.checkpointer }
     ensures { world.new.log_writer ≡ world.old.log_writer }
 {
@@ -58,15 +58,15 @@ fn fall_behind<M: Method>(
     [first, second, third]
 }
 
-fn is_refused(rt: &(impl Wait + Abort), answer: &ReplySlot) {
-    match answer.wait(rt, 0) {
-        Some(Reply::Fault(refusal)) => same(rt, "a refusal", refusal, Refusal::LogDown),
+fn is_refused(rt: &(impl Wait + Abort), answer: AwaitedReply) {
+    match answer.wait(rt, 0).0 {
+        Some(Reply::Fault(fault)) => same(rt, "a refusal", fault.reason(), Refusal::LogDown),
         _ => panic!(rt; "no fault"),
     }
 }
 
 // The first two ticks are answered, and the third one if the log has it.
-fn check_answers(rt: &(impl Wait + Abort), answers: &[ReplySlot; 3], whole: bool) {
+fn check_answers(rt: &(impl Wait + Abort), answers: [AwaitedReply; 3], whole: bool) {
     let [first, second, third] = answers;
     is_posted(rt, first, b"tick 1: + =1\n");
     is_posted(rt, second, b"tick 2: + =2\n");
@@ -127,7 +127,7 @@ fn play_behind<M: Method>(
 {
     let answers = fall_behind(rt, alloc, world);
     log_on(rt, &mut world.log_writer);
-    check_answers(rt, &answers, whole);
+    check_answers(rt, answers, whole);
     check_files(rt, alloc, world, whole);
 }
 

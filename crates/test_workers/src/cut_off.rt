@@ -1,8 +1,8 @@
 //! Sessions whose clients stop taking bytes, at each byte of the answers. Each answered tick is in the files.
-use crate::running::{begin, end};
+use crate::running::{begin, end, only_session};
 use crate::same::same;
 use crate::worlds::{new_files, stands_in};
-use crossbeam_channel::{Sender, unbounded};
+use crossbeam_channel::unbounded;
 use disk_model::ModelFile;
 use shared_capture::{Pong, Zig};
 use std::alloc::Global;
@@ -10,10 +10,10 @@ use std::io::{self, ErrorKind, Write};
 use std::process::Abort;
 use std::sync::Wait;
 use std::thread::Threads;
-use tcp_service::{Remote, serve_batches};
+use tcp_service::serve_batches;
 use worker_steps::Gates;
 use worker_threads::{Seats, StoppedWorkers};
-use workers::{Ask, Open};
+use workers::{AskChannel, Open};
 use world_actions::Refusal;
 
 /// Three batches that come in one piece.
@@ -44,13 +44,13 @@ impl Write for Client {
 }
 
 // Serves a session on the batches, whose client takes so many bytes. Returns how the session ended, and the taken bytes.
-fn play<R: Wait + Copy>(
+fn play<R: Wait + Abort + Copy>(
     rt: &R,
     alloc: Global,
-    requests: Sender<Ask>,
+    asks: AskChannel,
     room: usize,
 ) -> (Result<(), Refusal>, Vec<u8>) {
-    let mut world = Remote::new(*rt, alloc, 0, requests);
+    let mut world = only_session(rt, alloc, asks);
     let mut client = Client {
         taken: Vec::new(alloc),
         room,
@@ -93,10 +93,10 @@ fn cut_at<M: Seats + Send + 'static, R: Threads + Wait + Abort + Copy + Send + '
     };
     let (to, _heard) = unbounded(alloc).expect(rt, "a channel");
     let files = new_files(rt, alloc, 2);
-    let (workers, requests) = begin::<R, M, ModelFile, Open, Open, Open>(
+    let (workers, asks) = begin::<R, M, ModelFile, Open, Open, Open>(
         rt, alloc, files, gates, to, 2,
     );
-    let (served, taken) = play(rt, alloc, requests, room);
+    let (served, taken) = play(rt, alloc, asks, room);
     let whole = room == ANSWERS.len();
     let wanted = if whole { Ok(()) } else { Err(Refusal::Device) };
     same(rt, "how the session ends", served, wanted);

@@ -11,7 +11,7 @@ use std::process::Abort;
 use std::sync::Wait;
 use worker_steps::{Gates, Next, Together};
 use worker_threads::Seats;
-use workers::{Open, ReplySlot};
+use workers::Open;
 
 type World<M> = Together<M, ModelFile, Open, Open, Open>;
 
@@ -43,8 +43,7 @@ fn step<M: Method>(rt: &(impl Wait + Abort), alloc: Global, world: &mut World<M>
 
 // Pushes the owed item, because no batch is run before that, and runs a batch.
 fn play_step<M: Method>(rt: &(impl Wait + Abort), alloc: Global, world: &mut World<M>) {
-    let slot = ReplySlot::new(alloc).expect(rt, "a slot");
-    let ask = ask_for(rt, alloc, slot.sender().expect(rt, "a sender"));
+    let (ask, _awaited) = ask_for(rt, alloc);
     step(rt, alloc, world, Next::Push);
     step(rt, alloc, world, Next::Play(ask));
 }

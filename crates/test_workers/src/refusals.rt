@@ -13,7 +13,7 @@ use std::alloc::Global;
 use std::process::Abort;
 use std::sync::Wait;
 use worker_threads::Seats;
-use workers::{ItemReceiver, Mutator, Open, Reply, ReplySlot, open};
+use workers::{ItemReceiver, Mutator, Open, Reply, open};
 use world_actions::Refusal;
 use world_ticks::TICK_MAX;
 
@@ -40,12 +40,13 @@ fn is_refused<M: Method>(
     mutator: &mut Mutator<M, Open>,
     refusal: Refusal,
 ) {
-    let slot = ReplySlot::new(alloc).expect(rt, "a slot");
-    let ask = ask_for(rt, alloc, slot.sender().expect(rt, "a sender"));
-    let given = mutator.turn(rt, ask);
-    same(rt, "a batch that isn't run", given, Err(refusal));
-    match slot.wait(rt, 0) {
-        Some(Reply::Fault(told)) => same(rt, "what is told", told, refusal),
+    let (ask, awaited) = ask_for(rt, alloc);
+    match mutator.turn(rt, ask) {
+        Err(refused) => same(rt, "a batch that isn't run", refused.reason(), refusal),
+        Ok(()) => panic!(rt; "a batch that is run"),
+    }
+    match awaited.wait(rt, 0).0 {
+        Some(Reply::Fault(fault)) => same(rt, "what is told", fault.reason(), refusal),
         _ => panic!(rt; "no fault"),
     }
 }
@@ -83,7 +84,7 @@ fn try_refused_push<M: Seats>(rt: &(impl Wait + Abort), alloc: Global) {
     let (mut mutator, from) = mutator_at::<M>(rt, alloc, 0);
     drop(from);
     let answered = send(rt, alloc, &mut mutator);
-    assert!(rt; answered.wait(rt, 0).is_none());
+    assert!(rt; answered.wait(rt, 0).0.is_none());
     same(rt, "ticks that ended", mutator.ended(), 0);
     is_refused(rt, alloc, &mut mutator, Refusal::LogDown);
     drop(mutator);

@@ -1,9 +1,9 @@
 //! Workers in threads, whose checkpointer is held while ticks are answered.
 use crate::held::{HELD, Held};
-use crate::running::{Page, begin, is_page};
+use crate::running::{Page, begin, is_page, only_session};
 use crate::same::same;
 use crate::worlds::{Told, new_files, stands_in};
-use crossbeam_channel::{Receiver, Sender, unbounded};
+use crossbeam_channel::{Receiver, unbounded};
 use disk_model::ModelFile;
 use shared_capture::{Method, Pong, Zig};
 use std::alloc::Global;
@@ -14,7 +14,7 @@ use std::thread::Threads;
 use tcp_service::{Remote, serve_batches};
 use worker_steps::Gates;
 use worker_threads::{Seats, StoppedWorkers, stop};
-use workers::Ask;
+use workers::AskChannel;
 use world_actions::Refusal;
 
 const BATCH: &[u8] = b"add 0 1\nget 0\nend\n";
@@ -51,11 +51,11 @@ fn play_batches<R: Wait + Abort + Copy>(
 fn play_held(
     rt: &(impl Wait + Abort + Copy),
     alloc: Global,
-    requests: Sender<Ask>,
+    asks: AskChannel,
     answered: &AtomicU64,
     heard: &Receiver<Told>,
 ) -> Page {
-    let mut world = Remote::new(*rt, alloc, 0, requests);
+    let mut world = only_session(rt, alloc, asks);
     let mut text = Vec::new(alloc);
     let ends = play_batches(rt, alloc, &mut world, &mut text, answered, heard);
     Page { ends, text }
@@ -87,8 +87,8 @@ fn play_round<M: Seats + Send + 'static, R: Threads + Wait + Abort + Copy + Send
     let gates = held_until(rt, &answered);
     let (to, heard) = unbounded(alloc).expect(rt, "a channel");
     let files = new_files(rt, alloc, 2);
-    let (workers, requests) = begin(rt, alloc, files, gates, to, 1);
-    let page = play_held(rt, alloc, requests, &answered, &heard);
+    let (workers, asks) = begin(rt, alloc, files, gates, to, 1);
+    let page = play_held(rt, alloc, asks, &answered, &heard);
     Left {
         stopped: stop(rt, workers),
         heard,

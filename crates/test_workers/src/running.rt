@@ -11,7 +11,7 @@ use std::thread::Threads;
 use tcp_service::{Remote, serve_batches};
 use worker_steps::Gates;
 use worker_threads::{Seats, StoppedWorkers, Workers, meet_stopped, start, stop};
-use workers::{Ask, Gate, Looks};
+use workers::{AskChannel, Gate, Looks};
 use world_actions::Refusal;
 
 /// Starts workers on the world in these files. A round is due after each `every` ticks.
@@ -29,7 +29,7 @@ pub fn begin<
     gates: Gates<A, B, C>,
     to: Sender<Told>,
     every: u32,
-) -> (Workers<M, D, A, B, C>, Sender<Ask>) {
+) -> (Workers<M, D, A, B, C>, AskChannel) {
     let opened = open_files::<M, D>(rt, alloc, files);
     let watch = Teller { rt: *rt, to };
     let looks = Looks::on_this_machine(rt, alloc).expect(rt, "a count");
@@ -53,9 +53,20 @@ pub struct Page {
     pub text: Vec<u8>,
 }
 
+/// The world of a session, after which no other begins.
+pub fn only_session<R: Wait + Abort + Copy>(rt: &R, alloc: Global, asks: AskChannel) -> Remote<R> {
+    let mut asks = asks;
+    Remote::new(*rt, alloc, asks.session().expect(rt, "a session"))
+}
+
 /// Serves a session on this input. No other session begins after it.
-pub fn play(rt: &(impl Wait + Copy), alloc: Global, requests: Sender<Ask>, input: &[u8]) -> Page {
-    let mut world = Remote::new(*rt, alloc, 0, requests);
+pub fn play(
+    rt: &(impl Wait + Abort + Copy),
+    alloc: Global,
+    asks: AskChannel,
+    input: &[u8],
+) -> Page {
+    let mut world = only_session(rt, alloc, asks);
     let mut text = Vec::new(alloc);
     let mut rest = input;
     let ends = serve_batches(alloc, &mut rest, &mut text, &mut world);

@@ -20,8 +20,8 @@ use std::sync::{Arc, Wait};
 use worker_steps::Opened;
 use worker_threads::Seats;
 use workers::{
-    Ask, Asker, Checkpointer, ItemReceiver, ItemSender, LogWriter, Mutator, Open, Reply,
-    ReplySender, ReplySlot, open,
+    Ask, AskChannel, AwaitedReply, Checkpointer, ItemReceiver, ItemSender, LogWriter, Mutator,
+    Open, Reply, ReplySlot, open,
 };
 use world_actions::Action;
 
@@ -150,20 +150,23 @@ pub fn send<M: Method>(
     rt: &(impl Wait + Abort),
     alloc: Global,
     mutator: &mut Mutator<M, Open>,
-) -> ReplySlot {
-    let slot = ReplySlot::new(alloc).expect(rt, "a slot");
-    let ask = ask_for(rt, alloc, slot.sender().expect(rt, "a sender"));
-    mutator.turn(rt, ask).expect(rt, "a batch that is run");
-    slot
+) -> AwaitedReply {
+    let (ask, awaited) = ask_for(rt, alloc);
+    assert!(rt; mutator.turn(rt, ask).is_ok());
+    awaited
 }
 
-/// An ask for a batch that adds 1 to the first cell and reads it. The answer goes to this sender.
-pub fn ask_for(rt: &impl Abort, alloc: Global, to: ReplySender) -> Ask {
+/// An ask for a batch that adds 1 to the first cell and reads it, as a session sends it, and the place of its reply.
+pub fn ask_for(rt: &(impl Wait + Abort), alloc: Global) -> (Ask, AwaitedReply) {
     let mut batch = Batch::new(alloc).expect(rt, "a batch");
     batch.push_reserved(Request::Act(Action::Add { cell: 0, by: 1 }));
     batch.push_reserved(Request::Get(0));
-    let mut asker = Asker::new(0);
-    asker.ask(batch, Vec::new(alloc), to).expect(rt, "an ask")
+    let (mut asks, asked) = AskChannel::open(alloc).expect(rt, "a channel");
+    let mut asker = asks.session().expect(rt, "a session");
+    let slot = ReplySlot::new(alloc).expect(rt, "a slot");
+    let (awaited, to) = slot.ask().expect(rt, "a sender");
+    assert!(rt; asker.send(rt, batch, Vec::new(alloc), to).is_ok());
+    (asked.recv(rt).expect(rt, "an ask"), awaited)
 }
 
 /// Lets the log writer take a turn, which logs the played ticks.
@@ -186,14 +189,14 @@ fn answer<M: Method>(
     ensures rest { IsAtRest world.new.log_writer }
     ensures checkpointer { world.new.checkpointer ≡ world.old.checkpointer }
 {
-    let slot = send(rt, alloc, &mut world.mutator);
+    let awaited = send(rt, alloc, &mut world.mutator);
     log_on(rt, &mut world.log_writer);
-    is_posted(rt, &slot, text);
+    is_posted(rt, awaited, text);
 }
 
 /// The answer is a post of this text.
-pub fn is_posted(rt: &(impl Wait + Abort), slot: &ReplySlot, text: &[u8]) {
-    match slot.wait(rt, 0) {
+pub fn is_posted(rt: &(impl Wait + Abort), awaited: AwaitedReply, text: &[u8]) {
+    match awaited.wait(rt, 0).0 {
         Some(Reply::Post(post)) => same(rt, "a post", post.into_answer().0.as_slice(), text),
         _ => panic!(rt; "no post"),
     }

@@ -3,7 +3,7 @@ use crate::running::{begin, end};
 use crate::same::same;
 use crate::worlds::{found_in, new_files};
 use batches::{Batch, Request};
-use crossbeam_channel::{Sender, unbounded};
+use crossbeam_channel::unbounded;
 use disk_model::{Leaving, ModelFile};
 use sessions::World;
 use shared_capture::{Method, Pong, Zig};
@@ -14,7 +14,7 @@ use std::thread::{self, JoinHandle, Threads};
 use tcp_service::Remote;
 use worker_steps::Gates;
 use worker_threads::{Seats, StoppedWorkers};
-use workers::{Ask, Cut};
+use workers::{AskChannel, Asker, Cut};
 use world_actions::{Action, Refusal};
 
 /// After how many ticks a round is due.
@@ -101,8 +101,8 @@ fn play_one<R: Wait + Copy>(alloc: Global, world: &mut Remote<R>) -> u64 {
 }
 
 // Plays a session, and counts its batches that are answered by a tick.
-fn play<R: Wait + Copy>(rt: &R, alloc: Global, session: u64, requests: Sender<Ask>) -> u64 {
-    let mut world = Remote::new(*rt, alloc, session, requests);
+fn play<R: Wait + Copy>(rt: &R, alloc: Global, asker: Asker) -> u64 {
+    let mut world = Remote::new(*rt, alloc, asker);
     let mut answered = 0u64;
     for _ in 0..BATCHES {
         answered = answered.saturating_add(play_one(alloc, &mut world));
@@ -113,12 +113,11 @@ fn play<R: Wait + Copy>(rt: &R, alloc: Global, session: u64, requests: Sender<As
 fn start_session<R: Threads + Wait + Abort + Copy + Send + 'static>(
     rt: &R,
     alloc: Global,
-    session: u64,
-    requests: &Sender<Ask>,
+    asks: &mut AskChannel,
 ) -> JoinHandle<u64> {
-    let requests = requests.clone().expect(rt, "a sender");
+    let asker = asks.session().expect(rt, "a session");
     let here = *rt;
-    match thread::spawn(rt, move || play(&here, alloc, session, requests)) {
+    match thread::spawn(rt, move || play(&here, alloc, asker)) {
         Ok(session) => session,
         Err(_) => panic!(rt; "no thread"),
     }
@@ -128,12 +127,12 @@ fn start_session<R: Threads + Wait + Abort + Copy + Send + 'static>(
 fn start_sessions<R: Threads + Wait + Abort + Copy + Send + 'static>(
     rt: &R,
     alloc: Global,
-    requests: &Sender<Ask>,
+    asks: &mut AskChannel,
 ) -> Vec<JoinHandle<u64>> {
     let mut sessions = Vec::new(alloc);
-    for session in 0..SESSIONS {
+    for _ in 0..SESSIONS {
         sessions
-            .push(start_session(rt, alloc, session, requests))
+            .push(start_session(rt, alloc, asks))
             .expect(rt, "memory");
     }
     sessions
@@ -151,10 +150,11 @@ fn join_sessions(rt: &impl Threads, sessions: Vec<JoinHandle<u64>>) -> u64 {
 fn play_sessions<R: Threads + Wait + Abort + Copy + Send + 'static>(
     rt: &R,
     alloc: Global,
-    requests: Sender<Ask>,
+    asks: AskChannel,
 ) -> u64 {
-    let sessions = start_sessions(rt, alloc, &requests);
-    drop(requests);
+    let mut asks = asks;
+    let sessions = start_sessions(rt, alloc, &mut asks);
+    drop(asks);
     join_sessions(rt, sessions)
 }
 
@@ -167,8 +167,8 @@ fn run<M: Seats + Send + 'static, R: Threads + Wait + Abort + Copy + Send + 'sta
 ) -> (StoppedWorkers<M, ModelFile, Cut, Cut, Cut>, u64) {
     let (to, _heard) = unbounded(alloc).expect(rt, "a channel");
     let files = new_files(rt, alloc, 2);
-    let (workers, requests) = begin(rt, alloc, files, limits.cuts(), to, EVERY);
-    let answered = play_sessions(rt, alloc, requests);
+    let (workers, asks) = begin(rt, alloc, files, limits.cuts(), to, EVERY);
+    let answered = play_sessions(rt, alloc, asks);
     (end(rt, workers), answered)
 }
 

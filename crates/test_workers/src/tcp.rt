@@ -1,7 +1,7 @@
 use crate::running::{is_page, play};
 use crate::same::same;
 use batches::Request;
-use crossbeam_channel::{Receiver, Sender, unbounded};
+use crossbeam_channel::Receiver;
 use std::alloc::Global;
 use std::io::{self, Read, Write};
 use std::net::{Net, Shutdown, SocketAddr, TcpListener, TcpStream};
@@ -11,7 +11,7 @@ use std::thread::{self, JoinHandle, Threads};
 use std::time::Clock;
 use tcp_service::{Accepted, Admission, Closed, Door, Unserved, accept_sessions};
 use transports::Listener;
-use workers::{Ask, Looks};
+use workers::{Ask, AskChannel, Looks};
 use world_actions::Refusal;
 
 mod opening;
@@ -70,9 +70,9 @@ fn start_refusing<R: Threads + Wait + Abort + Copy + Send + 'static>(
 
 // A session whose batches are refused.
 fn try_refusals<R: Threads + Wait + Abort + Copy + Send + 'static>(rt: &R, alloc: Global) {
-    let (requests, asks) = unbounded(alloc).expect(rt, "a channel");
-    let worker = start_refusing(rt, asks);
-    let page = play(rt, alloc, requests, BATCHES);
+    let (asks, asked) = AskChannel::open(alloc).expect(rt, "a channel");
+    let worker = start_refusing(rt, asked);
+    let page = play(rt, alloc, asks, BATCHES);
     is_page(rt, &page, FAULTS);
     same(rt, "batches that are refused", worker.join(rt), 3);
 }
@@ -84,9 +84,9 @@ fn answers_each_batch_of_a_session(rt: HostRuntime) {
 
 #[test]
 fn tells_workers_that_are_gone(rt: HostRuntime) {
-    let (requests, asks) = unbounded::<Ask, Global>(rt.alloc()).expect(&rt, "a channel");
-    drop(asks);
-    let page = play(&rt, rt.alloc(), requests, BATCHES);
+    let (asks, asked) = AskChannel::open(rt.alloc()).expect(&rt, "a channel");
+    drop(asked);
+    let page = play(&rt, rt.alloc(), asks, BATCHES);
     is_page(&rt, &page, b"fault 12\nfault 12\nfault 12\n");
 }
 
@@ -116,11 +116,11 @@ fn start_accepting<R: Threads + Wait + Clock + Abort + Copy + Send + 'static>(
     rt: &R,
     alloc: Global,
     listener: Listener,
-    requests: Sender<Ask>,
+    asks: AskChannel,
 ) -> JoinHandle<Accepted> {
     let here = *rt;
     let looks = Looks::new(alloc, 1).expect(rt, "a count");
-    let accept = move || accept_sessions(&here, alloc, listener, THREE, requests, looks, Nobody);
+    let accept = move || accept_sessions(&here, alloc, listener, THREE, asks, looks, Nobody);
     match thread::spawn(rt, accept) {
         Ok(server) => server,
         Err(_) => panic!(rt; "no thread"),
@@ -147,9 +147,9 @@ fn try_port<R: Net<Stream = TcpStream> + Threads + Wait + Clock + Abort + Copy +
     listener: TcpListener,
 ) {
     let to = listener.local_addr().expect(rt, "an address");
-    let (requests, asks) = unbounded(alloc).expect(rt, "a channel");
-    let worker = start_refusing(rt, asks);
-    let server = start_accepting(rt, alloc, Listener::Tcp(listener), requests);
+    let (asks, asked) = AskChannel::open(alloc).expect(rt, "a channel");
+    let worker = start_refusing(rt, asked);
+    let server = start_accepting(rt, alloc, Listener::Tcp(listener), asks);
     try_client(rt, alloc, to, b"set 0", b"");
     for _ in 0..2 {
         try_client(rt, alloc, to, BATCHES, FAULTS);

@@ -3,7 +3,6 @@ ghost use Rattle.std.specs.Prelude.{◌≤◌};
 use crate::opening::open_world;
 use crate::player::{one_more, tick_in};
 use crate::quiet::start_quiet;
-use crossbeam_channel::Sender;
 use disk_model::{FourFiles, Fused, ModelFile};
 use recovery::recover;
 use sessions::World;
@@ -13,7 +12,7 @@ use std::thread::Threads;
 use tcp_service::Remote;
 use trial_kit::{FAILING_FILES, FailureTally};
 use worker_threads::{Seats, StoppedWorkers, Workers, meet_stopped, stop};
-use workers::{Ask, Open};
+use workers::{AskChannel, Open};
 use world_actions::Refusal;
 use world_start::fresh_files;
 
@@ -58,8 +57,8 @@ fn fail_call<R: Threads + Wait + Copy + Send + 'static, M: Seats + Send + 'stati
     let files = failing_files(alloc, file, call)?;
     match open_world::<M, File>(alloc, files) {
         Ok(opened) => {
-            let (workers, requests) = start_quiet(rt, alloc, opened, EVERY)?;
-            play(rt, alloc, workers, requests, failures)
+            let (workers, asks) = start_quiet(rt, alloc, opened, EVERY)?;
+            play(rt, alloc, workers, asks, failures)
         }
         Err((files, _)) => {
             judge_opening(alloc, files, failures);
@@ -73,10 +72,10 @@ fn play<R: Threads + Wait + Copy, M: Seats>(
     rt: &R,
     alloc: Global,
     workers: Workers<M, File, Open, Open, Open>,
-    requests: Sender<Ask>,
+    asks: AskChannel,
     failures: &mut FailureTally,
 ) -> Result<bool, Refusal> {
-    let answered = run_batches(rt, alloc, requests);
+    let answered = run_batches(rt, alloc, asks);
     let mut stopped = stop(rt, workers);
     meet_stopped(&mut stopped);
     judge_end(alloc, &stopped, answered, failures)
@@ -143,12 +142,11 @@ fn empty_file(alloc: Global) -> Result<ModelFile, Refusal> {
 }
 
 // Plays the batches in a session, and returns the last answered tick.
-fn run_batches<R: Wait + Copy>(
-    rt: &R,
-    alloc: Global,
-    requests: Sender<Ask>,
-) -> Result<u64, Refusal> {
-    let mut world = Remote::new(*rt, alloc, 0, requests);
+fn run_batches<R: Wait + Copy>(rt: &R, alloc: Global, asks: AskChannel) -> Result<u64, Refusal> {
+    let mut asks = asks;
+    let asker = asks.session().ok_or(Refusal::NoMemory)?;
+    drop(asks);
+    let mut world = Remote::new(*rt, alloc, asker);
     let batch = one_more(alloc, 0)?;
     let mut answered = 0;
     let mut text = Vec::new(alloc);

@@ -1,12 +1,11 @@
 use crate::recorded::Clock;
 use batches::{Batch, Request};
-use crossbeam_channel::Sender;
 use sessions::World;
 use std::alloc::Global;
 use std::sync::Wait;
 use std::sync::atomic::Ordering;
 use tcp_service::Remote;
-use workers::Ask;
+use workers::Asker;
 use world_actions::{Action, Refusal};
 
 /// A tick that was answered to a player, the cell to which it added one, and the moment of the answer.
@@ -21,12 +20,12 @@ pub struct Answered {
 pub fn play<R: Wait + Copy>(
     rt: &R,
     alloc: Global,
-    requests: Sender<Ask>,
+    asker: Asker,
     clock: &Clock,
     cell: u32,
     batches: u32,
 ) -> Result<Vec<Answered>, Refusal> {
-    let mut world = Remote::new(*rt, alloc, u64::from(cell), requests);
+    let mut world = Remote::new(*rt, alloc, asker);
     let batch = one_more(alloc, cell)?;
     let mut answered = Vec::new(alloc);
     let mut text = Vec::new(alloc);

@@ -1,6 +1,5 @@
 ghost use Rattle.worker_steps.specs.Begun.{IsWhole};
 
-use crossbeam_channel::Sender;
 use disk_model::Disk;
 use shared_capture::Method;
 use std::alloc::Global;
@@ -8,7 +7,7 @@ use std::sync::Wait;
 use std::thread::Threads;
 use worker_steps::{Gates, Opened};
 use worker_threads::{TickWatch, Watch, Workers, start};
-use workers::{Ask, ImageWriter, Log, Looks, Open};
+use workers::{AskChannel, ImageWriter, Log, Looks, Open};
 use world_actions::Refusal;
 
 /// Reports nothing. Failures are seen at the end of a run.
@@ -37,7 +36,7 @@ pub fn start_quiet<
     alloc: Global,
     opened: Opened<M, D>,
     every: u32,
-) -> Result<(Workers<M, D, Open, Open, Open>, Sender<Ask>), Refusal>
+) -> Result<(Workers<M, D, Open, Open, Open>, AskChannel), Refusal>
     requires { IsWhole D.honest D.content opened.front opened.back opened.images opened.log opened.ended }
 {
     let gates = Gates {

@@ -2,13 +2,12 @@ use crate::opening::open_world;
 use crate::player::{Answered, play};
 use crate::quiet::start_quiet;
 use crate::recorded::{Clock, Recorded};
-use crossbeam_channel::Sender;
 use disk_model::FourFiles;
 use std::alloc::Global;
 use std::sync::Wait;
 use std::thread::{self, JoinHandle, Threads};
 use worker_threads::{Seats, StoppedWorkers, Workers, meet_stopped, stop};
-use workers::{Ask, Open};
+use workers::{AskChannel, Open};
 use world_actions::Refusal;
 
 /// How many players there are, each with a cell of its own.
@@ -38,8 +37,8 @@ pub fn serve<R: Threads + Wait + Copy + Send + 'static, M: Seats + Send + 'stati
 ) -> Result<Served<M>, Refusal> {
     match open_world::<M, Recorded>(alloc, files) {
         Ok(opened) => {
-            let (workers, requests) = start_quiet(rt, alloc, opened, EVERY)?;
-            let_play(rt, alloc, workers, requests, clock)
+            let (workers, asks) = start_quiet(rt, alloc, opened, EVERY)?;
+            let_play(rt, alloc, workers, asks, clock)
         }
         Err((_, refusal)) => Err(refusal),
     }
@@ -50,10 +49,10 @@ fn let_play<R: Threads + Wait + Copy + Send + 'static, M: Seats>(
     rt: &R,
     alloc: Global,
     workers: Workers<M, Recorded, Open, Open, Open>,
-    requests: Sender<Ask>,
+    asks: AskChannel,
     clock: &Clock,
 ) -> Result<Served<M>, Refusal> {
-    let players = start_players(rt, alloc, requests, clock);
+    let players = start_players(rt, alloc, asks, clock);
     let answers = join_players(rt, alloc, players);
     let mut stopped = stop(rt, workers);
     meet_stopped(&mut stopped);
@@ -63,19 +62,20 @@ fn let_play<R: Threads + Wait + Copy + Send + 'static, M: Seats>(
     })
 }
 
-// Starts a thread for each player. Only these threads have the channel of requests.
+// Starts a thread for each player. Only these threads can send batches.
 fn start_players<R: Threads + Wait + Copy + Send + 'static>(
     rt: &R,
     alloc: Global,
-    requests: Sender<Ask>,
+    asks: AskChannel,
     clock: &Clock,
 ) -> Result<Vec<JoinHandle<Answers>>, Refusal> {
+    let mut asks = asks;
     let mut players = Vec::new(alloc);
     for cell in 0..PLAYERS {
-        let requests = requests.clone()?;
+        let asker = asks.session().ok_or(Refusal::NoMemory)?;
         let clock = clock.clone()?;
         let here = *rt;
-        let play_all = move || play(&here, alloc, requests, &clock, cell, BATCHES);
+        let play_all = move || play(&here, alloc, asker, &clock, cell, BATCHES);
         let player = thread::spawn(rt, play_all).map_err(|_: _| Refusal::NoMemory)?;
         players.push(player)?;
     }

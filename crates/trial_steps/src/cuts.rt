@@ -5,13 +5,13 @@ use crate::session::{Answer, Session, sessions};
 use crate::stand::Stand;
 use crate::tally::{Kind, Rule};
 use crate::trial::{Odds, Trial};
-use crossbeam_channel::Sender;
 use shared_capture::Method;
+use std::alloc::Global;
 use std::sync::Wait;
 use std::thread::Threads;
 use worker_steps::Gates;
 use worker_threads::{Seats, StoppedWorkers, stop_after};
-use workers::{Ask, Cut};
+use workers::{AskChannel, Cut};
 use world_actions::Refusal;
 
 /// How often the workers are cut for each method.
@@ -52,7 +52,7 @@ pub fn try_cuts<R: Threads + Wait + Copy + Send + 'static, M: Seats + Send + 'st
 ) -> Result<(), Refusal> {
     trial.begin_world(CELLS, 0, Odds::NONE)?;
     for _ in 0..CUTS {
-        let mut played = Played::new(sessions(trial.alloc, SESSIONS)?);
+        let mut played = Played::none(trial.alloc);
         cut_once::<R, M>(rt, trial, &mut played)?;
     }
     Ok(())
@@ -67,7 +67,7 @@ fn cut_once<R: Threads + Wait + Copy + Send + 'static, M: Seats + Send + 'static
     let (alloc, every, cuts) = (trial.alloc, trial.every(), cuts(trial));
     match open_world::<M, Flaky>(alloc, files) {
         Ok(opened) => {
-            let play = |asks: Sender<Ask>| played.play(rt, trial, &asks);
+            let play = |asks: AskChannel| played.play(rt, trial, asks);
             match stop_after(rt, alloc, cuts, Quiet, opened, every, play) {
                 Ok(stopped) => judge(rt, trial, played, stopped),
                 Err(_) => Err(Refusal::NoMemory),
@@ -102,33 +102,41 @@ fn cuts(trial: &mut Trial) -> Gates<Cut, Cut, Cut> {
 }
 
 impl Played {
-    // The sessions before their first batch.
-    fn new(sessions: Vec<Session>) -> Self {
+    // Before the first session.
+    fn none(alloc: Global) -> Self {
         Played {
-            sessions,
+            sessions: Vec::new(alloc),
             posted: 0,
             stopped: Ok(()),
         }
     }
 
-    // Sends the batches, each of a random session, which first waits for its last answer.
-    fn play<R: Wait>(&mut self, rt: &R, trial: &mut Trial, asks: &Sender<Ask>) {
-        for _ in 0..BATCHES {
-            self.stopped = self.send(rt, trial, asks);
-            if self.stopped.is_err() {
-                break;
-            }
+    // Lets sessions send all batches. No session can send one after that.
+    fn play<R: Wait>(&mut self, rt: &R, trial: &mut Trial, asks: AskChannel) {
+        self.stopped = self.send_all(rt, trial, asks);
+        for session in &mut self.sessions {
+            session.close();
         }
+    }
+
+    // Sends the batches, each of a random session, which first waits for its last answer.
+    fn send_all<R: Wait>(
+        &mut self,
+        rt: &R,
+        trial: &mut Trial,
+        asks: AskChannel,
+    ) -> Result<(), Refusal> {
+        let mut asks = asks;
+        self.sessions = sessions(trial.alloc, &mut asks, SESSIONS)?;
+        for _ in 0..BATCHES {
+            self.send(rt, trial)?;
+        }
+        Ok(())
     }
 
     // Sends a batch. The model runs the batches in this order, and also those that the mutator won't run, which are the last
     // ones.
-    fn send<R: Wait>(
-        &mut self,
-        rt: &R,
-        trial: &mut Trial,
-        asks: &Sender<Ask>,
-    ) -> Result<(), Refusal> {
+    fn send<R: Wait>(&mut self, rt: &R, trial: &mut Trial) -> Result<(), Refusal> {
         let number = trial.random.below(SESSIONS) as usize;
         let Some(session) = self.sessions.get_mut(number) else {
             return Ok(());
@@ -137,9 +145,9 @@ impl Played {
             self.posted = self.posted.max(heed(answer, trial));
         }
         trial.draw_batch();
-        let ask = session.ask(trial.alloc, trial.draft.batch())?;
+        session.ask(rt, trial.alloc, trial.draft.batch())?;
         session.runs(trial.play()?, 0);
-        asks.send(rt, ask).map_err(|_: _| Refusal::LogDown)
+        Ok(())
     }
 
     // Judges the answers and the files that the workers left, and crashes.

@@ -1,14 +1,17 @@
 use crate::model::PlainModel;
 use batches::Batch;
+use crossbeam_channel::Receiver;
 use std::alloc::Global;
 use std::sync::Wait;
-use workers::{Ask, Asker, Post, Reply, ReplySender, ReplySlot};
+use workers::{Ask, AskChannel, Asker, AwaitedReply, Post, Reply, ReplySender, ReplySlot};
 use world_actions::Refusal;
 
 /// A batch whose answer has not come.
 #[derive(Drop)]
 struct Pending {
-    slot: ReplySlot,
+    awaited: AwaitedReply,
+    // Which of the session's asks it is.
+    ask: u64,
     batch: Batch,
     // If it was run, its tick, and how many items were pushed up to that tick's.
     run: Option<(u64, u64)>,
@@ -30,26 +33,51 @@ pub enum Answer {
 /// A session, which asks for one batch at a time.
 #[derive(Drop)]
 pub struct Session {
-    asker: Asker,
+    number: u64,
+    // It asks no more without its asker.
+    asker: Option<Asker>,
+    asked: u64,
     pending: Option<Pending>,
 }
 
-/// The sessions of the numbers below this one.
-pub fn sessions(alloc: Global, count: u64) -> Result<Vec<Session>, Refusal> {
+/// Sessions, and the other end of their channel.
+#[derive(Drop)]
+pub struct Table {
+    pub sessions: Vec<Session>,
+    pub asked: Receiver<Ask>,
+}
+
+/// So many sessions on a channel of their own.
+pub fn table(alloc: Global, count: u64) -> Result<Table, Refusal> {
+    let (mut asks, asked) = AskChannel::open(alloc)?;
+    let sessions = sessions(alloc, &mut asks, count)?;
+    Ok(Table { sessions, asked })
+}
+
+/// So many sessions, which begin on this channel as its first ones.
+pub fn sessions(alloc: Global, asks: &mut AskChannel, count: u64) -> Result<Vec<Session>, Refusal> {
     let mut sessions = Vec::new(alloc);
     for number in 0..count {
-        sessions.push(Session::new(number))?;
+        let asker = asks.session().ok_or(Refusal::NoMemory)?;
+        sessions.push(Session::new(number, asker))?;
     }
     Ok(sessions)
 }
 
 impl Session {
     /// The session of this number, which has asked for nothing.
-    pub fn new(number: u64) -> Self {
+    pub fn new(number: u64, asker: Asker) -> Self {
         Session {
-            asker: Asker::new(number),
+            number,
+            asker: Some(asker),
+            asked: 0,
             pending: None,
         }
+    }
+
+    /// Asks no more. The workers end once no session can ask.
+    pub fn close(&mut self) {
+        self.asker = None;
     }
 
     /// True if it waits for no answer.
@@ -58,18 +86,35 @@ impl Session {
     }
 
     /// Asks for a batch.
-    pub fn ask(&mut self, alloc: Global, batch: &Batch) -> Result<Ask, Refusal> {
+    pub fn ask<R: Wait>(&mut self, rt: &R, alloc: Global, batch: &Batch) -> Result<(), Refusal> {
         let to = self.await_answer(alloc, batch.try_copy(Batch::empty(alloc))?)?;
         let copy = batch.try_copy(Batch::empty(alloc))?;
-        self.asker.ask(copy, Vec::new(alloc), to)
+        let asker = self.asker.as_mut().ok_or(Refusal::LogDown)?;
+        match asker.send(rt, copy, Vec::new(alloc), to) {
+            Ok(()) => Ok(()),
+            Err(fault) => Err(fault.reason()),
+        }
+    }
+
+    /// Asks for a batch, and takes the ask from the other end of the channel.
+    pub fn ask_for<R: Wait>(
+        &mut self,
+        rt: &R,
+        alloc: Global,
+        asked: &Receiver<Ask>,
+        batch: &Batch,
+    ) -> Result<Ask, Refusal> {
+        self.ask(rt, alloc, batch)?;
+        asked.recv(rt).map_err(|_: _| Refusal::LogDown)
     }
 
     // Waits for the answer of a batch, which is sent to this sender.
     fn await_answer(&mut self, alloc: Global, batch: Batch) -> Result<ReplySender, Refusal> {
-        let slot = ReplySlot::new(alloc)?;
-        let to = slot.sender()?;
+        let (awaited, to) = ReplySlot::new(alloc)?.ask()?;
+        self.asked = self.asked.saturating_add(1);
         self.pending = Some(Pending {
-            slot,
+            awaited,
+            ask: self.asked,
             batch,
             run: None,
         });
@@ -98,39 +143,41 @@ impl Session {
 
     /// Returns the answer that came for it, if one did.
     pub fn look<R: Wait>(&mut self, rt: &R, model: &PlainModel) -> Option<Answer> {
-        let pending = self.pending.as_ref()?;
-        if !pending.slot.is_sent() {
+        if !self.pending.as_ref()?.awaited.is_sent() {
             return None;
         }
-        let reply = pending.slot.wait(rt, 0);
-        Some(self.judge(reply, model))
+        self.wait(rt, model)
     }
 
     /// Waits for its answer if one is due, and returns it.
     pub fn wait<R: Wait>(&mut self, rt: &R, model: &PlainModel) -> Option<Answer> {
-        let pending = self.pending.as_ref()?;
-        let reply = pending.slot.wait(rt, 0);
-        Some(self.judge(reply, model))
-    }
-
-    // Judges a reply. The session waits for no answer then.
-    fn judge(&mut self, reply: Option<Reply>, model: &PlainModel) -> Answer {
-        let Some(pending) = self.pending.take() else {
-            return Answer::Wrong;
-        };
-        match reply {
-            Some(Reply::Post(post)) => self.judge_post(&pending, post, model),
-            Some(Reply::Fault(refusal)) if pending.run.is_some() => Answer::Lost(refusal),
-            Some(Reply::Fault(refusal)) => Answer::Fault(refusal),
+        let Pending {
+            awaited,
+            ask,
+            batch,
+            run,
+        } = self.pending.take()?;
+        let answer = match awaited.wait(rt, 0).0 {
+            Some(Reply::Post(post)) => self.judge_post(ask, &batch, run, post, model),
+            Some(Reply::Fault(fault)) if run.is_some() => Answer::Lost(fault.reason()),
+            Some(Reply::Fault(fault)) => Answer::Fault(fault.reason()),
             None => Answer::Wrong,
-        }
+        };
+        Some(answer)
     }
 
-    fn judge_post(&self, pending: &Pending, post: Post, model: &PlainModel) -> Answer {
+    fn judge_post(
+        &self,
+        ask: u64,
+        batch: &Batch,
+        run: Option<(u64, u64)>,
+        post: Post,
+        model: &PlainModel,
+    ) -> Answer {
         let tick = post.tick();
-        let is_own = post.is_for(&self.asker, &pending.batch);
+        let is_own = post.is_for(self.number, ask, batch);
         let (text, _) = post.into_answer();
-        match pending.run {
+        match run {
             Some((own, _)) if is_own && own == tick && model.is_answer(tick, &text) => {
                 Answer::Post(tick)
             }

@@ -6,17 +6,16 @@ ghost use Rattle.worker_steps.specs.Begun.{IsWhole};
 use crate::meeting::meet_stopped;
 use crate::threads::{NotStarted, StoppedWorkers, start, stop};
 use crate::watch::Watch;
-use crossbeam_channel::Sender;
 use disk_model::Disk;
 use shared_capture::Method;
 use std::alloc::Global;
 use std::sync::Wait;
 use std::thread::Threads;
 use worker_steps::{Gates, Opened};
-use workers::{Ask, Cut, Looks};
+use workers::{AskChannel, Cut, Looks};
 
 /// Starts the workers of a world, gives `play` the channel of their batches, and waits until the workers have ended. They
-/// end once no sender of the channel is left. Each worker makes as many steps as its cut says, and none after them. Wherever
+/// end once the channel and its sessions are gone. Each worker makes as many steps as its cut says, and none after them. Wherever
 /// the three workers are held, the files are sound for the ticks that were there and those that were pushed, on disks that
 /// keep to the disk model.
 pub fn stop_after<
@@ -24,7 +23,7 @@ pub fn stop_after<
     M: Method + Send + 'static,
     D: Disk + Drop + Send + 'static,
     W: Watch<D> + Clone + Send + 'static,
-    F: FnOnce(Sender<Ask>),
+    F: FnOnce(AskChannel),
 >(
     rt: &R,
     alloc: Global,
@@ -41,8 +40,8 @@ pub fn stop_after<
         stopped.mutator stopped.checkpointer stopped.log_writer) }
 {
     let looks = Looks::on_this_machine(rt, alloc)?;
-    let (workers, asks) = start(rt, alloc, cuts, watch, opened, every, looks)?;
-    play(asks);
+    let (workers, sessions) = start(rt, alloc, cuts, watch, opened, every, looks)?;
+    play(sessions);
     let mut stopped = stop(rt, workers);
     meet_stopped(&mut stopped);
     Ok(stopped)

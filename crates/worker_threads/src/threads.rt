@@ -12,7 +12,6 @@ use crate::watch::{TickWatch, Watch};
 use crate::work::spawn;
 use action_log::Record;
 use circular_buffer::HeapCircularBuffer;
-use crossbeam_channel::{Sender, bounded};
 use disk_model::Disk;
 use shared_capture::{Back, CoverIn, CoverOut, Front, Method};
 use std::alloc::{AllocError, Global};
@@ -22,7 +21,7 @@ use std::sync::Wait;
 use std::thread::{PromisedHandle, Threads};
 use worker_steps::{Gates, Opened, Together};
 use workers::{
-    Ask, Checkpointer, Gate, ItemReceiver, ItemSender, LogWriter, Looks, Mutator, Waiting,
+    AskChannel, Checkpointer, Gate, ItemReceiver, ItemSender, LogWriter, Looks, Mutator, Waiting,
 };
 use world_ticks::Tick;
 
@@ -44,10 +43,6 @@ impl From<AllocError> for NotStarted {
         NotStarted::NoMemory
     }
 }
-
-/// How many batches may wait for the mutator. A session has one at a time. If there is no room, the session sleeps and the
-/// mutator has to wake it, which takes longer than a batch.
-pub const ASKS: usize = 1_024;
 
 /// The workers of a world, each in its thread. Contracts see them as they began. If this is dropped, they run on.
 #[derive(Drop)]
@@ -111,8 +106,8 @@ type Players<M, D, A, B> = (
     PromisedHandle<Checkpointer<M, D, B>, SameCheckpointer<M, D, B>>,
 );
 
-/// Starts the workers of a world. A round is due after every `every` ticks. The asks that are sent on the returned channel
-/// are run as batches. The workers look for work by these looks. If the start is refused, no thread is left running.
+/// Starts the workers of a world. A round is due after every `every` ticks. The batches that the sessions of the returned
+/// channel send are run. The workers look for work by these looks. If the start is refused, no thread is left running.
 pub fn start<
     R: Threads + Wait + Copy + Send + 'static,
     M: Method + Send + 'static,
@@ -129,11 +124,11 @@ pub fn start<
     opened: Opened<M, D>,
     every: u32,
     looks: Looks,
-) -> Result<(Workers<M, D, A, B, C>, Sender<Ask>), NotStarted>
+) -> Result<(Workers<M, D, A, B, C>, AskChannel), NotStarted>
     requires { IsWhole D.honest D.content opened.front opened.back opened.images opened.log opened.ended }
     ensures { IfOk result (λ made. IsBegun opened.front opened.back opened.images opened.log opened.ended every made.0) }
 {
-    let (to, asks) = bounded(alloc, ASKS)?;
+    let (sessions, asks) = AskChannel::open(alloc)?;
     let looks_too = looks.clone()?;
     let Together {
         mutator,
@@ -143,7 +138,7 @@ pub fn start<
     log_writer.look_by(looks_too);
     let asked = Asked { asks, looks };
     let workers = start_threads(rt, watch, asked, mutator, checkpointer, log_writer)?;
-    Ok((workers, to))
+    Ok((workers, sessions))
 }
 
 // Starts the threads. If one can't be made, the others end, since the channels between them close.

@@ -6,6 +6,7 @@ pub mod Channel
 pub mod Worlds
 pub mod Mutating
 pub mod Answering
+pub mod Asking
 pub mod Covering
 pub mod Logging
 pub mod Publishing

@@ -6,6 +6,7 @@
 //! held around the world. The workers meet once they have ended.
 #![tactic(auto)]
 
+mod asker;
 mod batch_run;
 mod channel_rule;
 mod checkpointer;
@@ -20,6 +21,7 @@ mod mutator;
 mod post;
 mod reply_slot;
 
+pub use asker::{AskChannel, Asker};
 pub use batch_run::play;
 pub use channel_rule::InOrder;
 pub use checkpointer::{Checkpointer, ImageWriter};
@@ -31,5 +33,5 @@ pub use log_writer::{Log, LogWriter};
 pub use looks::{Counted, Looks};
 pub use meeting::meet_workers;
 pub use mutator::Mutator;
-pub use post::{Ask, Asker, Post, Reply, SessionBatch, Waiting};
-pub use reply_slot::{ReplySender, ReplySlot};
+pub use post::{Ask, Fault, Post, Refused, Reply, SessionBatch, Waiting};
+pub use reply_slot::{AwaitedReply, ReplySender, ReplySlot};

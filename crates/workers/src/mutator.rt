@@ -12,7 +12,7 @@ use crate::batch_run::play;
 use crate::gate::{Gate, Place, passes};
 use crate::item::{Ended, Item};
 use crate::item_channel::ItemSender;
-use crate::post::Ask;
+use crate::post::{Ask, Refused};
 use crossbeam_channel::Sender;
 use shared_capture::{CoverIn, Front, Method};
 use std::alloc::Global;
@@ -99,7 +99,7 @@ impl<M: Method, G: Gate + Drop> Mutator<M, G> {
 
     /// Runs a batch and pushes its tick. Before and after it, opens a round if one is due and none is open. A batch that
     /// isn't run is answered here, by the refusal that is returned.
-    pub fn turn<R: Wait>(&mut self, rt: &R, ask: Ask) -> Result<(), Refusal>
+    pub fn turn<R: Wait>(&mut self, rt: &R, ask: Ask) -> Result<(), Refused>
         ensures { Turns (MayGo G.told Tick) (MayStick G.told Tick) self.old ask result self.new }
     {
         self.mark_if_due(rt);
@@ -134,7 +134,7 @@ impl<M: Method, G: Gate + Drop> Mutator<M, G> {
     }
 
     /// Runs a batch, and pushes its tick with the answer, or answers with the refusal.
-    pub fn play_batch<R: Wait>(&mut self, rt: &R, ask: Ask) -> Result<(), Refusal>
+    pub fn play_batch<R: Wait>(&mut self, rt: &R, ask: Ask) -> Result<(), Refused>
         ensures { AnswersBatch (MayGo G.told Tick) (MayStick G.told Tick) self.old ask result self.new }
     {
         match self.run_batch(rt, ask) {
@@ -147,7 +147,7 @@ impl<M: Method, G: Gate + Drop> Mutator<M, G> {
     }
 
     /// Runs a batch, and owes its tick with the answer, or answers with the refusal.
-    pub fn run_batch<R: Wait>(&mut self, rt: &R, ask: Ask) -> Result<(), Refusal>
+    pub fn run_batch<R: Wait>(&mut self, rt: &R, ask: Ask) -> Result<(), Refused>
         ensures { RunsBatch (MayGo G.told Tick) (MayStick G.told Tick) self.old ask result self.new }
     {
         if self.down {
@@ -238,9 +238,8 @@ fn hears_down(heard: &mut CoverIn) -> bool
 }
 
 // Answers a batch that isn't run.
-fn refuse<R: Wait>(rt: &R, ask: Ask, reason: Refusal) -> Result<(), Refusal>
+fn refuse<R: Wait>(rt: &R, ask: Ask, reason: Refusal) -> Result<(), Refused>
     ensures { result ≡ Err reason }
 {
-    ask.refuse(rt, reason);
-    Err(reason)
+    Err(ask.refuse(rt, reason))
 }

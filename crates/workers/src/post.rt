@@ -1,5 +1,5 @@
 //! A batch on its way: asked for, waiting for its tick to be durable, and posted.
-ghost use Rattle.std.specs.Prelude.{◌≡◌, ◌+◌, ◌≤◌, ◌^◌, ◌↔◌, true, IsTrue, IfOk, IfErr, OnOk, OnErr};
+ghost use Rattle.std.specs.Prelude.{◌≡◌, ◌≤◌, ◌↔◌, true, IsTrue};
 ghost use Rattle.workers.specs.Posts.{IsAnswer};
 ghost use Rattle.workers.specs.Logging.{IsDurable};
 
@@ -37,15 +37,26 @@ impl SessionBatch {
         &self.batch
     }
 
-    // True if it is the last ask of this session, for this batch.
-    fn is_last_of(&self, asker: &Asker, batch: &Batch) -> bool
+    // True if it is the ask of this number of this session, for this batch.
+    fn is_ask(&self, session: u64, ask: u64, batch: &Batch) -> bool
         ensures { IsTrue result
-            ↔ (self.now ≡ record { session = asker.now.session; ask = asker.now.asked; requests = batch.now.list }) }
+            ↔ (self.now ≡ record { session = session; ask = ask; requests = batch.now.list }) }
     {
-        if self.session != asker.session || self.ask != asker.asked {
+        if self.session != session || self.ask != ask {
             return false;
         }
         are_same(self.batch.requests(), batch.requests())
+    }
+
+    // Why this ask has no post.
+    fn fault(&self, reason: Refusal) -> Fault
+        ensures { result ≡ record { session = self.now.session; ask = self.now.ask; reason = reason } }
+    {
+        Fault {
+            session: self.session,
+            ask: self.ask,
+            reason,
+        }
     }
 }
 
@@ -56,45 +67,7 @@ fn are_same(xs: &[Request], ys: &[Request]) -> bool
     xs == ys
 }
 
-/// Makes the asks of a session, each with a number of its own: 1, 2 and so on.
-#[derive(Drop)]
-pub struct Asker {
-    session: u64,
-    asked: u64,
-}
-
-impl Asker {
-    /// The asker of the session of this number, which has made no ask yet.
-    pub fn new(session: u64) -> Self
-        ensures { result ≡ record { session = session; asked = 0 } }
-    {
-        Asker { session, asked: 0 }
-    }
-
-    /// Asks for the answer of this batch, which is made in this buffer and goes to this sender. Batch and buffer come back
-    /// with the post.
-    pub fn ask(&mut self, batch: Batch, buffer: Vec<u8>, to: ReplySender) -> Result<Ask, Refusal>
-        ensures asks { IfOk result (λ ask.
-            ask ≡ record { session = self.old.session; ask = self.old.asked + 1; requests = batch.list }) }
-        ensures counts { OnOk result (self.new ≡ record self.old { asked = self.old.asked + 1 }) }
-        ensures unchanged { OnErr result (self.new ≡ self.old) }
-        ensures ended { IfErr result (λ refusal. refusal ≡ Refusal.TicksEnded) }
-        ensures last { OnErr result (self.old.asked + 1 ≡ 2 ^ 64) }
-    {
-        let Some(ask) = self.asked.checked_add(1) else {
-            return Err(Refusal::TicksEnded);
-        };
-        self.asked = ask;
-        let asked = SessionBatch {
-            session: self.session,
-            ask,
-            batch,
-        };
-        Ok(Ask { asked, buffer, to })
-    }
-}
-
-/// A batch of a session. It alone knows where its answer goes, and only an `Asker` makes one.
+/// A batch of a session. It alone knows where its answer goes, and only an `Asker` makes one, as it sends it.
 #[derive(Drop)]
 pub struct Ask {
     asked: SessionBatch,
@@ -111,6 +84,25 @@ impl Model for Ask {
 }
 
 impl Ask {
+    /// The ask of this number of a session, for the answer of this batch, which is made in this buffer and goes to this
+    /// sender. Batch and buffer come back with the post.
+    pub(crate) fn new(
+        session: u64,
+        ask: u64,
+        batch: Batch,
+        buffer: Vec<u8>,
+        to: ReplySender,
+    ) -> Self
+        ensures { result ≡ record { session = session; ask = ask; requests = batch.list } }
+    {
+        let asked = SessionBatch {
+            session,
+            ask,
+            batch,
+        };
+        Ask { asked, buffer, to }
+    }
+
     /// The batch.
     pub fn batch(&self) -> &Batch
         ensures { result.now.list ≡ self.now.requests }
@@ -144,13 +136,37 @@ impl Ask {
     }
 
     /// Reports to its session why it isn't run.
-    pub fn refuse<R: Wait>(self, rt: &R, reason: Refusal) {
+    pub fn refuse<R: Wait>(self, rt: &R, reason: Refusal) -> Refused
+        ensures { result ≡ reason }
+    {
         let Ask {
-            asked: _,
+            asked,
             buffer: _,
             to,
         } = self;
-        to.send(rt, Reply::Fault(reason));
+        to.send(rt, Reply::Fault(asked.fault(reason)));
+        Refused(reason)
+    }
+}
+
+/// Shows that a session was told of a refusal: only `Ask::refuse` makes one. Contracts see the reason.
+#[derive(Drop)]
+pub struct Refused(Refusal);
+
+impl Model for Refused {
+    ghost use Rattle.world_actions.specs.declared.refusal.Refusal.{Refusal};
+
+    ghost Value = { Refusal };
+
+    ghost view = { λ refused. refused.0 };
+}
+
+impl Refused {
+    /// The reason that was told.
+    pub fn reason(&self) -> Refusal
+        ensures { result ≡ self.now }
+    {
+        self.0
     }
 }
 
@@ -185,12 +201,12 @@ impl Post {
         self.tick
     }
 
-    /// True if it answers the last ask of this session, which was for this batch.
-    pub fn is_for(&self, asker: &Asker, batch: &Batch) -> bool
+    /// True if it answers the ask of this number of this session, which was for this batch.
+    pub fn is_for(&self, session: u64, ask: u64, batch: &Batch) -> bool
         ensures { IsTrue result ↔ (self.now.asked
-            ≡ record { session = asker.now.session; ask = asker.now.asked; requests = batch.now.list }) }
+            ≡ record { session = session; ask = ask; requests = batch.now.list }) }
     {
-        self.asked.is_last_of(asker, batch)
+        self.asked.is_ask(session, ask, batch)
     }
 
     /// The line that answers the batch, with its newline, and the batch.
@@ -210,11 +226,62 @@ impl Post {
     }
 }
 
+/// Why an ask has no post. Only its reply, or the asker that finds none, makes one. Contracts see the session, which of its
+/// asks it was, and the reason.
+#[derive(Clone, Copy, Debug, PartialEq, Eq)]
+pub struct Fault {
+    session: u64,
+    ask: u64,
+    reason: Refusal,
+}
+
+impl Fault {
+    /// Why the ask of this number of this session has no post, as the session finds by itself.
+    pub(crate) fn found(session: u64, ask: u64, reason: Refusal) -> Self
+        ensures { result ≡ record { session = session; ask = ask; reason = reason } }
+    {
+        Fault {
+            session,
+            ask,
+            reason,
+        }
+    }
+
+    /// True if it is of the ask of this number of this session.
+    pub(crate) fn is_of(&self, session: u64, ask: u64) -> bool
+        ensures { IsTrue result ↔ ((self.now.session ≡ session) × (self.now.ask ≡ ask)) }
+    {
+        self.session == session && self.ask == ask
+    }
+
+    /// The reason.
+    pub fn reason(&self) -> Refusal
+        ensures { result ≡ self.now.reason }
+    {
+        self.reason
+    }
+}
+
 /// The reply to a session for a batch.
 #[derive(Drop)]
 pub enum Reply {
     Post(Post),
-    Fault(Refusal),
+    Fault(Fault),
+}
+
+/// The tick of the last post, or the one that the ticks began behind: only a post raises it.
+#[derive(Drop)]
+pub(crate) struct LastPost {
+    tick: u64,
+}
+
+impl LastPost {
+    /// No post since this tick.
+    pub(crate) fn none_since(tick: u64) -> Self
+        ensures { result ≡ record { tick = tick } }
+    {
+        LastPost { tick }
+    }
 }
 
 /// The answer of a tick that isn't durable yet. It alone knows the session that it goes to.
@@ -252,10 +319,13 @@ impl Waiting {
         rt: &R,
         receipt: Receipt,
         _holding: &Holding<'_, D>,
+        last: &mut LastPost,
     )
         requires durable { self.number ≤ receipt }
         requires held { IsTrue D.honest → IsDurable D.content D.may_leave _holding.now self.number }
+        ensures { last.new ≡ record { tick = self.number } }
     {
+        last.tick = self.number;
         let (post, to) = self.into_post(receipt);
         to.send(rt, Reply::Post(post));
     }
@@ -264,11 +334,11 @@ impl Waiting {
     pub(crate) fn refuse<R: Wait>(self, rt: &R) {
         let Waiting {
             number: _,
-            asked: _,
+            asked,
             text: _,
             to,
         } = self;
-        to.send(rt, Reply::Fault(Refusal::LogDown));
+        to.send(rt, Reply::Fault(asked.fault(Refusal::LogDown)));
     }
 
     // Turns it into its post, with the sender to its session.

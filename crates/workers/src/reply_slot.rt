@@ -24,9 +24,15 @@ struct Place {
     reply: Mutex<Option<Reply>>,
 }
 
-/// The session's end, which it has for its whole life.
+/// The session's end while no reply is on its way. It is empty.
 #[derive(Drop)]
 pub struct ReplySlot {
+    place: Arc<Place, Global>,
+}
+
+/// The session's end while its sender is out.
+#[derive(Drop)]
+pub struct AwaitedReply {
     place: Arc<Place, Global>,
 }
 
@@ -37,6 +43,12 @@ pub struct ReplySender {
 
 // Clauses see nothing of an end. The type of a reply carries its promise.
 impl Model for ReplySlot {
+    ghost Value = { ⊤ };
+
+    ghost view = { λ _. tt };
+}
+
+impl Model for AwaitedReply {
     ghost Value = { ⊤ };
 
     ghost view = { λ _. tt };
@@ -60,26 +72,33 @@ impl ReplySlot {
         })
     }
 
-    /// Returns the sender of the next reply. A session has one sender at a time, so the last one is gone.
-    pub fn sender(&self) -> Result<ReplySender, AllocError> {
-        self.place.state.store(EMPTY, Ordering::SeqCst);
-        Ok(ReplySender {
-            place: Arc::try_clone(&self.place)?,
-        })
+    /// Hands out the sender of the next reply. The slot is given back once that reply was awaited, so there is one sender
+    /// at a time.
+    pub fn ask(self) -> Result<(AwaitedReply, ReplySender), AllocError> {
+        let ReplySlot { place } = self;
+        let sender = ReplySender {
+            place: Arc::try_clone(&place)?,
+        };
+        Ok((AwaitedReply { place }, sender))
     }
+}
 
+impl AwaitedReply {
     /// True if the sender is gone, so that there is no more to wait for.
     pub fn is_sent(&self) -> bool {
         self.place.state.load(Ordering::SeqCst) == SENT
     }
 
     /// Looks for the reply up to `looks` times, and then sleeps until the sender is gone. Returns `None` if the sender was
-    /// dropped unused.
-    pub fn wait<R: Wait>(&self, rt: &R, looks: u32) -> Option<Reply> {
+    /// dropped unused, and the slot, which is empty again.
+    pub fn wait<R: Wait>(self, rt: &R, looks: u32) -> (Option<Reply>, ReplySlot) {
         if !self.sees_sent(looks) {
             self.sleep(rt);
         }
-        self.place.reply.lock(rt).take()
+        let AwaitedReply { place } = self;
+        let reply = place.reply.lock(rt).take();
+        place.state.store(EMPTY, Ordering::SeqCst);
+        (reply, ReplySlot { place })
     }
 
     // Checks up to `looks` times if the sender is gone.

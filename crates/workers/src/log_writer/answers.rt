@@ -5,7 +5,7 @@ ghost use Rattle.workers.specs.Answering.{AreLater, Posts};
 ghost use Rattle.workers.specs.Logging.{IsDurable};
 
 use super::holding::Holding;
-use crate::post::Waiting;
+use crate::post::{LastPost, Waiting};
 use action_log::Receipt;
 use circular_buffer::HeapCircularBuffer;
 use disk_model::Disk;
@@ -17,7 +17,7 @@ use std::sync::Wait;
 #[derive(Drop)]
 pub struct Given {
     answered: u64,
-    posted: u64,
+    posted: LastPost,
 }
 
 impl Given {
@@ -32,12 +32,10 @@ impl Given {
         requires next { next.number ≡ self.old.answered + 1 }
         requires durable { next.number ≤ receipt }
         requires held { IsTrue D.honest → IsDurable D.content D.may_leave holding.now next.number }
-        ensures { self.new ≡ record { answered = next.number; posted = next.number } }
+        ensures { self.new ≡ record { answered = next.number; posted = record { tick = next.number } } }
     {
-        let number = next.number();
-        next.post(rt, receipt, holding);
-        self.answered = number;
-        self.posted = number;
+        self.answered = next.number();
+        next.post(rt, receipt, holding, &mut self.posted);
     }
 
     // Answers the next tick by a fault: the log is down.
@@ -62,7 +60,7 @@ impl Model for Answers {
 
     ghost Value = { Answering };
 
-    ghost view = { λ a. record { waiting = a.waiting.items; room = a.waiting.capacity; answered = a.given.answered; posted = a.given.posted } };
+    ghost view = { λ a. record { waiting = a.waiting.items; room = a.waiting.capacity; answered = a.given.answered; posted = a.given.posted.tick } };
 
     ghost invariant = { λ a. AreNext a.given.answered a.waiting.items };
 }
@@ -76,7 +74,7 @@ impl Answers {
             waiting: HeapCircularBuffer::with_capacity(alloc, room)?,
             given: Given {
                 answered: tick,
-                posted: tick,
+                posted: LastPost::none_since(tick),
             },
         })
     }

@@ -6,7 +6,7 @@ abbrev pub invariant-loop-next : goal.invariant-loop-next
 invariant-loop-next g l = record {
   next : AreNext l.self-inside.given.answered l.self-inside.waiting.items;
   room : l.self-inside.waiting.capacity ≡ l.fn.self.room;
-  posted : l.self-inside.given.posted ≡ l.fn.self.posted;
+  posted : l.self-inside.given.posted.tick ≡ l.fn.self.posted;
   count : l.self-inside.given.answered + length l.self-inside.waiting.items ≡ l.fn.self.answered + length l.fn.self.waiting;
 }
 
