@@ -739,13 +739,25 @@ def try_reporting_down(trial: Trial) -> None:
     trial.check("reports", reports and reports[-1], f"worldd: tick {ended} acked {ended - 1} image 0 sessions 1 batches/s 0 waiting 0")
 
 
+PARTS = (
+    try_command_lines, try_scripts, try_creating, try_completing, try_not_creating, try_words, try_larger, try_found,
+    try_figures, try_copies, try_lost, try_doubtful, try_long, try_missing, try_damaged, try_not_serving, try_serving,
+    try_reporting, try_reporting_down,
+)
+
+
 def main() -> int:
     """Runs all, and prints what was seen."""
     parser = argparse.ArgumentParser(description=__doc__.splitlines()[0])
     parser.add_argument("program", type=pathlib.Path, help="the built worldd")
-    trial = Trial(str(parser.parse_args().program.resolve()))
-    for part in (try_command_lines, try_scripts, try_creating, try_completing, try_not_creating, try_words, try_larger, try_found, try_figures, try_copies, try_lost, try_doubtful, try_long, try_missing, try_damaged, try_not_serving, try_serving, try_reporting, try_reporting_down):
-        part(trial)
+    parser.add_argument("--only", metavar="PART", help="the one part to try, by the name of its function")
+    given = parser.parse_args()
+    trial = Trial(str(given.program.resolve()))
+    for part in PARTS:
+        if given.only in (None, part.__name__):
+            part(trial)
+    if given.only:
+        return 1 if trial.wrong or not trial.runs else 0
     wanted = ["status 0", "status 2", "served", "served beside an empty log", "reported with its log down", *(f"status 1, fault {code}" for code in (13, 14, 15, 16, 18, 22))]
     never = [kind for kind in wanted if not trial.seen[kind]]
     for kind, count in sorted(trial.seen.items()):

@@ -38,8 +38,12 @@ CELLS = 1000
 # Text that worldd prints, of which a file of a world has none.
 FOREIGN = (b"recovered", b"listening", b"worldd", b"created", b"stopped")
 EXIT = ("--exit-when-log-down",)
-# The exit status of a shortage that passes.
-SHORTAGE = 13
+# The exit statuses of a shortage that passes, and of a listener that failed.
+SHORTAGE, LOST_LISTENER = 13, 10
+# How many clients come while there is no room for threads: more than there are stacks to use again.
+CROWD = 20
+# Room for what a batch takes, and not for the stack of a thread.
+LESS_THAN_A_STACK = 200 << 10
 SMALL_PIPE = 4096
 LINES_WAITING = 256
 # How many clients send batches that are too long, and lines behind them.
@@ -63,7 +67,7 @@ CASES = (
     "short write named", "ended by its log", "start that fails", "no thread named",
     "socket with its mode", "socket removed", "old socket replaced", "socket in use kept", "socket's place taken",
     "other file kept", "next server's socket kept", "fault 16 not reset",
-    "left when closed", "left at once when closed", "left with its log down", "lost file named",
+    "client refused", "listener lost", "left when closed", "left at once when closed", "left with its log down", "lost file named",
     *SERVER_LINES, "second server refused", "reader waited for", "reader too slow", "start beside looks", "one of two servers",
 )
 CASES_OF_ROOT = ("user let in", "user refused", "socket never open to others", "shortage of room", "no /dev/null")
@@ -266,6 +270,9 @@ class Trial:
         line = server.process.stderr.readline()
         want(line.startswith(b"worldd: clients wait: Too many open files"), f"no line of a shortage: {line}")
         self.met["descriptors exhausted"] += 1
+        spent = processor_seconds(server.process.pid)
+        time.sleep(1)
+        want(processor_seconds(server.process.pid) - spent < 0.5, "a shortage takes a processor")
         for client in crowd:
             client.leave()
         late = server.client()
@@ -275,6 +282,46 @@ class Trial:
         self.met["descriptors freed"] += 1
         server.kill()
         server.holds(5)
+
+    def refused_clients(self) -> None:
+        """There is no room for the thread of a client: it is closed unanswered, a line says so, and others play on."""
+        server = self.server()
+        first = server.client()
+        want(first.play() == b"tick 1: +\n", "no answer of a first client")
+        room = footprint(server.process.pid).size + LESS_THAN_A_STACK
+        resource.prlimit(server.process.pid, resource.RLIMIT_AS, (room, resource.RLIM_INFINITY))
+        crowd = [server.client() for _ in range(CROWD)]
+        closed = sum(client.play() == b"" for client in crowd)
+        want(first.play().startswith(b"tick"), "no answer beside refused clients")
+        resource.prlimit(server.process.pid, resource.RLIMIT_AS, (resource.RLIM_INFINITY, resource.RLIM_INFINITY))
+        want(server.client().play().startswith(b"tick"), "no answer once there is room")
+        for client in (first, *crowd):
+            client.leave()
+        server.process.kill()
+        _, _, errors = server.end()
+        refused = errors.count("worldd: session refused: there is no thread\n") + errors.count("worldd: session refused: there is no memory\n")
+        want(0 < closed == refused, f"{closed} clients were closed unanswered: {errors}")
+        self.met["client refused"] += closed
+        server.holds(CROWD - closed + 3)
+
+    def lost_listener(self) -> None:
+        """The listener fails behind two clients: a line says so, they play on, and the server ends once they have left."""
+        library = self.scratch / "lost_listener.so"
+        source = pathlib.Path(__file__).with_name("lost_listener.c")
+        subprocess.run(["cc", "-shared", "-fPIC", "-o", library, source], check=True)
+        for transport in TRANSPORTS:
+            server = self.server(transport=transport, env=os.environ | {"LD_PRELOAD": str(library), "ACCEPTS": "2"})
+            first, second = server.client(), server.client()
+            want(first.play().startswith(b"tick") and second.play().startswith(b"tick"), "no answer of two clients")
+            server.wait_until_closed()
+            want(first.play().startswith(b"tick"), "no answer behind a listener that failed")
+            for client in (first, second):
+                client.leave()
+            status, output, errors = server.end()
+            want(status == LOST_LISTENER and output.endswith("stopped tick 3 acked 3\n"), f"the end by its listener: {status} {output}")
+            want("worldd: listener failed: Invalid argument (os error 22)\n" in errors, f"a failed listener: {errors}")
+            self.met["listener lost"] += 1
+            server.holds(3)
 
     def unread_errors(self) -> None:
         """Nobody reads standard error for ten thousand ticks and many images."""
@@ -781,37 +828,21 @@ class Trial:
         want(process.exitcode == (LET_IN if may else REFUSED), f"user {user} of group {group} at mode {mode}: {process.exitcode}")
         self.met["user let in" if may else "user refused"] += 1
 
-    def all(self, connections: int) -> None:
-        """Every case."""
-        self.closed_streams()
-        for transport in TRANSPORTS:
-            self.short_connections(connections, transport)
-            self.door(transport)
-        self.overstayed()
-        self.shortage()
-        self.lost_files()
-        self.server_lines()
-        self.unread_files()
-        self.slow_readers()
-        self.starts_beside_looks()
-        self.no_null()
-        self.descriptors()
-        self.unread_errors()
-        self.broken_output()
-        self.links()
-        self.full_file()
-        self.failed_start()
-        self.threads()
-        self.socket_modes()
-        self.old_sockets()
-        self.taken_places()
-        self.socket_in_use()
-        self.next_server()
-        self.longest_path()
-        for transport in TRANSPORTS:
-            self.too_long(transport)
-        if is_root():
-            self.users()
+    def parts(self, connections: int) -> dict[str, Callable[[], object]]:
+        """Every case, by the names of the parts that try them."""
+        alone = (
+            self.closed_streams, self.overstayed, self.shortage, self.lost_files, self.server_lines, self.unread_files,
+            self.slow_readers, self.starts_beside_looks, self.no_null, self.descriptors, self.refused_clients, self.lost_listener,
+            self.unread_errors, self.broken_output, self.links, self.full_file, self.failed_start, self.threads, self.socket_modes,
+            self.old_sockets, self.taken_places, self.socket_in_use, self.next_server, self.longest_path,
+            *((self.users,) if is_root() else ()),
+        )
+        return {
+            "short_connections": lambda: [self.short_connections(connections, transport) for transport in TRANSPORTS],
+            "door": lambda: [self.door(transport) for transport in TRANSPORTS],
+            **{part.__name__: part for part in alone},
+            "too_long": lambda: [self.too_long(transport) for transport in TRANSPORTS],
+        }
 
 
 def become(user: int, group: int) -> None:
@@ -915,12 +946,18 @@ def serving(command: tuple[object, ...]) -> Iterator[None]:
         server.communicate()
 
 
+def processor_seconds(pid: int) -> float:
+    """How long a process has run on processors."""
+    fields = pathlib.Path(f"/proc/{pid}/stat").read_text().rpartition(")")[2].split()
+    return (int(fields[11]) + int(fields[12])) / os.sysconf("SC_CLK_TCK")
+
+
 def is_root() -> bool:
     """Whether other users can be tried."""
     return os.geteuid() == 0
 
 
-Footprint = collections.namedtuple("Footprint", "maps threads kilobytes descriptors")
+Footprint = collections.namedtuple("Footprint", "maps threads kilobytes descriptors size")
 
 
 def footprint(pid: int) -> Footprint:
@@ -928,7 +965,8 @@ def footprint(pid: int) -> Footprint:
     process = pathlib.Path(f"/proc/{pid}")
     status = dict(line.split(":\t", 1) for line in (process / "status").read_text().splitlines())
     maps = len((process / "maps").read_text().splitlines())
-    return Footprint(maps, int(status["Threads"]), int(status["VmRSS"].split()[0]), len(os.listdir(process / "fd")))
+    kilobytes, size = (int(status[name].split()[0]) for name in ("VmRSS", "VmSize"))
+    return Footprint(maps, int(status["Threads"]), kilobytes, len(os.listdir(process / "fd")), size << 10)
 
 
 def main() -> int:
@@ -936,15 +974,20 @@ def main() -> int:
     parser = argparse.ArgumentParser(description=__doc__.splitlines()[0])
     parser.add_argument("worldd", type=pathlib.Path, help="the built worldd")
     parser.add_argument("--connections", type=int, default=3_000, help="how many short connections come in a row")
+    parser.add_argument("--only", metavar="PART", help="the one part to try, by the name of its function")
     given = parser.parse_args()
     signal.signal(signal.SIGPIPE, signal.SIG_IGN)
     with tempfile.TemporaryDirectory(prefix="surroundings") as scratch:
         trial = Trial(str(given.worldd.resolve()), pathlib.Path(scratch))
+        parts = trial.parts(given.connections)
         try:
-            trial.all(given.connections)
+            for part in [parts[given.only]] if given.only else parts.values():
+                part()
         except Wrong as wrong:
             print(f"surroundings: {wrong}", file=sys.stderr)
             return 1
+    if given.only:
+        return 0
     cases = CASES + CASES_OF_ROOT if is_root() else CASES
     for case in cases:
         print(f"surroundings: {case}: {trial.met[case]}")

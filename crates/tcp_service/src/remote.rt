@@ -42,7 +42,7 @@ impl<R: Wait + Copy> Model for Remote<R> {
 impl<R: Wait + Copy> Remote<R> {
     ghost use Rattle.std.specs.Prelude.{◌≡◌, None, Some, IfOk, IfErr};
     ghost use Rattle.workers.specs.Asking.{IsNewPost, IsFaultOf};
-    ghost use Rattle.tcp_service.specs.Remote.{IsAnsweredBy, IsRefusedFor};
+    ghost use Rattle.tcp_service.specs.Remote.{HearsPost, HearsFault, IsAnsweredBy, IsRefusedFor};
 
     /// The world of a session, whose batches go to the mutator by this asker.
     pub fn new(rt: R, alloc: Global, asker: Asker) -> Self
@@ -142,8 +142,8 @@ impl<R: Wait + Copy> Remote<R> {
 
     // Waits for the post of the last ask, which was for this batch.
     fn wait(&mut self, b: &Batch, awaited: AwaitedReply) -> Result<Post, Refusal>
-        ensures ok { IfOk result (IsAnsweredBy self.old b.now.list self.new) }
-        ensures err { IfErr result (IsRefusedFor self.old self.new) }
+        ensures ok { IfOk result (HearsPost self.old b.now.list self.new) }
+        ensures err { IfErr result (HearsFault self.old self.new) }
     {
         let (answer, slot) = self.reply(b, awaited);
         self.slot = Some(slot);

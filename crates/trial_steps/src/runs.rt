@@ -1,6 +1,6 @@
 use crate::flaky::Flaky;
 use crate::run::{Run, SESSIONS};
-use crate::session::table;
+use crate::session::new_table;
 use crate::stand::Stand;
 use crate::tally::Kind;
 use crate::trial::{Odds, Trial};
@@ -74,7 +74,7 @@ fn try_world<R: Wait, M: Seats>(
 
 // Opens the world that a crash left, makes random steps, and crashes.
 fn run_once<R: Wait, M: Seats>(rt: &R, trial: &mut Trial, rest: &mut u64) -> Result<(), Refusal> {
-    let table = table(trial.alloc, SESSIONS)?;
+    let table = new_table(trial.alloc, SESSIONS)?;
     let files = trial.files()?;
     let (gates, every) = (trial.gates(), trial.every());
     match World::<M>::open(rt, trial.alloc, files, gates, every) {
@@ -138,7 +138,7 @@ fn make_steps<R: Wait, M: Method>(
 fn try_segment<R: Wait, M: Seats>(rt: &R, trial: &mut Trial) -> Result<(), Refusal> {
     trial.begin_world(1, 0, Odds::NONE)?;
     trial.draft.fill_small();
-    let table = table(trial.alloc, SESSIONS)?;
+    let table = new_table(trial.alloc, SESSIONS)?;
     let files = trial.files()?;
     let gates = trial.gates();
     match World::<M>::open(rt, trial.alloc, files, gates, 1) {

@@ -48,7 +48,7 @@ pub struct Table {
 }
 
 /// So many sessions on a channel of their own.
-pub fn table(alloc: Global, count: u64) -> Result<Table, Refusal> {
+pub fn new_table(alloc: Global, count: u64) -> Result<Table, Refusal> {
     let (mut asks, asked) = AskChannel::open(alloc)?;
     let sessions = sessions(alloc, &mut asks, count)?;
     Ok(Table { sessions, asked })

@@ -1,5 +1,6 @@
 -- The asks of a session, and what comes of them.
-use Rattle.std.specs.Prelude.{◌≡◌, ◌+◌, ◌<◌, ◌^◌, List}
+use Rattle.std.specs.Prelude.{◌≡◌, ◌⊎◌, ◌+◌, ◌<◌, ◌^◌, List}
+use Rattle.world_actions.specs.declared.refusal.Refusal.TheVariants.{TicksEnded}
 use Rattle.batches.specs.declared.batch.Request.{Request}
 use Rattle.workers.specs.declared.asker.Asker.{Asker}
 use Rattle.workers.specs.declared.post.Fault.{Fault}
@@ -20,3 +21,7 @@ IsNewPost asker requests post = (post.asked ≡ record { session = asker.session
 -- a fault of the session's last ask
 abbrev pub IsFaultOf : Asker → Fault → Type 0
 IsFaultOf asker fault = (fault.session ≡ asker.session) × (fault.ask ≡ asker.asked)
+
+-- The ask was not sent, and this is why. It counts, unless there was no number for it.
+abbrev pub IsUnsent : (old new : Asker) → Fault → Type 0
+IsUnsent old new fault = (IsAsked old new × IsFaultOf new fault) ⊎ (IsUnasked old new × (fault.reason ≡ TicksEnded))

@@ -1,8 +1,7 @@
 //! The way of the batches from the sessions to the mutator.
-ghost use Rattle.std.specs.Prelude.{◌≡◌, ◌≢◌, ◌⊎◌, ◌+◌, IfOk, IfErr, OnOk, IfSome, IsNone, Ok, Err, Some, None};
-ghost use Rattle.world_actions.specs.declared.refusal.Refusal.TheVariants.{TicksEnded};
+ghost use Rattle.std.specs.Prelude.{◌≡◌, ◌⊎◌, ◌+◌, IfOk, IfErr, OnOk, IfSome, IsNone, Ok, Err, Some, None};
 ghost use Rattle.workers.specs.Posts.{Posted};
-ghost use Rattle.workers.specs.Asking.{IsAsked, IsUnasked, IsNewPost, IsFaultOf};
+ghost use Rattle.workers.specs.Asking.{IsAsked, IsUnsent, IsNewPost, IsFaultOf};
 
 use crate::post::{Ask, Fault, Post, Reply};
 use crate::reply_slot::{AwaitedReply, ReplySender, ReplySlot};
@@ -74,8 +73,7 @@ impl Asker {
         to: ReplySender,
     ) -> Result<(), Fault>
         ensures sent { OnOk result (IsAsked self.old self.new) }
-        ensures unsent { IfErr result (λ fault. fault.reason ≢ TicksEnded → IsAsked self.old self.new × IsFaultOf self.new fault) }
-        ensures ended { IfErr result (λ fault. fault.reason ≡ TicksEnded → IsUnasked self.old self.new) }
+        ensures unsent { IfErr result (IsUnsent self.old self.new) }
     {
         let Some(ask) = self.asked.checked_add(1) else {
             return Err(self.fault(Refusal::TicksEnded));
