@@ -64,6 +64,7 @@ pub fn accept_sessions<
 ) -> Accepted
     ensures all { result.closed ≡ Closed.AllCame → result.connections ≡ admission.clients }
     ensures some { result.connections ≤ admission.clients }
+    ensures memory { result.closed ≡ Closed.NoMemory → result.connections ≡ 0 }
     ensures joined { result.closed ≢ Closed.Left → result.connections ≡ result.sessions.count + result.unserved }
 {
     let Ok(mut sessions) = Sessions::new(alloc, admission.clients, asks) else {
@@ -138,6 +139,7 @@ fn accept_all<
 ) -> Closed
     requires { (sessions.old.started ≡ 0) × (incoming.old.came ≡ 0) }
     ensures all { result ≡ Closed.AllCame → incoming.new.came ≡ clients }
+    ensures memory { result ≢ Closed.NoMemory }
     ensures some { incoming.new.came ≤ clients }
     ensures started { sessions.new.started ≤ incoming.new.came }
 {

@@ -102,7 +102,7 @@ impl Asker {
         (self.heed(batch, reply), slot)
     }
 
-    // What came of the last ask, which was for this batch.
+    // Judges the reply to the last ask, which was for this batch.
     fn heed(&mut self, batch: &Batch, reply: Option<Reply>) -> Result<Post, Fault>
         ensures post { IfOk result (λ post. IsNewPost self.old batch.now.list post × (self.new ≡ record self.old { posted = post.tick })) }
         ensures fault { IfErr result (λ fault. IsFaultOf self.old fault × (self.new ≡ self.old)) }

@@ -149,7 +149,7 @@ impl Ask {
     }
 }
 
-/// Shows that a session was told of a refusal: only `Ask::refuse` makes one. Contracts see the reason.
+/// Shows that a refusal was sent to its session: only `Ask::refuse` makes one. Contracts see the reason.
 #[derive(Drop)]
 pub struct Refused(Refusal);
 
@@ -162,7 +162,7 @@ impl Model for Refused {
 }
 
 impl Refused {
-    /// The reason that was told.
+    /// The reason that was sent.
     pub fn reason(&self) -> Refusal
         ensures { result ≡ self.now }
     {
