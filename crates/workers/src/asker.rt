@@ -11,9 +11,9 @@ use std::alloc::{AllocError, Global};
 use std::sync::Wait;
 use world_actions::Refusal;
 
-/// How many batches may wait for the mutator. A session has one at a time. If there is no room, the session sleeps and the
-/// mutator has to wake it, which takes longer than a batch.
-pub const ASKS: usize = 1_024;
+// How many batches may wait for the mutator. A session has one at a time. If there is no room, the session sleeps and the
+// mutator has to wake it, which takes longer than a batch.
+const ASKS: usize = 1_024;
 
 /// The sessions' end of the channel to the mutator. It gives each session its number: 0, 1 and so on.
 #[derive(Drop)]
