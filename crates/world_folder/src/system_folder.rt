@@ -85,8 +85,8 @@ impl<R: Files<File = File> + Clock + Print + Eprint + AllocGlobal> Folder for Sy
         how.read(true)
             .write(true)
             .create_new(true)
-            .mode(OWNER_ALONE);
-        how.open(self.rt, self.path_of(file)?.as_path())
+            .mode(OWNER_ALONE)
+            .open(self.rt, self.path_of(file)?.as_path())
     }
 
     fn open_to_read(&mut self, file: WorldFile, how: Reading) -> io::Result<FileDisk> {
@@ -144,10 +144,9 @@ impl<R: Files<File = File> + Clock + Print + Eprint + AllocGlobal> Folder for Sy
     }
 
     fn lock_state(&mut self, file: WorldFile) -> io::Result<LockState> {
-        match self.open_plain(file) {
-            Ok(opened) => Ok(locks::lock_state(&opened)),
-            Err(_) => Ok(LockState::Unknown),
-        }
+        let opened = self.open_plain(file);
+        let state = opened.map(|file: _| locks::lock_state(&file));
+        Ok(state.unwrap_or(LockState::Unknown))
     }
 
     fn pause(&mut self) {
