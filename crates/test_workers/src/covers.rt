@@ -59,7 +59,8 @@ fn fall_behind<M: Method>(
 }
 
 fn is_refused(rt: &(impl Wait + Abort), answer: AwaitedReply) {
-    match answer.wait(rt, 0).0 {
+    let (reply, _slot) = answer.wait(rt, 0);
+    match reply {
         Some(Reply::Fault(fault)) => same(rt, "a refusal", fault.reason(), Refusal::LogDown),
         _ => panic!(rt; "no fault"),
     }

@@ -45,7 +45,8 @@ fn is_refused<M: Method>(
         Err(refused) => same(rt, "a batch that isn't run", refused.reason(), refusal),
         Ok(()) => panic!(rt; "a batch that is run"),
     }
-    match awaited.wait(rt, 0).0 {
+    let (reply, _slot) = awaited.wait(rt, 0);
+    match reply {
         Some(Reply::Fault(fault)) => same(rt, "what is told", fault.reason(), refusal),
         _ => panic!(rt; "no fault"),
     }
@@ -84,7 +85,8 @@ fn try_refused_push<M: Seats>(rt: &(impl Wait + Abort), alloc: Global) {
     let (mut mutator, from) = mutator_at::<M>(rt, alloc, 0);
     drop(from);
     let answered = send(rt, alloc, &mut mutator);
-    assert!(rt; answered.wait(rt, 0).0.is_none());
+    let (reply, _slot) = answered.wait(rt, 0);
+    assert!(rt; reply.is_none());
     same(rt, "ticks that ended", mutator.ended(), 0);
     is_refused(rt, alloc, &mut mutator, Refusal::LogDown);
     drop(mutator);

@@ -196,7 +196,8 @@ fn answer<M: Method>(
 
 /// The answer is a post of this text.
 pub fn is_posted(rt: &(impl Wait + Abort), awaited: AwaitedReply, text: &[u8]) {
-    match awaited.wait(rt, 0).0 {
+    let (reply, _slot) = awaited.wait(rt, 0);
+    match reply {
         Some(Reply::Post(post)) => same(rt, "a post", post.into_answer().0.as_slice(), text),
         _ => panic!(rt; "no post"),
     }

@@ -157,13 +157,25 @@ impl Session {
             batch,
             run,
         } = self.pending.take()?;
-        let answer = match awaited.wait(rt, 0).0 {
-            Some(Reply::Post(post)) => self.judge_post(ask, &batch, run, post, model),
+        let (reply, _slot) = awaited.wait(rt, 0);
+        Some(self.judge(ask, &batch, run, reply, model))
+    }
+
+    // Judges the reply to this ask, which was for this batch.
+    fn judge(
+        &self,
+        ask: u64,
+        batch: &Batch,
+        run: Option<(u64, u64)>,
+        reply: Option<Reply>,
+        model: &PlainModel,
+    ) -> Answer {
+        match reply {
+            Some(Reply::Post(post)) => self.judge_post(ask, batch, run, post, model),
             Some(Reply::Fault(fault)) if run.is_some() => Answer::Lost(fault.reason()),
             Some(Reply::Fault(fault)) => Answer::Fault(fault.reason()),
             None => Answer::Wrong,
-        };
-        Some(answer)
+        }
     }
 
     fn judge_post(
