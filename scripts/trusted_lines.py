@@ -30,7 +30,7 @@ IMPL = re.compile(r"impl(?:<.*?>)? (?:(\w[\w:]*)(?:<.*>)? for )?(\w+)")
 TABLE = re.compile(r"^## What is proved$(.*?)^## ", re.MULTILINE | re.DOTALL)
 ROW = re.compile(r"^\| .* \| (`.*`) \|$", re.MULTILINE)
 CLAUSES = re.compile(r"(?<=`): (?:`\w+`(?:, )?)+")
-CITED = re.compile(r"`(?:\w+::)?(\w+)`")
+CITED = re.compile(r"`(?:(\w+)::)?(\w+)`")
 CLAUSE = re.compile(r"(?:requires|ensures|decreases|ghost (?!use))")
 
 
@@ -83,12 +83,13 @@ def definitions(crate, path):
 
 
 def clauses(path, exported):
-    """The clauses of a file's items that the crate hands out, each with the item's name."""
+    """The clauses of a file's items that the crate hands out, each with the item's owner and its name. An item by itself owns
+    itself."""
     found, name, owner, is_trait, public, open_braces = [], None, None, False, False, 0
     for line in path.read_text().splitlines():
         text = line.strip()
         if open_braces > 0:
-            found.append((name, line))
+            found.append(((owner, name), line))
             open_braces += text.count("{") - text.count("}")
             continue
         block, item = IMPL.match(line), ITEM.match(text)
@@ -101,15 +102,16 @@ def clauses(path, exported):
         elif item and item[2] == "fn":
             public = owner in exported and (is_trait or item[1] == "pub ")
         if public and CLAUSE.match(text):
-            found.append((name, line))
+            found.append(((owner, name), line))
             open_braces = text.count("{") - text.count("}")
     return found
 
 
 def cited_in_readme():
-    """The functions and types whose contracts README's table cites."""
+    """The functions and types whose contracts README's table cites, each with its owner."""
     table = TABLE.search(pathlib.Path("README.md").read_text())[1]
-    return {name for cited in ROW.findall(table) for name in CITED.findall(CLAUSES.sub("", cited))}
+    cited = [pair for row in ROW.findall(table) for pair in CITED.findall(CLAUSES.sub("", row))]
+    return {(owner or name, name) for owner, name in cited}
 
 
 def of_traits(path):
@@ -152,18 +154,19 @@ def main():
                     lines[kind] += sum(map(counts, path.read_text().splitlines()))
         for path in (crate / "specs").rglob("*.antt"):
             known |= definitions(crate.name, path)
+        # A program hands nothing out, and the table cites its functions.
         lib = crate / "src" / "lib.rt"
-        if not lib.exists():
-            continue
-        exported = {name.strip() for _, group, one in EXPORT.findall(lib.read_text()) for name in (group or one).split(",")}
+        exported = {owner for owner, _ in cited}
+        if lib.exists():
+            exported = {name.strip() for _, group, one in EXPORT.findall(lib.read_text()) for name in (group or one).split(",")}
         for path in filter(lambda path: not is_test(path), (crate / "src").rglob("*.rt")):
             found, traits, names = clauses(path, exported), of_traits(path), imported(path.read_text())
             for which, wanted in (
-                ("the table of README", lambda name: name in traits or (crate.name in served and name in cited)),
-                ("all that crates hand out", lambda name: True),
-                ("one", lambda name: [crate.name, name] == one),
+                ("the table of README", lambda item: item[1] in traits or (crate.name in served and item in cited)),
+                ("all that crates hand out", lambda item: lib.exists()),
+                ("one", lambda item: [crate.name, item[1]] == one),
             ):
-                own = [line for name, line in found if wanted(name)]
+                own = [line for item, line in found if wanted(item)]
                 counted[which][0].extend(own)
                 counted[which][1].extend(names[word] for word in NAME.findall("\n".join(own)) if word in names)
     everything = sum(lines.values())

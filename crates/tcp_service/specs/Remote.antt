@@ -1,16 +1,15 @@
 -- The answers to the batches of a session.
-use Rattle.std.specs.Prelude.{◌≡◌, ◌⊎◌, ◌+◌, ◌^◌, ℕ, List, Option, Some, Result, Ok, Err}
+use Rattle.std.specs.Prelude.{◌≡◌, ◌⊎◌, ℕ, List, Option, Some, Result, Ok, Err}
 use Rattle.world_actions.specs.declared.refusal.Refusal.{Refusal}
 use Rattle.world_actions.specs.declared.refusal.Refusal.TheVariants.{NoMemory, TicksEnded}
 use Rattle.batches.specs.declared.batch.Request.{Request}
-use Rattle.workers.specs.declared.asker.Asker.{Asker}
 use Rattle.workers.specs.declared.post.Fault.{Fault}
 use Rattle.workers.specs.Posts.{Posted, IsPost}
-use Rattle.workers.specs.Asking.{IsAsked, IsUnasked, IsNewPost, IsFaultOf}
+use Rattle.workers.specs.Asking.{AskerState, IsAsked, IsUnasked, IsNewPost, IsFaultOf}
 
 -- a session: its asker, the post that answered it last, and its last fault
 pub record Asking : Type 0 where
-  pub asker : Asker
+  pub asker : AskerState
   pub last : Option Posted
   pub fault : Option Fault
 

@@ -5,7 +5,7 @@ ghost use Rattle.worker_threads.specs.Kept.{MayTake};
 
 use crate::held::Held;
 use crate::same::same;
-use crate::serial::{Serial, begin, is_posted, log_on, send};
+use crate::serial::{Serial, begin, is_posted, log_on, new_session, send};
 use crate::worlds::{fused_files, open_files, stands_in_fused};
 use action_log::{LogState, read_log};
 use disk_model::{Fused, ModelFile};
@@ -14,7 +14,7 @@ use std::alloc::Global;
 use std::process::Abort;
 use std::sync::Wait;
 use worker_threads::Seats;
-use workers::{AwaitedReply, Checkpointer, Log, Reply};
+use workers::{AskReceiver, Asker, AwaitedReply, Checkpointer, Log, Reply};
 use world_actions::Refusal;
 
 type File = Fused<ModelFile>;
@@ -45,15 +45,16 @@ fn write_image<M: Method>(
 fn fall_behind<M: Method>(
     rt: &(impl Wait + Abort),
     alloc: Global,
+    asker: &mut Asker,
     world: &mut Serial<M, File>,
 ) -> [AwaitedReply; 3]
     requires { MayTake world.old.checkpointer }
     ensures { world.new.log_writer ≡ world.old.log_writer }
 {
-    let first = send(rt, alloc, &mut world.mutator);
-    let second = send(rt, alloc, &mut world.mutator);
+    let first = send(rt, alloc, asker, &mut world.mutator);
+    let second = send(rt, alloc, asker, &mut world.mutator);
     write_image(rt, &mut world.checkpointer, 1);
-    let third = send(rt, alloc, &mut world.mutator);
+    let third = send(rt, alloc, asker, &mut world.mutator);
     write_image(rt, &mut world.checkpointer, 2);
     [first, second, third]
 }
@@ -107,26 +108,32 @@ fn check_files<M: Method>(rt: &impl Abort, alloc: Global, world: &Serial<M, File
 }
 
 // Begins workers of a new world whose second segment's file fails at this call.
-fn begin_broken<M: Seats>(rt: &(impl Wait + Abort), alloc: Global, call: u64) -> Serial<M, File>
+fn begin_broken<M: Seats>(
+    rt: &(impl Wait + Abort),
+    alloc: Global,
+    asks: AskReceiver,
+    call: u64,
+) -> Serial<M, File>
     requires { 1 ≤ call }
     ensures rest { IsAtRest result.log_writer }
     ensures takes { MayTake result.checkpointer }
 {
     let mut opened = open_files::<M, File>(rt, alloc, fused_files(rt, alloc));
     opened.log.b.arm(call);
-    begin(rt, alloc, opened, Held::nothing())
+    begin(rt, alloc, asks, opened, Held::nothing())
 }
 
 fn play_behind<M: Method>(
     rt: &(impl Wait + Abort),
     alloc: Global,
+    asker: &mut Asker,
     world: &mut Serial<M, File>,
     whole: bool,
 )
     requires rest { IsAtRest world.old.log_writer }
     requires takes { MayTake world.old.checkpointer }
 {
-    let answers = fall_behind(rt, alloc, world);
+    let answers = fall_behind(rt, alloc, asker, world);
     log_on(rt, &mut world.log_writer);
     check_answers(rt, answers, whole);
     check_files(rt, alloc, world, whole);
@@ -136,9 +143,11 @@ fn play_behind<M: Method>(
 fn try_call<M: Seats>(rt: &(impl Wait + Abort), alloc: Global, call: u64)
     requires { 1 ≤ call }
 {
-    let mut world = begin_broken::<M>(rt, alloc, call);
-    play_behind(rt, alloc, &mut world, call > CALLS);
+    let (mut asker, asks) = new_session(rt, alloc);
+    let mut world = begin_broken::<M>(rt, alloc, asks, call);
+    play_behind(rt, alloc, &mut asker, &mut world, call > CALLS);
     drop(world);
+    drop(asker);
 }
 
 fn try_calls<M: Seats>(rt: &(impl Wait + Abort), alloc: Global) {

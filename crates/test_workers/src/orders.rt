@@ -2,7 +2,7 @@
 ghost use Rattle.std.specs.Prelude.{◌≤◌};
 
 use crate::same::same;
-use crate::serial::ask_for;
+use crate::serial::{ask, new_session};
 use crate::worlds::{new_files, open_files, stands_in};
 use disk_model::ModelFile;
 use shared_capture::{Method, Pong, Zig};
@@ -11,7 +11,7 @@ use std::process::Abort;
 use std::sync::Wait;
 use worker_steps::{Gates, Next, Together};
 use worker_threads::Seats;
-use workers::Open;
+use workers::{AskReceiver, Asker, Open};
 
 type World<M> = Together<M, ModelFile, Open, Open, Open>;
 
@@ -25,14 +25,14 @@ fn found<M: Method>(rt: &impl Abort, alloc: Global, world: &World<M>) -> (u64, u
     (tick, from)
 }
 
-fn begin_steps<M: Seats>(rt: &(impl Wait + Abort), alloc: Global) -> World<M> {
+fn begin_steps<M: Seats>(rt: &(impl Wait + Abort), alloc: Global, asks: AskReceiver) -> World<M> {
     let opened = open_files::<M, ModelFile>(rt, alloc, new_files(rt, alloc, 2));
     let gates = Gates {
         mutator: Open,
         checkpointer: Open,
         log_writer: Open,
     };
-    Together::begin(rt, alloc, gates, opened, 1).expect(rt, "memory for workers")
+    Together::begin(rt, alloc, gates, opened, asks, 1).expect(rt, "memory for workers")
 }
 
 // Makes the step, and checks the files after it.
@@ -41,11 +41,16 @@ fn step<M: Method>(rt: &(impl Wait + Abort), alloc: Global, world: &mut World<M>
     let _ = found(rt, alloc, world);
 }
 
-// Pushes the owed item, because no batch is run before that, and runs a batch.
-fn play_step<M: Method>(rt: &(impl Wait + Abort), alloc: Global, world: &mut World<M>) {
-    let (ask, _awaited) = ask_for(rt, alloc);
+// Asks for a batch. Pushes the owed item, because no batch is run before that, and runs the batch.
+fn play_step<M: Method>(
+    rt: &(impl Wait + Abort),
+    alloc: Global,
+    asker: &mut Asker,
+    world: &mut World<M>,
+) {
+    let _awaited = ask(rt, alloc, asker, 1);
     step(rt, alloc, world, Next::Push);
-    step(rt, alloc, world, Next::Play(ask));
+    step(rt, alloc, world, Next::Play);
 }
 
 // The step at this place. An owed item is pushed some steps later.
@@ -64,15 +69,17 @@ fn next_step(at: u64) -> Next {
 fn try_order<M: Seats>(rt: &(impl Wait + Abort), alloc: Global, every: u64) -> (u64, u64)
     requires { 1 ≤ every }
 {
-    let mut world = begin_steps::<M>(rt, alloc);
+    let (mut asker, asks) = new_session(rt, alloc);
+    let mut world = begin_steps::<M>(rt, alloc, asks);
     for at in 0..400u64 {
         if at < 200 && at % every == 0 {
-            play_step(rt, alloc, &mut world);
+            play_step(rt, alloc, &mut asker, &mut world);
         }
         step(rt, alloc, &mut world, next_step(at));
     }
     let stands = found(rt, alloc, &world);
     drop(world);
+    drop(asker);
     stands
 }
 

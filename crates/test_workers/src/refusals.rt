@@ -3,7 +3,7 @@ ghost use Rattle.std.specs.Prelude.{◌≤◌};
 ghost use Rattle.world_ticks.specs.declared.tick.TheConstants.{TICK_MAX};
 
 use crate::same::same;
-use crate::serial::{ask_for, send};
+use crate::serial::{ask, new_session, send};
 use crate::worlds::{new_files, open_files};
 use action_log::SEGMENT_TICKS;
 use crossbeam_channel::bounded;
@@ -13,14 +13,15 @@ use std::alloc::Global;
 use std::process::Abort;
 use std::sync::Wait;
 use worker_threads::Seats;
-use workers::{ItemReceiver, Mutator, Open, Reply, open};
+use workers::{AskReceiver, Asker, ItemReceiver, Mutator, Open, Reply, open};
 use world_actions::Refusal;
 use world_ticks::TICK_MAX;
 
-// A mutator after so many ticks, which opens no round, and the end that pops its items.
+// A mutator after so many ticks, which takes these asks and opens no round, and the end that pops its items.
 fn mutator_at<M: Seats>(
     rt: &(impl Wait + Abort),
     alloc: Global,
+    asks: AskReceiver,
     ended: u64,
 ) -> (Mutator<M, Open>, ItemReceiver)
     requires { ended ≤ TICK_MAX }
@@ -29,7 +30,17 @@ fn mutator_at<M: Seats>(
     let (to, from) = open(rt, alloc, ended).expect(rt, "a channel");
     let (bell, _rung) = bounded(alloc, 1).expect(rt, "a channel");
     let (_told_down, heard) = cover_pair(alloc).expect(rt, "a word");
-    let mutator = Mutator::new(Open, alloc, opened.front, to, ended, u32::MAX, bell, heard);
+    let mutator = Mutator::new(
+        Open,
+        alloc,
+        asks,
+        opened.front,
+        to,
+        ended,
+        u32::MAX,
+        bell,
+        heard,
+    );
     (mutator, from)
 }
 
@@ -37,11 +48,12 @@ fn mutator_at<M: Seats>(
 fn is_refused<M: Method>(
     rt: &(impl Wait + Abort),
     alloc: Global,
+    asker: &mut Asker,
     mutator: &mut Mutator<M, Open>,
     refusal: Refusal,
 ) {
-    let (ask, awaited) = ask_for(rt, alloc);
-    match mutator.turn(rt, ask) {
+    let awaited = ask(rt, alloc, asker, 1);
+    match mutator.turn(rt).expect(rt, "an ask") {
         Err(refused) => same(rt, "a batch that isn't run", refused.reason(), refusal),
         Ok(()) => panic!(rt; "a batch that is run"),
     }
@@ -56,40 +68,47 @@ fn is_refused<M: Method>(
 fn fill_segment<M: Method>(
     rt: &(impl Wait + Abort),
     alloc: Global,
+    asker: &mut Asker,
     mutator: &mut Mutator<M, Open>,
     from: &mut ItemReceiver,
 ) {
     for _ in 0..SEGMENT_TICKS {
-        drop(send(rt, alloc, mutator));
+        drop(send(rt, alloc, asker, mutator));
         assert!(rt; from.pop(rt).is_ok());
     }
 }
 
 fn try_last_tick<M: Seats>(rt: &(impl Wait + Abort), alloc: Global) {
-    let (mut mutator, from) = mutator_at::<M>(rt, alloc, TICK_MAX);
-    is_refused(rt, alloc, &mut mutator, Refusal::TicksEnded);
+    let (mut asker, asks) = new_session(rt, alloc);
+    let (mut mutator, from) = mutator_at::<M>(rt, alloc, asks, TICK_MAX);
+    is_refused(rt, alloc, &mut asker, &mut mutator, Refusal::TicksEnded);
     drop(mutator);
     drop(from);
+    drop(asker);
 }
 
 fn try_full_segment<M: Seats>(rt: &(impl Wait + Abort), alloc: Global) {
-    let (mut mutator, mut from) = mutator_at::<M>(rt, alloc, 0);
-    fill_segment(rt, alloc, &mut mutator, &mut from);
-    is_refused(rt, alloc, &mut mutator, Refusal::SegmentFull);
+    let (mut asker, asks) = new_session(rt, alloc);
+    let (mut mutator, mut from) = mutator_at::<M>(rt, alloc, asks, 0);
+    fill_segment(rt, alloc, &mut asker, &mut mutator, &mut from);
+    is_refused(rt, alloc, &mut asker, &mut mutator, Refusal::SegmentFull);
     drop(mutator);
     drop(from);
+    drop(asker);
 }
 
 // Nobody pops any more, so the push of the tick is refused: its session gets no answer, and no other batch is run.
 fn try_refused_push<M: Seats>(rt: &(impl Wait + Abort), alloc: Global) {
-    let (mut mutator, from) = mutator_at::<M>(rt, alloc, 0);
+    let (mut asker, asks) = new_session(rt, alloc);
+    let (mut mutator, from) = mutator_at::<M>(rt, alloc, asks, 0);
     drop(from);
-    let answered = send(rt, alloc, &mut mutator);
+    let answered = send(rt, alloc, &mut asker, &mut mutator);
     let (reply, _slot) = answered.wait(rt, 0);
     assert!(rt; reply.is_none());
     same(rt, "ticks that ended", mutator.ended(), 0);
-    is_refused(rt, alloc, &mut mutator, Refusal::LogDown);
+    is_refused(rt, alloc, &mut asker, &mut mutator, Refusal::LogDown);
     drop(mutator);
+    drop(asker);
 }
 
 #[test]

@@ -20,8 +20,8 @@ use std::sync::{Arc, Wait};
 use worker_steps::Opened;
 use worker_threads::Seats;
 use workers::{
-    Ask, AskChannel, AwaitedReply, Checkpointer, ItemReceiver, ItemSender, LogWriter, Mutator,
-    Open, Reply, ReplySlot, open,
+    AskChannel, AskReceiver, Asker, AwaitedReply, Checkpointer, ItemReceiver, ItemSender,
+    LogWriter, Mutator, Open, Reply, ReplySlot, open,
 };
 use world_actions::Action;
 
@@ -81,10 +81,11 @@ fn new_channel(rt: &(impl Wait + Abort), alloc: Global, ended: u64) -> Channel
     }
 }
 
-/// The workers of this world. An image of it is due after each tick.
+/// The workers of this world, which take these asks. An image of it is due after each tick.
 pub fn begin<M: Method, D: Disk + Drop>(
     rt: &(impl Wait + Abort),
     alloc: Global,
+    asks: AskReceiver,
     opened: Opened<M, D>,
     held: Held,
 ) -> Serial<M, D>
@@ -94,12 +95,13 @@ pub fn begin<M: Method, D: Disk + Drop>(
 {
     let signals = new_signals(rt, alloc);
     let channel = new_channel(rt, alloc, opened.ended);
-    joined(rt, alloc, opened, held, signals, channel)
+    joined(rt, alloc, asks, opened, held, signals, channel)
 }
 
 fn joined<M: Method, D: Disk + Drop>(
     rt: &impl Abort,
     alloc: Global,
+    asks: AskReceiver,
     opened: Opened<M, D>,
     held: Held,
     signals: Signals,
@@ -133,7 +135,7 @@ fn joined<M: Method, D: Disk + Drop>(
         out,
         told,
     } = channel;
-    let mutator = Mutator::new(Open, alloc, front, to, ended, 1, bell, heard);
+    let mutator = Mutator::new(Open, alloc, asks, front, to, ended, 1, bell, heard);
     let checkpointer = Checkpointer::new(held, back, out, images, rung);
     let log_writer = LogWriter::new(alloc, Open, from, told, log, told_down, ended).expect(
         rt, "memory",
@@ -145,28 +147,34 @@ fn joined<M: Method, D: Disk + Drop>(
     }
 }
 
-/// Runs a batch, whose answer comes later.
+/// The only session of a channel, and the end that takes its asks.
+pub fn new_session(rt: &impl Abort, alloc: Global) -> (Asker, AskReceiver) {
+    let (mut asks, asked) = AskChannel::open(alloc).expect(rt, "a channel");
+    (asks.session().expect(rt, "a session"), asked)
+}
+
+/// Lets a session ask for a batch that adds 1 to the first cell and reads it. The mutator runs it. Its answer comes later.
 pub fn send<M: Method>(
     rt: &(impl Wait + Abort),
     alloc: Global,
+    asker: &mut Asker,
     mutator: &mut Mutator<M, Open>,
 ) -> AwaitedReply {
-    let (ask, awaited) = ask_for(rt, alloc);
-    assert!(rt; mutator.turn(rt, ask).is_ok());
+    let awaited = ask(rt, alloc, asker, 1);
+    let played = mutator.turn(rt).expect(rt, "an ask");
+    assert!(rt; played.is_ok());
     awaited
 }
 
-/// An ask for a batch that adds 1 to the first cell and reads it, as a session sends it, and the place of its reply.
-pub fn ask_for(rt: &(impl Wait + Abort), alloc: Global) -> (Ask, AwaitedReply) {
+/// Lets a session ask for a batch that adds this to the first cell and reads it. Returns the place of its reply.
+pub fn ask(rt: &(impl Wait + Abort), alloc: Global, asker: &mut Asker, by: i64) -> AwaitedReply {
     let mut batch = Batch::new(alloc).expect(rt, "a batch");
-    batch.push_reserved(Request::Act(Action::Add { cell: 0, by: 1 }));
+    batch.push_reserved(Request::Act(Action::Add { cell: 0, by }));
     batch.push_reserved(Request::Get(0));
-    let (mut asks, asked) = AskChannel::open(alloc).expect(rt, "a channel");
-    let mut asker = asks.session().expect(rt, "a session");
     let slot = ReplySlot::new(alloc).expect(rt, "a slot");
     let (awaited, to) = slot.ask().expect(rt, "a sender");
     assert!(rt; asker.send(rt, batch, Vec::new(alloc), to).is_ok());
-    (asked.recv(rt).expect(rt, "an ask"), awaited)
+    awaited
 }
 
 /// Lets the log writer take a turn, which logs the played ticks.
@@ -182,6 +190,7 @@ pub fn log_on<D: Disk + Drop>(rt: &(impl Wait + Abort), log_writer: &mut LogWrit
 fn answer<M: Method>(
     rt: &(impl Wait + Abort),
     alloc: Global,
+    asker: &mut Asker,
     world: &mut Serial<M, ModelFile>,
     text: &[u8],
 )
@@ -189,7 +198,7 @@ fn answer<M: Method>(
     ensures rest { IsAtRest world.new.log_writer }
     ensures checkpointer { world.new.checkpointer ≡ world.old.checkpointer }
 {
-    let awaited = send(rt, alloc, &mut world.mutator);
+    let awaited = send(rt, alloc, asker, &mut world.mutator);
     log_on(rt, &mut world.log_writer);
     is_posted(rt, awaited, text);
 }
@@ -220,6 +229,7 @@ fn is_stuck<M: Method>(
 fn begin_held<M: Seats>(
     rt: &(impl Wait + Abort),
     alloc: Global,
+    asks: AskReceiver,
     answered: &Arc<AtomicU64, Global>,
 ) -> Serial<M, ModelFile>
     ensures rest { IsAtRest result.log_writer }
@@ -227,22 +237,23 @@ fn begin_held<M: Seats>(
 {
     let held = Held::until(answered.clone().expect(rt, "a share"));
     let opened = open_files::<M, ModelFile>(rt, alloc, new_files(rt, alloc, 2));
-    begin(rt, alloc, opened, held)
+    begin(rt, alloc, asks, opened, held)
 }
 
 fn play_round<M: Method>(
     rt: &(impl Wait + Abort),
     alloc: Global,
+    asker: &mut Asker,
     world: &mut Serial<M, ModelFile>,
     answered: &AtomicU64,
 )
     requires rest { IsAtRest world.old.log_writer }
     requires takes { MayTake world.old.checkpointer }
 {
-    answer(rt, alloc, world, b"tick 1: + =1\n");
+    answer(rt, alloc, asker, world, b"tick 1: + =1\n");
     answered.fetch_add(1, Ordering::SeqCst);
     is_stuck(rt, &mut world.checkpointer);
-    answer(rt, alloc, world, b"tick 2: + =2\n");
+    answer(rt, alloc, asker, world, b"tick 2: + =2\n");
     let (images, log) = (world.checkpointer.images(), world.log_writer.log());
     let found = stands_in(rt, alloc, images, log);
     same(rt, "what stands", found, (2, 0, 2));
@@ -250,9 +261,11 @@ fn play_round<M: Method>(
 
 fn try_serial_round<M: Seats>(rt: &(impl Wait + Abort), alloc: Global) {
     let answered = Arc::new(alloc, AtomicU64::new(0)).expect(rt, "a count");
-    let mut world = begin_held::<M>(rt, alloc, &answered);
-    play_round(rt, alloc, &mut world, &answered);
+    let (mut asker, asks) = new_session(rt, alloc);
+    let mut world = begin_held::<M>(rt, alloc, asks, &answered);
+    play_round(rt, alloc, &mut asker, &mut world, &answered);
     drop(world);
+    drop(asker);
 }
 
 #[test]

@@ -1,7 +1,6 @@
 use crate::running::{is_page, play};
 use crate::same::same;
 use batches::Request;
-use crossbeam_channel::Receiver;
 use std::alloc::Global;
 use std::io::{self, Read, Write};
 use std::net::{Net, Shutdown, SocketAddr, TcpListener, TcpStream};
@@ -11,7 +10,7 @@ use std::thread::{self, JoinHandle, Threads};
 use std::time::Clock;
 use tcp_service::{Accepted, Admission, Closed, Door, Unserved, accept_sessions};
 use transports::Listener;
-use workers::{Ask, AskChannel, Looks};
+use workers::{Ask, AskChannel, AskReceiver, Looks};
 use world_actions::Refusal;
 
 mod opening;
@@ -42,27 +41,36 @@ impl Door for Nobody {
     }
 }
 
-// Takes the place of the workers. It refuses batches, and drops those that begin with a read.
-fn refuse<R: Wait>(rt: &R, asks: Receiver<Ask>) -> u64 {
+// Refuses a batch, or drops one that begins with a read.
+fn refuse<R: Wait>(rt: &R, ask: Ask) {
+    let refusal = match ask.batch().requests().first() {
+        Some(Request::Get(_)) => return,
+        Some(_) => Refusal::SegmentFull,
+        None => Refusal::TicksEnded,
+    };
+    ask.refuse(rt, refusal);
+}
+
+// Takes the place of the workers. It refuses or drops each batch, and counts them.
+fn refuse_all<R: Wait>(rt: &R, asks: AskReceiver) -> u64 {
+    let mut asks = asks;
     let mut count = 0u64;
-    for ask in asks.iter(rt) {
-        count = count.saturating_add(1);
-        let refusal = match ask.batch().requests().first() {
-            Some(Request::Get(_)) => continue,
-            Some(_) => Refusal::SegmentFull,
-            None => Refusal::TicksEnded,
+    for _ in rt.forever() {
+        let Some(ask) = asks.next(rt) else {
+            break;
         };
-        ask.refuse(rt, refusal);
+        refuse(rt, ask);
+        count = count.saturating_add(1);
     }
     count
 }
 
 fn start_refusing<R: Threads + Wait + Abort + Copy + Send + 'static>(
     rt: &R,
-    asks: Receiver<Ask>,
+    asks: AskReceiver,
 ) -> JoinHandle<u64> {
     let here = *rt;
-    match thread::spawn(rt, move || refuse(&here, asks)) {
+    match thread::spawn(rt, move || refuse_all(&here, asks)) {
         Ok(worker) => worker,
         Err(_) => panic!(rt; "no thread"),
     }

@@ -1,5 +1,5 @@
 use crate::moment::Moment;
-use crate::session::{Answer, Table};
+use crate::session::{Answer, Session};
 use crate::stand::Stand;
 use crate::tally::{Kind, Rule};
 use crate::trial::Trial;
@@ -32,7 +32,7 @@ const STEPS: [Kind; 5] = [Kind::Play, Kind::Mark, Kind::End, Kind::Pop, Kind::Lo
 #[derive(Drop)]
 pub struct Run<M: Method> {
     world: World<M>,
-    table: Table,
+    sessions: Vec<Session>,
     every: u64,
     // The index of the weights in use.
     weights: u64,
@@ -53,11 +53,11 @@ pub struct Run<M: Method> {
 
 impl<M: Method> Run<M> {
     /// A world that has begun, and the sessions that play it. A round is due after each `every` ticks.
-    pub fn new(world: World<M>, table: Table, every: u32) -> Self {
+    pub fn new(world: World<M>, sessions: Vec<Session>, every: u32) -> Self {
         let ended = world.ended();
         Run {
             world,
-            table,
+            sessions,
             every: u64::from(every),
             weights: 0,
             next: 0,
@@ -155,7 +155,7 @@ impl<M: Method> Run<M> {
     }
 
     fn is_next_idle(&self) -> bool {
-        match self.table.sessions.get(self.next as usize) {
+        match self.sessions.get(self.next as usize) {
             Some(session) => session.is_idle(),
             None => false,
         }
@@ -163,13 +163,12 @@ impl<M: Method> Run<M> {
 
     // Lets the next session ask for the drafted batch. The batch is run, and its tick owed, or it is refused at once.
     fn play<R: Wait>(&mut self, rt: &R, trial: &mut Trial) -> Result<(), Refusal> {
-        let Table { sessions, asked } = &mut self.table;
-        let Some(session) = sessions.get_mut(self.next as usize) else {
+        let Some(session) = self.sessions.get_mut(self.next as usize) else {
             return Ok(());
         };
         let may_run = !self.is_held && !self.world.log_writer().is_down();
-        let ask = session.ask_for(rt, trial.alloc, asked, trial.draft.batch())?;
-        self.world.step(rt, Next::Play(ask));
+        session.ask(rt, trial.alloc, trial.draft.batch())?;
+        self.world.step(rt, Next::Play);
         match session.look(rt, &trial.model) {
             Some(answer) => self.heed_fault(answer, trial),
             None => {
@@ -195,7 +194,7 @@ impl<M: Method> Run<M> {
         };
         let tick = trial.play()?;
         self.pushed = self.pushed.saturating_add(1);
-        if let Some(session) = self.table.sessions.get_mut(number as usize) {
+        if let Some(session) = self.sessions.get_mut(number as usize) {
             session.runs(tick, self.pushed);
         }
         Ok(())
@@ -225,7 +224,7 @@ impl<M: Method> Run<M> {
     fn look<R: Wait>(&mut self, rt: &R, trial: &mut Trial) {
         let acked = self.stand().acked;
         let log_down = self.world.log_writer().is_down();
-        for session in &mut self.table.sessions {
+        for session in &mut self.sessions {
             let pushed = session.pushed();
             if let Some(answer) = session.look(rt, &trial.model) {
                 heed(answer, acked, log_down, trial);

@@ -1,6 +1,6 @@
 use crate::flaky::Flaky;
 use crate::run::{Run, SESSIONS};
-use crate::session::new_table;
+use crate::session::new_sessions;
 use crate::stand::Stand;
 use crate::tally::Kind;
 use crate::trial::{Odds, Trial};
@@ -74,11 +74,11 @@ fn try_world<R: Wait, M: Seats>(
 
 // Opens the world that a crash left, makes random steps, and crashes.
 fn run_once<R: Wait, M: Seats>(rt: &R, trial: &mut Trial, rest: &mut u64) -> Result<(), Refusal> {
-    let table = new_table(trial.alloc, SESSIONS)?;
     let files = trial.files()?;
+    let (sessions, asked) = new_sessions(trial.alloc, SESSIONS)?;
     let (gates, every) = (trial.gates(), trial.every());
-    match World::<M>::open(rt, trial.alloc, files, gates, every) {
-        Ok(world) => run_world(rt, trial, Run::new(world, table, every), rest),
+    match World::<M>::open(rt, trial.alloc, files, gates, asked, every) {
+        Ok(world) => run_world(rt, trial, Run::new(world, sessions, every), rest),
         Err(NotOpened::Failed(files)) => judge_opening(trial, &files),
         Err(NotOpened::NoMemory) => Err(Refusal::NoMemory),
     }
@@ -138,11 +138,11 @@ fn make_steps<R: Wait, M: Method>(
 fn try_segment<R: Wait, M: Seats>(rt: &R, trial: &mut Trial) -> Result<(), Refusal> {
     trial.begin_world(1, 0, Odds::NONE)?;
     trial.draft.fill_small();
-    let table = new_table(trial.alloc, SESSIONS)?;
     let files = trial.files()?;
+    let (sessions, asked) = new_sessions(trial.alloc, SESSIONS)?;
     let gates = trial.gates();
-    match World::<M>::open(rt, trial.alloc, files, gates, 1) {
-        Ok(world) => fill_world(rt, trial, Run::new(world, table, 1)),
+    match World::<M>::open(rt, trial.alloc, files, gates, asked, 1) {
+        Ok(world) => fill_world(rt, trial, Run::new(world, sessions, 1)),
         Err(_) => Err(Refusal::Device),
     }
 }

@@ -1,9 +1,8 @@
 use crate::model::PlainModel;
 use batches::Batch;
-use crossbeam_channel::Receiver;
 use std::alloc::Global;
 use std::sync::Wait;
-use workers::{Ask, AskChannel, Asker, AwaitedReply, Post, Reply, ReplySender, ReplySlot};
+use workers::{AskChannel, AskReceiver, Asker, AwaitedReply, Post, Reply, ReplySender, ReplySlot};
 use world_actions::Refusal;
 
 /// A batch whose answer has not come.
@@ -40,18 +39,11 @@ pub struct Session {
     pending: Option<Pending>,
 }
 
-/// Sessions, and the other end of their channel.
-#[derive(Drop)]
-pub struct Table {
-    pub sessions: Vec<Session>,
-    pub asked: Receiver<Ask>,
-}
-
-/// So many sessions on a channel of their own.
-pub fn new_table(alloc: Global, count: u64) -> Result<Table, Refusal> {
+/// So many sessions on a channel of their own, and the end of it that takes their asks.
+pub fn new_sessions(alloc: Global, count: u64) -> Result<(Vec<Session>, AskReceiver), Refusal> {
     let (mut asks, asked) = AskChannel::open(alloc)?;
     let sessions = sessions(alloc, &mut asks, count)?;
-    Ok(Table { sessions, asked })
+    Ok((sessions, asked))
 }
 
 /// So many sessions, which begin on this channel as its first ones.
@@ -94,18 +86,6 @@ impl Session {
             Ok(()) => Ok(()),
             Err(fault) => Err(fault.reason()),
         }
-    }
-
-    /// Asks for a batch, and takes the ask from the other end of the channel.
-    pub fn ask_for<R: Wait>(
-        &mut self,
-        rt: &R,
-        alloc: Global,
-        asked: &Receiver<Ask>,
-        batch: &Batch,
-    ) -> Result<Ask, Refusal> {
-        self.ask(rt, alloc, batch)?;
-        asked.recv(rt).map_err(|_: _| Refusal::LogDown)
     }
 
     // Waits for the answer of a batch, which is sent to this sender.

@@ -8,7 +8,7 @@ use std::alloc::Global;
 use std::sync::Wait;
 use worker_steps::{Gates, Next, Together};
 use worker_threads::Seats;
-use workers::{Checkpointer, LogWriter};
+use workers::{AskReceiver, Checkpointer, LogWriter};
 use world_actions::Refusal;
 
 /// The reason why a world isn't opened.
@@ -26,16 +26,17 @@ pub struct World<M: Method> {
 }
 
 impl<M: Seats> World<M> {
-    /// Opens the world of these files, and begins its workers.
+    /// Opens the world of these files, and begins its workers. They take these asks.
     pub fn open<R: Wait>(
         rt: &R,
         alloc: Global,
         files: FourFiles<Flaky>,
         gates: Gates<Hold, Hold, Hold>,
+        asked: AskReceiver,
         every: u32,
     ) -> Result<Self, NotOpened> {
         match open_world::<M, Flaky>(alloc, files) {
-            Ok(opened) => match Together::begin(rt, alloc, gates, opened, every) {
+            Ok(opened) => match Together::begin(rt, alloc, gates, opened, asked, every) {
                 Ok(workers) => Ok(World { workers }),
                 Err(_) => Err(NotOpened::NoMemory),
             },

@@ -6,20 +6,20 @@ use Rattle.workers.specs.declared.item.Item.{Item}
 use Rattle.workers.specs.declared.item.Item.TheVariants.{Start, Tick, Switch, Stop}
 use Rattle.workers.specs.Posts.{AskedBatch}
 use Rattle.workers.specs.Channel.{Pushing}
-use Rattle.workers.specs.Mutating.{Playing, MarksIfDue, OpensNone, OwesSwitch, AnswersBatch, RefusesBatch, RunsBatch, OwesTick, PushesTick, LosesTick, PaysItem, Pays, StopsPlay}
+use Rattle.workers.specs.Mutating.{Playing, MarksIfDue, OpensNone, OwesSwitch, TakesAsk, AnswersBatch, RefusesBatch, RunsBatch, Plays, OwesTick, PushesTick, LosesTick, PaysItem, Pays, StopsPlay}
 use Rattle.worker_steps.specs.Kept.{KeepsFront}
-use Rattle.worker_steps.specs.Running.{MayOpen}
+use Rattle.worker_steps.specs.Running.{MayPlay, MayOpen}
 
 -- the mutator became `mid`, whose front is of the same pair, and pushed these items
-keeps_as : (old : Playing) {mid : Playing} (new : Playing) (more : List Item) → new ≡ mid → mid.front.pair ≡ old.front.pair → mid.heard.pair ≡ old.heard.pair → mid.opening ≡ old.opening → mid.every ≡ old.every → mid.to.end ≡ old.to.end → mid.to.items ≡ old.to.items ++ more → KeepsFront old new
-keeps_as old new more is pair heard opening every end items = subst (KeepsFront old) (sym is) (record { pair = pair; end = end; flag = heard; items = (more, items); opening = opening; every = every })
+keeps_as : (old : Playing) {mid : Playing} (new : Playing) (more : List Item) → new ≡ mid → mid.front.pair ≡ old.front.pair → mid.heard.pair ≡ old.heard.pair → mid.opening ≡ old.opening → mid.every ≡ old.every → mid.to.end ≡ old.to.end → mid.asks.end ≡ old.asks.end → mid.to.items ≡ old.to.items ++ more → KeepsFront old new
+keeps_as old new more is pair heard opening every end asks items = subst (KeepsFront old) (sym is) (record { pair = pair; end = end; asks = asks; flag = heard; items = (more, items); opening = opening; every = every })
 
 -- the mutator pushed no item
-keeps_all : (old : Playing) {mid : Playing} (new : Playing) → new ≡ mid → mid.front.pair ≡ old.front.pair → mid.heard.pair ≡ old.heard.pair → mid.opening ≡ old.opening → mid.every ≡ old.every → mid.to.end ≡ old.to.end → mid.to.items ≡ old.to.items → KeepsFront old new
-keeps_all old new is pair heard opening every end items = keeps_as old new [] is pair heard opening every end (items ∙ sym (append-nil old.to.items))
+keeps_all : (old : Playing) {mid : Playing} (new : Playing) → new ≡ mid → mid.front.pair ≡ old.front.pair → mid.heard.pair ≡ old.heard.pair → mid.opening ≡ old.opening → mid.every ≡ old.every → mid.to.end ≡ old.to.end → mid.asks.end ≡ old.asks.end → mid.to.items ≡ old.to.items → KeepsFront old new
+keeps_all old new is pair heard opening every end asks items = keeps_as old new [] is pair heard opening every end asks (items ∙ sym (append-nil old.to.items))
 
 same : (old new : Playing) → new ≡ old → KeepsFront old new
-same old new is = keeps_all old new is refl refl refl refl refl refl
+same old new is = keeps_all old new is refl refl refl refl refl refl refl
 
 pub unmoved : (m : Playing) → KeepsFront m m
 unmoved m = same m m refl
@@ -28,6 +28,7 @@ pub then : (old mid new : Playing) → KeepsFront old mid → KeepsFront mid new
 then old mid new a b = record {
   pair = b.pair ∙ a.pair;
   end = b.end ∙ a.end;
+  asks = b.asks ∙ a.asks;
   flag = b.flag ∙ a.flag;
   items = (a.items.0 ++ b.items.0, b.items.1 ∙ ap (λ (items : List Item). items ++ b.items.0) a.items.1 ∙ append_assoc old.to.items a.items.0 b.items.0);
   opening = b.opening ∙ a.opening;
@@ -36,18 +37,18 @@ then old mid new a b = record {
 
 pub mark_keeps : (old new : Playing) → MarksIfDue old new → KeepsFront old new
 mark_keeps old new (inl kept) = same old new kept.0
-mark_keeps old new (inr (inl found)) = keeps_all old new found.0 found.1.0 refl refl refl refl refl
-mark_keeps old new (inr (inr (inl marks))) = keeps_as old new (Switch old.ended ∷ []) marks.0 marks.1.0.0 refl refl refl (ap (λ (t : Pushing). t.end) marks.2) (ap (λ (t : Pushing). t.items) marks.2)
-mark_keeps old new (inr (inr (inr lost))) = keeps_all old new lost.0 lost.1.0.0 refl refl refl refl refl
+mark_keeps old new (inr (inl found)) = keeps_all old new found.0 found.1.0 refl refl refl refl refl refl
+mark_keeps old new (inr (inr (inl marks))) = keeps_as old new (Switch old.ended ∷ []) marks.0 marks.1.0.0 refl refl refl (ap (λ (t : Pushing). t.end) marks.2) refl (ap (λ (t : Pushing). t.items) marks.2)
+mark_keeps old new (inr (inr (inr lost))) = keeps_all old new lost.0 lost.1.0.0 refl refl refl refl refl refl
 
 tick_keeps : (old : Playing) (asked : AskedBatch) (new : Playing) → PushesTick old asked new ⊎ LosesTick old asked new → KeepsFront old new
-tick_keeps old asked new (inl pushes) = keeps_as old new (Tick pushes.1.0 ∷ []) pushes.0 pushes.1.1.pair refl refl refl (ap (λ (t : Pushing). t.end) pushes.1.2) (ap (λ (t : Pushing). t.items) pushes.1.2)
-tick_keeps old asked new (inr lost) = keeps_all old new lost.0 lost.1.1.pair refl refl refl refl refl
+tick_keeps old asked new (inl pushes) = keeps_as old new (Tick pushes.1.0 ∷ []) pushes.0 pushes.1.1.pair refl refl refl (ap (λ (t : Pushing). t.end) pushes.1.2) refl (ap (λ (t : Pushing). t.items) pushes.1.2)
+tick_keeps old asked new (inr lost) = keeps_all old new lost.0 lost.1.1.pair refl refl refl refl refl refl
 
 refused_keeps : (stuck : Type 0) (old : Playing) (reason : Refusal) (new : Playing) → RefusesBatch stuck old reason new → KeepsFront old new
-refused_keeps stuck old reason new (inl kept) = keeps_all old new kept.0 refl refl refl refl refl refl
-refused_keeps stuck old reason new (inr (inl hears)) = keeps_all old new hears.2 refl refl refl refl refl refl
-refused_keeps stuck old reason new (inr (inr held)) = keeps_all old new held.0 refl refl refl refl refl refl
+refused_keeps stuck old reason new (inl kept) = keeps_all old new kept.0 refl refl refl refl refl refl refl
+refused_keeps stuck old reason new (inr (inl hears)) = keeps_all old new hears.2 refl refl refl refl refl refl refl
+refused_keeps stuck old reason new (inr (inr held)) = keeps_all old new held.0 refl refl refl refl refl refl refl
 
 pub batch_keeps : (go stuck : Type 0) (old : Playing) (asked : AskedBatch) (given : Result (Unit {0}) Refusal) (new : Playing) → AnswersBatch go stuck old asked given new → KeepsFront old new
 batch_keeps go stuck old asked (Ok _) new ran = tick_keeps old asked new ran.2
@@ -56,11 +57,23 @@ batch_keeps go stuck old asked (Err reason) new refused = refused_keeps stuck ol
 -- ---- the owed item
 
 owes_tick_keeps : (old : Playing) (asked : AskedBatch) (new : Playing) → OwesTick old asked new → KeepsFront old new
-owes_tick_keeps old asked new (nothing, (ended, runs, is)) = keeps_all old new is runs.pair refl refl refl refl refl
+owes_tick_keeps old asked new (nothing, (ended, runs, is)) = keeps_all old new is runs.pair refl refl refl refl refl refl
 
 pub run_keeps : (go stuck : Type 0) (old : Playing) (asked : AskedBatch) (given : Result (Unit {0}) Refusal) (new : Playing) → RunsBatch go stuck old asked given new → KeepsFront old new
 run_keeps go stuck old asked (Ok _) new ran = owes_tick_keeps old asked new ran.2
 run_keeps go stuck old asked (Err reason) new refused = refused_keeps stuck old reason new refused
+
+pub takes_keeps : (old : Playing) (asked : AskedBatch) (new : Playing) → TakesAsk old asked new → KeepsFront old new
+takes_keeps old asked new is = keeps_all old new is refl refl refl refl refl refl refl
+
+plays_keep : (go stuck : Type 0) (old : Playing) (asked : AskedBatch) (given : Result (Unit {0}) Refusal) (new : Playing) → Plays go stuck old asked given new → KeepsFront old new
+plays_keep go stuck old asked given new plays = then old plays.taken new (takes_keeps old asked plays.taken plays.takes) (run_keeps go stuck plays.taken asked given new plays.runs)
+
+-- the answer says if there was a batch
+pub may_play : (go stuck : Type 0) (old new : Playing) (result : Option (Result (Unit {0}) Refusal))
+    → MatchOption result (new ≡ old) (λ given. (asked : AskedBatch) × Plays go stuck old asked given new) → MayPlay go stuck old new × KeepsFront old new
+may_play go stuck old new None is = (inl is, same old new is)
+may_play go stuck old new (Some given) plays = (inr (plays.0, given, plays.1), plays_keep go stuck old plays.0 given new plays.1)
 
 -- the answer says which of the two it is
 pub may_open : (old new : Playing) (given : Bool) → (given ≡ true → OwesSwitch old new) → (given ≡ false → OpensNone old new) → MayOpen old new
@@ -70,15 +83,15 @@ may_open old new false opened none = inl (none refl)
 pub opens_keeps : (old new : Playing) → MayOpen old new → KeepsFront old new
 opens_keeps old new (inl (inl kept)) = same old new kept.0
 opens_keeps old new (inl (inr found)) = mark_keeps old new (inr (inl found))
-opens_keeps old new (inr (up, nothing, is, opens)) = keeps_all old new is opens.0.0 refl refl refl refl refl
+opens_keeps old new (inr (up, nothing, is, opens)) = keeps_all old new is opens.0.0 refl refl refl refl refl refl
 
 item_keeps : (old : Playing) (item : Item) (new : Playing) → PaysItem old item new → KeepsFront old new
-item_keeps old (Tick ended) new (inl paid) = keeps_as old new (Tick ended ∷ []) paid refl refl refl refl refl refl
-item_keeps old (Tick ended) new (inr lost) = keeps_all old new lost refl refl refl refl refl refl
-item_keeps old (Switch number) new (inl paid) = keeps_as old new (Switch number ∷ []) paid refl refl refl refl refl refl
-item_keeps old (Switch number) new (inr lost) = keeps_all old new lost refl refl refl refl refl refl
-item_keeps old (Start number) new is = keeps_all old new is refl refl refl refl refl refl
-item_keeps old Stop new is = keeps_all old new is refl refl refl refl refl refl
+item_keeps old (Tick ended) new (inl paid) = keeps_as old new (Tick ended ∷ []) paid refl refl refl refl refl refl refl
+item_keeps old (Tick ended) new (inr lost) = keeps_all old new lost refl refl refl refl refl refl refl
+item_keeps old (Switch number) new (inl paid) = keeps_as old new (Switch number ∷ []) paid refl refl refl refl refl refl refl
+item_keeps old (Switch number) new (inr lost) = keeps_all old new lost refl refl refl refl refl refl refl
+item_keeps old (Start number) new is = keeps_all old new is refl refl refl refl refl refl refl
+item_keeps old Stop new is = keeps_all old new is refl refl refl refl refl refl refl
 
 pub pays_keeps : (old new : Playing) → Pays old new → KeepsFront old new
 pays_keeps old new pays = by_owed old.owed pays
@@ -88,5 +101,5 @@ pays_keeps old new pays = by_owed old.owed pays
     by_owed (Some item) paid = item_keeps old item new paid
 
 pub stop_keeps : (old new : Playing) → StopsPlay old new → KeepsFront old new
-stop_keeps old new (inl pushed) = keeps_as old new (Stop ∷ []) pushed refl refl refl refl refl refl
-stop_keeps old new (inr lost) = keeps_all old new lost refl refl refl refl refl refl
+stop_keeps old new (inl pushed) = keeps_as old new (Stop ∷ []) pushed refl refl refl refl refl refl refl
+stop_keeps old new (inr lost) = keeps_all old new lost refl refl refl refl refl refl refl

@@ -4,11 +4,12 @@ use Rattle.workers.specs.declared.item.Item.{Item}
 use Rattle.workers.specs.Mutating.{Playing}
 use Rattle.workers.specs.Logging.{Logging}
 
--- The mutator stays at its front, its end of the channel and its word. It keeps the items that it pushed, and pushes behind
+-- The mutator stays at its front, its ends of both channels and its word. It keeps the items that it pushed, and pushes behind
 -- them. It keeps the words that it began with, and the number of ticks after which a round is due.
 pub record KeepsFront (old new : Playing) : Type 0 where
   pub pair : new.front.pair ≡ old.front.pair
   pub end : new.to.end ≡ old.to.end
+  pub asks : new.asks.end ≡ old.asks.end
   pub flag : new.heard.pair ≡ old.heard.pair
   pub items : (more : List Item) × (new.to.items ≡ old.to.items ++ more)
   pub opening : new.opening ≡ old.opening

@@ -12,9 +12,10 @@ use Rattle.workers.specs.declared.gate.Place.{Place}
 use Rattle.workers.specs.declared.gate.Place.TheVariants.{Tick, Device}
 use Rattle.workers.specs.declared.gate.Pass.{Pass}
 use Rattle.workers.specs.declared.item.Item.{Item}
+use Rattle.workers.specs.Posts.{AskedBatch}
 use Rattle.workers.specs.Covering.{loaded, LoadsOn}
 use Rattle.workers.specs.Gates.{MayGo, MayStick}
-use Rattle.workers.specs.Mutating.{Playing, OpensNone, OwesSwitch, RunsBatch, Pays, StopsPlay}
+use Rattle.workers.specs.Mutating.{Playing, OpensNone, OwesSwitch, Plays, Pays, StopsPlay}
 use Rattle.workers.specs.Imaging.{Imaging, place_of, HasRound, FindsNone, FindsRound, GoesOn}
 use Rattle.workers.specs.Logging.{Logging, Pops, refused as refuses, Settles, receipt_of, Acknowledges, LogTellsFaults}
 use Rattle.worker_steps.specs.Begun.{Started}
@@ -22,6 +23,10 @@ use Rattle.worker_steps.specs.declared.next.Next.{Next}
 use Rattle.worker_steps.specs.declared.next.Next.TheVariants.{Play, Mark, Push, Stop, Pop, Log as Write, Image}
 
 -- ---- the mutator
+
+-- the next batch was taken, and run or refused, or there was none
+abbrev pub MayPlay : (go stuck : Type 0) → (old new : Playing) → Type 0
+MayPlay go stuck old new = (new ≡ old) ⊎ ((asked : AskedBatch) × (given : Result (Unit {0}) Refusal) × Plays go stuck old asked given new)
 
 -- no round was opened, or one whose switch is owed
 abbrev pub MayOpen : (old new : Playing) → Type 0
@@ -81,9 +86,8 @@ ImageGoes gate called faults old new =
 -- one worker makes the step, and the others stay as they are
 abbrev pub Makes : {D A B C : Type 0} → (of_play : A → Place → Pass → A → Type 0) → (of_images : B → Place → Pass → B → Type 0) → (of_log : C → Place → Pass → C → Type 0)
     → (called : D → Call → Bool → D → Type 0) → (faults : D → ℕ) → Next → (old new : Started D) → Type 0
-Makes of_play of_images of_log called faults (Play ask) old new =
-    (new ≡ record old { mutator = new.mutator })
-    × ((given : Result (Unit {0}) Refusal) × RunsBatch (MayGo of_play Tick) (MayStick of_play Tick) old.mutator ask given new.mutator)
+Makes of_play of_images of_log called faults Play old new =
+    (new ≡ record old { mutator = new.mutator }) × MayPlay (MayGo of_play Tick) (MayStick of_play Tick) old.mutator new.mutator
 Makes of_play of_images of_log called faults Mark old new = (new ≡ record old { mutator = new.mutator }) × MayOpen old.mutator new.mutator
 Makes of_play of_images of_log called faults Push old new = (new ≡ record old { mutator = new.mutator }) × Pays old.mutator new.mutator
 Makes of_play of_images of_log called faults Stop old new = (new ≡ record old { mutator = new.mutator }) × StopsPlay old.mutator new.mutator

@@ -1,10 +1,8 @@
-use workers::Ask;
-
 /// The next step of a running world.
 #[derive(Drop)]
 pub enum Next {
-    /// The mutator runs a batch, and owes its tick.
-    Play(Ask),
+    /// The mutator takes the next batch, if there is one. It runs it, and owes its tick.
+    Play,
     /// The mutator opens a round, if one is due, and owes its switch.
     Mark,
     /// The mutator pushes the item that it owes. A server's mutator does this before it does anything else.

@@ -1,25 +1,22 @@
 //! A step of one worker, whatever state it is in.
-ghost use Rattle.std.specs.Prelude.{Result};
-ghost use Rattle.world_actions.specs.declared.refusal.Refusal.{Refusal};
 ghost use Rattle.workers.specs.declared.gate.Place.TheVariants.{Tick};
 ghost use Rattle.workers.specs.Gates.{MayGo, MayStick};
 ghost use Rattle.workers.specs.Imaging.{KeepsBack};
-ghost use Rattle.workers.specs.Mutating.{RunsBatch, Pays, StopsPlay};
+ghost use Rattle.workers.specs.Mutating.{Pays, StopsPlay};
 ghost use Rattle.worker_steps.specs.Kept.{KeepsFront, KeepsLog};
-ghost use Rattle.worker_steps.specs.Running.{MayOpen, MayPop, LogGoes, ImageGoes};
+ghost use Rattle.worker_steps.specs.Running.{MayPlay, MayOpen, MayPop, LogGoes, ImageGoes};
 
 use disk_model::Disk;
 use shared_capture::Method;
 use std::sync::Wait;
-use workers::{Ask, Checkpointer, Gate, LogWriter, Mutator};
+use workers::{Checkpointer, Gate, LogWriter, Mutator};
 
-/// Runs a batch, and owes its tick.
-pub fn play<R: Wait, M: Method, G: Gate + Drop>(rt: &R, mutator: &mut Mutator<M, G>, ask: Ask)
+/// Runs the next batch, if there is one, and owes its tick.
+pub fn play<R: Wait, M: Method, G: Gate + Drop>(rt: &R, mutator: &mut Mutator<M, G>)
     ensures keeps { KeepsFront mutator.old mutator.new }
-    ensures made { (given : Result (Unit {0}) Refusal)
-        × RunsBatch (MayGo G.told Tick) (MayStick G.told Tick) mutator.old ask given mutator.new }
+    ensures made { MayPlay (MayGo G.told Tick) (MayStick G.told Tick) mutator.old mutator.new }
 {
-    let _ = mutator.run_batch(rt, ask);
+    let _ = mutator.run_next(rt);
 }
 
 /// Opens a round, if one is due, and owes its switch.

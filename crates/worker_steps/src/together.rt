@@ -1,5 +1,6 @@
 //! The workers of a world in one thread, a step of one of them at a time.
 ghost use Rattle.std.specs.Prelude.{◌≡◌, ◌≤◌, IsTrue, IfOk};
+ghost use Rattle.workers.specs.AskOrder.{AreInTurn, asks_of};
 ghost use Rattle.workers.specs.Channel.{AreOneChannel};
 ghost use Rattle.workers.specs.Imaging.{KeepsBack, IsAtRest as IsResting};
 ghost use Rattle.workers.specs.Logging.{IsAtRest};
@@ -17,7 +18,7 @@ use disk_model::Disk;
 use shared_capture::Method;
 use std::alloc::{AllocError, Global};
 use std::sync::Wait;
-use workers::{Checkpointer, Gate, LogWriter, Mutator, meet_workers, open};
+use workers::{AskReceiver, Checkpointer, Gate, LogWriter, Mutator, meet_workers, open};
 
 /// The workers of a world. A server gives each a thread. Here they make their steps in one thread.
 #[derive(Drop)]
@@ -38,17 +39,19 @@ impl<M: Method, D: Disk + Drop, A: Gate + Drop, B: Gate + Drop, C: Gate + Drop> 
     B,
     C,
 > {
-    /// The workers of a world as they begin. A round is due after every `every` ticks.
+    /// The workers of a world as they begin. The mutator takes these asks. A round is due after every `every` ticks.
     pub fn begin<R: Wait>(
         rt: &R,
         alloc: Global,
         gates: Gates<A, B, C>,
         opened: Opened<M, D>,
+        asks: AskReceiver,
         every: u32,
     ) -> Result<Self, AllocError>
         requires { IsWhole D.honest D.content opened.front opened.back opened.images opened.log opened.ended }
         ensures begun { IfOk result (λ made. IsBegun opened.front opened.back opened.images opened.log opened.ended every
             (record { mutator = made.mutator; checkpointer = made.checkpointer; log_writer = made.log_writer })) }
+        ensures asks { IfOk result (λ made. made.mutator.asks ≡ asks) }
         ensures images_rest { IfOk result (λ made. IsResting made.checkpointer.images.keeper made.checkpointer.back) }
         ensures log_rests { IfOk result (λ made. IsAtRest made.log_writer) }
     {
@@ -71,7 +74,7 @@ impl<M: Method, D: Disk + Drop, A: Gate + Drop, B: Gate + Drop, C: Gate + Drop> 
             images: (out, told),
             down: (told_down, heard),
         } = signals;
-        let mutator = Mutator::new(mutator, alloc, front, to, ended, every, bell, heard);
+        let mutator = Mutator::new(mutator, alloc, asks, front, to, ended, every, bell, heard);
         let checkpointer = Checkpointer::new(checkpointer, back, out, images, rung);
         let log_writer = LogWriter::new(alloc, log_writer, from, told, log, told_down, ended)?;
         Ok(Together {
@@ -89,6 +92,7 @@ impl<M: Method, D: Disk + Drop, A: Gate + Drop, B: Gate + Drop, C: Gate + Drop> 
             × Meets mid (record { mutator = self.new.mutator; checkpointer = self.new.checkpointer; log_writer = self.new.log_writer }) }
         ensures sound { IsTrue D.honest → AreSound D.content D.may_leave self.new.mutator self.new.checkpointer self.new.log_writer }
         ensures posted { self.new.log_writer.answers.posted ≤ acknowledged_by self.new.checkpointer self.new.log_writer }
+        ensures in_turn { AreInTurn (asks_of self.new.mutator.to.items) }
         ensures mutator { KeepsFront self.old.mutator self.new.mutator }
         ensures checkpointer { KeepsBack self.old.checkpointer self.new.checkpointer }
         ensures log_writer { KeepsLog self.old.log_writer self.new.log_writer }
@@ -121,7 +125,7 @@ impl<M: Method, D: Disk + Drop, A: Gate + Drop, B: Gate + Drop, C: Gate + Drop> 
         ensures log_writer { KeepsLog self.old.log_writer self.new.log_writer }
     {
         match next {
-            Next::Play(ask) => play(rt, &mut self.mutator, ask),
+            Next::Play => play(rt, &mut self.mutator),
             Next::Mark => mark(&mut self.mutator),
             Next::Push => push(rt, &mut self.mutator),
             Next::Stop => stop(rt, &mut self.mutator),
@@ -135,6 +139,7 @@ impl<M: Method, D: Disk + Drop, A: Gate + Drop, B: Gate + Drop, C: Gate + Drop> 
     fn meet(&mut self)
         ensures sound { IsTrue D.honest → AreSound D.content D.may_leave self.new.mutator self.new.checkpointer self.new.log_writer }
         ensures posted { self.new.log_writer.answers.posted ≤ acknowledged_by self.new.checkpointer self.new.log_writer }
+        ensures in_turn { AreInTurn (asks_of self.new.mutator.to.items) }
         ensures meets { Meets (record { mutator = self.old.mutator; checkpointer = self.old.checkpointer; log_writer = self.old.log_writer })
             (record { mutator = self.new.mutator; checkpointer = self.new.checkpointer; log_writer = self.new.log_writer }) }
         ensures mutator { KeepsFront self.old.mutator self.new.mutator }
@@ -150,8 +155,9 @@ impl<M: Method, D: Disk + Drop, A: Gate + Drop, B: Gate + Drop, C: Gate + Drop> 
     }
 }
 
-/// Runs a world by these steps of its workers, whatever the steps are. Recovery after a crash then gives the world after the
-/// ticks with which the workers began and the first of those that were played. No acknowledged tick is lost.
+/// Runs a world by these steps of its workers, whatever the steps are. The mutator takes these asks. Recovery after a crash
+/// then gives the world after the ticks with which the workers began and the first of those that were played. No
+/// acknowledged tick is lost.
 pub fn run_world<
     R: Wait,
     M: Method,
@@ -164,6 +170,7 @@ pub fn run_world<
     alloc: Global,
     gates: Gates<A, B, C>,
     opened: Opened<M, D>,
+    asks: AskReceiver,
     every: u32,
     steps: Vec<Next>,
 ) -> Result<Together<M, D, A, B, C>, AllocError>
@@ -174,7 +181,7 @@ pub fn run_world<
     ensures posted { IfOk result (λ world.
         world.log_writer.answers.posted ≤ acknowledged_by world.checkpointer world.log_writer) }
 {
-    let mut world = Together::begin(rt, alloc, gates, opened, every)?;
+    let mut world = Together::begin(rt, alloc, gates, opened, asks, every)?;
     world.run(rt, steps);
     Ok(world)
 }

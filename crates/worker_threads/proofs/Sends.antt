@@ -12,6 +12,7 @@ use Rattle.shared_capture.specs.declared.method.Method as method
 use Rattle.disk_model.specs.declared.disk.Disk as disk
 use Rattle.workers.specs.declared.gate.Gate as gate
 use Rattle.world_ticks.specs.contracts.tick.Tick as Tick
+use Rattle.workers.specs.contracts.ask_channel.AskReceiver as AskReceiver
 use Rattle.workers.specs.contracts.item_channel.ItemSender as ItemSender
 use Rattle.workers.specs.contracts.item_channel.ItemReceiver as ItemReceiver
 use Rattle.workers.specs.contracts.mutator.Mutator as Mutator
@@ -26,11 +27,11 @@ use Rattle.std.specs.contracts.alloc.Global as Heap
 use Rattle.std.specs.contracts.impls.GlobalAllocator.TheImpl.{ghosts}
 
 pub mutator_sends : (M G : RattleType) (m : method.Ghosts M.Denot) (h : gate.Ghosts G.Denot)
-    → IsSend G → IsSend (Front.the_row M m) → IsSend ItemSender.the_row → IsSend CoverIn.the_row → IsSend Tick.the_row → IsSend Waiting.the_row → IsSend (Mutator.the_row M G m h)
-mutator_sends M G m h gates front to heard tick waiting =
+    → IsSend G → IsSend AskReceiver.the_row → IsSend (Front.the_row M m) → IsSend ItemSender.the_row → IsSend CoverIn.the_row → IsSend Tick.the_row → IsSend Waiting.the_row → IsSend (Mutator.the_row M G m h)
+mutator_sends M G m h gates asks front to heard tick waiting =
     let T = Mutator.TheInside.the_type M G m h in
     view_send (Mutator.TheInside.the_row M G m h) _ _ _ _ (recorded_send (Struct (shape T)) T.D T.to T.to_one (struct_send (shape T)
-    (gates, (search (sendable, crosses) depth 60 fits 20000, (front, (to, (search (sendable, crosses) depth 60 fits 20000, (search (sendable, crosses) depth 60 fits 20000, (heard, (search (sendable, crosses) depth 60 fits 20000, (search (sendable, crosses) depth 60 fits 20000, (search (sendable, crosses) depth 60 fits 20000, (search (sendable, crosses) depth 60 fits 20000, (search (sendable, crosses) depth 60 fits 20000, tt))))))))))))))
+    (gates, (search (sendable, crosses) depth 60 fits 20000, (asks, (front, (to, (search (sendable, crosses) depth 60 fits 20000, (search (sendable, crosses) depth 60 fits 20000, (heard, (search (sendable, crosses) depth 60 fits 20000, (search (sendable, crosses) depth 60 fits 20000, (search (sendable, crosses) depth 60 fits 20000, (search (sendable, crosses) depth 60 fits 20000, (search (sendable, crosses) depth 60 fits 20000, tt)))))))))))))))
 
 publisher_sends : IsSend CoverOut.the_row → IsSend Publisher.the_row
 publisher_sends covers =

@@ -2,7 +2,6 @@
 //! `start_world` opens a world for them that was recovered from its four files.
 #![tactic(auto)]
 
-mod asked;
 mod cuts;
 mod meeting;
 mod promises;

@@ -2,7 +2,6 @@
 ghost use Rattle.std.specs.Prelude.{◌≡◌, false};
 ghost use Rattle.worker_threads.specs.Kept.{StopsFront, MayTake, StopsBack, MayWrite, StopsLog};
 
-use crate::asked::Asked;
 use crate::watch::{TickWatch, Watch};
 use crate::work::Work;
 use disk_model::Disk;
@@ -15,22 +14,16 @@ use workers::{Checkpointer, Gate, LogWriter, Mutator};
 fn play_batches<R: Wait, M: Method, G: Gate + Drop, W: TickWatch>(
     rt: &R,
     watch: &mut W,
-    asked: Asked,
     mut mutator: Mutator<M, G>,
 ) -> Mutator<M, G>
     ensures { StopsFront mutator result }
 {
     for _ in rt.forever() {
-        match asked.next(rt) {
-            Some(ask) => {
-                let _ = mutator.turn(rt, ask);
-                watch.ticks_ended(mutator.ended());
-            }
-            None => {
-                mutator.stop(rt);
-                return mutator;
-            }
+        if mutator.turn(rt).is_none() {
+            mutator.stop(rt);
+            return mutator;
         }
+        watch.ticks_ended(mutator.ended());
     }
     unreachable!()
 }
@@ -80,7 +73,7 @@ fn write_log<R: Wait, D: Disk + Drop, G: Gate + Drop, W: Watch<D>>(
     log_writer
 }
 
-impl<M: Method, G: Gate + Drop, W: TickWatch + Drop> Work<(Asked, W)> for Mutator<M, G> {
+impl<M: Method, G: Gate + Drop, W: TickWatch + Drop> Work<W> for Mutator<M, G> {
     ghost use Rattle.std.specs.Prelude.{⊤};
     ghost use Rattle.worker_threads.specs.Kept.{StopsFront};
 
@@ -88,9 +81,8 @@ impl<M: Method, G: Gate + Drop, W: TickWatch + Drop> Work<(Asked, W)> for Mutato
 
     ghost ended = { StopsFront };
 
-    fn work<R: Wait>(self, rt: &R, with: (Asked, W)) -> Self {
-        let (asked, mut watch) = with;
-        play_batches(rt, &mut watch, asked, self)
+    fn work<R: Wait>(self, rt: &R, mut watch: W) -> Self {
+        play_batches(rt, &mut watch, self)
     }
 }
 

@@ -1,12 +1,12 @@
 //! The start and the stop of a world's workers, and their ends.
 ghost use Rattle.std.specs.Prelude.{◌≡◌, true, IfOk};
 ghost use Rattle.std.specs.Thread.{IsSend};
+ghost use Rattle.workers.specs.AskChannel.{AreOneAskChannel};
 ghost use Rattle.workers.specs.Channel.{AreOneChannel};
 ghost use Rattle.worker_steps.specs.Stopped.{acknowledged_by};
 ghost use Rattle.worker_steps.specs.Begun.{IsWhole, IsBegun};
 ghost use Rattle.worker_threads.specs.Kept.{MayTake, MayWrite, StopsFront, StopsBack, StopsLog};
 
-use crate::asked::Asked;
 use crate::promises::{SameCheckpointer, SameLogWriter, SameMutator};
 use crate::watch::{TickWatch, Watch};
 use crate::work::spawn;
@@ -21,7 +21,8 @@ use std::sync::Wait;
 use std::thread::{PromisedHandle, Threads};
 use worker_steps::{Gates, Opened, Together};
 use workers::{
-    AskChannel, Checkpointer, Gate, ItemReceiver, ItemSender, LogWriter, Looks, Mutator, Waiting,
+    AskChannel, AskReceiver, Checkpointer, Gate, ItemReceiver, ItemSender, LogWriter, Looks,
+    Mutator, Waiting,
 };
 use world_ticks::Tick;
 
@@ -126,18 +127,20 @@ pub fn start<
     looks: Looks,
 ) -> Result<(Workers<M, D, A, B, C>, AskChannel), NotStarted>
     requires { IsWhole D.honest D.content opened.front opened.back opened.images opened.log opened.ended }
-    ensures { IfOk result (λ made. IsBegun opened.front opened.back opened.images opened.log opened.ended every made.0) }
+    ensures begun { IfOk result (λ made. IsBegun opened.front opened.back opened.images opened.log opened.ended every made.0) }
+    ensures asks { IfOk result (λ made. AreOneAskChannel made.0.mutator.asks.end made.1.end) }
+    ensures sessions { IfOk result (λ made. made.1.next ≡ 0) }
 {
-    let (sessions, asks) = AskChannel::open(alloc)?;
+    let (sessions, mut asks) = AskChannel::open(alloc)?;
     let looks_too = looks.clone()?;
+    asks.look_by(looks);
     let Together {
         mutator,
         checkpointer,
         mut log_writer,
-    } = Together::begin(rt, alloc, gates, opened, every)?;
+    } = Together::begin(rt, alloc, gates, opened, asks, every)?;
     log_writer.look_by(looks_too);
-    let asked = Asked { asks, looks };
-    let workers = start_threads(rt, watch, asked, mutator, checkpointer, log_writer)?;
+    let workers = start_threads(rt, watch, mutator, checkpointer, log_writer)?;
     Ok((workers, sessions))
 }
 
@@ -153,7 +156,6 @@ fn start_threads<
 >(
     rt: &R,
     watch: W,
-    asked: Asked,
     mutator: Mutator<M, A>,
     checkpointer: Checkpointer<M, D, B>,
     log_writer: LogWriter<D, C>,
@@ -168,7 +170,7 @@ fn start_threads<
 {
     let watch_too = watch.clone()?;
     let log_writer = start_log_writer(rt, watch_too, log_writer)?;
-    match start_players(rt, watch, asked, mutator, checkpointer) {
+    match start_players(rt, watch, mutator, checkpointer) {
         Ok((mutator, checkpointer)) => Ok(Workers {
             mutator,
             checkpointer,
@@ -192,7 +194,6 @@ fn start_players<
 >(
     rt: &R,
     watch: W,
-    asked: Asked,
     mutator: Mutator<M, A>,
     checkpointer: Checkpointer<M, D, B>,
 ) -> Result<Players<M, D, A, B>, NotStarted>
@@ -202,7 +203,7 @@ fn start_players<
 {
     let watch_too = watch.clone()?;
     let checkpointer = start_checkpointer(rt, watch_too, checkpointer)?;
-    match start_mutator(rt, watch, asked, mutator) {
+    match start_mutator(rt, watch, mutator) {
         Ok(mutator) => Ok((mutator, checkpointer)),
         Err(error) => {
             checkpointer.join(rt);
@@ -224,18 +225,18 @@ fn start_mutator<
 >(
     rt: &R,
     watch: W,
-    asked: Asked,
     mutator: Mutator<M, G>,
 ) -> Result<PromisedHandle<Mutator<M, G>, SameMutator<M, G>>, NotStarted>
     ensures { IfOk result (λ handle. handle.promise.0.value ≡ mutator) }
 {
+    crosses::<AskReceiver>();
     crosses::<Front<M>>();
     crosses::<ItemSender>();
     crosses::<CoverIn>();
     crosses::<Tick>();
     crosses::<Waiting>();
     let same = SameMutator(Snapshot::of(&mutator));
-    spawn(rt, same, (asked, watch), mutator)
+    spawn(rt, same, watch, mutator)
 }
 
 fn start_checkpointer<

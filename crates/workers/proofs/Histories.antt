@@ -15,10 +15,14 @@ use Rattle.workers.specs.declared.item.Item.{Item}
 use Rattle.workers.specs.declared.item.Ended.{Ended}
 use Rattle.workers.specs.declared.item.Item.TheVariants.{Start, Tick, Switch, Stop}
 use Rattle.workers.specs.Items.{Goes, items_end, end_after}
+use Rattle.workers.specs.Posts.{AskedBatch}
+use Rattle.workers.specs.AskOrder.{PlaysInTurn}
+use Rattle.workers.specs.AskChannel.{Taking}
 use Rattle.workers.specs.Channel.{Pushing, with_refusal}
 use Rattle.workers.specs.Worlds.{World, after_item, Leads, begun, world_of, IsUnchanged, AreUnchanged, IsLate, History, Counts}
-use Rattle.workers.specs.Mutating.{Playing, Owes, IsMutator}
+use Rattle.workers.specs.Mutating.{Playing, Owes, IsTaken, IsMutator}
 use Rattle.workers.proofs.Numbers.{end_more}
+use Rattle.workers.proofs.PlayedAsks.{plays_tick, plays_switch, plays_stop, plays_none}
 
 pub leads_snoc : (w : World) (items : List Item) (mid : World) (x : Item) (v : World) → Leads w items mid → after_item mid x v → Leads w (items ++ x ∷ []) v
 leads_snoc w [] mid x v lead after = (v, subst (λ (u : World). after_item u x v) lead after, refl)
@@ -78,11 +82,11 @@ up_to_more base most rounds r le known this = All-push (λ (s : Round). s.tick �
 
 module _ (m : Playing) (front : FrontState) (heard : CoverState) (is : IsMutator m) (up : m.down ≡ false) where
   -- a batch was run, whose tick is owed
-  pub owes_tick : (ended : Ended) (requests : List Request) → SameRounds m.front front → ended.tick.list ≡ accepted_of requests m.front.live
+  pub owes_tick : (ended : Ended) (asked : AskedBatch) (requests : List Request) → ended.answer.asked ≡ asked → IsTaken m asked → SameRounds m.front front → ended.tick.list ≡ accepted_of requests m.front.live
       → ended.answer.text ≡ answer requests m.front.live ended.answer.number → ended.answer.number ≡ m.ended + 1 → front.live ≡ words_after requests m.front.live
       → (m.ended < TICK_MAX) × (m.since < SEGMENT_TICKS) → (HasFlags m.front → KeepsUntouched m.front front)
       → IsMutator (record m { front = front; heard = heard; down = true; owed = Some (Tick ended) })
-  owes_tick ended requests same tick text number words room keeps =
+  owes_tick ended asked requests own taken same tick text number words room keeps =
       let h = is.history in
       let counts = is.counts in
       let now = leads_now m.opening m.to.items m.down m.front h up in record {
@@ -94,6 +98,7 @@ module _ (m : Playing) (front : FrontState) (heard : CoverState) (is : IsMutator
           rounds = same.1 ∙ h.rounds;
           all_told = λ no. absurd (cc);
         };
+        in_turn = is.in_turn;
         counts = counts;
         rising = λ no. absurd (cc);
         most = is.most;
@@ -103,6 +108,7 @@ module _ (m : Playing) (front : FrontState) (heard : CoverState) (is : IsMutator
           stopped = refl;
           goes = (omega (arith, counts.count, room.1), omega (arith, counts.all, counts.count, room.0), omega (arith, counts.all, counts.count, number));
           leads = leads_snoc (begun m.opening) m.to.items (world_of m.front) (Tick ended) (world_of front) now (requests, record { tick = tick; text = text; words = words; rounds = same.1 });
+          in_turn = plays_tick m.asks.taken m.to.items ended asked own taken.0 taken.1 is.in_turn;
           rising = subst (UpTo (items_end m.to.items).base) (sym same.1) (is.rising up);
         };
       }
@@ -126,6 +132,7 @@ module _ (m : Playing) (front : FrontState) (heard : CoverState) (is : IsMutator
           rounds = refl;
           all_told = λ no. absurd (cc);
         };
+        in_turn = is.in_turn;
         counts = counts;
         rising = λ no. absurd (cc);
         most = is.most;
@@ -135,6 +142,7 @@ module _ (m : Playing) (front : FrontState) (heard : CoverState) (is : IsMutator
           stopped = refl;
           goes = switch_goes some;
           leads = leads;
+          in_turn = plays_switch m.asks.taken m.to.items m.ended is.in_turn;
           rising = subst (UpTo m.ended) (sym rounds)
               (up_to_more (items_end m.to.items).base m.ended m.front.rounds (round m.ended m.front.live m.front.touched) (omega (arith, counts.all)) (is.rising up) (omega arith));
         };
@@ -174,6 +182,7 @@ module _ (m : Playing) (to : Pushing) (is : IsMutator m) (owed : Option Item) (n
       let last : items_end to.items ≡ end_after (items_end m.to.items) (Tick ended) = ap items_end pushed ∙ end_more m.to.items (Tick ended) in
       let counts = is.counts in record {
         history = told_paid (Tick ended) owes pushed;
+        in_turn = subst (PlaysInTurn m.asks.taken) (sym pushed) owes.in_turn;
         counts = subst (λ (e : QueueEnd). Counts e (m.ended + 1) (m.since + 1)) (sym last) (record { count = ap (λ k. k + 1) counts.count; all = omega (arith, counts.all) });
         rising = λ _. subst (λ (e : QueueEnd). UpTo e.base m.front.rounds) (sym last) owes.rising;
         most = omega (arith, owes.goes.1, counts.all, counts.count);
@@ -188,6 +197,7 @@ module _ (m : Playing) (to : Pushing) (is : IsMutator m) (owed : Option Item) (n
       let last : items_end to.items ≡ end_after (items_end m.to.items) (Switch number) = ap items_end pushed ∙ end_more m.to.items (Switch number) in
       let counts = is.counts in record {
         history = told_paid (Switch number) owes pushed;
+        in_turn = subst (PlaysInTurn m.asks.taken) (sym pushed) owes.in_turn;
         counts = subst (λ (e : QueueEnd). Counts e m.ended 0) (sym last) (record { count = refl; all = omega (arith, owes.goes.0, counts.all, counts.count) });
         rising = λ _. subst (λ (e : QueueEnd). UpTo e.base m.front.rounds) (sym last) owes.rising;
         most = is.most;
@@ -200,6 +210,7 @@ module _ (m : Playing) (to : Pushing) (is : IsMutator m) (owed : Option Item) (n
   pub unpaid : to ≡ with_refusal m.to → IsMutator (record m { to = to; owed = owed })
   unpaid refused = subst (λ (t : Pushing). IsMutator (record m { to = t; owed = owed })) (sym refused) (record {
     history = is.history;
+    in_turn = is.in_turn;
     counts = is.counts;
     rising = is.rising;
     most = is.most;
@@ -214,9 +225,9 @@ last_owed w [] number v lead = (w.rounds, round number w.words lead.1.1.0, ap (�
 last_owed w (x ∷ items) number v lead = last_owed lead.0 items number v lead.2
 
 -- a mutator of a world whose start has ended
-pub begins : (front : FrontState) (to : Pushing) (heard : CoverState) (opening : List ℕ) (tick every : ℕ) → front.rounds ≡ [] → to.items ≡ Start tick ∷ [] → opening ≡ front.live → tick ≤ TICK_MAX → HasFlags front
-    → IsMutator (record { front = front; to = to; heard = heard; opening = opening; ended = tick; since = 0; every = every; down = false; owed = None })
-begins front to heard opening tick every none start words numbered flags = record {
+pub begins : (asks : Taking) (front : FrontState) (to : Pushing) (heard : CoverState) (opening : List ℕ) (tick every : ℕ) → front.rounds ≡ [] → to.items ≡ Start tick ∷ [] → opening ≡ front.live → tick ≤ TICK_MAX → HasFlags front
+    → IsMutator (record { asks = asks; front = front; to = to; heard = heard; opening = opening; ended = tick; since = 0; every = every; down = false; owed = None })
+begins asks front to heard opening tick every none start words numbered flags = record {
   history = record {
     late = [];
     is_late = inl refl;
@@ -225,6 +236,7 @@ begins front to heard opening tick every none start words numbered flags = recor
     rounds = none;
     all_told = λ _. (refl, λ i. record { words = words i; rounds = sym none i });
   };
+  in_turn = subst (PlaysInTurn asks.taken) (sym start) (plays_none asks.taken tick);
   counts = subst (λ (l : List Item). Counts (items_end l) tick 0) (sym start) (record { count = refl; all = omega arith });
   rising = λ _. subst (UpTo (items_end to.items).base) (sym none) (All-nil (λ (r : Round). r.tick ≤ (items_end to.items).base));
   most = numbered;
@@ -250,6 +262,7 @@ owes_stop m to pushed (Some item) owes =
       stopped = owes.stopped;
       goes = subst (λ (e : QueueEnd). Goes e item) (sym last) owes.goes;
       leads = subst (λ (l : List Item). Leads (begun m.opening) (l ++ item ∷ []) (world_of m.front)) (sym pushed) (leads_stop (begun m.opening) m.to.items (item ∷ []) (world_of m.front) owes.leads);
+      in_turn = subst (λ (l : List Item). PlaysInTurn m.asks.taken (l ++ item ∷ [])) (sym pushed) (plays_stop m.asks.taken m.to.items (item ∷ []) owes.in_turn);
       rising = subst (λ (e : QueueEnd). UpTo (end_after e item).base m.front.rounds) (sym last) owes.rising;
     }
 
@@ -265,6 +278,7 @@ told_stop m to is pushed =
         rounds = h.rounds;
         all_told = h.all_told;
       };
+      in_turn = subst (PlaysInTurn m.asks.taken) (sym pushed) (subst (PlaysInTurn m.asks.taken) (append-nil (m.to.items ++ Stop ∷ [])) (plays_stop m.asks.taken m.to.items [] (subst (PlaysInTurn m.asks.taken) (sym (append-nil m.to.items)) is.in_turn)));
       counts = subst (λ (e : QueueEnd). Counts e m.ended m.since) (sym last) is.counts;
       rising = λ up. subst (λ (e : QueueEnd). UpTo e.base m.front.rounds) (sym last) (is.rising up);
       most = is.most;

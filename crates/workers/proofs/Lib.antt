@@ -1,5 +1,8 @@
 pub mod Numbers
 mod Orders
+mod AskOrders
+mod AskSides
+mod PlayedAsks
 mod Same
 mod Sides
 pub mod Histories

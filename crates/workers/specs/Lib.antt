@@ -7,6 +7,8 @@ pub mod Worlds
 pub mod Mutating
 pub mod Answering
 pub mod Asking
+pub mod AskOrder
+pub mod AskChannel
 pub mod Covering
 pub mod Logging
 pub mod Publishing

@@ -1,5 +1,5 @@
 -- The mutator as contracts see it, and the effect of its turn.
-use Rattle.std.specs.Prelude.{◌≡◌, ◌⊎◌, ℕ, ◌+◌, ◌<◌, ◌≤◌, Bool, true, false, List, [], ◌∷◌, ◌++◌, All, Option, Some, None, IfSome, MatchOption, Result, MatchResult}
+use Rattle.std.specs.Prelude.{◌≡◌, ◌⊎◌, ℕ, ◌+◌, ◌<◌, ◌≤◌, Bool, true, false, List, [], ◌∷◌, ◌++◌, All, Contains, Option, Some, None, IfSome, MatchOption, Result, MatchResult}
 use Rattle.world_actions.specs.declared.refusal.Refusal.{Refusal}
 use Rattle.world_actions.specs.declared.refusal.Refusal.TheVariants.{LogDown, Busy}
 use Rattle.world_ticks.specs.declared.tick.TheConstants.{TICK_MAX}
@@ -11,14 +11,17 @@ use Rattle.workers.specs.declared.item.Item.{Item}
 use Rattle.workers.specs.declared.item.Item.TheVariants.{Tick, Switch, Stop}
 use Rattle.workers.specs.Items.{Goes, end_after, items_end}
 use Rattle.workers.specs.Posts.{AskedBatch}
+use Rattle.workers.specs.AskOrder.{asks_of, IsBefore, PlaysInTurn}
+use Rattle.workers.specs.AskChannel.{Taking, with_ask}
 use Rattle.workers.specs.Channel.{Pushing, with_item, with_refusal}
 use Rattle.workers.specs.Covering.{loaded}
 use Rattle.workers.specs.Worlds.{Leads, begun, AreUnchanged, History, Counts, RanBatch, IsRefusedTick, world_of}
 
--- Its front, its end of the channel, and the word by which it hears that the log is down. The words that it began with. How
--- many ticks ended, how many of them since the last switch or start, and after how many a round is due. Its flag that it has
--- stopped, and the item that it owes, if any.
+-- Its ends of the channels of asks and of items, its front, and the word by which it hears that the log is down. The words
+-- that it began with. How many ticks ended, how many of them since the last switch or start, and after how many a round is
+-- due. Its flag that it has stopped, and the item that it owes, if any.
 pub record Playing : Type 0 where
+  pub asks : Taking
   pub front : FrontState
   pub to : Pushing
   pub heard : CoverState
@@ -34,13 +37,15 @@ pub record Owes (m : Playing) (item : Item) : Type 0 where
   pub stopped : m.down ≡ true
   pub goes : Goes (items_end m.to.items) item
   pub leads : Leads (begun m.opening) (m.to.items ++ item ∷ []) (world_of m.front)
+  pub in_turn : PlaysInTurn m.asks.taken (m.to.items ++ item ∷ [])
   pub rising : All (λ (r : Round). r.tick ≤ (end_after (items_end m.to.items) item).base) m.front.rounds
 
--- The pushed items state what its front did, and its counts are those of the pushed items. Unless it has stopped, each round
--- is of a tick up to the last switch. In each round, and in one that is marked now, the untouched cells have the words of
--- the round before.
+-- The pushed items state what its front did, and its counts are those of the pushed items. Each session's batches were played
+-- once, in its order. Unless it has stopped, each round is of a tick up to the last switch. In each round, and in one that is
+-- marked now, the untouched cells have the words of the round before.
 pub record IsMutator (m : Playing) : Type 0 where
   pub history : History m.opening m.to.items m.down m.front
+  pub in_turn : PlaysInTurn m.asks.taken m.to.items
   pub counts : Counts (items_end m.to.items) m.ended m.since
   pub rising : m.down ≡ false → All (λ (r : Round). r.tick ≤ (items_end m.to.items).base) m.front.rounds
   pub most : m.ended ≤ TICK_MAX
@@ -90,6 +95,14 @@ MarksIfDue old new = ((new ≡ old) × ((old.down ≡ true) ⊎ IsEarly old)) �
 
 -- ---- a batch
 
+-- this batch was taken
+abbrev pub TakesAsk : Playing → AskedBatch → Playing → Type 0
+TakesAsk old asked new = new ≡ record old { asks = with_ask old.asks asked }
+
+-- This batch was taken last, and no tick is of it, or of a later one of its session.
+abbrev pub IsTaken : Playing → AskedBatch → Type 0
+IsTaken m asked = Contains m.asks.taken asked × All (λ (earlier : AskedBatch). IsBefore earlier asked) (asks_of m.to.items)
+
 -- this batch was run as the next tick, and the answer is for this very batch
 pub record Runs (old : Playing) (asked : AskedBatch) (ended : Ended) (front : FrontState) : Type 0 where
   pub number : ended.answer.number ≡ old.ended + 1
@@ -131,6 +144,12 @@ AnswersBatch go stuck old asked given new = MatchResult given (λ _. go × (old.
 abbrev pub RunsBatch : (go stuck : Type 0) → Playing → AskedBatch → Result (Unit {0}) Refusal → Playing → Type 0
 RunsBatch go stuck old asked given new = MatchResult given (λ _. go × (old.down ≡ false) × OwesTick old asked new) (λ reason. RefusesBatch stuck old reason new)
 
+-- the next batch was taken, and run or refused
+pub record Plays (go stuck : Type 0) (old : Playing) (asked : AskedBatch) (given : Result (Unit {0}) Refusal) (new : Playing) : Type 0 where
+  pub taken : Playing
+  pub takes : TakesAsk old asked taken
+  pub runs : RunsBatch go stuck taken asked given new
+
 -- ---- the owed item
 
 -- this item was pushed and counts, or its push was refused; it is owed no more
@@ -149,11 +168,13 @@ Pays old new = MatchOption old.owed (new ≡ old) (λ item. PaysItem old item ne
 
 -- ---- a turn
 
--- a batch, with a mark before it and after it if one is due
+-- the next batch was taken, and it was run or refused, with a mark before it and after it if one is due
 pub record Turns (go stuck : Type 0) (old : Playing) (asked : AskedBatch) (given : Result (Unit {0}) Refusal) (new : Playing) : Type 0 where
+  pub taken : Playing
   pub before : Playing
   pub after : Playing
-  pub marks_before : MarksIfDue old before
+  pub takes : TakesAsk old asked taken
+  pub marks_before : MarksIfDue taken before
   pub batch : AnswersBatch go stuck before asked given after
   pub marks_after : MarksIfDue after new
 

@@ -1,56 +1,20 @@
-//! The way of the batches from the sessions to the mutator.
-ghost use Rattle.std.specs.Prelude.{◌≡◌, ◌⊎◌, ◌+◌, IfOk, IfErr, OnOk, IfSome, IsNone, Ok, Err, Some, None};
+//! A session's end of the channel to the mutator.
+ghost use Rattle.std.specs.Prelude.{◌≡◌, ◌+◌, IfOk, IfErr, OnOk, Ok, Err, Some, None};
+ghost use Rattle.crossbeam_channel.specs.Claims.{view, IsSeatAt};
+ghost use Rattle.crossbeam_channel.specs.Ends.{sends_on};
+ghost use Rattle.workers.specs.declared.ask_rule.AskView.TheVariants.{Sends};
 ghost use Rattle.workers.specs.Posts.{Posted};
 ghost use Rattle.workers.specs.Asking.{IsAsked, IsUnsent, IsNewPost, IsFaultOf};
 
+use crate::ask_channel::AskSendEnd;
+use crate::ask_rule::{AskView, SendAsk};
 use crate::post::{Ask, Fault, Post, Reply};
 use crate::reply_slot::{AwaitedReply, ReplySender, ReplySlot};
 use batches::Batch;
-use crossbeam_channel::{Receiver, SendError, Sender, bounded};
-use std::alloc::{AllocError, Global};
+use crossbeam_channel::Pass;
+use std::marker::Model;
 use std::sync::Wait;
 use world_actions::Refusal;
-
-// How many batches may wait for the mutator. A session has one at a time. If there is no room, the session sleeps and the
-// mutator has to wake it, which takes longer than a batch.
-const ASKS: usize = 1_024;
-
-/// The sessions' end of the channel to the mutator. It gives each session its number: 0, 1 and so on.
-#[derive(Drop)]
-pub struct AskChannel {
-    requests: Sender<Ask>,
-    next: u64,
-}
-
-impl AskChannel {
-    /// A channel without a session, and the mutator's end of it.
-    pub fn open(alloc: Global) -> Result<(AskChannel, Receiver<Ask>), AllocError>
-        ensures { IfOk result (λ ends. ends.0.next ≡ 0) }
-    {
-        let (requests, asks) = bounded(alloc, ASKS)?;
-        Ok((AskChannel { requests, next: 0 }, asks))
-    }
-
-    /// The asker of the next session. `None` if there is no memory, or no number of 64 bits is left.
-    pub fn session(&mut self) -> Option<Asker>
-        ensures number { IfSome result (λ asker. (asker.session ≡ self.old.next) × (asker.asked ≡ 0) × (asker.posted ≡ 0)) }
-        ensures counts { IfSome result (λ asker. self.new.next ≡ self.old.next + 1) }
-        ensures unchanged { IsNone result → self.new ≡ self.old }
-    {
-        let next = self.next.checked_add(1)?;
-        let Ok(requests) = self.requests.clone() else {
-            return None;
-        };
-        let asker = Asker {
-            session: self.next,
-            asked: 0,
-            posted: 0,
-            requests,
-        };
-        self.next = next;
-        Some(asker)
-    }
-}
 
 /// A session's end of the channel. It numbers the session's asks: 1, 2 and so on.
 #[derive(Drop)]
@@ -59,10 +23,37 @@ pub struct Asker {
     asked: u64,
     /// The tick of its last post, or 0.
     posted: u64,
-    requests: Sender<Ask>,
+    end: AskSendEnd,
+    pass: Pass<Ask, AskView>,
+}
+
+impl Model for Asker {
+    ghost use Rattle.workers.specs.Asking.{AskerState};
+    ghost use Rattle.workers.specs.AskChannel.{IsSession};
+
+    ghost Value = { AskerState };
+
+    ghost view = { λ a. record { session = a.session; asked = a.asked; posted = a.posted } };
+
+    ghost invariant = { λ a. IsSession a.end a.pass a.session a.asked };
 }
 
 impl Asker {
+    // A session that has asked for nothing, on this end. The pass is of this session, and no other has its number.
+    pub(crate) fn begin(end: AskSendEnd, pass: Pass<Ask, AskView>, session: u64) -> Self
+        requires at { IsSeatAt (sends_on end.end) pass }
+        requires own { view pass ≡ Sends session 0 }
+        ensures { result ≡ record { session = session; asked = 0; posted = 0 } }
+    {
+        Asker {
+            session,
+            asked: 0,
+            posted: 0,
+            end,
+            pass,
+        }
+    }
+
     /// Sends this batch to the mutator, and waits for room if there is none. Its answer is made in this buffer, and its reply
     /// goes to this sender. Batch and buffer come back with the post.
     pub fn send<R: Wait>(
@@ -80,9 +71,9 @@ impl Asker {
         };
         self.asked = ask;
         let ask = Ask::new(self.session, ask, batch, buffer, to);
-        match self.requests.send(rt, ask) {
+        match self.end.end.send_as::<SendAsk, R>(rt, &mut self.pass, ask) {
             Ok(()) => Ok(()),
-            Err(error) => Err(self.fault(unsent_by(&error))),
+            Err(_) => Err(self.fault(Refusal::LogDown)),
         }
     }
 
@@ -135,15 +126,5 @@ impl Asker {
         ensures { result ≡ record { session = self.now.session; ask = self.now.asked; reason = reason } }
     {
         Fault::found(self.session, self.asked, reason)
-    }
-}
-
-// Why an ask isn't sent. The channel has its memory, so the mutator is gone.
-fn unsent_by(error: &SendError<Ask>) -> Refusal
-    ensures { (result ≡ Refusal.NoMemory) ⊎ (result ≡ Refusal.LogDown) }
-{
-    match error {
-        SendError::OutOfMemory(_) => Refusal::NoMemory,
-        SendError::Disconnected(_) => Refusal::LogDown,
     }
 }

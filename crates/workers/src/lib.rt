@@ -6,6 +6,8 @@
 //! held around the world. The workers meet once they have ended.
 #![tactic(auto)]
 
+mod ask_channel;
+mod ask_rule;
 mod asker;
 mod batch_run;
 mod channel_rule;
@@ -21,7 +23,9 @@ mod mutator;
 mod post;
 mod reply_slot;
 
-pub use asker::{AskChannel, Asker};
+pub use ask_channel::{AskChannel, AskReceiveEnd, AskReceiver, AskSendEnd};
+pub use ask_rule::{AskView, InTurn};
+pub use asker::Asker;
 pub use batch_run::play;
 pub use channel_rule::InOrder;
 pub use checkpointer::{Checkpointer, ImageWriter};

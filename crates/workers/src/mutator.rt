@@ -1,13 +1,16 @@
 //! The worker that runs the batches.
-ghost use Rattle.std.specs.Prelude.{◌≡◌, ◌++◌, ◌∷◌, [], ℕ, ◌≤◌, true, false, None, Err};
+ghost use Rattle.std.specs.Prelude.{◌≡◌, ◌++◌, ◌∷◌, [], ℕ, ◌≤◌, true, false, None, Err, Result, MatchOption};
+ghost use Rattle.world_actions.specs.declared.refusal.Refusal.{Refusal};
 ghost use Rattle.world_ticks.specs.declared.tick.TheConstants.{TICK_MAX};
 ghost use Rattle.shared_capture.specs.States.{HasFlags};
 ghost use Rattle.workers.specs.declared.gate.Place.TheVariants.{Tick};
 ghost use Rattle.workers.specs.declared.item.Item.TheVariants.{Start};
 ghost use Rattle.workers.specs.Covering.{loaded};
 ghost use Rattle.workers.specs.Gates.{MayGo, MayStick};
-ghost use Rattle.workers.specs.Mutating.{IsLastRound, OpensNone, OwesSwitch, MarksIfDue, RunsBatch, AnswersBatch, Pays, Turns, StopsPlay};
+ghost use Rattle.workers.specs.Posts.{AskedBatch};
+ghost use Rattle.workers.specs.Mutating.{IsLastRound, OpensNone, OwesSwitch, MarksIfDue, IsTaken, RunsBatch, AnswersBatch, Plays, Pays, Turns, StopsPlay};
 
+use crate::ask_channel::AskReceiver;
 use crate::batch_run::play;
 use crate::gate::{Gate, Place, passes};
 use crate::item::{Ended, Item};
@@ -21,13 +24,14 @@ use std::snapshot::Snapshot;
 use std::sync::Wait;
 use world_actions::Refusal;
 
-/// Runs batches on the front, and pushes their ticks and the switches of the rounds that it opens. Contracts see that the
-/// pushed items state what the front did. Each answer is that of its batch at its place, and each round has the words after
-/// the ticks pushed before its switch.
+/// Takes the sessions' batches, runs them on the front, and pushes their ticks and the switches of the rounds that it opens.
+/// Contracts see that the pushed items state what the front did. Each answer is that of its batch at its place. A batch is
+/// played once, in its session's order, and each round has the words after the ticks pushed before its switch.
 #[derive(Drop)]
 pub struct Mutator<M: Method, G: Gate + Drop> {
     gate: G,
     alloc: Global,
+    asks: AskReceiver,
     pub(crate) front: Front<M>,
     pub(crate) to: ItemSender,
     opening: Snapshot<Front<M>>,
@@ -48,9 +52,9 @@ impl<M: Method, G: Gate + Drop> Model for Mutator<M, G> {
 
     ghost Value = { Playing };
 
-    ghost view = { λ m. record { front = m.front; to = m.to; heard = m.heard; opening = m.opening.value.live; ended = m.ended; since = m.since; every = m.every; down = m.down; owed = m.owed } };
+    ghost view = { λ m. record { asks = m.asks; front = m.front; to = m.to; heard = m.heard; opening = m.opening.value.live; ended = m.ended; since = m.since; every = m.every; down = m.down; owed = m.owed } };
 
-    ghost invariant = { λ m. IsMutator (record { front = m.front; to = m.to; heard = m.heard; opening = m.opening.value.live; ended = m.ended; since = m.since; every = m.every; down = m.down; owed = m.owed }) };
+    ghost invariant = { λ m. IsMutator (record { asks = m.asks; front = m.front; to = m.to; heard = m.heard; opening = m.opening.value.live; ended = m.ended; since = m.since; every = m.every; down = m.down; owed = m.owed }) };
 }
 
 impl<M: Method, G: Gate + Drop> Mutator<M, G> {
@@ -59,6 +63,7 @@ impl<M: Method, G: Gate + Drop> Mutator<M, G> {
     pub fn new(
         gate: G,
         alloc: Global,
+        asks: AskReceiver,
         front: Front<M>,
         to: ItemSender,
         tick: u64,
@@ -71,12 +76,13 @@ impl<M: Method, G: Gate + Drop> Mutator<M, G> {
         requires start { to.items ≡ Start tick ∷ [] }
         requires pushes { to.refused ≡ false }
         requires numbered { tick ≤ TICK_MAX }
-        ensures { result ≡ record { front = front; to = to; heard = heard; opening = front.live; ended = tick; since = 0; every = every; down = false; owed = None } }
+        ensures { result ≡ record { asks = asks; front = front; to = to; heard = heard; opening = front.live; ended = tick; since = 0; every = every; down = false; owed = None } }
     {
         let opening = Snapshot::of(&front);
         Mutator {
             gate,
             alloc,
+            asks,
             front,
             to,
             opening,
@@ -97,15 +103,27 @@ impl<M: Method, G: Gate + Drop> Mutator<M, G> {
         self.ended
     }
 
-    /// Runs a batch and pushes its tick. Before and after it, opens a round if one is due and none is open. A batch that
-    /// isn't run is answered here, by the refusal that is returned.
-    pub fn turn<R: Wait>(&mut self, rt: &R, ask: Ask) -> Result<(), Refused>
-        ensures { Turns (MayGo G.told Tick) (MayStick G.told Tick) self.old ask result self.new }
+    /// Waits for the next batch, runs it and pushes its tick. Before and after it, opens a round if one is due and none is
+    /// open. A batch that isn't run is answered here, by the refusal that is returned. Returns `None` if no session is left
+    /// that could ask.
+    pub fn turn<R: Wait>(&mut self, rt: &R) -> Option<Result<(), Refused>>
+        ensures { MatchOption result (self.new ≡ self.old) (λ given. (asked : AskedBatch)
+            × Turns (MayGo G.told Tick) (MayStick G.told Tick) self.old asked given self.new) }
     {
+        let ask = self.asks.next(rt)?;
         self.mark_if_due(rt);
         let played = self.play_batch(rt, ask);
         self.mark_if_due(rt);
-        played
+        Some(played)
+    }
+
+    /// Runs the next batch, if there is one, and owes its tick with the answer, or answers with the refusal.
+    pub fn run_next<R: Wait>(&mut self, rt: &R) -> Option<Result<(), Refused>>
+        ensures { MatchOption result (self.new ≡ self.old) (λ given. (asked : AskedBatch)
+            × Plays (MayGo G.told Tick) (MayStick G.told Tick) self.old asked given self.new) }
+    {
+        let ask = self.asks.try_next(rt)?;
+        Some(self.run_batch(rt, ask))
     }
 
     /// Opens a round if one is due, and pushes its switch directly after.
@@ -133,8 +151,9 @@ impl<M: Method, G: Gate + Drop> Mutator<M, G> {
         true
     }
 
-    /// Runs a batch, and pushes its tick with the answer, or answers with the refusal.
-    pub fn play_batch<R: Wait>(&mut self, rt: &R, ask: Ask) -> Result<(), Refused>
+    // Runs the batch that was taken last, and pushes its tick with the answer, or answers with the refusal.
+    fn play_batch<R: Wait>(&mut self, rt: &R, ask: Ask) -> Result<(), Refused>
+        requires { IsTaken self.old ask }
         ensures { AnswersBatch (MayGo G.told Tick) (MayStick G.told Tick) self.old ask result self.new }
     {
         match self.run_batch(rt, ask) {
@@ -146,8 +165,9 @@ impl<M: Method, G: Gate + Drop> Mutator<M, G> {
         }
     }
 
-    /// Runs a batch, and owes its tick with the answer, or answers with the refusal.
-    pub fn run_batch<R: Wait>(&mut self, rt: &R, ask: Ask) -> Result<(), Refused>
+    // Runs the batch that was taken last, and owes its tick with the answer, or answers with the refusal.
+    fn run_batch<R: Wait>(&mut self, rt: &R, ask: Ask) -> Result<(), Refused>
+        requires { IsTaken self.old ask }
         ensures { RunsBatch (MayGo G.told Tick) (MayStick G.told Tick) self.old ask result self.new }
     {
         if self.down {

@@ -1,5 +1,5 @@
 -- The files of a world that is served, from its opening to the stop of its workers.
-use Rattle.std.proofs.Common.{◌≡◌, ◌≤◌, ℕ, Bool, List, [], ◌∷◌, ◌++◌, length, take, max, Result, Ok, Err, refl, sym, ap, subst, ◌∙◌, arith}
+use Rattle.std.proofs.Common.{◌≡◌, ◌≤◌, ℕ, Bool, List, [], ◌∷◌, ◌++◌, length, take, max, Result, Ok, Err, sym, ap, subst, ◌∙◌, arith}
 use Rattle.std.proofs.lemmas.List.{append_assoc}
 use Rattle.std.specs.Prelude.{IfOk, IfErr, MatchResult}
 use Rattle.world_actions.specs.declared.action.Action.{Action}
@@ -15,7 +15,7 @@ use Rattle.workers.specs.Items.{records_of}
 use Rattle.workers.specs.Mutating.{Playing}
 use Rattle.workers.specs.Imaging.{Imaging}
 use Rattle.workers.specs.Logging.{Logging}
-use Rattle.worker_steps.specs.Stopped.{WorldStands, StaysSound, acknowledged_by}
+use Rattle.worker_steps.specs.Stopped.{WorldStands, StaysSound}
 use Rattle.worker_threads.specs.Opening.{files_of}
 use Rattle.world_folder.specs.declared.found.WorldTold.{WorldTold}
 use Rattle.world_server.specs.declared.line.Line.{Line}

@@ -10,7 +10,7 @@ pub returns-clause-sound : goal.returns-clause-sound
 returns-clause-sound g c = λ honest.
     let D = g.D.Disk in
     let opened = c.args.opened in
-    let begun = c.in_ok-workers.ensures in
+    let begun = c.in_ok-workers.ensures.begun in
     let ended = c.stop-stopped.ensures in
     let met = c.meet_stopped.ensures in
     let stopped = c.meet_stopped.new.stopped in

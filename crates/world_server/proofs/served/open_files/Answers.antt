@@ -1,4 +1,3 @@
-use Rattle.std.proofs.Common.{◌≡◌}
 use Rattle.world_server.proofs.ServedLemmas.{stands_opened, keeps_world}
 use Rattle.world_server.proofs.served.open_files.Goals as goal
 

@@ -1,4 +1,3 @@
-use Rattle.std.proofs.Common.{◌≡◌, ◌∷◌, [], sym, ap, subst, ◌∙◌}
 use Rattle.world_server.proofs.ServedLemmas.{served_sound, given_back, given_reason, printed_on}
 use Rattle.world_server.proofs.served.serve_world.Goals as goal
 

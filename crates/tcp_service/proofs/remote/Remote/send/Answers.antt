@@ -1,7 +1,6 @@
 use Rattle.std.proofs.Common.{rules, ◌≡◌, inr, option_map, subst}
 use Rattle.std.proofs.lemmas.Result.{IfOk-weaker, IfErr-weaker}
-use Rattle.workers.specs.declared.asker.Asker.{Asker}
-use Rattle.workers.specs.Asking.{IsUnsent}
+use Rattle.workers.specs.Asking.{AskerState, IsUnsent}
 use Rattle.tcp_service.specs.Remote.{Asking, Asks}
 use Rattle.tcp_service.proofs.Asks.{refused_for}
 use Rattle.tcp_service.proofs.remote.Remote.send.Goals as goal
@@ -23,5 +22,5 @@ returns-in-Err-clause-err g c =
     let asked : Asking = record { asker = c.send.new.self; last = option_map (λ post. post.value) c.self.inside.last; fault = c.self.inside.fault } in
     let same : asked ≡ record c.args.self.now { asker = asked.asker } = search rules in
     let was : c.self.inside.asker ≡ c.args.self.now.asker = search rules in
-    let unsent = subst (λ (asker : Asker). IsUnsent asker asked.asker c.in-Err.fault) was c.in-Err.ensures.unsent in
+    let unsent = subst (λ (asker : AskerState). IsUnsent asker asked.asker c.in-Err.fault) was c.in-Err.ensures.unsent in
     refused_for c.args.self.now asked c.refused.new.self c.in-Err.fault c.refused.result unsent same c.refused.ensures.noted c.refused.ensures.reason

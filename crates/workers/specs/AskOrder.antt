@@ -1,0 +1,89 @@
+-- The rule of the channel of asks.
+use Rattle.std.specs.Prelude.{◌≡◌, ℕ, ◌+◌, ◌<◌, ◌≤◌, List, [], ◌∷◌, ◌++◌, All, AllPairs, Contains, length, map}
+use mathlib.Core.Option.{some}
+use lib.ListN.{get_elem?}
+use Rattle.workers.specs.declared.item.Item.{Item}
+use Rattle.workers.specs.declared.ask_rule.AskView.{AskView}
+use Rattle.workers.specs.declared.ask_rule.AskView.TheVariants.{Begins, Numbers, Sends, Takes}
+use Rattle.workers.specs.Posts.{AskedBatch, Unposted}
+use Rattle.workers.specs.Answering.{all_answers_of}
+
+-- the asks are of two sessions, or the second has the greater number
+abbrev pub IsBefore : (first second : AskedBatch) → Type 0
+IsBefore first second = first.session ≡ second.session → first.ask < second.ask
+
+-- of two asks of one session, the later has the greater number: each stands once, in its session's order
+abbrev pub AreInTurn : List AskedBatch → Type 0
+AreInTurn asks = AllPairs IsBefore asks
+
+-- ---- the knowledge of the ends
+
+-- This seat knows so much of all asks, of those that were taken, and of the seat of each session. Seat p begins sessions, and
+-- seat q takes asks.
+abbrev pub Knows : (all taken : List AskedBatch) → (seats : List ℕ) → (p q seat : ℕ) → AskView → Type 0
+Knows all taken seats p q seat Begins = (seat ≡ p) × (seat ≡ q) × (seats ≡ []) × (taken ≡ [])
+Knows all taken seats p q seat (Numbers next) = (seat ≡ p) × (next ≡ length seats)
+Knows all taken seats p q seat (Sends session last) =
+    (get_elem? seats session ≡ some seat) × All (λ (asked : AskedBatch). asked.session ≡ session → asked.ask ≤ last) all
+Knows all taken seats p q seat (Takes asks) = (seat ≡ q) × (asks ≡ taken)
+
+-- The asks that were taken, followed by those in the channel, are all that were sent. Each is of a session that has begun,
+-- and of one session the later has the greater number.
+pub record IsInTurn (asks : List AskedBatch) (views : List AskView) : Type 0 where
+  pub all : List AskedBatch
+  pub taken : List AskedBatch
+  pub seats : List ℕ
+  pub numbered_at : ℕ
+  pub taken_at : ℕ
+  pub order : taken ++ asks ≡ all
+  pub in_turn : AreInTurn all
+  pub begun : All (λ (asked : AskedBatch). asked.session < length seats) all
+  pub each_seat : (j : ℕ) (v : AskView) → get_elem? views j ≡ some v → Knows all taken seats numbered_at taken_at j v
+
+-- ---- the steps
+
+abbrev pub sessions_of : AskView → ℕ
+sessions_of (Numbers next) = next
+sessions_of v = 0
+
+abbrev pub session_of : AskView → ℕ
+session_of (Sends session last) = session
+session_of v = 0
+
+abbrev pub last_of : AskView → ℕ
+last_of (Sends session last) = last
+last_of v = 0
+
+abbrev pub taken_of : AskView → List AskedBatch
+taken_of (Takes asks) = asks
+taken_of v = []
+
+abbrev pub sent : AskView → AskedBatch → AskView → Type 0
+sent v asked w = w ≡ Sends asked.session asked.ask
+
+abbrev pub taken : AskView → AskedBatch → AskView → Type 0
+taken v asked w = (w ≡ Takes (taken_of v ++ asked ∷ [])) × AreInTurn (taken_of v ++ asked ∷ [])
+
+abbrev pub numbering_part : AskView → AskView
+numbering_part v = Numbers 0
+
+abbrev pub taking_part : AskView → AskView
+taking_part v = Takes []
+
+abbrev pub next_numbers : AskView → AskView
+next_numbers v = Numbers (sessions_of v + 1)
+
+abbrev pub new_session : AskView → AskView
+new_session v = Sends (sessions_of v) 0
+
+-- ---- the ticks of the asks
+
+-- the asks of the ticks among these items
+abbrev pub asks_of : List Item → List AskedBatch
+asks_of items = map (λ (answer : Unposted). answer.asked) (all_answers_of items)
+
+-- Each tick is that of an ask that was taken. Of one session, the later tick is of the ask with the greater number: a batch is
+-- played once, in its session's order.
+pub record PlaysInTurn (taken : List AskedBatch) (items : List Item) : Type 0 where
+  pub among : All (Contains taken) (asks_of items)
+  pub in_turn : AreInTurn (asks_of items)
