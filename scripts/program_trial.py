@@ -28,6 +28,8 @@ from kill_trial import SOCKET, TRANSPORTS, connect
 NAMES = ("image.a", "image.b", "log.a", "log.b")
 METHODS = ("zigzag", "pingpong")
 SECONDS = 60
+# How long figures may take to be those that are wanted. They come each second.
+PATIENCE_SECONDS = 20
 # A limit on a file's size that the log reaches soon.
 FILE_LIMIT = 400
 
@@ -698,45 +700,52 @@ def try_serving(trial: Trial) -> None:
 
 
 @contextlib.contextmanager
-def reporting(trial: Trial, *flags: str, **process) -> Iterator[tuple[str, list[str]]]:
-    """A server that prints its figures each second: its address, and the list of the figures, which is filled at its end."""
-    with new_folder(NEW_IMAGE, b"", b"", b"") as folder, open(folder / "errors", "w+") as errors:
+def reporting(trial: Trial, *flags: str, **process) -> Iterator[tuple[str, pathlib.Path]]:
+    """A server that prints its figures each second: its address, and the file of what it prints."""
+    with new_folder(NEW_IMAGE, b"", b"", b"") as folder, open(folder / "errors", "w") as errors:
         line = f"serve --dir {folder} --method zigzag --port 0 --report 1".split()
-        reports: list[str] = []
         with subprocess.Popen([trial.program, *line, *flags], stdout=subprocess.PIPE, stderr=errors, text=True, **process) as server:
-            yield [server.stdout.readline() for _ in range(2)][-1].split()[-1], reports
+            yield [server.stdout.readline() for _ in range(2)][-1].split()[-1], folder / "errors"
             server.communicate(timeout=SECONDS)
         trial.runs += 1
-        errors.seek(0)
-        reports += [line for line in errors.read().splitlines() if " acked " in line]
+
+
+def last_report(errors: pathlib.Path, want: str) -> str:
+    """The last figures in this file, once they are these, or after a while."""
+    until = time.monotonic() + PATIENCE_SECONDS
+    while True:
+        reports = [line for line in errors.read_text().splitlines() if " acked " in line]
+        if reports[-1:] == [want] or time.monotonic() > until:
+            return "".join(reports[-1:])
+        time.sleep(0.1)
 
 
 def try_reporting(trial: Trial) -> None:
     """Figures that a server prints: the last answered tick, its newest image, its clients and what waits."""
-    with reporting(trial, "--clients", "2", "--every", "3") as (address, reports):
+    with reporting(trial, "--clients", "2", "--every", "3") as (address, errors):
         trial.check("a first client", answer_to(address, b"end\nend\nend\n"), "tick 1:\ntick 2:\ntick 3:\n")
         with connect(address) as client, client.makefile() as reader:
             client.sendall(b"end\n")
             trial.check("a second client", reader.readline(), "tick 4:\n")
-            time.sleep(2.5)
+            want = "worldd: tick 4 acked 4 image 3 sessions 1 batches/s 0 waiting 0"
+            trial.check("reports", last_report(errors, want), want)
     trial.seen["served"] += 1
-    trial.check("reports", reports and reports[-1], "worldd: tick 4 acked 4 image 3 sessions 1 batches/s 0 waiting 0")
 
 
 def try_reporting_down(trial: Trial) -> None:
     """The same once the log is down: the tick that ended last was not acknowledged."""
     limit = functools.partial(resource.setrlimit, resource.RLIMIT_FSIZE, (FILE_LIMIT, FILE_LIMIT))
-    with reporting(trial, "--clients", "1", "--every", "65536", preexec_fn=limit) as (address, reports):
+    with reporting(trial, "--clients", "1", "--every", "65536", preexec_fn=limit) as (address, errors):
         with connect(address) as client, client.makefile() as reader:
             answers = []
             while not answers or answers[-1].startswith("tick"):
                 client.sendall(b"add 0 1\nend\n")
                 answers.append(reader.readline())
-            time.sleep(2.5)
-    ended = len(answers)
+            ended = len(answers)
+            want = f"worldd: tick {ended} acked {ended - 1} image 0 sessions 1 batches/s 0 waiting 0"
+            trial.check("reports", last_report(errors, want), want)
     trial.check("the log's end", answers[-1], "fault 12\n")
     trial.seen["reported with its log down"] += 1
-    trial.check("reports", reports and reports[-1], f"worldd: tick {ended} acked {ended - 1} image 0 sessions 1 batches/s 0 waiting 0")
 
 
 PARTS = (
