@@ -30,6 +30,7 @@ from collections.abc import Iterator
 from code_names import TOP, Names
 from map import Refused, below, read_crates
 import reached
+import trusted_lines
 import walk
 from wrong_bodies import PROMISES, read_promises
 
@@ -399,6 +400,7 @@ def findings() -> Iterator[Finding]:
         yield from wrong_links(page)
         yield from wrong_quotes(page, code)
     yield from ((walk.PAGE, line, reason) for line, reason in walk.findings())
+    yield from ((trusted_lines.PAGE, line, reason) for line, reason in trusted_lines.findings())
     yield from wrong_tables(every)
     yield from wrong_promises(names)
     yield from wrong_versions()

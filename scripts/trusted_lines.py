@@ -13,6 +13,7 @@ A line counts unless it is blank, a comment or an import; tests don't count. It 
 a name stands for the definition that its file has or imports.
 """
 import collections
+import dataclasses
 import pathlib
 import re
 import sys
@@ -31,6 +32,11 @@ TABLE = re.compile(r"^## What is proved$(.*?)^## ", re.MULTILINE | re.DOTALL)
 ROW = re.compile(r"^\| .* \| (`.*`) \|$", re.MULTILINE)
 CLAUSES = re.compile(r"(?<=`): (?:`\w+`(?:, )?)+")
 CITED = re.compile(r"`(?:(\w+)::)?(\w+)`")
+# The figures of the page on proofs: for README's table, for all that crates hand out, and for one function.
+PAGE = "docs/PROOFS.md"
+TABLE_FIGURE = re.compile(r"they are (?P<lines>[\d,]+) of [\d,]+ lines, (?P<share>[\d.]+)%")
+ALL_FIGURE = re.compile(r"are (?P<lines>[\d,]+)\s+lines, (?P<share>[\d.]+)%")
+ONE_FIGURE = re.compile(r"^\| [^|]*`(\w+)::(?:\w+::)?(\w+)` \| (?P<lines>[\d,]+) \|$", re.MULTILINE)
 CLAUSE = re.compile(r"(?:requires|ensures|decreases|ghost (?!use))")
 
 
@@ -141,44 +147,104 @@ def reached_from(names, known):
     return reached
 
 
-def main():
-    one = sys.argv[2:] if sys.argv[1:2] == ["of"] else None
-    known, lines, cited = {}, collections.Counter(), cited_in_readme()
-    served = {"worldd"} | below(read_crates())["worldd"]
-    # The clauses of one count, and the names that they reach.
-    counted = {"the table of README": ([], []), "all that crates hand out": ([], []), "one": ([], [])}
-    for crate in sorted(pathlib.Path("crates").iterdir()):
-        for kind in ("src", "specs", "proofs"):
-            for path in (crate / kind).rglob("*.*t*"):
-                if not is_test(path):
-                    lines[kind] += sum(map(counts, path.read_text().splitlines()))
-        for path in (crate / "specs").rglob("*.antt"):
-            known |= definitions(crate.name, path)
-        # A program hands nothing out, and the table cites its functions.
+@dataclasses.dataclass(frozen=True)
+class Clause:
+    """A line of a contract: its crate, its item with the item's owner, and the definitions that it names."""
+
+    crate: str
+    item: tuple[str, str]
+    names: tuple[tuple[str, str, str], ...]
+    is_of_trait: bool
+    is_handed_out: bool
+
+
+class Tree:
+    """The lines of all crates, their definitions, and their contracts."""
+
+    def __init__(self):
+        self.known, self.lines, self.clauses = {}, collections.Counter(), []
+        self.cited = cited_in_readme()
+        self.served = {"worldd"} | below(read_crates())["worldd"]
+        for crate in sorted(pathlib.Path("crates").iterdir()):
+            for kind in ("src", "specs", "proofs"):
+                for path in (crate / kind).rglob("*.*t*"):
+                    if not is_test(path):
+                        self.lines[kind] += sum(map(counts, path.read_text().splitlines()))
+            for path in (crate / "specs").rglob("*.antt"):
+                self.known |= definitions(crate.name, path)
+            self.read_contracts(crate)
+
+    def read_contracts(self, crate):
+        """The contracts of what a crate hands out. A program hands nothing out, and the table cites its functions."""
         lib = crate / "src" / "lib.rt"
-        exported = {owner for owner, _ in cited}
+        exported = {owner for owner, _ in self.cited}
         if lib.exists():
             exported = {name.strip() for _, group, one in EXPORT.findall(lib.read_text()) for name in (group or one).split(",")}
         for path in filter(lambda path: not is_test(path), (crate / "src").rglob("*.rt")):
-            found, traits, names = clauses(path, exported), of_traits(path), imported(path.read_text())
-            for which, wanted in (
-                ("the table of README", lambda item: item[1] in traits or (crate.name in served and item in cited)),
-                ("all that crates hand out", lambda item: lib.exists()),
-                ("one", lambda item: [crate.name, item[1]] == one),
-            ):
-                own = [line for item, line in found if wanted(item)]
-                counted[which][0].extend(own)
-                counted[which][1].extend(names[word] for word in NAME.findall("\n".join(own)) if word in names)
-    everything = sum(lines.values())
-    print(f"code {lines['src']}, specs {lines['specs']}, proofs {lines['proofs']}: {everything} lines")
-    for which in ["one"] if one else ["the table of README", "all that crates hand out"]:
-        contracts, reached = len(counted[which][0]), reached_from(counted[which][1], known)
-        defined = sum(known[name][0] for name in reached)
-        believed = contracts + defined
-        print(f"to believe for {' '.join(one or [which])}: {believed} lines, {100 * believed / everything:.1f}%: contracts {contracts}, definitions {defined}")
+            traits, names = of_traits(path), imported(path.read_text())
+            for item, line in clauses(path, exported):
+                named = tuple(names[word] for word in NAME.findall(line) if word in names)
+                self.clauses.append(Clause(crate.name, item, named, item[1] in traits, lib.exists()))
+
+    def everything(self):
+        """How many lines there are."""
+        return sum(self.lines.values())
+
+    def reached(self, wanted):
+        """The contracts for which this holds, and the definitions that they reach."""
+        own = [clause for clause in self.clauses if wanted(clause)]
+        return own, reached_from([name for clause in own for name in clause.names], self.known)
+
+    def believed(self, wanted):
+        """The lines of these contracts, and of their definitions."""
+        own, names = self.reached(wanted)
+        return len(own), sum(self.known[name][0] for name in names)
+
+    def of_table(self, clause):
+        """Whether README's table asks for this line."""
+        return clause.is_of_trait or (clause.crate in self.served and clause.item in self.cited)
+
+
+def handed_out(clause):
+    """Whether a crate hands this line to the next."""
+    return clause.is_handed_out
+
+
+def of_one(crate, name):
+    """Whether a line is of the functions of this name of a crate."""
+    return lambda clause: (clause.crate, clause.item[1]) == (crate, name)
+
+
+def is_near(told, found):
+    """Whether a figure of a page is that of the tree, but for one in a hundred."""
+    return abs(int(told.replace(",", "")) - found) * 100 <= found
+
+
+def findings():
+    """The figures of the page on proofs that aren't those of the tree, each with its line."""
+    tree, text = Tree(), pathlib.Path(PAGE).read_text()
+    wanted = [(TABLE_FIGURE, tree.of_table, "README's table"), (ALL_FIGURE, handed_out, "all that crates hand out")]
+    rows = [(row, of_one(row[1], row[2]), row[2]) for row in ONE_FIGURE.finditer(text)]
+    for found, rule, what in [(figure.search(text), rule, what) for figure, rule, what in wanted] + rows:
+        believed = sum(tree.believed(rule))
+        share = f"{100 * believed / tree.everything():.1f}"
+        if not found or not is_near(found["lines"], believed) or found.groupdict().get("share", share) != share:
+            yield text[: found.start()].count("\n") + 1 if found else 1, f"for {what} one has to believe {believed:,} lines, {share}%"
+
+
+def main():
+    tree, one = Tree(), sys.argv[2:] if sys.argv[1:2] == ["of"] else None
+    print(f"code {tree.lines['src']}, specs {tree.lines['specs']}, proofs {tree.lines['proofs']}: {tree.everything()} lines")
+    asked = {"the table of README": tree.of_table, "all that crates hand out": handed_out}
+    for which, wanted in {" ".join(one): of_one(*one)}.items() if one else asked.items():
+        contracts, defined = tree.believed(wanted)
+        share = 100 * (contracts + defined) / tree.everything()
+        print(f"to believe for {which}: {contracts + defined} lines, {share:.1f}%: contracts {contracts}, definitions {defined}")
     if sys.argv[1:] == ["unreached"]:
-        for crate, file, name in sorted(name for name in known if known[name][0] and name not in reached):
+        _, names = tree.reached(handed_out)
+        for crate, file, name in sorted(name for name in tree.known if tree.known[name][0] and name not in names):
             print(f"{crate}/specs/{file}.antt: {name}")
 
 
-main()
+if __name__ == "__main__":
+    main()
