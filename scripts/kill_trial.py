@@ -42,8 +42,8 @@ CELLS = 70
 FIRST_MARK, COUNT, LAST_MARK = 0, CLIENTS + 1, CELLS - 1
 PLAYED = range(COUNT + 1, LAST_MARK)
 BAD_LINES = "foo", "", "get", "set 06 1", "move 6 7", "swap 6", "cap 6 -1", "add 6 +1", "end ", f"get {6:080}"
-# So many lines fill a tick, though some are refused.
-LONG_LINES = 600
+# So many lines beside the others make the longest batch. They fill a tick, though some are refused.
+LONG_LINES = 1_019
 LOAD_SECONDS = 0.005, 0.150
 LAST_BATCHES = 100
 # How long an answer is waited for; a server has twice that in all.
