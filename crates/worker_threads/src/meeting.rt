@@ -12,7 +12,7 @@ use workers::{Gate, meet_workers};
 
 /// Brings the ends of a world's workers together. Then, on disks that keep to the disk model, the four files are sound for
 /// the ticks with which the workers began and those that they played. No acknowledged tick can be lost. Each session's
-/// batches were played once, in its order.
+/// batches were played at most once, in its order.
 pub fn meet_stopped<M: Method, D: Disk + Drop, A: Gate + Drop, B: Gate + Drop, C: Gate + Drop>(
     stopped: &mut StoppedWorkers<M, D, A, B, C>,
 )

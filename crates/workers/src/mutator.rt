@@ -26,7 +26,7 @@ use world_actions::Refusal;
 
 /// Takes the sessions' batches, runs them on the front, and pushes their ticks and the switches of the rounds that it opens.
 /// Contracts see that the pushed items state what the front did. Each answer is that of its batch at its place. A batch is
-/// played once, in its session's order, and each round has the words after the ticks pushed before its switch.
+/// played at most once, in its session's order, and each round has the words after the ticks pushed before its switch.
 #[derive(Drop)]
 pub struct Mutator<M: Method, G: Gate + Drop> {
     gate: G,

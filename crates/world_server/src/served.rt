@@ -52,8 +52,8 @@ pub enum WorldFailure<D: Disk + Drop> {
 
 /// Serves the world of four files. It recovers the world, prints which one it is, runs its start, lets the clients in, and
 /// stops the workers after the last client. It then prints how far play came. On disks that keep to the disk model the
-/// files are sound throughout: a refusal leaves them with the same world, and a server with all that was acknowledged. Each
-/// session's batches are played once, in its order.
+/// files are sound throughout. A refusal leaves them with the same world. A server leaves them with all that was
+/// acknowledged. Each session's batches are played at most once, in its order.
 pub fn serve_world<
     R: Threads + Wait + Clock + Copy + Send + 'static,
     M: Seats + Send + 'static,
