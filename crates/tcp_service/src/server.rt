@@ -61,8 +61,8 @@ impl From<NotStarted> for NotServed {
 
 /// Serves the connections of a listener by the workers of a world, and stops the workers after the last one, also if the
 /// listener fails. A round is due after every `every` ticks. On disks that keep to the disk model the files are then sound
-/// for all ticks that were played, each session's batches at most once, in its order. If the workers can't be started no thread is
-/// left running, and no connection is accepted. If the server is left, its threads run on.
+/// for all ticks that were played, each session's batches at most once, in its order. If the workers can't be started no
+/// thread is left running, and no connection is accepted. If the server is left, its threads run on.
 pub fn serve_tcp<
     R: Threads + Wait + Clock + Copy + Send + 'static,
     M: Method + Send + 'static,
