@@ -1,4 +1,4 @@
--- The text that answers a batch.
+-- The answers to the requests of a batch, and the text that answers the batch.
 use Rattle.std.specs.Prelude.{ℕ, List, [], ◌∷◌, ◌++◌, Result, Ok, Err, slice_index, decimal, codes, if◌then◌else◌}
 use Rattle.world_actions.specs.declared.action.Action.{Action}
 use Rattle.world_actions.specs.declared.refusal.Refusal.{Refusal}
@@ -6,6 +6,8 @@ use Rattle.world_actions.specs.declared.refusal.Refusal.TheVariants.{BadCell, Ba
 use Rattle.world_actions.specs.Refusal.{code_of}
 use Rattle.world_actions.specs.Effect.{Write, is_outside, writes_of}
 use Rattle.world_ticks.specs.Tick.{decision}
+use Rattle.batches.specs.declared.requests.Answer.{Answer}
+use Rattle.batches.specs.declared.requests.Answer.TheVariants.{Done, Word, Refused}
 use Rattle.batches.specs.declared.batch.Request.{Request}
 use Rattle.batches.specs.declared.batch.Request.TheVariants.{Act, Get, Bad}
 
@@ -20,19 +22,29 @@ begun words = record { words = words; accepted = [] }
 
 -- ---- one request
 
+-- the answer to an action, by the decision on it; a full tick is refused first
+abbrev pub action_answer : Result (List ℕ) Refusal → Answer
+action_answer (Ok words) = Done
+action_answer (Err refusal) = Refused refusal
+
+-- the answer to a request; that to a read is the word
+abbrev pub answer_of : Play → Request → Answer
+answer_of play (Act action) = action_answer (decision play.words play.accepted action)
+answer_of play (Get cell) = if is_outside play.words cell then Refused BadCell else Word (slice_index play.words cell)
+answer_of play Bad = Refused BadLine
+
 abbrev pub refusal_text : Refusal → List ℕ
 refusal_text refusal = 45 ∷ decimal (code_of refusal)
 
--- `+`, or `-` and the code, by the decision on an action; a full tick is refused first
-abbrev pub action_reply : Result (List ℕ) Refusal → List ℕ
-action_reply (Ok words) = codes "+"
-action_reply (Err refusal) = refusal_text refusal
+-- the text of an answer: `+`, `=` and the word, or `-` and the code
+abbrev pub text_of : Answer → List ℕ
+text_of Done = codes "+"
+text_of (Word word) = 61 ∷ decimal word
+text_of (Refused refusal) = refusal_text refusal
 
--- the reply to a request; that to a read is `=` and the word
+-- the reply to a request is the text of its answer
 abbrev pub reply : Play → Request → List ℕ
-reply play (Act action) = action_reply (decision play.words play.accepted action)
-reply play (Get cell) = if is_outside play.words cell then refusal_text BadCell else 61 ∷ decimal (slice_index play.words cell)
-reply play Bad = refusal_text BadLine
+reply play request = text_of (answer_of play request)
 
 -- the play after an action, by the decision on it
 abbrev pub with_action : Play → Action → Result (List ℕ) Refusal → Play
@@ -62,10 +74,19 @@ abbrev pub after_requests : Play → List Request → Play
 after_requests play [] = play
 after_requests play (request ∷ requests) = after_requests (after_request play request) requests
 
+-- the answer to each request
+abbrev pub answers : Play → List Request → List Answer
+answers play [] = []
+answers play (request ∷ requests) = answer_of play request ∷ answers (after_request play request) requests
+
 -- a space and the reply, for each request
 abbrev pub replies : Play → List Request → List ℕ
 replies play [] = []
 replies play (request ∷ requests) = 32 ∷ (reply play request ++ replies (after_request play request) requests)
+
+-- the answers to a batch in this world, one to each request
+abbrev pub answers_of : List Request → List ℕ → List Answer
+answers_of requests words = answers (begun words) requests
 
 -- the line that answers a batch in this world, as the tick of this number
 abbrev pub answer : List Request → List ℕ → ℕ → List ℕ

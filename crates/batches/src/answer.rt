@@ -7,9 +7,10 @@ ghost use Rattle.batches.specs.declared.batch.Request.{Request as Asked};
 ghost use Rattle.batches.specs.Answer.{Play, begun, reply, replies, after_request, after_requests, writes_by, answer, accepted_of, words_after};
 
 use crate::batch::{Batch, Request};
-use crate::text::{put, put_number, put_refusal};
+use crate::requests::run_request;
+use crate::text::{put, put_answer, put_number};
 use world_actions::Refusal;
-use world_ticks::{Cells, TICK_ACTIONS, Tick, act};
+use world_ticks::{Cells, TICK_ACTIONS, Tick};
 
 /// The bytes of an answer without its replies, at most.
 const FRAME_BYTES: usize = 27;
@@ -57,7 +58,7 @@ pub fn answers_are_ticks()
         → length (accepted_of requests words) ≤ TICK_ACTIONS }
 {}
 
-// Runs a request, and appends a space and the reply.
+// Runs a request, and appends a space and the text of its answer.
 fn put_reply<C: Cells>(c: &mut C, t: &mut Tick, request: Request, text: &mut Vec<u8>)
     requires tick_room { t.old.room ≡ 0 → TICK_ACTIONS ≤ length t.old.list }
     requires text_room { length text.old.items + REPLY_BYTES ≤ vec_capacity text.old }
@@ -72,20 +73,7 @@ fn put_reply<C: Cells>(c: &mut C, t: &mut Tick, request: Request, text: &mut Vec
     ensures tick_room { t.old.room + length t.old.list ≤ t.new.room + length t.new.list }
     ensures one { length t.new.list ≤ length t.old.list + 1 }
 {
+    let answer = run_request(c, t, request);
     put(text, b" ");
-    match request {
-        Request::Act(action) => match act(c, t, action) {
-            Ok(()) => put(text, b"+"),
-            Err(refusal) => put_refusal(text, refusal),
-        },
-        Request::Get(cell) => {
-            if (cell as usize) < c.len() {
-                put(text, b"=");
-                put_number(text, c.read(cell as usize));
-            } else {
-                put_refusal(text, Refusal::BadCell);
-            }
-        }
-        Request::Bad => put_refusal(text, Refusal::BadLine),
-    }
+    put_answer(text, answer);
 }

@@ -1,12 +1,9 @@
-use Rattle.std.proofs.Common.{arith, sym, ap, subst, ◌∙◌, ◌≡◌, ℕ, List, ◌∷◌, ◌++◌, append_assoc, take, get_or, decimal, codes, add-one}
-use Rattle.world_ticks.specs.After.{accepted_writes}
-use Rattle.world_ticks.specs.Cells.{Performs}
+use Rattle.std.proofs.Common.{arith, sym, ap, ◌∙◌, ◌≡◌, ℕ, List, ◌∷◌, ◌++◌, append_assoc, take, get_or, decimal, codes, add-one}
 use Rattle.batches.specs.declared.batch.Request.{Request}
 use Rattle.batches.specs.declared.batch.Request.TheVariants.{Act}
 use Rattle.world_actions.specs.declared.action.Action.TheVariants.{Set}
-use Rattle.batches.specs.Answer.{Play, begun, after_request, reply, replies}
-use Rattle.world_ticks.proofs.PerformsLemmas.{performs_then}
-use Rattle.batches.proofs.AnswerLemmas.{IsPlayed, played_begun, played_all, written_step, after_next, replies_next}
+use Rattle.batches.specs.Answer.{Play, begun, reply, replies}
+use Rattle.batches.proofs.AnswerLemmas.{replies_next, has_run_next}
 use Rattle.batches.proofs.answer.answer_text.Goals as goal
 
 -- the replies so far, and one more
@@ -24,17 +21,10 @@ loop-request-preserved g c =
     let play : Play = record { words = g.C.Cells.words c.loop-request.c; accepted = c.loop-request.t.list } in
     let first : Request = Act (Set 0 0) in
     let request = get_or requests i first in
-    let after : Play = record { words = g.C.Cells.words c.put_reply.new.c; accepted = c.put_reply.new.t.list } in
-    let next : after ≡ after_request play request = c.put_reply.ensures.after in
-    let list : c.put_reply.new.t.list ≡ (after_request play request).accepted = ap (λ (p : Play). p.accepted) next in
-    let played = subst (IsPlayed words) (sym inv.now) (played_all words (begun words) (take i requests) (played_begun words)) in
+    let put = c.put_reply.ensures in
     record {
-      now = rw (add-one) (next ∙ (ap (λ p. after_request p request) inv.now ∙ sym (after_next (begun words) requests i first below)));
-      text = rw (add-one) (text_more (codes "tick ") (decimal c.args.number) (replies (begun words) (take i requests)) (32 ∷ reply play request) _ _ _ c.put_reply.ensures.text inv.text (replies_next (begun words) requests i first below ∙ ap (λ p. replies (begun words) (take i requests) ++ (32 ∷ reply p request)) (sym inv.now)));
-      short = (let e = c.put_reply.ensures.few in omega (arith, e, inv.short));
-      room = (let e = c.put_reply.ensures.room in omega (arith, e, inv.room));
-      tick_room = (let e = c.put_reply.ensures.tick_room in omega (arith, e, inv.tick_room));
-      few = (let e = c.put_reply.ensures.one in omega (arith, e, inv.few));
-      performs = subst (λ w. Performs g.C.Cells.accessed c.args.c.now w c.put_reply.new.c) (sym (written_step words play request played) ∙ ap (accepted_writes words) (sym list))
-          (performs_then inv.performs c.put_reply.ensures.writes);
+      run = has_run_next g.C.Cells.words g.C.Cells.accessed c.args.c.now requests i first c.loop-request.c c.put_reply.new.c c.loop-request.t c.put_reply.new.t below inv.run put.after put.writes put.tick_room put.one;
+      text = rw (add-one) (text_more (codes "tick ") (decimal c.args.number) (replies (begun words) (take i requests)) (32 ∷ reply play request) _ _ _ put.text inv.text (replies_next (begun words) requests i first below ∙ ap (λ p. replies (begun words) (take i requests) ++ (32 ∷ reply p request)) (sym inv.run.now)));
+      short = (let e = put.few in omega (arith, e, inv.short));
+      room = (let e = put.room in omega (arith, e, inv.room));
     }
