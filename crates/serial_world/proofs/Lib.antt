@@ -1,4 +1,5 @@
 pub mod CopiedWords
 pub mod FreshlyServed
+pub mod NotCreated
 pub mod Playing
 pub mod Queues

@@ -1,13 +1,14 @@
 -- The results of opening a world, and of making one.
-use Rattle.std.specs.Prelude.{◌≡◌, ◌≢◌, ℕ, Bool, List, [], take, replicate}
+use Rattle.std.specs.Prelude.{◌≡◌, ◌≢◌, ◌⊎◌, ℕ, Bool, IsTrue, List, [], take, replicate, Err}
 use Rattle.world_actions.specs.declared.action.Action.{Action}
 use Rattle.world_actions.specs.declared.refusal.Refusal.{Refusal}
-use Rattle.world_actions.specs.declared.refusal.Refusal.TheVariants.{Device}
+use Rattle.world_actions.specs.declared.refusal.Refusal.TheVariants.{Device, NoMemory, NotEmpty}
 use Rattle.capture_core.specs.Content.{Content}
 use Rattle.disk_model.specs.FourFiles.{EachFile, KeepsFile}
 use Rattle.disk_model.specs.declared.four_files.FourFiles.{FourFiles}
-use Rattle.recovery.specs.Recovery.{Recovery}
+use Rattle.recovery.specs.Recovery.{Recovery, Recovers}
 use Rattle.world_start.specs.Opening.{AreSynced, AreSound, RecoversFiles}
+use Rattle.world_start.specs.Fresh.{FilesAreClosed, AreFreshOrSound, AreMade}
 use Rattle.serial_world.specs.declared.state.SerialState.{SerialState}
 use Rattle.serial_world.specs.Runs.{words_of, Serves}
 
@@ -29,6 +30,28 @@ module _ {D : Type 0} (file : D → List ℕ) (leaves : D → List ℕ → Type 
     pub kept : refusal ≢ Device → EachFile files left (KeepsFile file leaves)
     pub sound : (first : List ℕ) (ticks : List (List Action)) (acknowledged : ℕ) → AreSynced file leaves files → AreSound file leaves files first ticks acknowledged
         → AreSound file leaves left first ticks acknowledged
+
+-- ---- a new world
+
+module _ {D : Type 0} (file : D → List ℕ) (leaves : D → List ℕ → Type 0) where
+  -- The reasons why no new world is served: the files hold a world, memory ran out, a device failed, or recovery refuses the
+  -- bytes that were read of the new files. On files that keep to the disk model and were synced, recovery refuses none.
+  abbrev pub IsRefusedNew : (honest : Bool) → FourFiles D → Refusal → Type 0
+  IsRefusedNew honest files refusal =
+      (refusal ≡ NotEmpty) ⊎ ((refusal ≡ NoMemory) ⊎ ((refusal ≡ Device)
+      ⊎ ((image_a image_b log_a log_b : List ℕ) × Recovers image_a image_b log_a log_b (Err refusal) × (IsTrue honest → AreSynced file leaves files → ⊥))))
+
+  -- the files were only read, or they are those of the new world and were only read since
+  abbrev pub AreKeptOrMade : FourFiles D → (cells : ℕ) → (left : FourFiles D) → Type 0
+  AreKeptOrMade files cells left =
+      EachFile files left (KeepsFile file leaves) ⊎ ((made : FourFiles D) × AreMade file leaves files cells made × EachFile made left (KeepsFile file leaves))
+
+  -- No new world is served. `NotEmpty` comes only if one of the files isn't closed. If the files were synced and closed,
+  -- whatever a crash leaves of them is no world yet, or one of zeros at tick 0.
+  pub record IsNotCreated (files : FourFiles D) (cells : ℕ) (refusal : Refusal) (left : FourFiles D) : Type 0 where
+    pub not_empty : refusal ≡ NotEmpty → ¬ FilesAreClosed file files
+    pub kept : refusal ≢ Device → AreKeptOrMade files cells left
+    pub safe : AreSynced file leaves files → FilesAreClosed file files → AreFreshOrSound file leaves left (replicate cells 0)
 
 -- a world of zeros at tick 0 is served, with no tick ended
 pub record IsServedFresh {C D : Type 0} (content : C → Content) (file : D → List ℕ) (leaves : D → List ℕ → Type 0) (honest : Bool) (cells : ℕ) (s : SerialState C D) : Type 0 where

@@ -39,15 +39,20 @@ module _ {C D : Type 0} (content : C → Content) (file : D → List ℕ) (leave
     pub same : (new.every ≡ old.every) × (new.recovered ≡ old.recovered) × (new.engine.images.cells ≡ old.engine.images.cells)
     pub serves : IsTrue honest → (first : List ℕ) (ticks : List (List Action)) → Serves old first ticks → Serves new first (ticks ++ accepted_of requests (words_of old) ∷ [])
 
-  -- A batch was answered with this text, and its tick is acknowledged. If `every` ticks ended since the last mark or start,
-  -- there is an image of this tick or the image keeper is down. No mark is made before.
-  pub record Answered (old : SerialState C D) (requests : List Request) (text : List ℕ) (new : SerialState C D) : Type 0 where
+  -- A batch was played, and its tick is acknowledged. If `every` ticks ended since the last mark or start, there is an image of
+  -- this tick or the image keeper is down. No mark is made before.
+  pub record Acknowledged (old : SerialState C D) (requests : List Request) (new : SerialState C D) : Type 0 where
     pub plays : PlaysTick old requests new
-    pub text_is : text ≡ answer requests (words_of old) (old.engine.ended + 1)
     pub acked : new.acked ≡ new.engine.ended
     pub since : (new.engine.since ≡ old.engine.since + 1) ⊎ ((new.engine.since ≡ 0) × (old.every ≤ old.engine.since + 1))
     pub image : IsTrue honest → (first : List ℕ) (ticks : List (List Action)) → Serves old first ticks → old.every ≤ old.engine.since + 1
         → (new.engine.images.phase ≡ Down) ⊎ HasImageOf leaves new.files new.engine.ended
+
+  -- a batch was answered with this text, and its tick is acknowledged
+  pub record Answered (old : SerialState C D) (requests : List Request) (text : List ℕ) (new : SerialState C D) : Type 0 where
+    pub acknowledged : Acknowledged old requests new
+    pub open acknowledged use *
+    pub text_is : text ≡ answer requests (words_of old) (old.engine.ended + 1)
 
   -- the log went down before the tick of a batch was acknowledged
   pub record LosesLog (old : SerialState C D) (requests : List Request) (refusal : Refusal) (new : SerialState C D) : Type 0 where
@@ -63,7 +68,17 @@ module _ {C D : Type 0} (content : C → Content) (file : D → List ℕ) (leave
       (tick_refusal old.engine.log.down old.engine.ended old.engine.since ≡ Some refusal)
       ⊎ ((tick_refusal old.engine.log.down old.engine.ended old.engine.since ≡ None) × (refusal ≡ NoMemory))
 
+  -- a batch was refused, and changed nothing or was played on a log that went down
+  abbrev pub IsRefusedBatch : (old : SerialState C D) → List Request → Refusal → (new : SerialState C D) → Type 0
+  IsRefusedBatch old requests refusal new = ((new ≡ old) × IsRefusedWith old refusal) ⊎ LosesLog old requests refusal new
+
   -- a batch leads from the first state to the second with this answer
   abbrev pub Runs : (old : SerialState C D) → List Request → Result (List ℕ) Refusal → (new : SerialState C D) → Type 0
   Runs old requests (Ok text) new = Answered old requests text new
-  Runs old requests (Err refusal) new = ((new ≡ old) × IsRefusedWith old refusal) ⊎ LosesLog old requests refusal new
+  Runs old requests (Err refusal) new = IsRefusedBatch old requests refusal new
+
+  -- the world stays as it is; only what its store keeps beside its content may change
+  pub record IsSameWorld (old new : SerialState C D) : Type 0 where
+    pub same : new ≡ record old { engine = record old.engine { store = new.engine.store } }
+    pub content_is : content new.engine.store ≡ content old.engine.store
+    pub serves : (first : List ℕ) (ticks : List (List Action)) → Serves old first ticks → Serves new first ticks

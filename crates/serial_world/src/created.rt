@@ -1,9 +1,10 @@
-ghost use Rattle.std.specs.Prelude.{◌≡◌, ◌≤◌, IsTrue, IfOk};
+ghost use Rattle.std.specs.Prelude.{◌≡◌, ◌≤◌, IsTrue, IfOk, IfErr};
 ghost use Rattle.world_actions.specs.declared.world.TheConstants.{CELLS};
-ghost use Rattle.world_start.specs.Opening.{AreSynced};
-ghost use Rattle.serial_world.specs.Opened.{IsServedFresh};
+ghost use Rattle.world_start.specs.Opening.{AreSynced, HasFaulted};
+ghost use Rattle.serial_world.specs.Opened.{IsServedFresh, IsRefusedNew, IsNotCreated};
 
 use crate::world::SerialWorld;
+use action_log::segments_read_once;
 use capture_core::Capture;
 use disk_model::{Disk, FourFiles};
 use std::alloc::Global;
@@ -11,7 +12,8 @@ use world_actions::Refusal;
 use world_start::fresh_files;
 
 /// Makes the files of a world of zeros at tick 0, and opens that world. No restart between the two is needed: if nothing of
-/// the files was unsynced, the new world is served. If it is refused, it gives the files back.
+/// the files was unsynced, the new world is served. It refuses with `NotEmpty` if one of the files isn't closed. If it
+/// refuses, it gives the files back.
 pub fn create_and_open<C: Capture, D: Disk>(
     alloc: Global,
     cells: u32,
@@ -22,7 +24,12 @@ pub fn create_and_open<C: Capture, D: Disk>(
     ensures served { IsTrue D.honest → AreSynced D.content D.may_leave files
         → IfOk result (IsServedFresh C.content D.content D.may_leave D.honest cells) }
     ensures every { IfOk result (λ served. served.every ≡ every) }
+    ensures refused { IfErr result (λ refused. IsRefusedNew D.content D.may_leave D.honest files refused.1) }
+    ensures left { IsTrue D.honest → IfErr result (λ refused.
+        IsNotCreated D.content D.may_leave files cells refused.1 refused.0) }
+    ensures device { IfErr result (λ refused. HasFaulted D.faults files refused.0 refused.1) }
 {
+    segments_read_once();
     let files = fresh_files(alloc, cells, files)?;
     SerialWorld::open(alloc, files, every)
 }

@@ -1,10 +1,11 @@
-ghost use Rattle.std.specs.Prelude.{◌≡◌, ◌⊎◌, ◌≤◌, ◌<◌, ℕ, List, Ok, Err, false, IsTrue, OnOk, IfErr};
+ghost use Rattle.std.specs.Prelude.{◌≡◌, ◌+◌, ◌⊎◌, ◌≤◌, ◌<◌, ℕ, List, false, IsTrue, OnOk, IfErr};
 ghost use Rattle.world_actions.specs.declared.action.Action.{Action};
 ghost use Rattle.image_files.specs.declared.phase.Phase.TheVariants.{Idle, Down};
 ghost use Rattle.serial_world.specs.Runs.{HasImageOf};
 ghost use Rattle.world_start.specs.Steps.{IsAtRest};
-ghost use Rattle.serial_world.specs.Runs.{Serves, Runs};
+ghost use Rattle.serial_world.specs.Runs.{Serves, Acknowledged, IsRefusedBatch};
 
+use crate::answers::Answers;
 use crate::marks::checkpoint;
 use crate::ticks::{batch_refusal, play};
 use action_log::{log_outcomes, log_queues};
@@ -29,14 +30,16 @@ pub struct SerialState<C: Capture, D: Disk> {
 }
 
 impl<C: Capture, D: Disk> SerialState<C, D> {
-    /// Plays a batch as one tick, has it logged, and makes a checkpoint if one is due. The answer is put into `text`.
-    pub fn batch(&mut self, b: &Batch, text: &mut Vec<u8>) -> Result<(), Refusal>
+    /// Plays a batch as one tick, has it logged, and makes a checkpoint if one is due. The answers are put into `answers`.
+    pub fn batch<A: Answers>(&mut self, b: &Batch, answers: &mut A) -> Result<(), Refusal>
         requires { IsAtRest C.content D.content D.honest self.old.engine self.old.files }
         ensures rest { IsAtRest C.content D.content D.honest self.new.engine self.new.files }
-        ensures answered { OnOk result (
-            Runs C.content D.content D.may_leave D.honest self.old b.now.list (Ok text.new.items) self.new) }
+        ensures acknowledged { OnOk result (
+            Acknowledged C.content D.content D.may_leave D.honest self.old b.now.list self.new) }
+        ensures answers { OnOk result (A.tells answers.new
+            b.now.list (C.content self.old.engine.store).live (self.old.engine.ended + 1)) }
         ensures refused { IfErr result (λ refusal.
-            Runs C.content D.content D.may_leave D.honest self.old b.now.list (Err refusal) self.new) }
+            IsRefusedBatch C.content D.content D.may_leave D.honest self.old b.now.list refusal self.new) }
     {
         worlds_go_on();
         log_outcomes::<D>();
@@ -45,7 +48,7 @@ impl<C: Capture, D: Disk> SerialState<C, D> {
         if let Some(refusal) = batch_refusal(&self.engine) {
             return Err(refusal);
         }
-        play(&mut self.engine, b, text)?;
+        play(&mut self.engine, b, answers)?;
         self.engine.write_log(&mut self.files);
         if self.engine.log.is_down() {
             return Err(Refusal::LogDown);

@@ -1,6 +1,7 @@
-ghost use Rattle.std.specs.Prelude.{◌≡◌, [], List, false, IsTrue, IfOk, IfErr, ℕ};
+ghost use Rattle.std.specs.Prelude.{◌≡◌, ◌≤◌, ◌<◌, [], List, length, slice_index, false, IsTrue, IfOk, IfErr, OnOk, OnErr, ℕ};
 ghost use Rattle.world_actions.specs.declared.action.Action.{Action};
-ghost use Rattle.serial_world.specs.Runs.{Runs, Serves};
+ghost use Rattle.batches.specs.Answer.{answers_of};
+ghost use Rattle.serial_world.specs.Runs.{Runs, Serves, Acknowledged, IsRefusedBatch, IsSameWorld};
 ghost use Rattle.image_files.specs.declared.phase.Phase.TheVariants.{Idle};
 ghost use Rattle.world_start.specs.Parts.{AreAtRest, AreSettled};
 ghost use Rattle.world_start.specs.Opening.{HasFaulted, AreSynced, IsRecovered, IsRefused};
@@ -8,9 +9,9 @@ ghost use Rattle.serial_world.specs.Opened.{IsOpened, IsNotOpened};
 
 use crate::opening::open_engine;
 use crate::state::SerialState;
-use crate::words::words_of;
+use crate::words::{read_word, words_of};
 use action_log::log_outcomes;
-use batches::Batch;
+use batches::{Answer, Batch};
 use capture_core::Capture;
 use disk_model::{Disk, FourFiles};
 use image_files::images_stay;
@@ -89,6 +90,46 @@ impl<C: Capture, D: Disk> SerialWorld<C, D> {
         self.state.recovered
     }
 
+    /// The number of cells. Cells are numbered from 0.
+    pub fn cells(&self) -> usize
+        ensures { result ≡ length (C.content self.now.engine.store).live }
+    {
+        self.state.engine.store.len()
+    }
+
+    /// The word of a cell, between two batches. It makes no tick and no call of a device. After `LogDown` the word may be that
+    /// of a tick that isn't durable.
+    pub fn read(&mut self, cell: u32) -> Result<u64, Refusal>
+        ensures inside { IfOk result (λ _. cell < length (C.content self.old.engine.store).live) }
+        ensures word { IfOk result (λ word. word ≡ slice_index (C.content self.old.engine.store).live cell) }
+        ensures outside { IfErr result (λ refusal. (refusal ≡ Refusal.BadCell)
+            × (length (C.content self.old.engine.store).live ≤ cell)) }
+        ensures same { IsSameWorld C.content D.content D.may_leave D.honest self.old self.new }
+    {
+        read_word(&mut self.state.engine.store, cell)
+    }
+
+    /// Plays a batch as one tick. Returns the number of the tick once it is acknowledged. The answers, one to each request,
+    /// replace the content of `answers`. If the batch is refused, there are none.
+    pub fn play(&mut self, b: &Batch, answers: &mut Vec<Answer>) -> Result<u64, Refusal>
+        ensures acknowledged { IfOk result (λ _.
+            Acknowledged C.content D.content D.may_leave D.honest self.old b.now.list self.new) }
+        ensures answers { OnOk result (answers.new.items
+            ≡ answers_of b.now.list (C.content self.old.engine.store).live) }
+        ensures tick { IfOk result (λ tick. tick ≡ self.new.acked) }
+        ensures refused { IfErr result (λ refusal.
+            IsRefusedBatch C.content D.content D.may_leave D.honest self.old b.now.list refusal self.new) }
+        ensures none { OnErr result (answers.new.items ≡ []) }
+    {
+        match self.state.batch(b, answers) {
+            Ok(()) => Ok(self.state.acked),
+            Err(refusal) => {
+                answers.clear();
+                Err(refusal)
+            }
+        }
+    }
+
     /// Takes the world apart. If memory runs out, it gives the files back with `NoMemory`.
     pub fn into_parts(self) -> Result<Parts<D>, (FourFiles<D>, Refusal)>
         ensures words { IfOk result (λ parts. parts.words.items ≡ (C.content self.engine.store).live) }
@@ -144,6 +185,7 @@ impl<C: Capture, D: Disk> World for SerialWorld<C, D> {
     ghost runs = { Runs C.content D.content D.may_leave D.honest };
 
     fn batch(&mut self, b: &Batch, text: &mut Vec<u8>) -> Result<(), Refusal> {
-        self.state.batch(b, text)
+        self.state.batch(b, text)?;
+        Ok(())
     }
 }

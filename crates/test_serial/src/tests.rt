@@ -1,11 +1,14 @@
 use capture_core::{Capture, PlainCopy};
 use disk_model::{FourFiles, ModelFile};
 use ping_pong::PingPong;
-use refused::{try_closed_files, try_damaged_files, try_made_files, try_open_files};
+use refused::{
+    try_closed_files, try_created_again, try_damaged_files, try_made_files, try_open_files,
+};
 use same::same;
 use std::alloc::Global;
 use std::process::Abort;
 use streams::{FIRST_ANSWER, INPUT, TEXT, WHOLE, try_broken};
+use typed::{try_last, try_lost, try_typed};
 use world_actions::Refusal;
 use world_start::Parts;
 use worlds::{
@@ -20,6 +23,7 @@ mod real_files;
 mod refused;
 mod same;
 mod streams;
+mod typed;
 mod worlds;
 
 const BATCH: &[u8] = b"set 0 5\nget 0\nmove 0 1 9\nfoo\nend\n";
@@ -347,6 +351,24 @@ fn makes_new_worlds_of_closed_files_alone(rt: HostRuntime) {
     try_made_files(&rt, rt.alloc());
     try_open_files(&rt, rt.alloc());
     try_closed_files(&rt, rt.alloc());
+}
+
+#[test]
+fn creates_no_world_over_another(rt: HostRuntime) {
+    try_created_again(&rt, rt.alloc());
+}
+
+#[test]
+fn answers_by_values(rt: HostRuntime) {
+    try_typed::<PlainCopy>(&rt, rt.alloc());
+    try_typed::<Zigzag>(&rt, rt.alloc());
+    try_typed::<PingPong>(&rt, rt.alloc());
+}
+
+#[test]
+fn refused_batches_give_no_answers(rt: HostRuntime) {
+    try_last(&rt, rt.alloc(), [LAST_IMAGE, NONE, NONE, NONE]);
+    try_lost(&rt, rt.alloc());
 }
 
 #[test]

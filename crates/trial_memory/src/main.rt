@@ -21,13 +21,13 @@ use files::{GrowFile, NewFile, ReadImage, ReadLog, Recover, ReserveFile};
 use free::try_free_calls;
 use keepers::{CoverPair, Images, Log, PingPongPair, ZigzagPair};
 use ping_pong::PingPong;
-use plays::{Act, CopyBatch, NewReader, Play, ReserveTick};
+use plays::{Act, AnswerEach, CopyBatch, NewReader, Play, ReserveTick};
 use shared_capture::{Joined, Pong, Zig};
 use std::io;
 use std::process::ExitCode;
 use stores::Build;
 use trial_kit::exit_code_of;
-use worlds::{Ample, NewWorld, Open, Scarce, Serve};
+use worlds::{Ample, Line, NewWorld, Open, Scarce, Serve, Values};
 use zigzag::Zigzag;
 
 fn main(rt: HostRuntime) -> ExitCode {
@@ -62,6 +62,7 @@ fn try_values<R: Print + AllocGlobal>(rt: &R) -> io::Result<bool> {
         tell::<R, Act>(rt)?
             & tell::<R, ReserveTick>(rt)?
             & tell::<R, CopyBatch>(rt)?
+            & tell::<R, AnswerEach>(rt)?
             & tell::<R, NewReader>(rt)?
             & tell::<R, Play>(rt)?
             & tell::<R, NewFile>(rt)?
@@ -100,7 +101,8 @@ fn try_worlds<R: Print + AllocGlobal>(rt: &R) -> io::Result<bool> {
             & tell::<R, Run>(rt)?
             & tell::<R, NewWorld<Ample>>(rt)?
             & tell::<R, Open<Ample>>(rt)?
-            & tell::<R, Serve<Ample>>(rt)?,
+            & tell::<R, Serve<Ample, Line>>(rt)?
+            & tell::<R, Serve<Ample, Values>>(rt)?,
     )
 }
 
@@ -108,7 +110,8 @@ fn try_growth<R: Print + AllocGlobal>(rt: &R) -> io::Result<bool> {
     Ok(
         tell::<R, NewWorld<Scarce>>(rt)?
             & tell::<R, Open<Scarce>>(rt)?
-            & tell::<R, Serve<Scarce>>(rt)?,
+            & tell::<R, Serve<Scarce, Line>>(rt)?
+            & tell::<R, Serve<Scarce, Values>>(rt)?,
     )
 }
 

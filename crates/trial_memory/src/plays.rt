@@ -1,5 +1,5 @@
 use crate::case::{Case, digest, digest_of_bytes, folded};
-use batches::{Batch, BatchReader, Fed, Request};
+use batches::{Answer, Batch, BatchReader, Fed, Request, answer_each};
 use shared_capture::{Front, Zig, zigzag_pair};
 use std::alloc::Global;
 use workers::play;
@@ -114,6 +114,44 @@ impl Case for CopyBatch {
 
     fn seen(&mut self) -> u64 {
         self.batch.requests().len() as u64
+    }
+}
+
+/// A case that runs a batch on a list of words, and answers by values.
+#[derive(Drop)]
+pub struct AnswerEach {
+    alloc: Global,
+    words: Words,
+    batch: Batch,
+}
+
+impl Case for AnswerEach {
+    fn name() -> &'static str {
+        "answer_each"
+    }
+
+    fn refusal() -> Refusal {
+        Refusal::NoMemory
+    }
+
+    fn set_up(alloc: Global) -> Result<Self, Refusal> {
+        Ok(AnswerEach {
+            alloc,
+            words: Words::new(vec![in alloc; 3, 4]?),
+            batch: batch(alloc)?,
+        })
+    }
+
+    fn call(&mut self) -> Result<u64, Refusal> {
+        let mut tick = Tick::new(self.alloc);
+        let mut answers = Vec::new(self.alloc);
+        answer_each(&mut answers, &mut self.words, &mut tick, &self.batch)?;
+        let are_right = answers.as_slice() == [Answer::Done, Answer::Word(5)].as_slice();
+        Ok(folded(u64::from(are_right), tick.actions().len() as u64))
+    }
+
+    fn seen(&mut self) -> u64 {
+        digest(self.words.as_slice())
     }
 }
 

@@ -2,7 +2,7 @@
 //! refused.
 use crate::case::{Case, digest_of_bytes, folded};
 use crate::files::{IMAGE, LOG, file_of};
-use batches::{Batch, BatchReader, Fed};
+use batches::{Answer, Batch, BatchReader, Fed};
 use capture_core::PlainCopy;
 use disk_model::{FourFiles, ModelFile};
 use serial_world::SerialWorld;
@@ -222,16 +222,65 @@ fn batch_of(alloc: Global) -> Result<Batch, Refusal> {
     }
 }
 
-/// A case that plays a batch on a served world. If the log went down, the world is opened again.
-#[derive(Drop)]
-pub struct Serve<R: Room> {
-    alloc: Global,
-    served: Option<SerialWorld<PlainCopy, ModelFile>>,
-    batch: Batch,
-    room: PhantomData<R>,
+type Served = SerialWorld<PlainCopy, ModelFile>;
+
+/// A form of the answers to a batch.
+pub trait Form {
+    /// The names of its case, also on files that grow.
+    fn names() -> [&'static str; 2];
+
+    /// Plays a batch, and returns a number for its answers.
+    fn play(alloc: Global, served: &mut Served, batch: &Batch) -> Result<u64, Refusal>;
 }
 
-impl<R: Room> Serve<R> {
+/// The answers as a line.
+pub struct Line;
+
+impl Form for Line {
+    fn names() -> [&'static str; 2] {
+        [
+            "SerialWorld::batch",
+            "SerialWorld::batch of files that grow",
+        ]
+    }
+
+    fn play(alloc: Global, served: &mut Served, batch: &Batch) -> Result<u64, Refusal> {
+        let mut text = Vec::new(alloc);
+        served.batch(batch, &mut text)?;
+        Ok(digest_of_bytes(&text))
+    }
+}
+
+/// The answers as values.
+pub struct Values;
+
+impl Form for Values {
+    fn names() -> [&'static str; 2] {
+        ["SerialWorld::play", "SerialWorld::play of files that grow"]
+    }
+
+    fn play(alloc: Global, served: &mut Served, batch: &Batch) -> Result<u64, Refusal> {
+        let mut answers = Vec::new(alloc);
+        let tick = served.play(batch, &mut answers)?;
+        let last = match answers.last() {
+            Some(Answer::Word(word)) => *word,
+            _ => 0,
+        };
+        Ok(folded(folded(tick, answers.len() as u64), last))
+    }
+}
+
+/// A case that plays a batch on a served world. If the log went down, the world is opened again.
+#[derive(Drop)]
+pub struct Serve<R: Room, F: Form> {
+    alloc: Global,
+    served: Option<Served>,
+    batch: Batch,
+    room: PhantomData<R>,
+    form: PhantomData<F>,
+}
+
+impl<R: Room, F: Form> Serve<R, F> {
     fn open(&mut self, files: FourFiles<ModelFile>) -> Result<(), Refusal> {
         match SerialWorld::open(self.alloc, files, 1) {
             Ok(served) => {
@@ -248,13 +297,10 @@ impl<R: Room> Serve<R> {
     }
 }
 
-impl<R: Room> Case for Serve<R> {
+impl<R: Room, F: Form> Case for Serve<R, F> {
     fn name() -> &'static str {
-        if R::grows() {
-            "SerialWorld::batch of files that grow"
-        } else {
-            "SerialWorld::batch"
-        }
+        let [ample, growing] = F::names();
+        if R::grows() { growing } else { ample }
     }
 
     fn refusal() -> Refusal {
@@ -272,6 +318,7 @@ impl<R: Room> Case for Serve<R> {
             served: None,
             batch: batch_of(alloc)?,
             room: PhantomData,
+            form: PhantomData,
         };
         case.open(files_of::<R>(alloc, &IMAGE, &LOG)?)?;
         Ok(case)
@@ -279,14 +326,12 @@ impl<R: Room> Case for Serve<R> {
 
     fn call(&mut self) -> Result<u64, Refusal> {
         let served = self.served.as_mut().ok_or(Refusal::Device)?;
-        let mut text = Vec::new(self.alloc);
-        match served.batch(&self.batch, &mut text) {
-            Ok(()) => Ok(digest_of_bytes(&text)),
+        match F::play(self.alloc, served, &self.batch) {
             Err(Refusal::LogDown) => {
                 self.open_again()?;
                 Err(Refusal::LogDown)
             }
-            Err(refusal) => Err(refusal),
+            answer => answer,
         }
     }
 

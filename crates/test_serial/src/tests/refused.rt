@@ -3,7 +3,7 @@ use super::same::same;
 use super::worlds::{IMAGE, NONE, bytes_of, files_of, fresh, stands, told};
 use capture_core::PlainCopy;
 use disk_model::{FourFiles, ModelFile};
-use serial_world::SerialWorld;
+use serial_world::{SerialWorld, create_and_open};
 use std::alloc::Global;
 use std::process::Abort;
 use world_actions::Refusal;
@@ -65,6 +65,17 @@ pub fn try_open_files(rt: &impl Abort, alloc: Global) {
 pub fn try_made_files(rt: &impl Abort, alloc: Global) {
     let made = fresh(rt, alloc, 1);
     try_not_empty(rt, alloc, bytes_of(&made));
+    drop(made);
+}
+
+/// Tries to make and open a world of the files of a new world.
+pub fn try_created_again(rt: &impl Abort, alloc: Global) {
+    let made = fresh(rt, alloc, 1);
+    let bytes = bytes_of(&made);
+    let files = files_of(rt, alloc, bytes);
+    let answer = create_and_open::<PlainCopy, ModelFile>(alloc, 1, files, 64);
+    let code = Refusal::NotEmpty.code();
+    same(rt, "a refusal", refused(answer, bytes), Some((code, true)));
     drop(made);
 }
 

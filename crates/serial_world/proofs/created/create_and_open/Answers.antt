@@ -1,5 +1,8 @@
-use Rattle.std.proofs.lemmas.Result.{IfOk-weaker}
+use Rattle.std.proofs.lemmas.Result.{IfOk-weaker, IfErr-weaker}
+use Rattle.world_start.specs.Opening.{IsRefused}
+use Rattle.serial_world.specs.Opened.{IsNotOpened, IsNotCreated}
 use Rattle.serial_world.proofs.FreshlyServed.{served_fresh}
+use Rattle.serial_world.proofs.NotCreated.{if_same, if_both, new_refused, new_left, none_made}
 use Rattle.serial_world.proofs.created.create_and_open.Goals as goal
 
 pub returns-clause-served : goal.returns-clause-served
@@ -7,3 +10,26 @@ returns-clause-served g c = λ honest synced.
     IfOk-weaker c.open.result _ _
     (λ served opened. served_fresh g.C.Capture.content g.D.Disk.content g.D.Disk.may_leave g.D.Disk.honest c.args.files c.in_ok-files.files c.args.cells served (c.in_ok-files.ensures.made honest) synced opened)
     (c.open.ensures.opened honest)
+
+pub returns-in_err-files-clause-left : goal.returns-in_err-files-clause-left
+returns-in_err-files-clause-left g c = λ honest.
+    let file = g.D.Disk.content in
+    let leaves = g.D.Disk.may_leave in
+    let refused = c.in_err-files.field-0.0 in
+    if_same c.from_residual.result refused (λ r. IsNotCreated file leaves c.args.files c.args.cells r.1 r.0) c.from_residual.ensures.1
+    (none_made file leaves g.D.Disk.honest c.args.files c.args.cells refused.1 refused.0 (c.in_err-files.ensures.left honest))
+
+pub returns-clause-refused : goal.returns-clause-refused
+returns-clause-refused g c =
+    IfErr-weaker c.open.result _ _
+    (λ refused is. new_refused g.D.Disk.content g.D.Disk.may_leave g.D.Disk.honest c.segments_read_once.ensures.once (λ honest disk. g.met.D.Disk.stays disk honest) c.args.files c.in_ok-files.files c.args.cells c.in_ok-files.ensures.made refused.1 is)
+    c.open.ensures.refused
+
+pub returns-clause-left : goal.returns-clause-left
+returns-clause-left g c = λ honest.
+    let file = g.D.Disk.content in
+    let leaves = g.D.Disk.may_leave in
+    let made = c.in_ok-files.files in
+    if_both c.open.result (λ r. IsRefused file g.D.Disk.honest made r.1) (λ r. IsNotOpened file leaves made r.1 r.0) (λ r. IsNotCreated file leaves c.args.files c.args.cells r.1 r.0)
+    (λ refused why left. new_left file leaves g.D.Disk.honest c.args.files made c.args.cells (c.in_ok-files.ensures.made honest) refused.1 refused.0 why left)
+    c.open.ensures.refused (c.open.ensures.left honest)

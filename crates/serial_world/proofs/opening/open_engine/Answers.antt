@@ -1,4 +1,4 @@
-use Rattle.std.proofs.Common.{◌≡◌, ℕ, List, inl, subst, ◌∙◌, arith, take}
+use Rattle.std.proofs.Common.{◌≡◌, ℕ, List, inl, subst, ◌∙◌, take}
 use Rattle.world_actions.specs.declared.refusal.Refusal.TheVariants.{Device}
 use Rattle.disk_model.specs.FourFiles.{fault_counts}
 use Rattle.world_start.specs.Opening.{SomeGrew}

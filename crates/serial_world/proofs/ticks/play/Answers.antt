@@ -13,16 +13,16 @@ returns-clause-plays g c =
     let s = c.args.engine.now in
     let requests = c.args.b.now.list in
     let live = g.met.C.Capture.live_is_words s.store in
-    let live_after = g.met.C.Capture.live_is_words c.answer_text.new.c in
-    let e = c.in_ok-answer_text.ensures in
+    let live_after = g.met.C.Capture.live_is_words c.answer.new.c in
+    let e = c.in_ok-answer.ensures in
     record {
       is = refl;
-      tick = c.answer_text.new.t;
+      tick = c.answer.new.t;
       list = e.tick ∙ ap (accepted_of requests) (sym live);
-      queue = ap (λ (b : Buffer Record). b.items) c.push_back.ensures.items ∙ keep_all s.queue.capacity (s.queue.items ++ records.Tick c.answer_text.new.t ∷ []) (omega (arith, length-append s.queue.items (records.Tick c.answer_text.new.t ∷ []), ap length c.requires.none, c.requires.ring));
+      queue = ap (λ (b : Buffer Record). b.items) c.push_back.ensures.items ∙ keep_all s.queue.capacity (s.queue.items ++ records.Tick c.answer.new.t ∷ []) (omega (arith, length-append s.queue.items (records.Tick c.answer.new.t ∷ []), ap length c.requires.none, c.requires.ring));
       ring = ap (λ (b : Buffer Record). b.capacity) c.push_back.ensures.items;
       live = live_after ∙ (e.words ∙ ap (words_after requests) (sym live));
-      cells = c.accesses_write.ensures.cells s.store c.answer_text.new.c _ e.writes;
-      left = ap (λ (x : Content). x.left) (c.accesses_write.ensures.content s.store c.answer_text.new.c _ e.writes);
-      covers = λ image covered. c.accesses_write.ensures.covered s.store c.answer_text.new.c _ image e.writes covered;
+      cells = c.accesses_write.ensures.cells s.store c.answer.new.c _ e.writes;
+      left = ap (λ (x : Content). x.left) (c.accesses_write.ensures.content s.store c.answer.new.c _ e.writes);
+      covers = λ image covered. c.accesses_write.ensures.covered s.store c.answer.new.c _ image e.writes covered;
     }

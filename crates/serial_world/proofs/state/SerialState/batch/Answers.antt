@@ -53,8 +53,8 @@ returns-then-is_down-clause-refused g c =
       since = ap (λ (e : Engine g.row.C.Denot). e.since) c.write_log.ensures.same ∙ ap (λ (e : Engine g.row.C.Denot). e.since) p.is;
     })
 
-pub returns-clause-answered : goal.returns-clause-answered
-returns-clause-answered g c =
+pub returns-clause-acknowledged : goal.returns-clause-acknowledged
+returns-clause-acknowledged g c =
     let old = c.args.self.now in
     let requests = c.args.b.now.list in
     let live = (g.C.Capture.content old.engine.store).live in
@@ -78,7 +78,6 @@ returns-clause-answered g c =
         same = (ap (λ (s : SerialState g.row.C.Denot g.row.D.Denot). s.every) c.checkpoint_if_due.ensures.same, ap (λ (s : SerialState g.row.C.Denot g.row.D.Denot). s.recovered) c.checkpoint_if_due.ensures.same, c.checkpoint_if_due.ensures.cells ∙ (ap (λ (e : Engine g.row.C.Denot). e.images.cells) c.write_log.ensures.same ∙ ap (λ (e : Engine g.row.C.Denot). e.images.cells) p.is));
         serves = λ honest first ticks f. c.checkpoint_if_due.ensures.serves honest first (ticks ++ accepted_of requests live ∷ []) (record { started = started; follows = follows honest first ticks f });
       };
-      text_is = c.in_ok-play.ensures.text;
       acked = ap (λ (s : SerialState g.row.C.Denot g.row.D.Denot). s.acked) c.checkpoint_if_due.ensures.same ∙ sym c.checkpoint_if_due.ensures.ended;
       since = elim c.checkpoint_if_due.ensures.since [
         | inl same ↦ inl (same ∙ since)
