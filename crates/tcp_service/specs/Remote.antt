@@ -1,11 +1,11 @@
 -- The answers to the batches of a session.
 use Rattle.std.specs.Prelude.{◌≡◌, ◌⊎◌, ℕ, List, Option, Some, Result, Ok, Err}
 use Rattle.world_actions.specs.declared.refusal.Refusal.{Refusal}
-use Rattle.world_actions.specs.declared.refusal.Refusal.TheVariants.{NoMemory, TicksEnded}
+use Rattle.world_actions.specs.declared.refusal.Refusal.TheVariants.{NoMemory}
 use Rattle.batches.specs.declared.batch.Request.{Request}
 use Rattle.workers.specs.declared.post.Fault.{Fault}
 use Rattle.workers.specs.Posts.{Posted, IsPost}
-use Rattle.workers.specs.Asking.{AskerState, IsAsked, IsUnasked, IsNewPost, IsFaultOf}
+use Rattle.workers.specs.Asking.{AskerState, IsAsked, IsUnsent, IsNewPost, IsFaultOf}
 
 -- a session: its asker, the post that answered it last, and its last fault
 pub record Asking : Type 0 where
@@ -25,10 +25,10 @@ HearsPost old requests new post = IsNewPost old.asker requests post × (new ≡ 
 abbrev pub HearsFault : (old new : Asking) → Refusal → Type 0
 HearsFault old new refusal = (fault : Fault) × IsFaultOf old.asker fault × (refusal ≡ fault.reason) × (new ≡ record old { fault = Some fault })
 
--- it did not ask, since it had no memory, or no number of 64 bits is left
+-- it sent no ask: it had no memory, the mutator is gone, or no number of 64 bits is left
 abbrev pub AsksNothing : (old new : Asking) → Refusal → Type 0
 AsksNothing old new refusal = ((new ≡ old) × (refusal ≡ NoMemory))
-    ⊎ (IsUnasked old.asker new.asker × (refusal ≡ TicksEnded) × (new.last ≡ old.last))
+    ⊎ ((fault : Fault) × IsUnsent old.asker fault × (refusal ≡ fault.reason) × (new ≡ record old { fault = Some fault }))
 
 -- it asked once, and heard this post
 abbrev pub IsAnsweredBy : (old : Asking) → List Request → (new : Asking) → Posted → Type 0

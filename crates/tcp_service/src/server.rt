@@ -1,5 +1,5 @@
 ghost use Rattle.std.specs.Prelude.{◌≡◌, ◌≢◌, ◌+◌, ◌≤◌, IsTrue, IfOk};
-ghost use Rattle.workers.specs.AskOrder.{AreInTurn, asks_of};
+ghost use Rattle.workers.specs.AskOrder.{PlaysInTurn};
 ghost use Rattle.workers.specs.Meeting.{HeardOnlyOfDown};
 ghost use Rattle.worker_steps.specs.Stopped.{StaysSound};
 ghost use Rattle.worker_steps.specs.Begun.{IsWhole};
@@ -61,8 +61,9 @@ impl From<NotStarted> for NotServed {
 
 /// Serves the connections of a listener by the workers of a world, and stops the workers after the last one, also if the
 /// listener fails. A round is due after every `every` ticks. On disks that keep to the disk model the files are then sound
-/// for all ticks that were played, each session's batches at most once, in its order. If the workers can't be started no
-/// thread is left running, and no connection is accepted. If the server is left, its threads run on.
+/// for all ticks that were played. Each session's batches were taken in its order, none left out, and played at most once. If
+/// the workers can't be started no thread is left running, and no connection is accepted. If the server is left, its threads
+/// run on.
 pub fn serve_tcp<
     R: Threads + Wait + Clock + Copy + Send + 'static,
     M: Method + Send + 'static,
@@ -93,7 +94,8 @@ pub fn serve_tcp<
     ensures sound { IsTrue D.honest → IfOk result (λ stopped.
         StaysSound D.content D.may_leave opened.front.live opened.images opened.log opened.ended
         stopped.workers.mutator stopped.workers.checkpointer stopped.workers.log_writer) }
-    ensures in_turn { IfOk result (λ stopped. AreInTurn (asks_of stopped.workers.mutator.to.items)) }
+    ensures in_turn { IfOk result (λ stopped.
+        PlaysInTurn stopped.workers.mutator.asks.taken stopped.workers.mutator.to.items) }
     ensures acked { IfOk result (λ stopped. opened.ended ≤ stopped.workers.log_writer.acked) }
     ensures every { IfOk result (λ stopped. stopped.workers.mutator.every ≡ every) }
     ensures heard { IfOk result (λ stopped.

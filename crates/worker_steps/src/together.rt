@@ -1,6 +1,6 @@
 //! The workers of a world in one thread, a step of one of them at a time.
 ghost use Rattle.std.specs.Prelude.{◌≡◌, ◌≤◌, IsTrue, IfOk};
-ghost use Rattle.workers.specs.AskOrder.{AreInTurn, asks_of};
+ghost use Rattle.workers.specs.AskOrder.{PlaysInTurn};
 ghost use Rattle.workers.specs.Channel.{AreOneChannel};
 ghost use Rattle.workers.specs.Imaging.{KeepsBack, IsAtRest as IsResting};
 ghost use Rattle.workers.specs.Logging.{IsAtRest};
@@ -92,7 +92,7 @@ impl<M: Method, D: Disk + Drop, A: Gate + Drop, B: Gate + Drop, C: Gate + Drop> 
             × Meets mid (record { mutator = self.new.mutator; checkpointer = self.new.checkpointer; log_writer = self.new.log_writer }) }
         ensures sound { IsTrue D.honest → AreSound D.content D.may_leave self.new.mutator self.new.checkpointer self.new.log_writer }
         ensures posted { self.new.log_writer.answers.posted ≤ acknowledged_by self.new.checkpointer self.new.log_writer }
-        ensures in_turn { AreInTurn (asks_of self.new.mutator.to.items) }
+        ensures in_turn { PlaysInTurn self.new.mutator.asks.taken self.new.mutator.to.items }
         ensures mutator { KeepsFront self.old.mutator self.new.mutator }
         ensures checkpointer { KeepsBack self.old.checkpointer self.new.checkpointer }
         ensures log_writer { KeepsLog self.old.log_writer self.new.log_writer }
@@ -139,7 +139,7 @@ impl<M: Method, D: Disk + Drop, A: Gate + Drop, B: Gate + Drop, C: Gate + Drop> 
     fn meet(&mut self)
         ensures sound { IsTrue D.honest → AreSound D.content D.may_leave self.new.mutator self.new.checkpointer self.new.log_writer }
         ensures posted { self.new.log_writer.answers.posted ≤ acknowledged_by self.new.checkpointer self.new.log_writer }
-        ensures in_turn { AreInTurn (asks_of self.new.mutator.to.items) }
+        ensures in_turn { PlaysInTurn self.new.mutator.asks.taken self.new.mutator.to.items }
         ensures meets { Meets (record { mutator = self.old.mutator; checkpointer = self.old.checkpointer; log_writer = self.old.log_writer })
             (record { mutator = self.new.mutator; checkpointer = self.new.checkpointer; log_writer = self.new.log_writer }) }
         ensures mutator { KeepsFront self.old.mutator self.new.mutator }

@@ -1,17 +1,20 @@
 -- Each step of the ends of the channel of asks keeps the turns of the sessions.
-use Rattle.std.proofs.Common.{arith, ◌≡◌, ◌≢◌, ◌<◌, ◌≤◌, ◌+◌, ℕ, zero, suc, List, [], ◌∷◌, ◌++◌, All, length, length-append, set, sym, refl, ap, ◌∙◌, subst}
+use Rattle.std.proofs.Common.{arith, ◌≡◌, ◌≢◌, ◌<◌, ◌≤◌, ◌+◌, ◌==◌, ◌⊎◌, inl, inr, ℕ, zero, suc, cond, true, false, List, [], ◌∷◌, ◌++◌, All, length, length-append, append-nil, set, sym, refl, ap, ap₂, ◌∙◌, subst}
 use mathlib.Core.Option.{some, some-injective, some-ne-none}
 use lib.ListN.{get_elem?}
 use Rattle.std.specs.Prelude.{AllPairs}
+use Rattle.std.proofs.lemmas.Bool.{ne_eqb}
+use Rattle.std.proofs.lemmas.Bool.Decides.{eqb_tells}
 use Rattle.std.proofs.lemmas.List.{append_assoc}
-use Rattle.std.proofs.lemmas.List.Elements.{All-nil, All-cons, All-head, All-tail, All-push, All-weaker, All-contains, Contains-push}
+use Rattle.std.proofs.lemmas.List.Sums.{sum_by-cons, sum_by-append, sum_by_push}
+use Rattle.std.proofs.lemmas.List.Elements.{All-nil, All-cons, All-head, All-tail, All-push, All-weaker}
 use Rattle.std.proofs.lemmas.List.Kept.{AllPairs-cons}
 use Rattle.crossbeam_channel.specs.Fifo.{Pushes, Pops, Forks, Learns}
 use Rattle.shared_capture.proofs.Views.{set_knows, split_knows}
 use Rattle.workers.specs.declared.ask_rule.AskView.{AskView}
 use Rattle.workers.specs.declared.ask_rule.AskView.TheVariants as V
 use Rattle.workers.specs.Posts.{AskedBatch}
-use Rattle.workers.specs.AskOrder.{IsBefore, AreInTurn, Knows, IsInTurn, taken_of, sent, taken, numbering_part, taking_part, next_numbers, new_session}
+use Rattle.workers.specs.AskOrder.{asks_by, EachIsNext, AreNumbered, IsBefore, Knows, IsInTurn, taken_of, sent, taken, numbering_part, taking_part, next_numbers, new_session}
 
 -- ---- pairs
 
@@ -28,21 +31,62 @@ module _ {X : Type 0} (R : X → X → Type 0) where
   pairs_push (y ∷ ys) x h all = AllPairs-cons R y (ys ++ x ∷ []) (All-push (R y) ys x (head_of y ys h) (All-head (λ z. R z x) y ys all))
       (pairs_push ys x (tail_of y ys h) (All-tail (λ z. R z x) y ys all))
 
-  -- each stands before the last
-  pub pairs_last : (xs : List X) (x : X) → AllPairs R (xs ++ x ∷ []) → All (λ y. R y x) xs
-  pairs_last [] x h = All-nil (λ y. R y x)
-  pairs_last (y ∷ ys) x h = All-cons (λ z. R z x) y ys (All-contains (R y) (ys ++ x ∷ []) x (head_of y (ys ++ x ∷ []) h) (Contains-push ys x)) (pairs_last ys x (tail_of y (ys ++ x ∷ []) h))
+-- ---- counts
 
-  -- a beginning
-  pub pairs_left : (xs ys all : List X) → xs ++ ys ≡ all → AllPairs R all → AllPairs R xs
-  pairs_left [] ys all is h = λ i j d lt within. absurd (omega arith)
-  pairs_left (x ∷ xs) ys all is h =
-      let here : AllPairs R (x ∷ xs ++ ys) = subst (AllPairs R) (sym is) h in
-      AllPairs-cons R x xs (all_left (R x) xs ys (head_of x (xs ++ ys) here)) (pairs_left xs ys (xs ++ ys) refl (tail_of x (xs ++ ys) here))
-    where
-      all_left : (P : X → Type 0) (xs ys : List X) → All P (xs ++ ys) → All P xs
-      all_left P [] ys all = All-nil P
-      all_left P (x ∷ xs) ys all = All-cons P x xs (All-head P x (xs ++ ys) all) (all_left P xs ys (All-tail P x (xs ++ ys) all))
+is_eqb : (a b : ℕ) → a ≡ b → (a == b) ≡ true
+is_eqb a b e = told (eqb_tells a b)
+  where
+    told : ((a == b ≡ true) × (a ≡ b)) ⊎ ((a == b ≡ false) × (a ≢ b)) → (a == b) ≡ true
+    told (inl same) = same.0
+    told (inr other) = absurd (other.1 e)
+
+abbrev is_of : (session : ℕ) → AskedBatch → ℕ
+is_of session asked = cond (asked.session == session) 1 0
+
+own_push : (session : ℕ) (asks : List AskedBatch) (x : AskedBatch) → x.session ≡ session → asks_by session (asks ++ x ∷ []) ≡ asks_by session asks + 1
+own_push session asks x own = sum_by_push (is_of session) asks x ∙ ap (λ b. asks_by session asks + cond b 1 0) (is_eqb x.session session own)
+
+other_push : (session : ℕ) (asks : List AskedBatch) (x : AskedBatch) → x.session ≢ session → asks_by session (asks ++ x ∷ []) ≡ asks_by session asks
+other_push session asks x other = sum_by_push (is_of session) asks x ∙ (ap (λ b. asks_by session asks + cond b 1 0) (ne_eqb x.session session other) ∙ omega arith)
+
+none_by : (session : ℕ) (asks : List AskedBatch) → All (λ (asked : AskedBatch). asked.session < session) asks → 0 ≡ asks_by session asks
+none_by session [] all = refl
+none_by session (x ∷ asks) all =
+    let low = All-head (λ (asked : AskedBatch). asked.session < session) x asks all in
+    let rest = none_by session asks (All-tail (λ (asked : AskedBatch). asked.session < session) x asks all) in
+    let is : is_of session x ≡ 0 = ap (λ b. cond b 1 0) (ne_eqb x.session session (λ e. omega (arith, low, e))) in
+    let both = sum_by-cons (is_of session) x asks in
+    omega (arith, rest, is, both)
+
+-- ---- numbers
+
+pub next_push : (earlier asks : List AskedBatch) (x : AskedBatch) → EachIsNext earlier asks → x.ask ≡ asks_by x.session (earlier ++ asks) + 1 → EachIsNext earlier (asks ++ x ∷ [])
+next_push earlier [] x next is = (subst (λ (l : List AskedBatch). x.ask ≡ asks_by x.session l + 1) (append-nil earlier) is, tt)
+next_push earlier (y ∷ asks) x next is =
+    (next.0, next_push (earlier ++ y ∷ []) asks x next.1 (subst (λ (l : List AskedBatch). x.ask ≡ asks_by x.session l + 1) (sym (append_assoc earlier (y ∷ []) asks)) is))
+
+-- a beginning
+next_left : (earlier asks more : List AskedBatch) → EachIsNext earlier (asks ++ more) → EachIsNext earlier asks
+next_left earlier [] more next = tt
+next_left earlier (x ∷ asks) more next = (next.0, next_left (earlier ++ x ∷ []) asks more next.1)
+
+last_is : (earlier asks : List AskedBatch) (x : AskedBatch) → EachIsNext earlier (asks ++ x ∷ []) → x.ask ≡ asks_by x.session (earlier ++ asks) + 1
+last_is earlier [] x next = subst (λ (l : List AskedBatch). x.ask ≡ asks_by x.session l + 1) (sym (append-nil earlier)) next.0
+last_is earlier (y ∷ asks) x next =
+    subst (λ (l : List AskedBatch). x.ask ≡ asks_by x.session l + 1) (append_assoc earlier (y ∷ []) asks) (last_is (earlier ++ y ∷ []) asks x next.1)
+
+-- each stands before the last
+pub before_last : (earlier asks : List AskedBatch) (x : AskedBatch) → EachIsNext earlier (asks ++ x ∷ []) → All (λ (y : AskedBatch). IsBefore y x) asks
+before_last earlier [] x next = All-nil (λ (y : AskedBatch). IsBefore y x)
+before_last earlier (y ∷ asks) x next = All-cons (λ (z : AskedBatch). IsBefore z x) y asks first (before_last (earlier ++ y ∷ []) asks x next.1)
+  where
+    first : IsBefore y x
+    first same =
+        let own : y.ask ≡ asks_by x.session earlier + 1 = next.0 ∙ ap (λ s. asks_by s earlier + 1) same in
+        let last = last_is (earlier ++ y ∷ []) asks x next.1 in
+        let more = own_push x.session earlier y same in
+        let up = sum_by-append (is_of x.session) (earlier ++ y ∷ []) asks in
+        omega (arith, own, last, more, up)
 
 -- ---- the seats of the sessions
 
@@ -76,38 +120,30 @@ starts = record {
   numbered_at = 0;
   taken_at = 0;
   order = refl;
-  in_turn = λ i j d lt within. absurd (omega arith);
+  numbered = tt;
   begun = All-nil (λ (asked : AskedBatch). asked.session < 0);
   each_seat = start_knows;
 }
 
-abbrev UpTo : (session last : ℕ) → List AskedBatch → Type 0
-UpTo session last asks = All (λ (asked : AskedBatch). asked.session ≡ session → asked.ask ≤ last) asks
-
 -- the seat id knew v, and the others know what they knew
 module _ (asks : List AskedBatch) (views : List AskView) (k : IsInTurn asks views) (id : ℕ) where
   -- a session sends its next ask
-  sends_one : (session last : ℕ) (x : AskedBatch) → get_elem? views id ≡ some (V.Sends session last) → x.session ≡ session → last < x.ask
+  sends_one : (session count : ℕ) (x : AskedBatch) → get_elem? views id ≡ some (V.Sends session count) → x.session ≡ session → x.ask ≡ count + 1
       → IsInTurn (asks ++ x ∷ []) (set views id (V.Sends x.session x.ask))
-  sends_one session last x at own greater =
-      let known = k.each_seat id (V.Sends session last) at in
-      let all : List AskedBatch = k.all ++ x ∷ [] in record {
+  sends_one session count x at own next =
+      let known = k.each_seat id (V.Sends session count) at in
+      let all : List AskedBatch = k.all ++ x ∷ [] in
+      let number : x.ask ≡ asks_by x.session k.all + 1 = next ∙ ap (λ n. n + 1) (known.1 ∙ ap (λ s. asks_by s k.all) (sym own)) in record {
         all = all;
         taken = k.taken;
         seats = k.seats;
         numbered_at = k.numbered_at;
         taken_at = k.taken_at;
         order = sym (append_assoc k.taken asks (x ∷ [])) ∙ ap (λ (l : List AskedBatch). l ++ x ∷ []) k.order;
-        in_turn = pairs_push IsBefore k.all x k.in_turn (All-weaker (λ (y : AskedBatch). y.session ≡ session → y.ask ≤ last) (λ (y : AskedBatch). IsBefore y x)
-            (λ y low same. let le = low (same ∙ own) in omega (arith, le, greater)) k.all known.1);
+        numbered = next_push [] k.all x k.numbered number;
         begun = All-push (λ (y : AskedBatch). y.session < length k.seats) k.all x k.begun (subst (λ n. n < length k.seats) (sym own) (is_begun k.seats session id known.0));
-        each_seat = set_knows (Knows all k.taken k.seats k.numbered_at k.taken_at) views id (V.Sends x.session x.ask) (
-          ap (get_elem? k.seats) own ∙ known.0,
-          All-push (λ (y : AskedBatch). y.session ≡ x.session → y.ask ≤ x.ask) k.all x
-              (All-weaker (λ (y : AskedBatch). y.session ≡ session → y.ask ≤ last) (λ (y : AskedBatch). y.session ≡ x.session → y.ask ≤ x.ask)
-              (λ y low same. let le = low (same ∙ own) in omega (arith, le, greater)) k.all known.1)
-              (λ same. omega arith),
-        )
+        each_seat = set_knows (Knows all k.taken k.seats k.numbered_at k.taken_at) views id (V.Sends x.session x.ask)
+            (ap (get_elem? k.seats) own ∙ known.0, number ∙ sym (own_push x.session k.all x refl))
             others;
       }
     where
@@ -116,11 +152,11 @@ module _ (asks : List AskedBatch) (views : List AskView) (k : IsInTurn asks view
       others j (V.Numbers next) ne e = k.each_seat j (V.Numbers next) e
       others j (V.Takes taken) ne e = k.each_seat j (V.Takes taken) e
       others j (V.Sends other most) ne e =
-          let mine = k.each_seat id (V.Sends session last) at in
+          let mine = k.each_seat id (V.Sends session count) at in
           let seen = k.each_seat j (V.Sends other most) e in (
             seen.0,
-            All-push (λ (y : AskedBatch). y.session ≡ other → y.ask ≤ most) k.all x seen.1
-                (λ same. absurd (ne (some-injective j id (sym seen.0 ∙ (ap (get_elem? k.seats) (sym same ∙ own) ∙ mine.0))))),
+            seen.1 ∙ sym (other_push other k.all x
+                (λ same. ne (some-injective j id (sym seen.0 ∙ (ap (get_elem? k.seats) (sym same ∙ own) ∙ mine.0))))),
           )
 
   -- a session begins
@@ -136,13 +172,12 @@ module _ (asks : List AskedBatch) (views : List AskView) (k : IsInTurn asks view
         numbered_at = k.numbered_at;
         taken_at = k.taken_at;
         order = k.order;
-        in_turn = k.in_turn;
+        numbered = k.numbered;
         begun = All-weaker (λ (y : AskedBatch). y.session < length k.seats) (λ (y : AskedBatch). y.session < length seats) (λ y low. omega (arith, low, more)) k.all k.begun;
         each_seat = split_knows (Knows k.all k.taken seats k.numbered_at k.taken_at) views id (V.Numbers (next + 1)) (V.Sends next 0)
             (known.0, ap (λ n. n + 1) known.1 ∙ sym more) (
               ap (get_elem? seats) known.1 ∙ at_last k.seats seat,
-              All-weaker (λ (y : AskedBatch). y.session < length k.seats) (λ (y : AskedBatch). y.session ≡ next → y.ask ≤ 0)
-                  (λ y low same. absurd (omega (arith, low, same, known.1))) k.all k.begun,
+              subst (λ n. 0 ≡ asks_by n k.all) (sym known.1) (none_by (length k.seats) k.all k.begun),
             )
             (others seat);
       }
@@ -164,7 +199,7 @@ module _ (asks : List AskedBatch) (views : List AskView) (k : IsInTurn asks view
         numbered_at = k.numbered_at;
         taken_at = seat;
         order = k.order;
-        in_turn = k.in_turn;
+        numbered = k.numbered;
         begun = k.begun;
         each_seat = split_knows (Knows k.all k.taken k.seats k.numbered_at seat) views id (V.Numbers 0) (V.Takes [])
             (known.0, sym (ap length known.2))
@@ -180,7 +215,7 @@ module _ (asks : List AskedBatch) (views : List AskView) (k : IsInTurn asks view
 
 -- an ask is taken
 module _ (x : AskedBatch) (asks : List AskedBatch) (views : List AskView) (k : IsInTurn (x ∷ asks) views) (id : ℕ) (known : List AskedBatch) (at : get_elem? views id ≡ some (V.Takes known)) where
-  takes_one : IsInTurn asks (set views id (V.Takes (known ++ x ∷ []))) × AreInTurn (known ++ x ∷ [])
+  takes_one : IsInTurn asks (set views id (V.Takes (known ++ x ∷ []))) × AreNumbered (known ++ x ∷ [])
   takes_one =
       let mine = k.each_seat id (V.Takes known) at in
       let taken : List AskedBatch = k.taken ++ x ∷ [] in
@@ -193,11 +228,11 @@ module _ (x : AskedBatch) (asks : List AskedBatch) (views : List AskView) (k : I
           numbered_at = k.numbered_at;
           taken_at = k.taken_at;
           order = order;
-          in_turn = k.in_turn;
+          numbered = k.numbered;
           begun = k.begun;
           each_seat = set_knows (Knows k.all taken k.seats k.numbered_at k.taken_at) views id (V.Takes (known ++ x ∷ [])) (mine.0, same) others;
         },
-        subst AreInTurn (sym same) (pairs_left IsBefore taken asks k.all order k.in_turn),
+        subst AreNumbered (sym same) (next_left [] taken asks (subst AreNumbered (sym order) k.numbered)),
       )
     where
       others : (j : ℕ) (v : AskView) → j ≢ id → get_elem? views j ≡ some v → Knows k.all (k.taken ++ x ∷ []) k.seats k.numbered_at k.taken_at j v
@@ -208,9 +243,9 @@ module _ (x : AskedBatch) (asks : List AskedBatch) (views : List AskView) (k : I
 
 -- ---- the steps, as the channel asks for them
 
-pub sends : (n id : ℕ) (v : AskView) (session last : ℕ) (x : AskedBatch) → v ≡ V.Sends session last → x.session ≡ session → last < x.ask → Pushes IsInTurn n id v x (sent v x)
-sends n id v session last x is own greater asks views room k at =
-    (V.Sends x.session x.ask, sends_one asks views k id session last x (at ∙ ap (λ (u : AskView). some u) is) own greater, refl)
+pub sends : (n id : ℕ) (v : AskView) (session count : ℕ) (x : AskedBatch) → v ≡ V.Sends session count → x.session ≡ session → x.ask ≡ count + 1 → Pushes IsInTurn n id v x (sent v x)
+sends n id v session count x is own next asks views room k at =
+    (V.Sends x.session x.ask, sends_one asks views k id session count x (at ∙ ap (λ (u : AskView). some u) is) own next, refl)
 
 pub takes : (id : ℕ) (v : AskView) → v ≡ V.Takes (taken_of v) → Pops IsInTurn id v (taken v)
 takes id v is x asks views k at = let o = takes_one x asks views k id (taken_of v) (at ∙ ap (λ (u : AskView). some u) is) in (V.Takes (taken_of v ++ x ∷ []), o.0, (refl, o.1))

@@ -6,7 +6,7 @@ use Rattle.workers.specs.declared.ask_rule.AskView.{AskView}
 use Rattle.workers.specs.declared.ask_rule.AskView.TheVariants.{Takes}
 use Rattle.workers.specs.declared.ask_channel.AskReceiveEnd.{AskReceiveEnd}
 use Rattle.workers.specs.Posts.{AskedBatch}
-use Rattle.workers.specs.AskOrder.{AreInTurn, taken_of, taken}
+use Rattle.workers.specs.AskOrder.{AreNumbered, taken_of, taken}
 use Rattle.workers.specs.AskChannel.{IsTaking}
 
 module _ {E : Type 0} (end : AskReceiveEnd) (pass pass' : Pass AskedBatch AskView) (M : Type 0) where
@@ -14,14 +14,14 @@ module _ {E : Type 0} (end : AskReceiveEnd) (pass pass' : Pass AskedBatch AskVie
   taking_after (Ok x) rule at s = record {
     at = at;
     takes = rule.0 ∙ ap (λ (u : AskView). Takes (taken_of u)) (sym rule.0);
-    in_turn = subst (λ (u : AskView). AreInTurn (taken_of u)) (sym rule.0) rule.1;
+    numbered = subst (λ (u : AskView). AreNumbered (taken_of u)) (sym rule.0) rule.1;
   }
   taking_after (Err e) rule at s = record {
     at = at;
     takes = rule.0 ∙ (s.takes ∙ ap (λ (u : AskView). Takes (taken_of u)) (sym rule.0));
-    in_turn = subst (λ (u : AskView). AreInTurn (taken_of u)) (sym rule.0) s.in_turn;
+    numbered = subst (λ (u : AskView). AreNumbered (taken_of u)) (sym rule.0) s.numbered;
   }
 
-  pub took_in_turn : (r : Result AskedBatch E) → MatchResult r (λ x. taken (view pass) x (view pass')) (λ _. (view pass' ≡ view pass) × M) → IfOk r (λ x. AreInTurn (taken_of (view pass) ++ x ∷ []))
-  took_in_turn (Ok x) rule = rule.1
-  took_in_turn (Err e) rule = tt
+  pub took_numbered : (r : Result AskedBatch E) → MatchResult r (λ x. taken (view pass) x (view pass')) (λ _. (view pass' ≡ view pass) × M) → IfOk r (λ x. AreNumbered (taken_of (view pass) ++ x ∷ []))
+  took_numbered (Ok x) rule = rule.1
+  took_numbered (Err e) rule = tt

@@ -16,7 +16,7 @@ use Rattle.workers.specs.declared.item.Ended.{Ended}
 use Rattle.workers.specs.declared.item.Item.TheVariants.{Start, Tick, Switch, Stop}
 use Rattle.workers.specs.Items.{Goes, items_end, end_after}
 use Rattle.workers.specs.Posts.{AskedBatch}
-use Rattle.workers.specs.AskOrder.{PlaysInTurn}
+use Rattle.workers.specs.AskOrder.{AreNumbered, PlaysInTurn}
 use Rattle.workers.specs.AskChannel.{Taking}
 use Rattle.workers.specs.Channel.{Pushing, with_refusal}
 use Rattle.workers.specs.Worlds.{World, after_item, Leads, begun, world_of, IsUnchanged, AreUnchanged, IsLate, History, Counts}
@@ -225,9 +225,9 @@ last_owed w [] number v lead = (w.rounds, round number w.words lead.1.1.0, ap (�
 last_owed w (x ∷ items) number v lead = last_owed lead.0 items number v lead.2
 
 -- a mutator of a world whose start has ended
-pub begins : (asks : Taking) (front : FrontState) (to : Pushing) (heard : CoverState) (opening : List ℕ) (tick every : ℕ) → front.rounds ≡ [] → to.items ≡ Start tick ∷ [] → opening ≡ front.live → tick ≤ TICK_MAX → HasFlags front
+pub begins : (asks : Taking) (front : FrontState) (to : Pushing) (heard : CoverState) (opening : List ℕ) (tick every : ℕ) → front.rounds ≡ [] → to.items ≡ Start tick ∷ [] → opening ≡ front.live → tick ≤ TICK_MAX → HasFlags front → AreNumbered asks.taken
     → IsMutator (record { asks = asks; front = front; to = to; heard = heard; opening = opening; ended = tick; since = 0; every = every; down = false; owed = None })
-begins asks front to heard opening tick every none start words numbered flags = record {
+begins asks front to heard opening tick every none start words most flags numbered = record {
   history = record {
     late = [];
     is_late = inl refl;
@@ -236,10 +236,10 @@ begins asks front to heard opening tick every none start words numbered flags = 
     rounds = none;
     all_told = λ _. (refl, λ i. record { words = words i; rounds = sym none i });
   };
-  in_turn = subst (PlaysInTurn asks.taken) (sym start) (plays_none asks.taken tick);
+  in_turn = subst (PlaysInTurn asks.taken) (sym start) (plays_none asks.taken tick numbered);
   counts = subst (λ (l : List Item). Counts (items_end l) tick 0) (sym start) (record { count = refl; all = omega arith });
   rising = λ _. subst (UpTo (items_end to.items).base) (sym none) (All-nil (λ (r : Round). r.tick ≤ (items_end to.items).base));
-  most = numbered;
+  most = most;
   flags = flags;
   unchanged = subst (λ (l : List Round). AreUnchanged opening (l ++ round 0 front.live front.touched ∷ [])) (sym none) ((λ i no. ap (λ (l : List ℕ). get_or l i 0) (sym words)), tt);
   owes = tt;

@@ -6,11 +6,11 @@ use Rattle.workers.specs.declared.item.Item.{Item}
 use Rattle.workers.specs.declared.item.Ended.{Ended}
 use Rattle.workers.specs.declared.item.Item.TheVariants.{Start, Tick, Switch, Stop}
 use Rattle.workers.specs.Posts.{AskedBatch}
-use Rattle.workers.specs.AskOrder.{IsBefore, AreInTurn, asks_of, PlaysInTurn}
+use Rattle.workers.specs.AskOrder.{AreNumbered, IsBefore, AreInTurn, asks_of, PlaysInTurn}
 use Rattle.workers.specs.AskChannel.{Taking, with_ask}
 use Rattle.workers.specs.Channel.{Pushing}
 use Rattle.workers.specs.Mutating.{Playing, Owes, IsMutator, TakesAsk, IsTaken, MarksIfDue}
-use Rattle.workers.proofs.AskOrders.{pairs_push, pairs_last}
+use Rattle.workers.proofs.AskOrders.{pairs_push, before_last}
 
 asks_append : (xs ys : List Item) → asks_of (xs ++ ys) ≡ asks_of xs ++ asks_of ys
 asks_append [] ys = refl
@@ -31,12 +31,13 @@ asks_stop (Stop ∷ items) late = asks_stop items late
 
 plays_as : (taken : List AskedBatch) (items more : List Item) → asks_of more ≡ asks_of items → PlaysInTurn taken items → PlaysInTurn taken more
 plays_as taken items more is plays = record {
+  numbered = plays.numbered;
   among = subst (All (Contains taken)) (sym is) plays.among;
   in_turn = subst AreInTurn (sym is) plays.in_turn;
 }
 
-pub plays_none : (taken : List AskedBatch) (tick : ℕ) → PlaysInTurn taken (Start tick ∷ [])
-plays_none taken tick = record { among = All-nil (Contains taken); in_turn = λ i j d lt within. absurd (omega arith) }
+pub plays_none : (taken : List AskedBatch) (tick : ℕ) → AreNumbered taken → PlaysInTurn taken (Start tick ∷ [])
+plays_none taken tick numbered = record { numbered = numbered; among = All-nil (Contains taken); in_turn = λ i j d lt within. absurd (omega arith) }
 
 pub plays_switch : (taken : List AskedBatch) (items : List Item) (number : ℕ) → PlaysInTurn taken items → PlaysInTurn taken (items ++ Switch number ∷ [])
 plays_switch taken items number = plays_as taken items (items ++ Switch number ∷ []) (asks_switch items number)
@@ -49,12 +50,14 @@ pub plays_tick : (taken : List AskedBatch) (items : List Item) (ended : Ended) (
     → Contains taken asked → All (λ (earlier : AskedBatch). IsBefore earlier asked) (asks_of items) → PlaysInTurn taken items → PlaysInTurn taken (items ++ Tick ended ∷ [])
 plays_tick taken items ended asked own contains before plays =
     let is : asks_of (items ++ Tick ended ∷ []) ≡ asks_of items ++ asked ∷ [] = asks_append items (Tick ended ∷ []) ∙ ap (λ (a : AskedBatch). asks_of items ++ a ∷ []) own in record {
+      numbered = plays.numbered;
       among = subst (All (Contains taken)) (sym is) (All-push (Contains taken) (asks_of items) asked plays.among contains);
       in_turn = subst AreInTurn (sym is) (pairs_push IsBefore (asks_of items) asked plays.in_turn before);
     }
 
-plays_more : (taken : List AskedBatch) (items : List Item) (asked : AskedBatch) → PlaysInTurn taken items → PlaysInTurn (taken ++ asked ∷ []) items
-plays_more taken items asked plays = record {
+plays_more : (taken : List AskedBatch) (items : List Item) (asked : AskedBatch) → AreNumbered (taken ++ asked ∷ []) → PlaysInTurn taken items → PlaysInTurn (taken ++ asked ∷ []) items
+plays_more taken items asked numbered plays = record {
+  numbered = numbered;
   among = All-weaker (Contains taken) (Contains (taken ++ asked ∷ [])) (λ (a : AskedBatch). Contains-append_left taken (asked ∷ []) a) (asks_of items) plays.among;
   in_turn = plays.in_turn;
 }
@@ -66,21 +69,21 @@ module _ (m : Playing) (asked : AskedBatch) (asks : Taking) (more : asks ≡ wit
   pub takes_as : (old : Playing) → m ≡ old → TakesAsk old asked (record m { asks = asks })
   takes_as old is = subst (λ (p : Playing). TakesAsk p asked (record m { asks = asks })) is (ap (λ (t : Taking). let p : Playing = record m { asks = t } in p) more)
 
-  module _ (is : IsMutator m) where
+  module _ (is : IsMutator m) (numbered : AreNumbered (m.asks.taken ++ asked ∷ [])) where
     owes_more : (owed : Option Item) → IfSome owed (Owes m) → IfSome owed (Owes (record m { asks = with_ask m.asks asked }))
     owes_more None none = tt
     owes_more (Some item) owes = record {
       stopped = owes.stopped;
       goes = owes.goes;
       leads = owes.leads;
-      in_turn = plays_more m.asks.taken (m.to.items ++ item ∷ []) asked owes.in_turn;
+      in_turn = plays_more m.asks.taken (m.to.items ++ item ∷ []) asked numbered owes.in_turn;
       rising = owes.rising;
     }
 
     pub takes_ask : IsMutator (record m { asks = asks })
     takes_ask = subst (λ (t : Taking). IsMutator (record m { asks = t })) (sym more) (record {
       history = is.history;
-      in_turn = plays_more m.asks.taken m.to.items asked is.in_turn;
+      in_turn = plays_more m.asks.taken m.to.items asked numbered is.in_turn;
       counts = is.counts;
       rising = is.rising;
       most = is.most;
@@ -89,11 +92,11 @@ module _ (m : Playing) (asked : AskedBatch) (asks : Taking) (more : asks ≡ wit
       owes = owes_more m.owed is.owes;
     })
 
-    pub took_ask : AreInTurn (m.asks.taken ++ asked ∷ []) → IsTaken (record m { asks = asks }) asked
-    took_ask turn = subst (λ (t : Taking). IsTaken (record m { asks = t }) asked) (sym more) (
+    pub took_ask : IsTaken (record m { asks = asks }) asked
+    took_ask = subst (λ (t : Taking). IsTaken (record m { asks = t }) asked) (sym more) (
       Contains-push m.asks.taken asked,
       All-weaker (Contains m.asks.taken) (λ (a : AskedBatch). IsBefore a asked)
-          (λ a taken. All-contains (λ (e : AskedBatch). IsBefore e asked) m.asks.taken a (pairs_last IsBefore m.asks.taken asked turn) taken) (asks_of m.to.items) is.in_turn.among,
+          (λ a taken. All-contains (λ (e : AskedBatch). IsBefore e asked) m.asks.taken a (before_last [] m.asks.taken asked numbered) taken) (asks_of m.to.items) is.in_turn.among,
     )
 
 -- a mark plays no ask

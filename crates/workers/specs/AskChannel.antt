@@ -1,5 +1,5 @@
 -- The ends of the channel of asks as contracts see them.
-use Rattle.std.specs.Prelude.{◌≡◌, ℕ, ◌≤◌, List, [], ◌∷◌, ◌++◌}
+use Rattle.std.specs.Prelude.{◌≡◌, ℕ, List, [], ◌∷◌, ◌++◌}
 use Rattle.crossbeam_channel.specs.Claims.{Pass, view, IsSeatAt}
 use Rattle.crossbeam_channel.specs.Ends.{sends_on, receives_on}
 use Rattle.workers.specs.declared.ask_rule.AskView.{AskView}
@@ -7,7 +7,7 @@ use Rattle.workers.specs.declared.ask_rule.AskView.TheVariants.{Numbers, Sends, 
 use Rattle.workers.specs.declared.ask_channel.AskSendEnd.{AskSendEnd}
 use Rattle.workers.specs.declared.ask_channel.AskReceiveEnd.{AskReceiveEnd}
 use Rattle.workers.specs.Posts.{AskedBatch}
-use Rattle.workers.specs.AskOrder.{AreInTurn, taken_of}
+use Rattle.workers.specs.AskOrder.{AreNumbered, taken_of}
 
 -- an end, and how many sessions it began
 pub record Numbering : Type 0 where
@@ -30,14 +30,12 @@ pub record IsNumbering (end : AskSendEnd) (pass : Pass AskedBatch AskView) (next
   pub at : IsSeatAt (sends_on end.end) pass
   pub numbers : view pass ≡ Numbers next
 
--- the session of this number sent no ask above this one
+-- the session of this number sent so many asks
 pub record IsSession (end : AskSendEnd) (pass : Pass AskedBatch AskView) (session asked : ℕ) : Type 0 where
   pub at : IsSeatAt (sends_on end.end) pass
-  pub last : ℕ
-  pub sends : view pass ≡ Sends session last
-  pub most : last ≤ asked
+  pub sends : view pass ≡ Sends session asked
 
 pub record IsTaking (end : AskReceiveEnd) (pass : Pass AskedBatch AskView) : Type 0 where
   pub at : IsSeatAt (receives_on end.end) pass
   pub takes : view pass ≡ Takes (taken_of (view pass))
-  pub in_turn : AreInTurn (taken_of (view pass))
+  pub numbered : AreNumbered (taken_of (view pass))

@@ -1,5 +1,5 @@
 -- The rule of the channel of asks.
-use Rattle.std.specs.Prelude.{◌≡◌, ℕ, ◌+◌, ◌<◌, ◌≤◌, List, [], ◌∷◌, ◌++◌, All, AllPairs, Contains, length, map}
+use Rattle.std.specs.Prelude.{◌≡◌, ℕ, ◌+◌, ◌<◌, ◌==◌, List, [], ◌∷◌, ◌++◌, All, AllPairs, Contains, count_by, length, map, ⊤}
 use mathlib.Core.Option.{some}
 use lib.ListN.{get_elem?}
 use Rattle.workers.specs.declared.item.Item.{Item}
@@ -7,6 +7,19 @@ use Rattle.workers.specs.declared.ask_rule.AskView.{AskView}
 use Rattle.workers.specs.declared.ask_rule.AskView.TheVariants.{Begins, Numbers, Sends, Takes}
 use Rattle.workers.specs.Posts.{AskedBatch, Unposted}
 use Rattle.workers.specs.Answering.{all_answers_of}
+
+-- how many of these asks are of this session
+abbrev pub asks_by : ℕ → List AskedBatch → ℕ
+asks_by session asks = count_by (λ (asked : AskedBatch). asked.session == session) asks
+
+-- behind these earlier asks, each ask has the next number of its session
+abbrev pub EachIsNext : (earlier asks : List AskedBatch) → Type 0
+EachIsNext earlier [] = ⊤
+EachIsNext earlier (asked ∷ asks) = (asked.ask ≡ asks_by asked.session earlier + 1) × EachIsNext (earlier ++ asked ∷ []) asks
+
+-- each session's asks have the numbers 1, 2 and so on, in this order: none is left out, and none stands twice
+abbrev pub AreNumbered : List AskedBatch → Type 0
+AreNumbered asks = EachIsNext [] asks
 
 -- the asks are of two sessions, or the second has the greater number
 abbrev pub IsBefore : (first second : AskedBatch) → Type 0
@@ -19,16 +32,15 @@ AreInTurn asks = AllPairs IsBefore asks
 -- ---- the knowledge of the ends
 
 -- This seat knows so much of all asks, of those that were taken, and of the seat of each session. Seat p begins sessions, and
--- seat q takes asks.
+-- seat q takes asks. The seat of a session knows how many of the asks are its own.
 abbrev pub Knows : (all taken : List AskedBatch) → (seats : List ℕ) → (p q seat : ℕ) → AskView → Type 0
 Knows all taken seats p q seat Begins = (seat ≡ p) × (seat ≡ q) × (seats ≡ []) × (taken ≡ [])
 Knows all taken seats p q seat (Numbers next) = (seat ≡ p) × (next ≡ length seats)
-Knows all taken seats p q seat (Sends session last) =
-    (get_elem? seats session ≡ some seat) × All (λ (asked : AskedBatch). asked.session ≡ session → asked.ask ≤ last) all
+Knows all taken seats p q seat (Sends session count) = (get_elem? seats session ≡ some seat) × (count ≡ asks_by session all)
 Knows all taken seats p q seat (Takes asks) = (seat ≡ q) × (asks ≡ taken)
 
 -- The asks that were taken, followed by those in the channel, are all that were sent. Each is of a session that has begun,
--- and of one session the later has the greater number.
+-- and has the next number of its session.
 pub record IsInTurn (asks : List AskedBatch) (views : List AskView) : Type 0 where
   pub all : List AskedBatch
   pub taken : List AskedBatch
@@ -36,7 +48,7 @@ pub record IsInTurn (asks : List AskedBatch) (views : List AskView) : Type 0 whe
   pub numbered_at : ℕ
   pub taken_at : ℕ
   pub order : taken ++ asks ≡ all
-  pub in_turn : AreInTurn all
+  pub numbered : AreNumbered all
   pub begun : All (λ (asked : AskedBatch). asked.session < length seats) all
   pub each_seat : (j : ℕ) (v : AskView) → get_elem? views j ≡ some v → Knows all taken seats numbered_at taken_at j v
 
@@ -46,14 +58,6 @@ abbrev pub sessions_of : AskView → ℕ
 sessions_of (Numbers next) = next
 sessions_of v = 0
 
-abbrev pub session_of : AskView → ℕ
-session_of (Sends session last) = session
-session_of v = 0
-
-abbrev pub last_of : AskView → ℕ
-last_of (Sends session last) = last
-last_of v = 0
-
 abbrev pub taken_of : AskView → List AskedBatch
 taken_of (Takes asks) = asks
 taken_of v = []
@@ -62,7 +66,7 @@ abbrev pub sent : AskView → AskedBatch → AskView → Type 0
 sent v asked w = w ≡ Sends asked.session asked.ask
 
 abbrev pub taken : AskView → AskedBatch → AskView → Type 0
-taken v asked w = (w ≡ Takes (taken_of v ++ asked ∷ [])) × AreInTurn (taken_of v ++ asked ∷ [])
+taken v asked w = (w ≡ Takes (taken_of v ++ asked ∷ [])) × AreNumbered (taken_of v ++ asked ∷ [])
 
 abbrev pub numbering_part : AskView → AskView
 numbering_part v = Numbers 0
@@ -82,8 +86,9 @@ new_session v = Sends (sessions_of v) 0
 abbrev pub asks_of : List Item → List AskedBatch
 asks_of items = map (λ (answer : Unposted). answer.asked) (all_answers_of items)
 
--- Each tick is that of an ask that was taken. Of one session, the later tick is of the ask with the greater number: a batch is
--- played once, in its session's order.
+-- The asks that were taken are each session's first, second and so on, up to its last one. Each tick is that of one of them.
+-- Of one session, the later tick is of the ask with the greater number: a batch is played once, in its session's order.
 pub record PlaysInTurn (taken : List AskedBatch) (items : List Item) : Type 0 where
+  pub numbered : AreNumbered taken
   pub among : All (Contains taken) (asks_of items)
   pub in_turn : AreInTurn (asks_of items)

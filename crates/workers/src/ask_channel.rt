@@ -1,7 +1,7 @@
 //! The way of the batches from the sessions to the mutator.
 ghost use Rattle.std.specs.Prelude.{◌≡◌, ◌+◌, ◌++◌, ◌∷◌, [], IfOk, IfSome, IsNone, MatchOption, MatchResult};
 ghost use Rattle.crossbeam_channel.specs.Ends.{sends_on, ruled_capacity};
-ghost use Rattle.workers.specs.AskOrder.{AreInTurn};
+ghost use Rattle.workers.specs.AskOrder.{AreNumbered};
 ghost use Rattle.workers.specs.AskChannel.{AreOneAskChannel, with_ask};
 
 use crate::ask_rule::{AskView, BeginSession, InTurn, PartEnds, TakeAsk};
@@ -126,7 +126,7 @@ impl AskReceiver {
     /// Waits for the next ask. Returns `None` if no session is left that could ask.
     pub fn next<R: Wait>(&mut self, rt: &R) -> Option<Ask>
         ensures taken { MatchOption result (self.new ≡ self.old) (λ ask. self.new ≡ with_ask self.old ask) }
-        ensures in_turn { IfSome result (λ ask. AreInTurn (self.old.taken ++ ask ∷ [])) }
+        ensures numbered { IfSome result (λ ask. AreNumbered (self.old.taken ++ ask ∷ [])) }
     {
         for _ in 0..self.looks() {
             match self.try_take(rt) {
@@ -141,7 +141,7 @@ impl AskReceiver {
     /// Takes the next ask, if there is one.
     pub fn try_next<R: Wait>(&mut self, rt: &R) -> Option<Ask>
         ensures taken { MatchOption result (self.new ≡ self.old) (λ ask. self.new ≡ with_ask self.old ask) }
-        ensures in_turn { IfSome result (λ ask. AreInTurn (self.old.taken ++ ask ∷ [])) }
+        ensures numbered { IfSome result (λ ask. AreNumbered (self.old.taken ++ ask ∷ [])) }
     {
         self.try_take(rt).ok()
     }
@@ -149,7 +149,7 @@ impl AskReceiver {
     // Takes the next ask, and sleeps while there is none.
     fn sleep<R: Wait>(&mut self, rt: &R) -> Result<Ask, RecvError>
         ensures taken { MatchResult result (λ ask. self.new ≡ with_ask self.old ask) (λ _. self.new ≡ self.old) }
-        ensures in_turn { IfOk result (λ ask. AreInTurn (self.old.taken ++ ask ∷ [])) }
+        ensures numbered { IfOk result (λ ask. AreNumbered (self.old.taken ++ ask ∷ [])) }
     {
         self.end.end.recv_as::<TakeAsk, R>(rt, &mut self.pass)
     }
@@ -157,7 +157,7 @@ impl AskReceiver {
     // Takes the next ask, or says why there is none.
     fn try_take<R: Wait>(&mut self, rt: &R) -> Result<Ask, TryRecvError>
         ensures taken { MatchResult result (λ ask. self.new ≡ with_ask self.old ask) (λ _. self.new ≡ self.old) }
-        ensures in_turn { IfOk result (λ ask. AreInTurn (self.old.taken ++ ask ∷ [])) }
+        ensures numbered { IfOk result (λ ask. AreNumbered (self.old.taken ++ ask ∷ [])) }
     {
         self.end.end.try_recv_as::<TakeAsk, R>(rt, &mut self.pass)
     }

@@ -12,7 +12,7 @@ pub enum AskView {
     Begins,
     /// So many sessions have begun.
     Numbers(u64),
-    /// The session of this number sent no ask above this one.
+    /// The session of this number sent so many asks.
     Sends(u64, u64),
     /// These asks were taken.
     Takes([Ask; 0]),

@@ -55,7 +55,7 @@ impl Asker {
     }
 
     /// Sends this batch to the mutator, and waits for room if there is none. Its answer is made in this buffer, and its reply
-    /// goes to this sender. Batch and buffer come back with the post.
+    /// goes to this sender. Batch and buffer come back with the post. An ask that isn't sent leaves its number to the next one.
     pub fn send<R: Wait>(
         &mut self,
         rt: &R,
@@ -64,16 +64,18 @@ impl Asker {
         to: ReplySender,
     ) -> Result<(), Fault>
         ensures sent { OnOk result (IsAsked self.old self.new) }
-        ensures unsent { IfErr result (IsUnsent self.old self.new) }
+        ensures unsent { IfErr result (λ fault. IsUnsent self.old fault × (self.new ≡ self.old)) }
     {
-        let Some(ask) = self.asked.checked_add(1) else {
+        let Some(number) = self.asked.checked_add(1) else {
             return Err(self.fault(Refusal::TicksEnded));
         };
-        self.asked = ask;
-        let ask = Ask::new(self.session, ask, batch, buffer, to);
+        let ask = Ask::new(self.session, number, batch, buffer, to);
         match self.end.end.send_as::<SendAsk, R>(rt, &mut self.pass, ask) {
-            Ok(()) => Ok(()),
-            Err(_) => Err(self.fault(Refusal::LogDown)),
+            Ok(()) => {
+                self.asked = number;
+                Ok(())
+            }
+            Err(_) => Err(Fault::found(self.session, number, Refusal::LogDown)),
         }
     }
 

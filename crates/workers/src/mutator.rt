@@ -25,8 +25,9 @@ use std::sync::Wait;
 use world_actions::Refusal;
 
 /// Takes the sessions' batches, runs them on the front, and pushes their ticks and the switches of the rounds that it opens.
-/// Contracts see that the pushed items state what the front did. Each answer is that of its batch at its place. A batch is
-/// played at most once, in its session's order, and each round has the words after the ticks pushed before its switch.
+/// Contracts see that the pushed items state what the front did. Each answer is that of its batch at its place. A session's
+/// batches are taken in its order, none left out, and each is played at most once. Each round has the words after the ticks
+/// pushed before its switch.
 #[derive(Drop)]
 pub struct Mutator<M: Method, G: Gate + Drop> {
     gate: G,

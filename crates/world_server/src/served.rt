@@ -1,6 +1,6 @@
 //! A world that a server serves, from its four files as they were to the files as they are left.
 ghost use Rattle.std.specs.Prelude.{◌≡◌, ◌≤◌, ◌++◌, ◌∷◌, [], Option, option_map, IsTrue, IfOk, IfErr, MatchResult};
-ghost use Rattle.workers.specs.AskOrder.{AreInTurn, asks_of};
+ghost use Rattle.workers.specs.AskOrder.{PlaysInTurn};
 ghost use Rattle.worker_steps.specs.Begun.{IsWhole};
 ghost use Rattle.worker_steps.specs.Stopped.{StaysSound};
 ghost use Rattle.worker_threads.specs.Opening.{files_of};
@@ -53,7 +53,7 @@ pub enum WorldFailure<D: Disk + Drop> {
 /// Serves the world of four files. It recovers the world, prints which one it is, runs its start, lets the clients in, and
 /// stops the workers after the last client. It then prints how far play came. On disks that keep to the disk model the
 /// files are sound throughout. A refusal leaves them with the same world. A server leaves them with all that was
-/// acknowledged. Each session's batches are played at most once, in its order.
+/// acknowledged. Each session's batches are taken in its order, none left out, and played at most once.
 pub fn serve_world<
     R: Threads + Wait + Clock + Copy + Send + 'static,
     M: Seats + Send + 'static,
@@ -75,7 +75,8 @@ pub fn serve_world<
     ensures sound { IsTrue D.honest → IfOk result (λ served.
         GoesOnSound D.content D.may_leave files served.recovered.tick served.stopped.workers.mutator
         served.stopped.workers.checkpointer served.stopped.workers.log_writer) }
-    ensures in_turn { IfOk result (λ served. AreInTurn (asks_of served.stopped.workers.mutator.to.items)) }
+    ensures in_turn { IfOk result (λ served.
+        PlaysInTurn served.stopped.workers.mutator.asks.taken served.stopped.workers.mutator.to.items) }
     ensures left { IsTrue D.honest → IfErr result (LeavesWorld D.content D.may_leave files) }
     ensures reason { IfErr result (FailsFor D.content D.honest files) }
     ensures printed { IsTrue F.known → MatchResult result
@@ -177,7 +178,8 @@ fn serve_opened<
     ensures sound { IsTrue D.honest → IfOk result (λ served.
         StaysSound D.content D.may_leave opened.front.live opened.images opened.log opened.ended
         served.stopped.workers.mutator served.stopped.workers.checkpointer served.stopped.workers.log_writer) }
-    ensures in_turn { IfOk result (λ served. AreInTurn (asks_of served.stopped.workers.mutator.to.items)) }
+    ensures in_turn { IfOk result (λ served.
+        PlaysInTurn served.stopped.workers.mutator.asks.taken served.stopped.workers.mutator.to.items) }
     ensures acked { IfOk result (λ served. opened.ended ≤ served.stopped.workers.log_writer.acked) }
     ensures left { IfErr result (GivesBack recovered (files_of opened.images opened.log)) }
     ensures printed { IsTrue F.known → MatchResult result

@@ -11,4 +11,4 @@ returns-clause-heard g c = heard_of_down c.meet_workers.new.log_writer.told_down
     c.meet_workers.ensures.is_log_writer.tells c.meet_workers.ensures.met.heard
 
 pub returns-clause-in_turn : goal.returns-clause-in_turn
-returns-clause-in_turn g c = c.meet_workers.ensures.is_mutator.in_turn.in_turn
+returns-clause-in_turn g c = c.meet_workers.ensures.is_mutator.in_turn

@@ -20,7 +20,7 @@ returns-in-Ok-clause-err g c =
 pub returns-in-Err-clause-err : goal.returns-in-Err-clause-err
 returns-in-Err-clause-err g c =
     let asked : Asking = record { asker = c.send.new.self; last = option_map (λ post. post.value) c.self.inside.last; fault = c.self.inside.fault } in
-    let same : asked ≡ record c.args.self.now { asker = asked.asker } = search rules in
+    let same : asked ≡ c.args.self.now = search rules in
     let was : c.self.inside.asker ≡ c.args.self.now.asker = search rules in
-    let unsent = subst (λ (asker : AskerState). IsUnsent asker asked.asker c.in-Err.fault) was c.in-Err.ensures.unsent in
+    let unsent = subst (λ (asker : AskerState). IsUnsent asker c.in-Err.fault) was c.in-Err.ensures.unsent.0 in
     refused_for c.args.self.now asked c.refused.new.self c.in-Err.fault c.refused.result unsent same c.refused.ensures.noted c.refused.ensures.reason

@@ -10,4 +10,4 @@ pub returns-clause-posted : goal.returns-clause-posted
 returns-clause-posted g c = omega (arith, c.meet_workers.ensures.is_log_writer.durable)
 
 pub returns-clause-in_turn : goal.returns-clause-in_turn
-returns-clause-in_turn g c = c.meet_workers.ensures.is_mutator.in_turn.in_turn
+returns-clause-in_turn g c = c.meet_workers.ensures.is_mutator.in_turn

@@ -2,10 +2,10 @@ use Rattle.workers.proofs.PlayedAsks.{takes_as, takes_ask, took_ask}
 use Rattle.workers.proofs.mutator.Mutator.run_next.Goals as goal
 
 pub invariant_of-self-2 : goal.invariant_of-self-2
-invariant_of-self-2 g c = takes_ask _ c.in_ok-ask.ask c.try_next.new.self c.in_ok-ask.ensures.taken c.self.invariant
+invariant_of-self-2 g c = takes_ask _ c.in_ok-ask.ask c.try_next.new.self c.in_ok-ask.ensures.taken c.self.invariant c.in_ok-ask.ensures.numbered
 
 pub run_batch-requires : goal.run_batch-requires
-run_batch-requires g c = took_ask _ c.in_ok-ask.ask c.try_next.new.self c.in_ok-ask.ensures.taken c.self.invariant c.in_ok-ask.ensures.in_turn
+run_batch-requires g c = took_ask _ c.in_ok-ask.ask c.try_next.new.self c.in_ok-ask.ensures.taken c.self.invariant c.in_ok-ask.ensures.numbered
 
 pub returns : goal.returns
 returns g c = (
