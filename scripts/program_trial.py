@@ -30,6 +30,8 @@ METHODS = ("zigzag", "pingpong")
 SECONDS = 60
 # How long figures may take to be those that are wanted. They come each second.
 PATIENCE_SECONDS = 20
+# How many ticks a run of the largest world plays, each of 255 actions.
+LARGEST_TICKS = 64
 # A limit on a file's size that the log reaches soon.
 FILE_LIMIT = 400
 
@@ -699,6 +701,26 @@ def try_serving(trial: Trial) -> None:
             trial.check("an image", recovered.output in ("recovered 2 from 1\n", "recovered 2 from 2\n"), True)
 
 
+def try_largest(trial: Trial) -> None:
+    """The largest world, with a log of many actions: it is made, served, recovered, and served again."""
+    last = 1_048_575
+    batch = "".join(f"add {cell} 1\n" for cell in range(last - 254, last + 1)) + f"get {last}\nend\n"
+    with new_folder() as folder:
+        trial.ends("the largest world", create(trial, folder, last + 1), f"created {last + 1}\n", "", 0)
+        line = f"serve --dir {folder} --method zigzag --every 65536 --port 0 --clients 1".split()
+        for first in (0, LARGEST_TICKS):
+            with subprocess.Popen([trial.program, *line], stdout=subprocess.PIPE, text=True) as server:
+                trial.check("the largest world", server.stdout.readline(), f"recovered {first} from 0\n")
+                answers = answer_to(server.stdout.readline().split()[-1], batch.encode() * LARGEST_TICKS)
+                want = [f"tick {n}:{' +' * 255} ={n}" for n in range(first + 1, first + LARGEST_TICKS + 1)]
+                trial.check("answers of the largest world", answers.splitlines() == want, True)
+                output, _ = server.communicate(timeout=SECONDS)
+            ended = first + LARGEST_TICKS
+            trial.check("the end of the largest world", (output, server.returncode), (f"stopped tick {ended} acked {ended}\n", 0))
+        trial.runs += 2
+    trial.seen["served"] += 1
+
+
 @contextlib.contextmanager
 def reporting(trial: Trial, *flags: str, **process) -> Iterator[tuple[str, pathlib.Path]]:
     """A server that prints its figures each second: its address, and the file of what it prints."""
@@ -751,7 +773,7 @@ def try_reporting_down(trial: Trial) -> None:
 PARTS = (
     try_command_lines, try_scripts, try_creating, try_completing, try_not_creating, try_words, try_larger, try_found,
     try_figures, try_copies, try_lost, try_doubtful, try_long, try_missing, try_damaged, try_not_serving, try_serving,
-    try_reporting, try_reporting_down,
+    try_largest, try_reporting, try_reporting_down,
 )
 
 

@@ -14,6 +14,7 @@ import contextlib
 import ctypes
 import fcntl
 import itertools
+import mmap
 import multiprocessing
 import os
 import pathlib
@@ -30,7 +31,7 @@ import threading
 import time
 from collections.abc import Callable, Iterator
 
-from kill_trial import SOCKET, TRANSPORTS, connect
+from kill_trial import PORT, SOCKET, TRANSPORTS, connect
 
 NAMES = ("image.a", "image.b", "log.a", "log.b")
 PATIENCE_SECONDS = 30
@@ -42,6 +43,8 @@ EXIT = ("--exit-when-log-down",)
 SHORTAGE, LOST_LISTENER = 13, 10
 # How many clients come while there is no room for threads: more than there are stacks to use again.
 CROWD = 20
+# How many clients come and go while stacks are counted, and what the stack of a session's thread takes.
+ENDED_SESSIONS, STACK_BYTES = 500, 256 << 10
 # Room for what a batch takes, and not for the stack of a thread.
 LESS_THAN_A_STACK = 200 << 10
 SMALL_PIPE = 4096
@@ -62,7 +65,7 @@ HELD, KEPT = "another program writes this world", "a program that looks at this 
 LOOKED_AT, PAIRS, LOOKERS = 300, 25, 2
 CASES = (
     *(f"{command} with closed streams" for command in ("create", "recover", "inspect", "steps", "serve")),
-    "short connections", "descriptors exhausted", "descriptors freed", "errors unread", "lines dropped",
+    "short connections", "ended sessions", "descriptors exhausted", "descriptors freed", "errors unread", "lines dropped",
     "output full", "output broken", "port closed", "socket closed", "silent client ended", "link refused", "mode of a new file",
     "short write named", "ended by its log", "start that fails", "no thread named",
     "socket with its mode", "socket removed", "old socket replaced", "socket in use kept", "socket's place taken",
@@ -241,8 +244,8 @@ class Trial:
         server.holds(100)
         self.met["serve with closed streams"] += 1
 
-    def short_connections(self, count: int, transport: str) -> None:
-        """So many clients come and go. The process must not grow by those that have gone."""
+    def come_and_go(self, count: int, transport: str) -> tuple["Footprint", "Footprint"]:
+        """What a server has of the system before so many clients come and go, and after."""
         server = self.server("--every", "65536", stderr=subprocess.DEVNULL, clients=100_000, transport=transport)
         for _ in range(50):
             client = server.client()
@@ -256,10 +259,21 @@ class Trial:
             self.met["short connections"] += 1
         after = footprint(server.process.pid)
         print(f"surroundings: {count} short connections to a {transport}: {before} before, {after} after")
+        server.kill()
+        return before, after
+
+    def ended_sessions(self) -> None:
+        """The sessions of clients that have gone are joined as others come, so that the system takes their stacks back."""
+        before, after = self.come_and_go(ENDED_SESSIONS, PORT)
+        want(after.stacks <= before.stacks + 2, "ended sessions keep their stacks")
+        self.met["ended sessions"] += ENDED_SESSIONS
+
+    def short_connections(self, count: int, transport: str) -> None:
+        """So many clients come and go. The process must not grow by those that have gone."""
+        before, after = self.come_and_go(count, transport)
         want(after.maps <= before.maps + 8 and after.threads <= before.threads + 2, "ended sessions keep maps or threads")
         want(after.descriptors <= before.descriptors + 4, "ended sessions keep descriptors")
         want(after.kilobytes <= before.kilobytes + 2_048, "ended sessions keep memory")
-        server.kill()
 
     def descriptors(self) -> None:
         """Clients take all descriptors, and leave."""
@@ -831,7 +845,7 @@ class Trial:
     def parts(self, connections: int) -> dict[str, Callable[[], object]]:
         """Every case, by the names of the parts that try them."""
         alone = (
-            self.closed_streams, self.overstayed, self.shortage, self.lost_files, self.server_lines, self.unread_files,
+            self.ended_sessions, self.closed_streams, self.overstayed, self.shortage, self.lost_files, self.server_lines, self.unread_files,
             self.slow_readers, self.starts_beside_looks, self.no_null, self.descriptors, self.refused_clients, self.lost_listener,
             self.unread_errors, self.broken_output, self.links, self.full_file, self.failed_start, self.threads, self.socket_modes,
             self.old_sockets, self.taken_places, self.socket_in_use, self.next_server, self.longest_path,
@@ -957,16 +971,19 @@ def is_root() -> bool:
     return os.geteuid() == 0
 
 
-Footprint = collections.namedtuple("Footprint", "maps threads kilobytes descriptors size")
+# The stacks are those of sessions.
+Footprint = collections.namedtuple("Footprint", "maps stacks threads kilobytes descriptors size")
 
 
 def footprint(pid: int) -> Footprint:
     """What a process has of the system."""
     process = pathlib.Path(f"/proc/{pid}")
     status = dict(line.split(":\t", 1) for line in (process / "status").read_text().splitlines())
-    maps = len((process / "maps").read_text().splitlines())
+    maps = [line.split() for line in (process / "maps").read_text().splitlines()]
+    bounds = [[int(end, 16) for end in row[0].split("-")] for row in maps if row[1] == "rw-p" and len(row) == 5]
+    stacks = sum(0 <= STACK_BYTES - (end - start) <= mmap.PAGESIZE for start, end in bounds)
     kilobytes, size = (int(status[name].split()[0]) for name in ("VmRSS", "VmSize"))
-    return Footprint(maps, int(status["Threads"]), kilobytes, len(os.listdir(process / "fd")), size << 10)
+    return Footprint(len(maps), stacks, int(status["Threads"]), kilobytes, len(os.listdir(process / "fd")), size << 10)
 
 
 def main() -> int:
