@@ -10,12 +10,14 @@ use world_core::{Answer, Core, Fate, Move};
 /// More moves than a start has.
 const MOVES: u32 = 100;
 
-/// A core of two cells, the number of ended ticks, and the last acknowledged tick.
+/// A core of two cells, the number of ended ticks, the last acknowledged tick, and the tick of the newest image that is known
+/// to be open.
 #[derive(Drop)]
 pub struct Run<C: Capture> {
     core: Core<C>,
     ended: u64,
     acked: u64,
+    image: u64,
 }
 
 impl<C: Capture> Run<C> {
@@ -25,6 +27,7 @@ impl<C: Capture> Run<C> {
             core: Core::fresh(alloc, 2)?,
             ended: 0,
             acked: 0,
+            image: 0,
         };
         run.start(MOVES);
         Ok(run)
@@ -53,6 +56,7 @@ impl<C: Capture> Run<C> {
         match given {
             ImageAnswer::Opened(tick) => {
                 self.acked = self.acked.max(tick);
+                self.image = tick;
                 ImageAnswer::Opened(tick)
             }
             given => given,
@@ -96,16 +100,19 @@ impl<C: Capture> Run<C> {
         most
     }
 
-    /// Crashes in this way, and recovers. Returns the recovered tick if it may be recovered, and its words are right.
+    /// Crashes in this way, and recovers. Returns the recovered tick if it may be recovered, from this image, and its words
+    /// are right.
     pub fn crash(&mut self, leaving: Leaving) -> Result<Option<u64>, Refusal> {
         let left = self.core.remains(leaving)?;
-        let Answer::Recovered { tick, .. } = self.core.step(Move::Crash(left)) else {
+        let Answer::Recovered { tick, from } = self.core.step(Move::Crash(left)) else {
             return Ok(None);
         };
         let may_stand = self.acked <= tick && tick <= self.ended && self.shows(tick);
+        let is_known = self.image <= from && from <= tick;
         self.ended = tick;
         self.acked = tick;
-        Ok(may_stand.then_some(tick))
+        self.image = from;
+        Ok((may_stand && is_known).then_some(tick))
     }
 
     // True if the words are those after this tick.
