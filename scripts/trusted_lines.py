@@ -1,16 +1,18 @@
 #!/usr/bin/env python3
 """Counts the lines that a reader has to believe. Run at the top of the repository:
 
-    scripts/trusted_lines.py                  for README's table, and for all that crates hand out
+    scripts/trusted_lines.py                  for README's table, and for all that its crates hand out
     scripts/trusted_lines.py unreached        the definitions that no contract of a crate reaches, too
     scripts/trusted_lines.py of CRATE NAME    for one function's contract
 
 For README's table these are the contracts that it cites, those of all traits, which are premises on disks, folders
-and sessions, and the definitions in specs/ that they reach. The prover shows these contracts from those of the
-functions below them, which need no belief. The other count has the contracts of all that each crate hands out.
+and sessions, and the definitions in specs/, the types and the constants that they reach. The prover shows these
+contracts from those of the functions below them, which need no belief. The other count has the contracts of all that
+each crate hands out.
 
-A line counts unless it is blank, a comment or an import; tests don't count. It goes by the text:
-a name stands for the definition that its file has or imports.
+Lines are those of the crates that worldd is made of: tests, trials and tools don't count. A line counts unless it is
+blank, a comment, an attribute or an import. It goes by the text: a name stands for the definition that its file has or
+imports.
 """
 import collections
 import dataclasses
@@ -21,7 +23,13 @@ import sys
 from map import below, read_crates
 
 NAME = re.compile(r"[^\s(){}\[\],;.:λ∀×→⊎¬=]+")
-IMPORT = re.compile(r"use Rattle\.(\w+)\.specs\.(\w+)(?:\.\w+)*\.\{([^}]*)\}")
+IMPORT = re.compile(r"use Rattle\.(\w+)\.specs\.(\w+)((?:\.\w+)*)\.\{([^}]*)\}")
+# All variants of a type of the code, under one name; and the types that a file of the code imports.
+VARIANTS = re.compile(r"use Rattle\.(\w+)\.specs\.declared\.(?:\w+\.)*(\w+)\.TheVariants as (\w+)")
+TYPES_USED = re.compile(r"^use (\w+)(?:::\w+)*::(?:\{([^}]*)\}|(\w+));", re.MULTILINE)
+# A type or a constant of the code. The specs know it by this word in the place of a file.
+TYPE = re.compile(r"pub (?:struct|enum|const) (\w+)")
+DECLARED = "declared"
 EXPORT = re.compile(r"^pub use ([\w:]+)::(?:\{([^}]*)\}|(\w+));", re.MULTILINE)
 DEFINITION = re.compile(r"(?:unfoldable |abbrev )?pub (?:record |data )?([^\s:({]+)")
 CASE = re.compile(r"  (\w+) :")
@@ -42,16 +50,34 @@ CLAUSE = re.compile(r"(?:requires|ensures|decreases|ghost (?!use))")
 
 def counts(line):
     text = line.strip()
-    return bool(text) and not re.match(r"//|--|(ghost |pub )?use |(pub )?mod ", text)
+    return bool(text) and not re.match(r"//|--|#!?\[|(ghost |pub )?use |(pub )?mod ", text)
 
 
 def imported(text):
-    """What each name that a file imports stands for: crate, file, definition."""
-    found = {}
-    for crate, file, names in IMPORT.findall(text):
+    """What each name that a file imports stands for: crate, file, definition. A variant stands for its type."""
+    found = {alias: (crate, DECLARED, name) for crate, name, alias in VARIANTS.findall(text)}
+    for crate, file, path, names in IMPORT.findall(text):
+        variants_of = path.split(".")[-2] if path.endswith(".TheVariants") else None
         for name in names.split(","):
             name, _, alias = name.strip().partition(" as ")
-            found[alias.strip() or name] = (crate, file, name)
+            found[alias.strip() or name] = (crate, file, variants_of or name)
+    return found
+
+
+def declared(crate, path):
+    """The types and constants of a file of the code: for each how many lines it has, and which types it names."""
+    text, found = path.read_text(), {}
+    names = {}
+    for owner, group, one in TYPES_USED.findall(text):
+        names |= {name.strip(): (crate if owner == "crate" else owner, DECLARED, name.strip()) for name in (group or one).split(",")}
+    lines = text.splitlines()
+    for at, line in enumerate(lines):
+        start = TYPE.match(line)
+        if start:
+            end = next(i for i in range(at, len(lines)) if lines[i].endswith(";") or lines[i][-1:] == "}" and lines[i][0] != " ")
+            body = [line for line in lines[at : end + 1] if counts(line)]
+            used = {names.get(word, (crate, DECLARED, word)) for word in re.findall(r"\w+", "\n".join(body))}
+            found[(crate, DECLARED, start[1])] = len(body), used - {(crate, DECLARED, start[1])}
     return found
 
 
@@ -168,10 +194,12 @@ class Tree:
         for crate in sorted(pathlib.Path("crates").iterdir()):
             for kind in ("src", "specs", "proofs"):
                 for path in (crate / kind).rglob("*.*t*"):
-                    if not is_test(path):
+                    if not is_test(path) and crate.name in self.served:
                         self.lines[kind] += sum(map(counts, path.read_text().splitlines()))
             for path in (crate / "specs").rglob("*.antt"):
                 self.known |= definitions(crate.name, path)
+            for path in filter(lambda path: not is_test(path), (crate / "src").rglob("*.rt")):
+                self.known |= declared(crate.name, path)
             self.read_contracts(crate)
 
     def read_contracts(self, crate):
@@ -184,10 +212,11 @@ class Tree:
             traits, names = of_traits(path), imported(path.read_text())
             for item, line in clauses(path, exported):
                 named = tuple(names[word] for word in NAME.findall(line) if word in names)
-                self.clauses.append(Clause(crate.name, item, named, item[1] in traits, lib.exists()))
+                is_handed_out = lib.exists() and crate.name in self.served
+                self.clauses.append(Clause(crate.name, item, named, item[1] in traits, is_handed_out))
 
     def everything(self):
-        """How many lines there are."""
+        """How many lines the product has."""
         return sum(self.lines.values())
 
     def reached(self, wanted):
