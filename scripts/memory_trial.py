@@ -98,6 +98,7 @@ GROWING = {
     "fresh_files of files that grow": (NO_MEMORY, "18"),
     "SerialWorld::open of files that grow": (NO_MEMORY, "18"),
     "SerialWorld::batch of files that grow": (NO_MEMORY, "12"),
+    "SerialWorld::play of files that grow": (NO_MEMORY, "12"),
 }
 
 
