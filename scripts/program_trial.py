@@ -709,7 +709,7 @@ def try_largest(trial: Trial) -> None:
         trial.ends("the largest world", create(trial, folder, last + 1), f"created {last + 1}\n", "", 0)
         line = f"serve --dir {folder} --method zigzag --every 65536 --port 0 --clients 1".split()
         for first in (0, LARGEST_TICKS):
-            with subprocess.Popen([trial.program, *line], stdout=subprocess.PIPE, text=True) as server:
+            with subprocess.Popen([trial.program, *line], stdout=subprocess.PIPE, stderr=subprocess.DEVNULL, text=True) as server:
                 trial.check("the largest world", server.stdout.readline(), f"recovered {first} from 0\n")
                 answers = answer_to(server.stdout.readline().split()[-1], batch.encode() * LARGEST_TICKS)
                 want = [f"tick {n}:{' +' * 255} ={n}" for n in range(first + 1, first + LARGEST_TICKS + 1)]
