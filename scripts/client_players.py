@@ -27,10 +27,16 @@ IN_C = "-std=c11", "-D_POSIX_C_SOURCE=200809L"
 class PythonPlayer:
     """The client in Python. Its calls return what came of them in the words of scripts/client_player.c."""
 
+    # Whether it takes several addresses.
+    has_several = True
+
     def __init__(self) -> None:
         self.world: cektaulis.World | None = None
 
-    def open(self, address: str, seconds: float) -> str:
+    def open_any(self, addresses: list[str], seconds: float) -> str:
+        return self.open(addresses, seconds)
+
+    def open(self, address: str | list[str], seconds: float) -> str:
         try:
             self.world = cektaulis.World(address, seconds)
         except OSError:
@@ -119,6 +125,7 @@ class CPlayer:
     """The client in C, by scripts/client_player.c."""
 
     program: pathlib.Path
+    has_several = True
 
     def __init__(self) -> None:
         self.process = subprocess.Popen([self.program], stdin=subprocess.PIPE, stdout=subprocess.PIPE, text=True, bufsize=1)
@@ -129,6 +136,9 @@ class CPlayer:
 
     def open(self, address: str, seconds: float) -> str:
         return self.ask(f"open {address} {seconds * 1000:.0f}")
+
+    def open_any(self, addresses: list[str], seconds: float) -> str:
+        return self.ask(f"open any {' '.join(addresses)} {seconds * 1000:.0f}")
 
     def reconnect(self, seconds: float) -> str:
         return self.ask(f"reconnect {seconds * 1000:.0f}")
@@ -184,6 +194,7 @@ class RustPlayer(CPlayer):
     """The client in Rust, by scripts/client_player.rs."""
 
     program: pathlib.Path
+    has_several = False
 
     def lessen_buffers(self) -> None:
         """The standard library of Rust can't, so this takes the client's connection."""
