@@ -37,7 +37,7 @@ PAGE, EVERY, PATIENCE_SECONDS, PLAY_SECONDS, LIBRARY_BATCHES = TOP / "docs" / "S
 SLOW, PAUSE_SECONDS = (0.15, 0.3), 0.7
 # The cell of the library's marker. The next one counts its batches.
 MARKER = CELLS
-BOTH, UP_TO_DATE, FROZEN_SECONDS = "both lost power", "ds:UpToDate/UpToDate", 4
+BOTH, UP_TO_DATE, FROZEN_SECONDS, FORCED = "both lost power", "ds:UpToDate/UpToDate", 4, "drbdadm primary --force world && promote"
 MET = "in a round", "in a start", "kept more", "fence asked", "ticks while one caught up", *METHODS, *(f"every {n}" for n in EVERY)
 
 
@@ -353,7 +353,7 @@ class Trial:
         self.pair.boot(PEER[old])
         self.sh(PEER[old], "drbdadm up world")
         self.refused(PEER[old], "promote", "Consistent")
-        lost = self.lost(self.promote(PEER[old], "drbdadm primary --force world && promote"))
+        lost = self.lost(self.promote(PEER[old], FORCED))
         self.tally.update({kind: 1, f"{kind}: lost some": lost > 0, f"{kind}: ticks lost": lost})
         self.kill(PEER[old])
         self.pair.images[PEER[old]][:] = images[PEER[old]]
@@ -365,7 +365,6 @@ class Trial:
 
     def run(self) -> str:
         """Lets machines fail so often, and gives the counts. Each kind has to be met."""
-        self.setup()
         self.pair.delay = (self.given.delay / 2, self.given.delay)
         for step in range(self.given.both):
             self.both_lose_power(step % 2 == 1)
@@ -397,24 +396,27 @@ class Trial:
 # What has to be seen.
 
 
+def loss(trial: Trial, name: str, command: str = "promote") -> str:
+    """What serving on this machine loses."""
+    if not (lost := trial.lost(trial.promote(name, command))):
+        raise Wrong("nothing is lost")
+    return f"{lost} of {len(trial.answered)} answered ticks lost"
+
+
 def late_mirror(trial: Trial) -> str:
     """Protocol A doesn't wait for the other machine."""
-    trial.pair.delay, lost = SLOW, 0
-    trial.goes_on(CLIENTS)
+    trial.pair.delay = SLOW
+    trial.goes_on(2 * CLIENTS)
     trial.kill(trial.primary)
-    answered = len(trial.answered)
-    lost = trial.lost(trial.promote(PEER[trial.primary]))
-    return f"{lost} of {answered} answered ticks lost" * (lost > 0)
+    return loss(trial, PEER[trial.primary])
 
 
 def no_fence(trial: Trial) -> str:
-    """Without fencing both play on alone."""
+    """Without fencing the machine that serves plays on alone."""
     trial.pair.is_cut = True
     trial.goes_on(30)
     trial.kill(trial.primary)
-    answered = len(trial.answered)
-    lost = trial.lost(trial.promote(PEER[trial.primary]))
-    return f"{lost} of {answered} answered ticks lost" * (lost > 0)
+    return loss(trial, PEER[trial.primary])
 
 
 def catching_up(trial: Trial) -> str:
@@ -434,7 +436,7 @@ def catching_up(trial: Trial) -> str:
     trial.sh(old, "drbdadm up world")
     trial.until_state(old, "ds:UpToDate/")
     trial.take_over(old)
-    return "Inconsistent: promotion refused, and the other machine has each tick"
+    return "refused (Inconsistent), and the other machine has each tick"
 
 
 def stale_machine(trial: Trial) -> str:
@@ -455,8 +457,7 @@ def stale_machine(trial: Trial) -> str:
     trial.refused(other, "drbdadm primary world", "")
     if trial.tally["fence asked"] > asked:
         raise Wrong("a stale machine may switch the other one off")
-    answered, lost = len(trial.answered), trial.lost(trial.promote(other, "drbdadm primary --force world && promote"))
-    return f"Outdated and Consistent: promotion refused; by force {lost} of {answered} answered ticks lost" * (lost > 0)
+    return f"refused (Outdated, Consistent); by force {loss(trial, other, FORCED)}"
 
 
 def raw_disk(trial: Trial) -> str:
@@ -466,8 +467,10 @@ def raw_disk(trial: Trial) -> str:
     trial.pause = PAUSE_SECONDS
     trial.pair.boot(old)
     last = max(trial.answered)
-    told = trial.sh(old, "mount -t ext4 /dev/vda /mnt", "worldd recover --dir /mnt")
-    return f"`{told[-1]}` on the raw disk, and tick {last} is answered" * (int(told[-1].split(" ")[1]) < last)
+    told = trial.sh(old, "mount -t ext4 /dev/vda /mnt", "worldd recover --dir /mnt")[-1]
+    if int(told.split(" ")[1]) >= last:
+        raise Wrong(f"the raw disk has {told}")
+    return f"it has `{told}`, and tick {last} is answered"
 
 
 CONTROLS = {
@@ -479,26 +482,20 @@ CONTROLS = {
 }
 
 
-def told_of(given: argparse.Namespace, folder: pathlib.Path) -> str:
-    """What came of the trial, or of all that has to be seen."""
-    trials = [("", None, {})] if not given.show else [(name, *scene) for name, scene in CONTROLS.items()]
-    for name, scene, edits in trials:
-        room = pathlib.Path(tempfile.mkdtemp(dir=folder))
-        trial = Trial(given, room, edits)
+def tell(given: argparse.Namespace, folder: pathlib.Path) -> None:
+    """Prints what came of the trial, or of all that has to be seen."""
+    for name, (scene, edits) in CONTROLS.items() if given.show else [("", (Trial.run, {}))]:
+        trial = Trial(given, pathlib.Path(tempfile.mkdtemp(dir=folder)), edits)
         try:
-            if scene is None:
-                return trial.run()
             trial.setup()
-            if not (seen := scene(trial)):
-                raise Wrong(f"{name}: not seen")
-            print(f"{name}: {seen}", flush=True)
+            told = scene(trial)
+            print(f"{name}: {told}" if given.show else told, flush=True)
         except Wrong as wrong:
             console = "\n".join(f"    {who}: {line}" for who, line in trial.pair.console[-20:])
-            raise Wrong(f"{wrong}\n{trial.counts()}\n{console}") from wrong
+            raise Wrong(f"{name}: {wrong}\n{trial.counts()}\n{console}") from wrong
         finally:
             for machine in list(trial.pair.machines):
                 trial.pair.kill(machine)
-    return "each was seen"
 
 
 def main() -> int:
@@ -520,7 +517,7 @@ def main() -> int:
     print(f"failover_trial: seed {given.seed}", flush=True)
     folder = pathlib.Path(tempfile.mkdtemp(prefix="failover-trial-"))
     try:
-        print(told_of(given, folder))
+        tell(given, folder)
     except (Wrong, OSError, subprocess.SubprocessError) as wrong:
         print(f"failover_trial: {wrong}\nfailover_trial: seed {given.seed}, files in {folder}", file=sys.stderr)
         return 1
