@@ -27,9 +27,6 @@ IN_C = "-std=c11", "-D_POSIX_C_SOURCE=200809L"
 class PythonPlayer:
     """The client in Python. Its calls return what came of them in the words of scripts/client_player.c."""
 
-    # Whether it takes several addresses.
-    has_several = True
-
     def __init__(self) -> None:
         self.world: cektaulis.World | None = None
 
@@ -125,7 +122,6 @@ class CPlayer:
     """The client in C, by scripts/client_player.c."""
 
     program: pathlib.Path
-    has_several = True
 
     def __init__(self) -> None:
         self.process = subprocess.Popen([self.program], stdin=subprocess.PIPE, stdout=subprocess.PIPE, text=True, bufsize=1)
@@ -194,7 +190,6 @@ class RustPlayer(CPlayer):
     """The client in Rust, by scripts/client_player.rs."""
 
     program: pathlib.Path
-    has_several = False
 
     def lessen_buffers(self) -> None:
         """The standard library of Rust can't, so this takes the client's connection."""

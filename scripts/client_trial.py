@@ -57,13 +57,12 @@ MODEL_LINES = 5000
 OWN = 0
 LIMIT = cektaulis.LIMIT
 KEPT, MODEL = "answers kept over a loss", "lines as the model"
-# With several addresses.
 ELSEWHERE = "found at another address", "left a silent address", "left a silent server for one that serves"
 WANTED = (
     *(f"refusal {refusal.code}" for refusal in cektaulis.Refusal),
     *(f"fault {fault.code}" for fault in cektaulis.Fault),
     *("done", "value", UNANSWERED, NOT_CONNECTED, GARBLED, TOO_LARGE, "played", "not played"),
-    *(ANSWER_LOST, MARKER_REFUSED, BAD_ADDRESS, BAD_ACTION, NONE, ACTION_REFUSED, KEPT, MODEL),
+    *(ANSWER_LOST, MARKER_REFUSED, BAD_ADDRESS, BAD_ACTION, NONE, ACTION_REFUSED, KEPT, MODEL, *ELSEWHERE),
 )
 # How a batch of `play_once` came to its end while the server was killed.
 ANSWERED, ANSWERED_LATER = "answered", "answered after a loss"
@@ -792,10 +791,8 @@ def try_client(trial: Trial, chance: random.Random) -> None:
             try_doubt(SECONDS)
             try_files(trial)
             try_prompt(trial)
-        for part in (try_answers, try_once, try_bounds, try_kills, try_polls, try_going_on):
+        for part in (try_answers, try_once, try_bounds, try_kills, try_polls, try_going_on, try_addresses):
             part(trial)
-        if trial.player.has_several:
-            try_addresses(trial)
     finally:
         trial.kill()
         trial.player.close()
@@ -808,12 +805,11 @@ def try_both(name: str, kind, given: argparse.Namespace, room: pathlib.Path, tra
     try_client(trial, random.Random(given.seed))
     many = Trial(kind(), worldd, folder.with_suffix(".many"), transport, 8)
     kills, ends = try_kills_of_many(kind, many, random.Random(given.seed), given.kills)
-    wanted = (*WANTED, *(ELSEWHERE if trial.player.has_several else ()))
-    met = ", ".join(f"{it} {trial.met[it]}" for it in wanted)
+    met = ", ".join(f"{it} {trial.met[it]}" for it in WANTED)
     print(f"client in {name} over a {transport}: {met}")
     print(f"  {kills} kills, {ends.total()} batches of four clients, each counted once: "
           + ", ".join(f"{it} {ends[it]}" for it in ENDS))
-    never = [it for it in wanted if not trial.met[it]] + [it for it in ENDS if not ends[it]]
+    never = [it for it in WANTED if not trial.met[it]] + [it for it in ENDS if not ends[it]]
     if never:
         raise Wrong(f"never met: {', '.join(never)}")
 

@@ -10,6 +10,7 @@ too. With --both both machines lose power, and the secondary alone comes back. W
 """
 import argparse
 import collections
+import itertools
 import os
 import pathlib
 import random
@@ -38,7 +39,7 @@ SLOW, PAUSE_SECONDS = (0.15, 0.3), 0.7
 # The cell of the library's marker. The next one counts its batches.
 MARKER = CELLS
 BOTH, UP_TO_DATE, FROZEN_SECONDS, FORCED = "both lost power", "ds:UpToDate/UpToDate", 4, "drbdadm primary --force world && promote"
-MET = "in a round", "in a start", "kept more", "fence asked", "ticks while one caught up", *METHODS, *(f"every {n}" for n in EVERY)
+MET = "in a round", "in a start", "fence asked", "ticks while one caught up", *METHODS, *(f"every {n}" for n in EVERY)
 
 
 def commands(title: str) -> list[str]:
@@ -57,7 +58,7 @@ class Trial:
         self.seconds: dict[str, list[float]] = collections.defaultdict(list)
         self.pair = Pair(folder, given, edits or {}, self.heard, self.send_due)
         self.before = Found("recovered 0 from 0", 0, 0, "image.a", [0] * given.cells, False)
-        self.primary, self.runs, self.number, self.is_playing, self.is_serving, self.pause = "alpha", 0, 0, False, False, 0.0
+        self.primary, self.runs, self.is_playing, self.is_serving, self.pause = "alpha", 0, False, False, 0.0
         self.fence_status: str | None = "0"
         self.began, self.found = "", self.before
         self.forget()
@@ -88,7 +89,7 @@ class Trial:
         told = re.match(r"tick (\d+):", line)
         if not told or client not in self.waiting or int(told[1]) in self.answered:
             raise Wrong(f"client {client} was answered `{line[:80]}`")
-        self.answered[int(told[1])], self.answered_at = (self.waiting.pop(client), line), time.monotonic()
+        self.answered[int(told[1])] = self.waiting.pop(client), line
         self.later.append((time.monotonic() + self.pause, client))
 
     def send_due(self) -> None:
@@ -141,11 +142,7 @@ class Trial:
 
     def until_state(self, name: str, *wanted: str) -> None:
         """Waits until DRBD tells all this."""
-        end = time.monotonic() + PATIENCE_SECONDS
-        while not all(word in self.state(name) for word in wanted):
-            if time.monotonic() > end:
-                raise Wrong(f"{name} is {self.state(name)}, and not {wanted}")
-            self.pair.wait(0.3)
+        self.until(lambda: self.pair.wait(0.2) or all(word in self.state(name) for word in wanted), f"{name} isn't {wanted}")
 
     def setup(self) -> None:
         """Sets both up by the page, and plays."""
@@ -300,7 +297,10 @@ class Trial:
     def library_plays(self) -> None:
         """A client of clients/python plays each batch once, though the machine that serves dies."""
         self.hold()
-        begun, done = self.before_library(), []
+        now = self.look()
+        judge(self.before, now, self.answered, frozenset())
+        self.tally["ticks compared"] += len(self.answered)
+        self.before, begun, done = now, now.words[MARKER], []
         addresses = [self.pair.ports[name] for name in PEER]
 
         def play() -> None:
@@ -320,20 +320,18 @@ class Trial:
         self.until(lambda: not thread.is_alive(), "the library waits")
         words, end = list(self.before.words), begun + LIBRARY_BATCHES
         words[MARKER : MARKER + 2] = end, end
-        told = self.sh(self.primary, "worldd inspect --dir /var/lib/world --words")
-        self.before = found_in(told[-2].partition(" in ")[0], told)
+        self.before = self.look()
         if self.before.words != words:
-            raise Wrong(f"the library played batches {begun + 1} to {end}, and the cells hold {self.before.words[MARKER : MARKER + 2]}")
+            raise Wrong(f"the library played up to batch {end}, and the cells hold {self.before.words[MARKER : MARKER + 2]}")
         self.tally.update({"library batches": len(done), "failovers": 1})
         self.forget()
         self.play()
         self.back(old)
 
-    def before_library(self) -> int:
-        """Judges what the model's clients did, and gives the number of the library's last batch."""
+    def look(self) -> Found:
+        """What stands in the files of the world that is served."""
         told = self.sh(self.primary, "worldd inspect --dir /var/lib/world --words")
-        self.judge(found_in(told[-2].partition(" in ")[0], told))
-        return self.before.words[MARKER]
+        return found_in(told[-2].partition(" in ")[0], told)
 
     def both_lose_power(self, is_kept: bool) -> None:
         """Both lose power. What no flush has covered is lost, unless the drives keep what they have ended. The secondary alone comes
@@ -368,24 +366,19 @@ class Trial:
         self.pair.delay = (self.given.delay / 2, self.given.delay)
         for step in range(self.given.both):
             self.both_lose_power(step % 2 == 1)
-            self.report(step)
         others = [self.disk_fails, self.secondary_dies, self.switch, self.start_is_killed, self.wire_is_cut, self.library_plays]
-        step = 0
-        while self.tally["failovers"] < self.given.failovers:
+        for step in itertools.count():
+            if self.tally["failovers"] >= self.given.failovers:
+                break
             kind = self.machine_dies if step % 2 else others[step // 2 % len(others)]
             kind()
             self.tally[kind.__name__.replace("_", " ")] += 1
-            step += 1
-            self.report(step)
-        wanted = [kind.__name__.replace("_", " ") for kind in (self.machine_dies, *others)] + list(MET) if self.given.failovers else []
-        if never := [kind for kind in wanted if not self.tally[kind]]:
+            if step % 10 == 9:
+                print(f"failover_trial: {time.monotonic() - self.begun:.0f} s: {self.counts()}", flush=True)
+        wanted = [*MET, *(kind.__name__.replace("_", " ") for kind in (self.machine_dies, *others))]
+        if never := [kind for kind in wanted if not self.tally[kind] and self.given.failovers]:
             raise Wrong(f"never met: {', '.join(never)}: {self.counts()}")
         return self.counts()
-
-    def report(self, step: int) -> None:
-        """Says now and then how far it is."""
-        if step % 10 == 9:
-            print(f"failover_trial: {time.monotonic() - self.begun:.0f} s: {self.counts()}", flush=True)
 
     def counts(self) -> str:
         """What was met, and how long it took."""
