@@ -47,6 +47,8 @@ from cektaulis import Action, Add, Cap, Get, Move, Set, Swap, Unanswered
 
 # How long a client waits that is to see a silent server.
 SHORT = 0.3
+# How long one waits that is to see a silent server and to be answered by another one.
+TURN = 2
 # How long a call tries that is to give up. A server of the trial's own answers meanwhile: on a busy system the next bound holds.
 BOUNDS = 1, 5, 20
 # How long each client's server is killed again and again, unless `--kills` says how often. On a busy system it is killed for
@@ -366,7 +368,7 @@ def try_silence(trial: Trial) -> None:
 def try_addresses(trial: Trial) -> None:
     """Of several addresses a client finds the one that serves. It leaves one that is silent."""
     other = free_port() if trial.transport == PORT else str(trial.room / "other")
-    trial.expect(trial.player.open_any([other, trial.address], SHORT), "ok")
+    trial.expect(trial.player.open_any([other, trial.address], SECONDS), "ok")
     trial.expect(trial.play(Set(OWN, 400)).partition(":")[2], " +")
     trial.kill()
     trial.serve(other)
@@ -377,7 +379,7 @@ def try_addresses(trial: Trial) -> None:
     with contextlib.closing(silent_at(trial)):
         trial.kill()
         trial.serve(other)
-        trial.expect(trial.player.open_any([trial.address, other], SHORT), "ok")
+        trial.expect(trial.player.open_any([trial.address, other], TURN), "ok")
         trial.expect(trial.play(Get(OWN)), UNANSWERED)
         trial.expect(trial.player.reconnect(SECONDS), "ok")
         trial.expect(trial.play(Get(OWN)).partition(":")[2], " =400")
@@ -398,13 +400,13 @@ def silent_at(trial: Trial) -> socket.socket:
 
 def try_silent_server(trial: Trial, other: str) -> None:
     """A server is held. Another one serves a copy of its world, and gets the batch."""
-    trial.expect(trial.player.open_any([trial.address, other], SHORT), "ok")
+    trial.expect(trial.player.open_any([trial.address, other], TURN), "ok")
     trial.expect(trial.player.once(OWN, 401, SECONDS, [Set(1, 5)]).partition(":")[2], " +")
     trial.hold()
     held, copy = trial.server, trial.room.with_suffix(".copy")
     copy.mkdir()
     subprocess.run([trial.worldd, "backup", "--dir", trial.room, "--to", copy], check=True, stdout=subprocess.DEVNULL)
-    late = threading.Timer(3 * SHORT, trial.serve, [other, copy])
+    late = threading.Timer(TURN / 2, trial.serve, [other, copy])
     late.start()
     trial.expect(trial.player.once(OWN, 402, SECONDS, [Add(1, 1), Get(1)]).partition(":")[2], " + =6")
     late.join()

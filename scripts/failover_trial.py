@@ -405,11 +405,18 @@ def late_mirror(trial: Trial) -> str:
 
 
 def no_fence(trial: Trial) -> str:
-    """Without fencing the machine that serves plays on alone."""
-    trial.pair.is_cut = True
+    """Without fencing the machine that serves plays on alone. It comes back to a split brain, which is mended by the page."""
+    trial.pair.is_cut, old = True, trial.primary
     trial.goes_on(30)
-    trial.kill(trial.primary)
-    return loss(trial, PEER[trial.primary])
+    trial.kill(old)
+    told, trial.pair.is_cut = loss(trial, PEER[old]), False
+    trial.pair.boot(old)
+    trial.sh(old, "drbdadm up world")
+    trial.until_state(old, "cs:StandAlone")
+    trial.sh(old, *commands("**On the other one**")[2:])
+    trial.sh(PEER[old], *commands("**On the one that stays**"))
+    trial.until_state(old, UP_TO_DATE)
+    return f"{told}; a split brain, which was mended"
 
 
 def catching_up(trial: Trial) -> str:
