@@ -269,11 +269,12 @@ class Trial:
         self.pair.wait(FROZEN_SECONDS)
         if len(self.answered) > count:
             raise Wrong("play goes on, and the fence hasn't answered")
-        self.fence_status = "0"
-        self.fence(self.primary, PEER[self.primary])
+        self.fence_status, other = "0", PEER[self.primary]
+        self.kill(other)
+        self.pair.machines[self.primary].streams[FENCE].sendall(b"0\n")
         self.goes_on(CLIENTS)
         self.pair.is_cut = False
-        self.back(PEER[self.primary])
+        self.back(other)
 
     def switch(self) -> None:
         """A planned switch."""
