@@ -36,8 +36,8 @@ from cektaulis import Add, World
 PAGE, EVERY, PATIENCE_SECONDS, PLAY_SECONDS, LIBRARY_BATCHES = TOP / "docs" / "STANDBY.md", (8, 64), 120, 2.5, 40
 # The wire's time for a packet, where a delayed one is wanted. Clients wait so long before each batch while a machine starts.
 SLOW, PAUSE_SECONDS = (0.15, 0.3), 0.7
-# The cell of the library's marker. The next one counts its batches.
-MARKER = CELLS
+# The cell of the library's marker, behind those of the model's clients. The next one counts its batches.
+MARKER = CELLS + 1
 BOTH, UP_TO_DATE, FROZEN_SECONDS, FORCED = "both lost power", "ds:UpToDate/UpToDate", 4, "drbdadm primary --force world && promote"
 MET = "in a round", "in a start", "fence asked", "ticks while one caught up", *METHODS, *(f"every {n}" for n in EVERY)
 
@@ -414,8 +414,9 @@ def no_fence(trial: Trial) -> str:
     trial.pair.boot(old)
     trial.sh(old, "drbdadm up world")
     trial.until_state(old, "cs:StandAlone")
-    trial.sh(old, *commands("**On the other one**")[2:])
-    trial.sh(PEER[old], *commands("**On the one that stays**"))
+    for name, title in ((old, "**On the other one**"), (PEER[old], "**On the one that stays**")):
+        for line in commands(title):
+            trial.pair.run(name, line, re.match("systemctl|umount|drbdadm disconnect", line) is not None)
     trial.until_state(old, UP_TO_DATE)
     return f"{told}; a split brain, which was mended"
 
@@ -427,7 +428,7 @@ def catching_up(trial: Trial) -> str:
     trial.goes_on(4 * CLIENTS)
     trial.sh(old, slow)
     trial.pair.boot(other)
-    trial.sh(other, "drbdadm up world", slow)
+    trial.sh(other, f"drbdadm up world; {slow}")
     trial.until_state(other, "cs:SyncTarget")
     trial.kill(old)
     trial.until_state(other, "cs:WFConnection")
@@ -506,7 +507,7 @@ def main() -> int:
     parser.add_argument("--failovers", type=int, default=9, help="how many machines that serve die (9)")
     parser.add_argument("--both", type=int, default=0, help="how often both machines lose power before that (0)")
     parser.add_argument("--delay", type=float, default=0.0, help="how many seconds a packet is on the wire at most (0)")
-    parser.add_argument("--cells", type=int, default=3000, help="of the world, more than %d (3000)" % (CELLS + 1))
+    parser.add_argument("--cells", type=int, default=3000, help=f"of the world, {MARKER + 2} at least (3000)")
     parser.add_argument("--seed", type=int, default=time.time_ns() % 10**9, help="of the batches and the moments")
     parser.add_argument("--kernel", type=pathlib.Path, default="/", help="where a kernel is installed or unpacked (/)")
     parser.add_argument("--show", action="store_true", help="show what loses ticks, and what is refused")

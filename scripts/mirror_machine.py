@@ -14,7 +14,7 @@ from collections.abc import Callable
 
 import power_machine
 from kill_trial import CLIENTS, Wrong
-from power_machine import APPENDED, Machine, kernel_of, pack
+from power_machine import APPENDED, WHOLE, Machine, kernel_of, pack
 
 NAMES, PEER = {"alpha": 1, "beta": 2}, {"alpha": "beta", "beta": "alpha"}
 # The ports of a machine: its console, a shell, what its service prints, its fence, and its clients.
@@ -29,7 +29,7 @@ FORWARDED = 7071
 SCRIPT = r"""
 for word in $(cat /proc/cmdline); do case $word in name=*|number=*) export "$word";; esac; done
 export PATH=/sbin:/usr/sbin:/bin:/usr/local/bin:/usr/local/share/worldd/standby
-hostname $name; ifconfig eth0 10.0.0.$number netmask 255.255.255.0 up; ifconfig eth1 10.0.2.15 up
+hostname $name; ifconfig eth0 10.0.0.$number netmask 255.255.255.0 up; ifconfig eth1 10.0.2.15 netmask 255.255.255.0 up
 mkdir -p /run /tmp /var/lock /var/run/drbd /var/lib/drbd /var/lib/world /etc/worldd; ln -s /proc/mounts /etc/mtab
 echo root:x:0:0::/:/bin/sh >/etc/passwd; echo world:x:99:99::/:/bin/sh >>/etc/passwd; echo world:x:99: >/etc/group
 cat >/etc/drbd.conf <<END
@@ -169,12 +169,14 @@ class Pair:
             raise Wrong(f"{names} don't start: {self.console[-5:]}")
 
     def kill(self, name: str) -> list[tuple[int, str]]:
-        """Takes the power of a machine, with what it has on the wire, and gives the lines that had left it."""
+        """Takes the power of a machine, with what it has on the wire and some of what its drive's cache has. Gives the lines that had
+        left it."""
         machine = self.machines.pop(name)
         machine.process.kill()
         machine.process.wait()
         lines = machine.drained()
         machine.close()
+        machine.cut(machine.image, WHOLE, random.random())
         self.wire = [packet for packet in self.wire if packet[2] != name]
         heapq.heapify(self.wire)
         return lines
