@@ -65,7 +65,7 @@ class World:
     def __init__(self, address: _Address | Iterable[_Address], timeout: float | None = None) -> None:
         if timeout is not None and not timeout > 0:
             raise ValueError(f"timeout is {timeout!r}: it is above 0, or None")
-        several = [address] if isinstance(address, (int, str, os.PathLike)) else list(address)
+        several = [address] if isinstance(address, (int, str, bytes, os.PathLike)) else list(address)
         if not several:
             raise ValueError("there is no address")
         # The first one is that of the connection, or of the next one.
