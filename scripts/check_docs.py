@@ -38,7 +38,7 @@ from wrong_bodies import PROMISES, read_promises
 # two letters is a variable or a command.
 NOT_OF_CRATES = {"requires", "ensures", "decreases", "function", "clause", "PATH", "foo", "args", "stdout", "Makefile"}
 NOT_OF_CRATES |= {"pwrite", "fdatasync", "rename", "O_NOFOLLOW", "AF_UNIX", "nobarrier", "chown", "dmesg", "readlink", "sysctl"}
-NOT_OF_CRATES |= {"fs::read", "postgresql"}
+NOT_OF_CRATES |= {"fs::read", "postgresql", "UpToDate", "StandAlone"}
 # Files beside the crates whose words pages name, and files of which they name words in quotes: commands, arguments and lines.
 WORDED = ("clients/**/*.py", "clients/**/*.h", "clients/**/*.rs", "examples/*.*", "worldd.service")
 QUOTED = ("scripts/*.py", "crates/*/src/**/*.rt")

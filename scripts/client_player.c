@@ -1,8 +1,8 @@
 /* Plays by clients/c/cektaulis.h what its input says, one command a line, and prints what came of each. For client_trial.py.
  *
- *   open ADDRESS MS | reconnect MS | step | connections | play ACTION, .. | send ACTION, .. | receive COUNT | poll COUNT
- *   played CELL NUMBER | once CELL NUMBER MS ACTION, ACTION .. | again MS ACTION, ACTION .. | read CELL ..
- *   load FIRST WORD .. | batch ACTION, ACTION .. | least buffers | no action
+ *   open ADDRESS MS | open any ADDRESS ADDRESS MS | reconnect MS | step | connections | play ACTION, .. | send ACTION, ..
+ *   receive COUNT | poll COUNT | played CELL NUMBER | once CELL NUMBER MS ACTION, ACTION .. | again MS ACTION, ACTION ..
+ *   read CELL .. | load FIRST WORD .. | batch ACTION, ACTION .. | least buffers | no action
  */
 #include "cektaulis.h"
 
@@ -125,7 +125,8 @@ static bool play_line(struct cektaulis *world, char *line) {
 }
 
 int main(void) {
-    static char line[LINE_BYTES], address[200];
+    static char line[LINE_BYTES], address[200], other[200];
+    static const char *const both[] = {address, other};
     struct cektaulis world = {.stream = -1, .coming = -1};
     while (fgets(line, sizeof line, stdin)) {
         int milliseconds;
@@ -133,6 +134,9 @@ int main(void) {
         uint64_t number;
         bool played;
         if (play_line(&world, line) || play_bulk(&world, line)) {
+        } else if (sscanf(line, "open any %199s %199s %d", address, other, &milliseconds) == 3) {
+            cektaulis_close(&world);
+            if (went_well(&world, cektaulis_open_any(&world, both, 2, milliseconds))) printf("ok\n");
         } else if (sscanf(line, "open %199s %d", address, &milliseconds) == 2) {
             cektaulis_close(&world);
             if (went_well(&world, cektaulis_open(&world, address, milliseconds))) printf("ok\n");

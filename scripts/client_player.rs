@@ -146,8 +146,15 @@ fn main() -> io::Result<()> {
         let line = line?;
         let (command, rest) = line.split_once(' ').unwrap_or((&line, ""));
         let answer = if command == "open" {
-            let (address, limit) = rest.split_once(' ').expect("an address");
-            World::open(address, Some(milliseconds(limit))).map(|opened| {
+            let (addresses, limit) = rest.rsplit_once(' ').expect("an address");
+            let opened = match addresses.strip_prefix("any ") {
+                Some(any) => World::open_any(
+                    &any.split(' ').collect::<Vec<_>>(),
+                    Some(milliseconds(limit)),
+                ),
+                None => World::open(addresses, Some(milliseconds(limit))),
+            };
+            opened.map(|opened| {
                 world = Some(opened);
                 String::from("ok")
             })

@@ -30,7 +30,10 @@ class PythonPlayer:
     def __init__(self) -> None:
         self.world: cektaulis.World | None = None
 
-    def open(self, address: str, seconds: float) -> str:
+    def open_any(self, addresses: list[str], seconds: float) -> str:
+        return self.open(addresses, seconds)
+
+    def open(self, address: str | list[str], seconds: float) -> str:
         try:
             self.world = cektaulis.World(address, seconds)
         except OSError:
@@ -129,6 +132,9 @@ class CPlayer:
 
     def open(self, address: str, seconds: float) -> str:
         return self.ask(f"open {address} {seconds * 1000:.0f}")
+
+    def open_any(self, addresses: list[str], seconds: float) -> str:
+        return self.ask(f"open any {' '.join(addresses)} {seconds * 1000:.0f}")
 
     def reconnect(self, seconds: float) -> str:
         return self.ask(f"reconnect {seconds * 1000:.0f}")

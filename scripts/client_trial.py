@@ -47,6 +47,8 @@ from cektaulis import Action, Add, Cap, Get, Move, Set, Swap, Unanswered
 
 # How long a client waits that is to see a silent server.
 SHORT = 0.3
+# How long one waits that is to see a silent server and to be answered by another one.
+TURN = 2
 # How long a call tries that is to give up. A server of the trial's own answers meanwhile: on a busy system the next bound holds.
 BOUNDS = 1, 5, 20
 # How long each client's server is killed again and again, unless `--kills` says how often. On a busy system it is killed for
@@ -57,11 +59,12 @@ MODEL_LINES = 5000
 OWN = 0
 LIMIT = cektaulis.LIMIT
 KEPT, MODEL = "answers kept over a loss", "lines as the model"
+ELSEWHERE = "found at another address", "left a silent address", "left a silent server for one that serves"
 WANTED = (
     *(f"refusal {refusal.code}" for refusal in cektaulis.Refusal),
     *(f"fault {fault.code}" for fault in cektaulis.Fault),
     *("done", "value", UNANSWERED, NOT_CONNECTED, GARBLED, TOO_LARGE, "played", "not played"),
-    *(ANSWER_LOST, MARKER_REFUSED, BAD_ADDRESS, BAD_ACTION, NONE, ACTION_REFUSED, KEPT, MODEL),
+    *(ANSWER_LOST, MARKER_REFUSED, BAD_ADDRESS, BAD_ACTION, NONE, ACTION_REFUSED, KEPT, MODEL, *ELSEWHERE),
 )
 # How a batch of `play_once` came to its end while the server was killed.
 ANSWERED, ANSWERED_LATER = "answered", "answered after a loss"
@@ -108,10 +111,10 @@ class Trial:
         sent = self.player.send(list(batch))
         return self.player.receive(len(batch)) if sent == "ok" else sent
 
-    def serve(self) -> None:
-        """Starts the server."""
-        flags = [f"--{self.transport}", self.address, "--clients", "1000", "--every", "8", "--method", "zigzag"]
-        command = [self.worldd, "serve", "--dir", self.room, *flags]
+    def serve(self, address: str | None = None, room: pathlib.Path | None = None) -> None:
+        """Starts the server, at its address and in its folder unless it gets others."""
+        flags = [f"--{self.transport}", address or self.address, "--clients", "1000", "--every", "8", "--method", "zigzag"]
+        command = [self.worldd, "serve", "--dir", room or self.room, *flags]
         self.server = subprocess.Popen(command, stdout=subprocess.PIPE, stderr=subprocess.DEVNULL, text=True)
         for _ in range(2):
             self.server.stdout.readline()
@@ -360,6 +363,58 @@ def try_silence(trial: Trial) -> None:
     while trial.note(trial.player.played(OWN, 102)) != "yes":
         if time.monotonic() > deadline:
             raise Wrong("a batch that had arrived wasn't played")
+
+
+def try_addresses(trial: Trial) -> None:
+    """Of several addresses a client finds the one that serves. It leaves one that is silent."""
+    other = free_port() if trial.transport == PORT else str(trial.room / "other")
+    trial.expect(trial.player.open_any([other, trial.address], SECONDS), "ok")
+    trial.expect(trial.play(Set(OWN, 400)).partition(":")[2], " +")
+    trial.kill()
+    trial.serve(other)
+    trial.expect(trial.play(Get(OWN)), UNANSWERED)
+    trial.expect(trial.player.reconnect(SECONDS), "ok")
+    trial.expect(trial.play(Get(OWN)).partition(":")[2], " =400")
+    trial.met[ELSEWHERE[0]] += 1
+    with contextlib.closing(silent_at(trial)):
+        trial.kill()
+        trial.serve(other)
+        trial.expect(trial.player.open_any([trial.address, other], TURN), "ok")
+        trial.expect(trial.play(Get(OWN)), UNANSWERED)
+        trial.expect(trial.player.reconnect(SECONDS), "ok")
+        trial.expect(trial.play(Get(OWN)).partition(":")[2], " =400")
+        trial.met[ELSEWHERE[1]] += 1
+    trial.kill()
+    pathlib.Path(trial.address).unlink(missing_ok=True)
+    trial.serve()
+    try_silent_server(trial, other)
+
+
+def silent_at(trial: Trial) -> socket.socket:
+    """A server at the address of a trial that never answers."""
+    if trial.transport == PORT:
+        return socket.create_server(("127.0.0.1", int(trial.address)))
+    pathlib.Path(trial.address).unlink(missing_ok=True)
+    return socket.create_server(trial.address, family=socket.AF_UNIX)
+
+
+def try_silent_server(trial: Trial, other: str) -> None:
+    """A server is held. Another one serves a copy of its world, and gets the batch."""
+    trial.expect(trial.player.open_any([trial.address, other], TURN), "ok")
+    trial.expect(trial.player.once(OWN, 401, SECONDS, [Set(1, 5)]).partition(":")[2], " +")
+    trial.hold()
+    held, copy = trial.server, trial.room.with_suffix(".copy")
+    copy.mkdir()
+    subprocess.run([trial.worldd, "backup", "--dir", trial.room, "--to", copy], check=True, stdout=subprocess.DEVNULL)
+    late = threading.Timer(TURN / 2, trial.serve, [other, copy])
+    late.start()
+    trial.expect(trial.player.once(OWN, 402, SECONDS, [Add(1, 1), Get(1)]).partition(":")[2], " + =6")
+    late.join()
+    trial.met[ELSEWHERE[2]] += 1
+    held.kill()
+    held.communicate()
+    trial.kill()
+    trial.serve()
 
 
 def try_ahead(trial: Trial) -> None:
@@ -738,7 +793,7 @@ def try_client(trial: Trial, chance: random.Random) -> None:
             try_doubt(SECONDS)
             try_files(trial)
             try_prompt(trial)
-        for part in (try_answers, try_once, try_bounds, try_kills, try_polls, try_going_on):
+        for part in (try_answers, try_once, try_bounds, try_kills, try_polls, try_going_on, try_addresses):
             part(trial)
     finally:
         trial.kill()

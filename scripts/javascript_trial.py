@@ -6,8 +6,8 @@
 
 Over a port and over a socket, it plays 5,000 random lines that a plain model answers too. Some are bad, and some numbers are at or
 over their bounds. A server of the trial's own answers each code. Then the server is killed again and again while a client counts:
-each batch of `playOnce` has to count once. The trial prints how often it met what, and fails if an answer was never met. Without
-node it only says so.
+each batch of `playOnce` has to count once. At last it serves at another address. The trial prints how often it met what, and fails
+if an answer was never met. Without node it only says so.
 """
 import argparse
 import json
@@ -20,15 +20,15 @@ import tempfile
 import time
 
 from check_docs import TOP
-from client_trial import MODEL, MODEL_LINES, MOST_KILLING_SECONDS, TEXTS, Trial
-from example_trial import Script, Step, Wrong
-from kill_trial import CELLS, LIMIT, PATIENCE_SECONDS, TRANSPORTS, Batch, Request, answer, difference, random_request
+from client_trial import ELSEWHERE, MODEL, MODEL_LINES, MOST_KILLING_SECONDS, TEXTS, TURN, Trial, silent_at
+from example_trial import Script, Step, Wrong, free_port
+from kill_trial import CELLS, LIMIT, PATIENCE_SECONDS, PORT, TRANSPORTS, Batch, Request, answer, difference, random_request
 
 CLIENT = TOP / "clients" / "javascript" / "cektaulis.mjs"
 MARKER, COUNT, BATCHES = 0, 1, 100
 LOST = "played, and the answer is lost"
 CODES = [f"fault {-code}" if code < 0 else f"tick 1: -{code}" for code in TEXTS]
-WANTED = "+", "value", *(code.removeprefix("tick 1: ") for code in CODES), MODEL, "kills", "counted once", LOST
+WANTED = "+", "value", *(code.removeprefix("tick 1: ") for code in CODES), MODEL, "kills", "counted once", LOST, *ELSEWHERE
 # Those of one word are bad lines for the model. They are sent as they are.
 EDGES: tuple[Request, ...] = (
     ("set", 6, LIMIT), ("get", 6), ("add", 6, 1), ("add", 6, -LIMIT), ("set", 7, 2**53 + 1), ("get", 7), ("set", 6, 2**64 - 1),
@@ -49,6 +49,17 @@ for await (const line of createInterface({ input: process.stdin })) {
 }
 await world.close();
 """.replace("CLIENT", CLIENT.as_uri())
+# Counts once for each number of its input, which is its marker, and prints the count.
+COUNTER = """
+import { createInterface } from "node:readline";
+import * as client from "CLIENT";
+const world = await client.World.connect(process.argv.slice(1, 3), 60, process.argv[3]);
+for await (const number of createInterface({ input: process.stdin })) {
+  const tick = await world.playOnce(MARKER, BigInt(number), client.add(COUNT, 1), client.get(COUNT));
+  console.log(tick ? String(tick.answers[1]) : "lost");
+}
+await world.close();
+""".replace("CLIENT", CLIENT.as_uri()).replace("MARKER", str(MARKER)).replace("COUNT", str(COUNT))
 
 
 def play(address: str, batches: list[Batch]) -> list[list[str]]:
@@ -86,8 +97,8 @@ def try_codes(trial: Trial) -> None:
     trial.met.update(code for code in CODES if "fault" in code)
 
 
-def try_kills(trial: Trial, chance: random.Random, kills: int) -> None:
-    """Each batch of `playOnce` counts once, though the server is killed so often or more."""
+def try_kills(trial: Trial, chance: random.Random, kills: int) -> int:
+    """Each batch of `playOnce` counts once, though the server is killed so often or more. Gives how many counted."""
     given, told, played, begun = trial.room / "batches", trial.room / "answers", 0, time.monotonic()
     given.write_text(f"add {COUNT} 1, get {COUNT}\n" * BATCHES)
     while trial.met["kills"] < kills or not trial.met[LOST] and time.monotonic() - begun < MOST_KILLING_SECONDS:
@@ -109,6 +120,41 @@ def try_kills(trial: Trial, chance: random.Random, kills: int) -> None:
     line, _ = play(trial.address, [(("get", MARKER), ("get", COUNT))])[0]
     if not line.endswith(f": ={played} ={played}"):
         raise Wrong(f"{played} batches left the marker and the count as `{line}`")
+    return played
+
+
+def try_addresses(trial: Trial, count: int) -> None:
+    """Of two addresses a client finds the one that serves. It leaves one that is silent. It has counted up to a number before."""
+    other, copy = free_port() if trial.transport == PORT else str(trial.room / "other"), trial.room.with_suffix(".copy")
+    run = ["node", "--input-type=module", "--eval", COUNTER, other, trial.address, str(TURN)]
+    with subprocess.Popen(run, stdin=subprocess.PIPE, stdout=subprocess.PIPE, text=True, bufsize=1) as client:
+
+        def counts(kind: str = "counted once") -> None:
+            nonlocal count
+            count += 1
+            client.stdin.write(f"{count}\n")
+            if (line := client.stdout.readline()) != f"{count}\n":
+                raise Wrong(f"batch {count} was answered `{line}`")
+            trial.met[kind] += 1
+
+        counts()
+        trial.kill()
+        trial.serve(other)
+        counts(ELSEWHERE[0])
+        trial.kill()
+        with silent_at(trial):
+            trial.serve(other)
+            counts(ELSEWHERE[1])
+        pathlib.Path(trial.address).unlink(missing_ok=True)
+        trial.hold()
+        held = trial.server
+        copy.mkdir()
+        subprocess.run([trial.worldd, "backup", "--dir", trial.room, "--to", copy], check=True, stdout=subprocess.DEVNULL)
+        trial.serve(room=copy)
+        counts(ELSEWHERE[2])
+        held.kill()
+        held.communicate()
+        client.stdin.close()
 
 
 def main() -> int:
@@ -129,7 +175,7 @@ def main() -> int:
             try:
                 try_model(trial, chance)
                 try_codes(trial)
-                try_kills(trial, chance, given.kills)
+                try_addresses(trial, try_kills(trial, chance, given.kills))
                 if missing := [name for name in WANTED if not trial.met[name]]:
                     raise Wrong(f"never met: {', '.join(missing)}")
             except (Wrong, OSError, subprocess.SubprocessError) as wrong:

@@ -1,5 +1,5 @@
-"""Machines of QEMU's, for power_trial.py and device_trial.py. The disk of each is served from here by the NBD protocol. It
-records what is asked of it, and may refuse it. Its power may be cut: another machine tells then what is left."""
+"""Machines of QEMU's, for power_trial.py, device_trial.py and mirror_machine.py. The disk of each is served from here by the NBD
+protocol. It records what is asked of it, and may refuse it. Its power may be cut: another machine tells then what is left."""
 import argparse
 import collections
 import contextlib
@@ -15,7 +15,7 @@ import struct
 import subprocess
 import tempfile
 import time
-from collections.abc import Callable, Iterator
+from collections.abc import Callable, Iterator, Sequence
 
 from kill_trial import PATIENCE_SECONDS, QUIET, Wrong
 
@@ -71,9 +71,9 @@ def modules(root: pathlib.Path, names: list[str]) -> list[pathlib.Path]:
     return [files[name] for name in dict.fromkeys(reversed(names)) if name in files]
 
 
-def pack(room: pathlib.Path, root: pathlib.Path, fs: str, programs: dict[str, str], script: str) -> None:
-    """Packs the machine's first file system: busybox and these programs with their C library, the kernel's modules, a script."""
-    loaded = modules(root / "lib" / "modules" / kernel_of(root).name.removeprefix("vmlinuz-"), [*MODULES, fs])
+def pack(room: pathlib.Path, root: pathlib.Path, names: Sequence[str], programs: dict[str, str], script: str) -> None:
+    """Packs the machine's first file system: busybox and these programs with their C library, modules of the kernel, a script."""
+    loaded = modules(root / "lib" / "modules" / kernel_of(root).name.removeprefix("vmlinuz-"), [*MODULES, *names])
     programs = {"bin/busybox": shutil.which("busybox"), **programs}
     linked = re.findall(r"(/\S+) \(0x", subprocess.run(["ldd", *programs.values()], capture_output=True, text=True).stdout)
     paths = {path.lstrip("/"): path for path in linked} | programs | {f"modules/{path.name}": path for path in loaded}
@@ -128,7 +128,10 @@ class Machine(Disk):
     """A running machine with a disk. A write is read back at once, done after a while, later still if it has the slow bytes,
     and durable once a flush is done that began after that. A disk that lies keeps the last writes back at each flush."""
 
-    def __init__(self, room: pathlib.Path, root: pathlib.Path, image: bytearray, ports: int) -> None:
+    def __init__(
+        self, room: pathlib.Path, root: pathlib.Path, image: bytearray, ports: int, more: Sequence[str] = (), files: Sequence[int] = ()
+    ) -> None:
+        """Starts it, with more words for QEMU and these open files of ours."""
         super().__init__(image)
         self.slow, self.kept_back, self.due, self.rests = (b"", 0.0), 0, [], [b""] * (1 + ports)
         doors = [socket.create_server(f"{room}/{name}", family=socket.AF_UNIX) for name in ("disk", "lines")]
@@ -136,7 +139,8 @@ class Machine(Disk):
         for port in range(1 + ports):
             words += ["-chardev", f"socket,id=c{port},path={room}/lines"]
             words += ["-device", f"virtserialport,chardev=c{port}"] if port else []
-        self.process, self.chosen = subprocess.Popen(words, stdin=QUIET, start_new_session=True), selectors.DefaultSelector()
+        self.process = subprocess.Popen([*words, *more], stdin=QUIET, pass_fds=files, start_new_session=True)
+        self.chosen = selectors.DefaultSelector()
         for door in doors:
             door.settimeout(PATIENCE_SECONDS)
         self.disk = doors[0].accept()[0]
@@ -167,7 +171,7 @@ class Machine(Disk):
         heapq.heappush(self.due, (due, number, kind, covered, answer))
         return 1
 
-    def events(self, seconds: float) -> Iterator[tuple[int, str]]:
+    def events(self, seconds: float, longest: float = 0.05) -> Iterator[tuple[int, str]]:
         """Serves the disk for a moment. Gives each line that has come with its port, which is 0 for the console, and DISK after
         each write or flush that is asked for and before the end of each flush. A request that came with a line follows it."""
         while self.due and self.due[0][0] <= time.monotonic():
@@ -177,7 +181,7 @@ class Machine(Disk):
                 yield DISK, "flush"
                 self.flush(sorted(self.writes)[: -self.kept_back] if self.kept_back else sorted(covered & self.writes.keys()))
             self.disk.sendall(answer)
-        wait = max(0.0, self.due[0][0] - time.monotonic()) if self.due else 0.05
+        wait = max(0.0, self.due[0][0] - time.monotonic()) if self.due and longest else longest
         for number in sorted(key.data for key, _ in self.chosen.select(wait)):
             if self.streams[number] is self.disk:
                 yield from [(DISK, "request")] * self.take(seconds)
@@ -212,7 +216,7 @@ class Rig:
             source, programs["lib/first.so"] = pathlib.Path(__file__).with_name(self.library), f"{room}/first.so"
             subprocess.run(["cc", "-shared", "-fPIC", "-o", f"{room}/first.so", source], check=True)
         words |= {"fault": self.fault, "library": "/lib/first.so" if self.library else ""}
-        pack(room, given.kernel, given.fs, programs, script.format(**vars(given) | words))
+        pack(room, given.kernel, [given.fs], programs, script.format(**vars(given) | words))
         return contextlib.closing(Machine(room, given.kernel, image, ports))
 
     def reading(self) -> contextlib.closing[Disk]:

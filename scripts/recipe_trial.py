@@ -43,6 +43,7 @@ INSTALLED = {"include/cektaulis.h", "share/pkgconfig/cektaulis.pc", "share/world
     }
     for name in ("worldd", "world_load")
 ))
+STANDBY = {"promote", "step-down", "fence-peer", "standby.conf", "world.res"}
 # The words of the manual in front of each recipe.
 MAKING, BACKUP = "**2. Make a user, its folder, and a world**", "**While it serves**"
 RESTORE, SAVING, LARGER = "**Restore.**", "**Files are removed**", "**A world gets more cells**"
@@ -200,7 +201,7 @@ def install(worldd: pathlib.Path, room: pathlib.Path) -> str:
         shutil.copy(worldd, top / "crates" / program / "out" / program)
     for name in ("install.sh", "worldd.service"):
         shutil.copy(TOP / name, top / name)
-    for name in ("clients/c", "man", "completions"):
+    for name in ("clients/c", "man", "completions", "scripts/standby"):
         shutil.copytree(TOP / name, top / name)
     for name in (*RIGHT, *ODD):
         prefix = room / "prefix" / name
@@ -214,10 +215,22 @@ def install(worldd: pathlib.Path, room: pathlib.Path) -> str:
             include_header(prefix)
             installed = {str(path.relative_to(prefix)) for path in prefix.rglob("*") if path.is_file()}
             want(installed == INSTALLED, f"what was installed differs by {sorted(installed ^ INSTALLED)}")
+            install_standby(top, room / "standby" / name)
         else:
             is_told = re.fullmatch("install.sh: a unit can't have the path [^\0-\x1f]*\n", run.stderr)
             want(run.returncode == 2 and bool(is_told) and not prefix.exists(), f"a prefix wasn't refused: {run}")
     return f"prefixes with a unit {len(RIGHT)}; prefixes refused {len(ODD)}"
+
+
+def install_standby(top: pathlib.Path, prefix: pathlib.Path) -> None:
+    """Installs the files of a standby, without the kit."""
+    subprocess.run([top / "install.sh", "--standby", prefix], check=True, stdout=subprocess.DEVNULL, env={"PATH": "/usr/bin:/bin"})
+    files = {path.name: path.read_text() for path in prefix.rglob("*") if path.is_file()}
+    want(set(files) == STANDBY, f"what was installed for a standby differs by {sorted(set(files) ^ STANDBY)}")
+    folder = prefix / "share" / "worldd" / "standby"
+    want(f'"{prefix}/bin/worldd" recover' in files["promote"], f"promote with {prefix}")
+    want(f'"\'{folder}/fence-peer\'"' in files["world.res"] and os.access(folder / "fence-peer", os.X_OK), f"world.res with {prefix}")
+    want("@PREFIX@" not in "".join(files.values()), f"a file with {prefix}")
 
 
 def include_header(prefix: pathlib.Path) -> None:

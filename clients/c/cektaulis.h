@@ -108,9 +108,11 @@ struct cektaulis_bytes {
     size_t at, filled, room;
 };
 
-/* A connection. Its fields are read only. */
+/* A connection. Its fields are read only. `address` is that of the connection or of the next one, of so many. */
 struct cektaulis {
     const char *address;
+    const char *const *addresses;
+    size_t count, at;
     int milliseconds;
     /* The descriptor of the connection, which `poll` may wait for. Below 0: there is none. */
     int stream;
@@ -123,6 +125,9 @@ struct cektaulis {
     unsigned connections;
     /* How many milliseconds of silence the running call bears; below 0 any. */
     int bears;
+    /* When another address is tried than that of `coming`, and whether the running call looks for one that serves. */
+    int64_t coming_until;
+    bool insists;
     /* What the cell of the last marker is known to hold. */
     bool mark_known;
     uint32_t mark_cell;
@@ -322,6 +327,18 @@ static inline void cektaulis_begin(struct cektaulis *world) {
     world->bears = world->milliseconds > 0 ? world->milliseconds : -1;
 }
 
+/* How many milliseconds a silent server is waited for before another address is tried. */
+static inline int cektaulis_turn(const struct cektaulis *world) {
+    return world->milliseconds > 0 ? world->milliseconds : 5000;
+}
+
+/* Takes the next address, if there are several. */
+static inline void cektaulis_next(struct cektaulis *world) {
+    if (world->count < 2) return;
+    world->at = (world->at + 1) % world->count;
+    world->address = world->addresses[world->at];
+}
+
 /* Connects to a port of this machine, or to the path of a socket. Digits alone are a port. Each call bears so many
  * milliseconds of silence; 0 waits for ever. The address stays the caller's, and is read again by `cektaulis_reconnect`. */
 static inline enum cektaulis_status cektaulis_open(struct cektaulis *world, const char *address, int milliseconds) {
@@ -334,6 +351,45 @@ static inline enum cektaulis_status cektaulis_open(struct cektaulis *world, cons
     world->stream = cektaulis_dial(world);
     world->connections = world->stream >= 0;
     return world->stream < 0 ? CEKTAULIS_NOT_CONNECTED : CEKTAULIS_OK;
+}
+
+/* Connects to the first of several addresses at which somebody is. They are for one world that at most one of them serves at a
+ * time. `cektaulis_reconnect` tries them in turn: a server that is silent for so many milliseconds, or for 5,000, is left for the
+ * next address. Calls that send a batch again leave one only if another address answers. The addresses stay the caller's. */
+static inline enum cektaulis_status cektaulis_open_any(
+    struct cektaulis *world, const char *const *addresses, size_t count, int milliseconds) {
+    enum cektaulis_status status = cektaulis_open(world, NULL, milliseconds);
+    for (size_t i = 0; i < count; i++)
+        if (!cektaulis_is_address(addresses[i])) return status;
+    for (size_t at = 0; at < count; at++) {
+        status = cektaulis_open(world, addresses[at], milliseconds);
+        world->addresses = addresses;
+        world->count = count;
+        world->at = at;
+        if (status == CEKTAULIS_OK) break;
+    }
+    return status;
+}
+
+/* Whether another address answers an empty batch. It is the next one then. */
+static inline bool cektaulis_serves_elsewhere(struct cektaulis *world) {
+    for (size_t i = 1; i < world->count; i++) {
+        struct cektaulis other;
+        char byte = 0;
+        cektaulis_next(world);
+        memset(&other, 0, sizeof other);
+        other.address = world->address;
+        other.stream = other.coming = -1;
+        other.bears = 1;
+        struct pollfd ready = {cektaulis_dial(&other), POLLIN, 0};
+        if (ready.fd < 0) continue;
+        const bool serves = send(ready.fd, "end\n", 4, MSG_NOSIGNAL) == 4 && poll(&ready, 1, cektaulis_turn(world)) > 0
+                            && recv(ready.fd, &byte, 1, 0) == 1 && byte == 't';
+        close(ready.fd);
+        if (serves) return true;
+    }
+    cektaulis_next(world);
+    return false;
 }
 
 /* Makes room for so many more bytes. False: there is no memory. */
@@ -416,10 +472,17 @@ static inline size_t cektaulis_ready(struct cektaulis *world) {
     return cektaulis_lines(&world->kept, false, &end) + cektaulis_lines(&world->come, false, &end);
 }
 
-/* Waits until the server has sent something, which is taken, or for an event of sending. Returns 0 or why the connection ended. */
+/* Waits until the server has sent something, which is taken, or for an event of sending. Returns 0 or why the connection ended.
+ * A call that insists ends the wait if another address serves: this server is off then. */
 static inline int cektaulis_waits(struct cektaulis *world, int event) {
     struct pollfd ready = {world->stream, (short)(POLLIN | event), 0};
-    const int found = poll(&ready, 1, world->bears);
+    const int turn = cektaulis_turn(world);
+    const int64_t deadline = cektaulis_now() + world->bears;
+    int found = poll(&ready, 1, world->insists && turn < world->bears ? turn : world->bears);
+    while (!found && world->insists && cektaulis_now() < deadline && !cektaulis_serves_elsewhere(world)) {
+        const int left = cektaulis_until(deadline);
+        found = poll(&ready, 1, left < turn ? left : turn);
+    }
     if (found < 0) return errno == EINTR ? 0 : errno;
     if (!found) return ETIMEDOUT;
     return ready.revents & ~POLLOUT ? cektaulis_takes(world, world->stream) : 0;
@@ -601,20 +664,28 @@ static inline enum cektaulis_status cektaulis_play(struct cektaulis *world, cons
     return status == CEKTAULIS_OK ? cektaulis_receive_marked(world, NULL, answers, count, tick) : status;
 }
 
+/* Leaves an address at which no server was heard, for the next one. */
+static inline enum cektaulis_status cektaulis_not_here(struct cektaulis *world, int error) {
+    cektaulis_next(world);
+    return cektaulis_ended(world, CEKTAULIS_NOT_CONNECTED, error);
+}
+
 /* One step of `cektaulis_reconnect`, which doesn't wait. CEKTAULIS_NOT_CONNECTED: the server hasn't answered yet. Another step
  * a little later goes on. A `poll` for reading of `coming` waits for the answer, if it isn't below 0. */
 static inline enum cektaulis_status cektaulis_reconnect_step(struct cektaulis *world) {
     if (world->coming < 0) {
         if (!cektaulis_leave(world)) return cektaulis_ended(world, CEKTAULIS_NOT_CONNECTED, ENOMEM);
         world->bears = 1;
+        world->coming_until = cektaulis_now() + cektaulis_turn(world);
         world->coming = cektaulis_dial(world);
-        if (world->coming < 0) return CEKTAULIS_NOT_CONNECTED;
-        if (send(world->coming, "end\n", 4, MSG_NOSIGNAL) != 4) return cektaulis_ended(world, CEKTAULIS_NOT_CONNECTED, errno);
+        if (world->coming < 0) return cektaulis_not_here(world, world->error);
+        if (send(world->coming, "end\n", 4, MSG_NOSIGNAL) != 4) return cektaulis_not_here(world, errno);
     }
     size_t end;
     const int error = cektaulis_takes(world, world->coming);
     if (!cektaulis_lines(&world->come, false, &end)) {
-        if (error) return cektaulis_ended(world, CEKTAULIS_NOT_CONNECTED, error);
+        if (error) return cektaulis_not_here(world, error);
+        if (world->count > 1 && cektaulis_now() >= world->coming_until) return cektaulis_not_here(world, ETIMEDOUT);
         /* The answer to an empty batch is shorter. */
         if (world->come.filled > 64) return cektaulis_ended(world, CEKTAULIS_GARBLED, EPROTO);
         world->error = EAGAIN;
@@ -625,7 +696,10 @@ static inline enum cektaulis_status cektaulis_reconnect_step(struct cektaulis *w
     world->coming = -1;
     world->bears = 1;
     const enum cektaulis_status status = cektaulis_receive_marked(world, NULL, NULL, 0, &tick);
-    if (status == CEKTAULIS_UNANSWERED) return CEKTAULIS_NOT_CONNECTED;
+    if (status == CEKTAULIS_UNANSWERED) {
+        cektaulis_next(world);
+        return CEKTAULIS_NOT_CONNECTED;
+    }
     if (status == CEKTAULIS_GARBLED) return status;
     world->connections++;
     return CEKTAULIS_OK;
@@ -641,7 +715,8 @@ static inline enum cektaulis_status cektaulis_reconnect(struct cektaulis *world,
         if (status != CEKTAULIS_NOT_CONNECTED) return status;
         if (world->coming >= 0 && cektaulis_now() < deadline) {
             struct pollfd ready = {world->coming, POLLIN, 0};
-            poll(&ready, 1, cektaulis_until(deadline));
+            const bool has_turn = world->count > 1 && world->coming_until < deadline;
+            poll(&ready, 1, cektaulis_until(has_turn ? world->coming_until : deadline));
         } else if (!cektaulis_pauses(&pause, deadline)) {
             return cektaulis_ended(world, CEKTAULIS_NOT_CONNECTED, world->error);
         }
@@ -718,9 +793,11 @@ static inline enum cektaulis_status cektaulis_insist(struct cektaulis *world, co
     do {
         if (world->stream < 0) status = cektaulis_reconnect(world, cektaulis_until(deadline));
         else status = CEKTAULIS_OK;
-        /* A server that is silent has the batch, so nothing is sent again before the connection ends. */
+        /* A server that is silent has the batch, so nothing is sent again before the connection ends, or another one serves. */
         world->bears = cektaulis_until(deadline);
+        world->insists = world->count > 1;
         if (status == CEKTAULIS_OK) status = cektaulis_try(world, marker, actions, count, answers, tick, &doubtful);
+        world->insists = false;
         const bool is_for_now = status == CEKTAULIS_BATCH_REFUSED && (world->fault == 6 || world->fault == 17);
         if (!is_for_now && status != CEKTAULIS_NOT_CONNECTED && status != CEKTAULIS_UNANSWERED) break;
     } while (cektaulis_pauses(&pause, deadline));

@@ -94,7 +94,7 @@ function parse(line, count) {
 }
 
 export class World {
-  #address;
+  #addresses;                                          // the first one is that of the connection, or of the next one
   #socket = null;
   #connecting = null;
   #received = "";
@@ -103,20 +103,36 @@ export class World {
   #unanswered = [];                                    // those of lost connections, for `reconnect`
 
   /// `patience` is how many seconds `reconnect` and `playOnce` wait for the server.
-  constructor(address, patience = 30) {
-    this.#address = /^[0-9]+$/.test(String(address)) ? { host: "127.0.0.1", port: Number(address) } : { path: address };
-    this.patience = patience;
+  ///
+  /// An array of addresses is for one world that at most one of them serves at a time. They are tried in turn. A server that is
+  /// silent for `silence` seconds is left for the next address. `playOnce` leaves one only if another address answers.
+  constructor(address, patience = 30, silence = 5) {
+    this.#addresses = [address].flat().map((it) =>
+      /^[0-9]+$/.test(String(it)) ? { host: "127.0.0.1", port: Number(it) } : { path: it });
+    if (this.#addresses.length === 0) throw new RangeError("there is no address");
+    Object.assign(this, { patience, silence });
   }
 
-  /// Connects once.
-  static async connect(address, patience) {
-    const world = new World(address, patience);
-    await world.#connect();
-    return world;
+  /// Connects once, to the first address at which somebody is.
+  static async connect(address, patience, silence) {
+    const world = new World(address, patience, silence);
+    for (let left = world.#addresses.length - 1; ; left--) {
+      try {
+        await world.#connect();
+        return world;
+      } catch (error) {
+        if (left === 0) throw error;
+        world.#next();
+      }
+    }
+  }
+
+  #next() {
+    this.#addresses.push(this.#addresses.shift());
   }
 
   async #connect() {
-    const socket = net.connect({ ...this.#address, noDelay: true });
+    const socket = net.connect({ ...this.#addresses[0], noDelay: true });
     await once(socket, "connect");
     [this.#socket, this.#received, this.#lost] = [socket, "", null];
     socket.on("data", (bytes) => this.#take(bytes));
@@ -178,12 +194,39 @@ export class World {
 
   async #wait(until) {
     while (this.#lost) {
-      this.#connecting ??= this.#connect().finally(() => { this.#connecting = null; });
+      this.#connecting ??= this.#reach().finally(() => { this.#connecting = null; });
       await this.#connecting.catch((error) => {
-        if (error.code === "EACCES" || performance.now() > until) throw error;
+        if ((error.code === "EACCES" && this.#addresses.length === 1) || performance.now() > until) throw error;
         return sleep(20);
       });
     }
+  }
+
+  /// Connects to the first address. Of several its server has to answer an empty batch, or the next one is the first.
+  async #reach() {
+    try {
+      await this.#connect();
+      if (this.#addresses.length > 1) await this.#within(performance.now() + this.silence * 1000, this.#send([], false));
+    } catch (error) {
+      if (this.#socket) this.#lose(error.message, true);
+      this.#next();
+      throw error;
+    }
+  }
+
+  /// Whether another address answers an empty batch. It is the first one then.
+  async #servesElsewhere() {
+    for (let left = this.#addresses.length - 1; left > 0; left--) {
+      this.#next();
+      const other = new World("", this.patience, this.silence);
+      other.#addresses = [this.#addresses[0]];
+      const answer = other.#connect().then(() => other.#within(performance.now() + this.silence * 1000, other.#send([], false)));
+      const serves = await answer.then(() => true, () => false);
+      other.#socket?.destroy();
+      if (serves) return true;
+    }
+    this.#next();
+    return false;
   }
 
   /// Plays a batch exactly once, over lost connections. It begins with `set(cell, number)`. Only this object writes that cell,
@@ -196,8 +239,8 @@ export class World {
       if (this.#lost && !this.#lost.certain) throw this.#lost;
       try {
         await this.#wait(until);
-        if (await this.#within(until, this.wasPlayed(cell, number))) return null;
-        const tick = await this.#within(until, this.#send(batch, false));
+        if (await this.#heard(until, this.wasPlayed(cell, number))) return null;
+        const tick = await this.#heard(until, this.#send(batch, false));
         return { number: tick.number, answers: tick.answers.slice(1) };
       } catch (error) {
         const again = error instanceof BatchRefused ? [6, 12, 17].includes(error.code) : error.certain;
@@ -205,6 +248,18 @@ export class World {
         await sleep(pause);
       }
     }
+  }
+
+  /// Waits for an answer until a time. If another address serves meanwhile, the connection is lost: its server is off then.
+  async #heard(until, answer) {
+    const silent = Symbol("silent");
+    answer.catch(() => {});
+    while (this.#addresses.length > 1 && performance.now() + this.silence * 1000 < until) {
+      const first = await Promise.race([answer, sleep(this.silence * 1000, silent, { ref: false })]);
+      if (first !== silent) return first;
+      if (await this.#servesElsewhere()) this.#lose("another server serves", true);
+    }
+    return this.#within(until, answer);
   }
 
   /// Waits for an answer until a time. The batch stays on its way: a later one of this connection is played after it.

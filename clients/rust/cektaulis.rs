@@ -41,6 +41,8 @@ const MOST_PATH: usize = 107;
 // How long lies between two tries: at first, and at most.
 const PAUSE: Duration = Duration::from_millis(10);
 const LONGEST_PAUSE: Duration = Duration::from_secs(1);
+// How long a silent server is waited for before another address is tried, if no timeout says it.
+const TURN: Duration = Duration::from_secs(5);
 // How long a call waits at once before it looks at its bound again.
 const STEP: Duration = Duration::from_millis(1);
 
@@ -472,11 +474,15 @@ fn line_of(line: &[u8], count: usize) -> Option<Result<Tick, Fault>> {
 
 /// A connection to a server. It bears so much silence as `open` says. One that broke stays broken until `reconnect`.
 pub struct World {
-    address: Address,
+    // The first one is that of the connection, or of the next one.
+    addresses: VecDeque<Address>,
     timeout: Option<Duration>,
     stream: Option<Stream>,
-    // A connection on which the server wasn't heard yet.
+    // A connection on which the server wasn't heard yet. Of several addresses the next one is tried after this time.
     coming: Option<Stream>,
+    coming_until: Instant,
+    // Whether the running call looks for another address that serves.
+    insists: bool,
     connections: usize,
     rest: Vec<u8>,
     // Answers that have come and weren't received, of which so many are of earlier connections.
@@ -493,15 +499,34 @@ impl World {
     /// Connects to a port of this machine, or to the path of a socket. Digits alone are a port. Each call bears so much
     /// silence; None waits for ever.
     pub fn open(address: &str, timeout: Option<Duration>) -> Result<World, Error> {
-        let address = Address::of(address)?;
-        let stream = address
-            .connect(timeout.unwrap_or(Duration::from_secs(60)))
-            .map_err(Error::NotConnected)?;
-        Ok(World {
-            address,
+        World::open_any(&[address], timeout)
+    }
+
+    /// Connects to the first of several addresses at which somebody is. They are for one world that at most one of them serves
+    /// at a time. `reconnect` tries them in turn: a server that is silent for `timeout`, or for 5 seconds, is left for the next
+    /// address. Calls that send a batch again leave one only if another address answers.
+    pub fn open_any(addresses: &[&str], timeout: Option<Duration>) -> Result<World, Error> {
+        let addresses: Result<VecDeque<Address>, Error> =
+            addresses.iter().map(|it| Address::of(it)).collect();
+        let (mut addresses, mut why) = (addresses?, Error::BadAddress);
+        for _ in 0..addresses.len() {
+            match addresses[0].connect(timeout.unwrap_or(Duration::from_secs(60))) {
+                Ok(stream) => return Ok(World::over(stream, addresses, timeout)),
+                Err(error) => why = Error::NotConnected(error),
+            }
+            addresses.rotate_left(1);
+        }
+        Err(why)
+    }
+
+    fn over(stream: Stream, addresses: VecDeque<Address>, timeout: Option<Duration>) -> World {
+        World {
+            addresses,
             timeout,
             stream: Some(stream),
             coming: None,
+            coming_until: Instant::now(),
+            insists: false,
             connections: 1,
             rest: Vec::new(),
             answers: VecDeque::new(),
@@ -509,7 +534,12 @@ impl World {
             sent: VecDeque::new(),
             doubtful: Vec::new(),
             marks: HashMap::new(),
-        })
+        }
+    }
+
+    /// How long a silent server is waited for before another address is tried.
+    fn turn(&self) -> Duration {
+        self.timeout.unwrap_or(TURN)
     }
 
     /// How often it connected.
@@ -679,7 +709,8 @@ impl World {
     }
 
     /// What a call returns. It is called again if the connection breaks, and after a refusal that passes. It gets the time that
-    /// is left: a server that is silent has the batch, so nothing is sent again before the connection ends.
+    /// is left: a server that is silent has the batch, so nothing is sent again before the connection ends, or another address
+    /// serves.
     fn insist<T>(
         &mut self,
         patience: Duration,
@@ -698,7 +729,10 @@ impl World {
             let left = deadline
                 .saturating_duration_since(Instant::now())
                 .max(PAUSE);
-            let error = match back.and_then(|()| call(self, left)) {
+            self.insists = self.addresses.len() > 1;
+            let called = back.and_then(|()| call(self, left));
+            self.insists = false;
+            let error = match called {
                 Err(error) => error,
                 done => return done,
             };
@@ -889,14 +923,50 @@ impl World {
     fn wait_for_some(&mut self, limit: Option<Duration>) -> Result<(), Error> {
         let start = Instant::now();
         loop {
-            let left = limit.map(|limit| limit.saturating_sub(start.elapsed()).max(STEP));
+            let mut left = limit.map(|limit| limit.saturating_sub(start.elapsed()).max(STEP));
+            if self.insists {
+                left = left.map(|left| left.min(self.turn()));
+            }
             if self.take_some(Some(left))? {
                 return Ok(());
+            }
+            if self.insists && self.serves_elsewhere() {
+                return Err(self.broken(silent()));
             }
             if limit.map_or(false, |limit| start.elapsed() >= limit) {
                 return Err(self.broken(silent()));
             }
         }
+    }
+
+    /// Whether another address answers an empty batch. It is the next one then: the server of this connection is off.
+    fn serves_elsewhere(&mut self) -> bool {
+        for _ in 1..self.addresses.len() {
+            self.addresses.rotate_left(1);
+            if self.is_served() {
+                return true;
+            }
+        }
+        self.addresses.rotate_left(1);
+        false
+    }
+
+    /// Whether the first address answers an empty batch.
+    fn is_served(&self) -> bool {
+        let (start, mut rest) = (Instant::now(), Vec::new());
+        let mut other = match self.addresses[0].connect(STEP) {
+            Ok(other) => other,
+            Err(_) => return false,
+        };
+        if !matches!(other.write(b"end\n"), Ok(4)) {
+            return false;
+        }
+        while rest.is_empty() && start.elapsed() < self.turn() {
+            if other.take(&mut rest, Some(Some(STEP))).is_err() {
+                return false;
+            }
+        }
+        rest.first() == Some(&b't')
     }
 
     /// Takes what the server has sent. False: nothing.
@@ -962,9 +1032,16 @@ impl World {
 
     /// One step of `reconnect`, which waits so long for the server. Its inner error says why the server wasn't heard yet.
     fn come_back(&mut self, wait: Option<Duration>) -> Result<Result<(), io::Error>, Error> {
-        let step = self.step_back(wait.map(Some));
+        let mut step = self.step_back(wait.map(Some));
+        if matches!(step, Ok(false))
+            && self.addresses.len() > 1
+            && Instant::now() >= self.coming_until
+        {
+            step = Err(silent());
+        }
         if step.is_err() {
             self.close();
+            self.addresses.rotate_left(1);
         }
         match step {
             Ok(false) => Ok(Err(silent())),
@@ -978,6 +1055,7 @@ impl World {
                     }
                     Some(Err(Fault::LogDown)) => {
                         self.close();
+                        self.addresses.rotate_left(1);
                         Ok(Err(io::Error::new(
                             ErrorKind::Other,
                             Fault::LogDown.to_string(),
@@ -1003,7 +1081,8 @@ impl World {
             self.doubtful.extend(self.sent.drain(..));
             self.kept = self.answers.len();
             self.rest.clear();
-            let mut coming = self.address.connect(STEP)?;
+            self.coming_until = Instant::now() + self.turn();
+            let mut coming = self.addresses[0].connect(STEP)?;
             if coming.write(b"end\n")? != 4 {
                 return Err(silent());
             }

@@ -8,7 +8,7 @@ import select
 import socket
 import time
 from collections.abc import Callable, Iterable, Iterator
-from typing import Literal, TypeVar, overload
+from typing import Literal, TypeVar, Union, overload
 
 from ._actions import (
     BATCH_LINES, CELLS, Action, Get, Set, Tick, batch_of, batches, changes_cell, check, does_no_harm_twice, marker_of, read_answer,
@@ -25,12 +25,15 @@ _MOST_PATH = 107
 _PAUSE_SECONDS, _LONGEST_PAUSE_SECONDS = 0.01, 1.0
 # How long a step of `reconnect` may take to connect, which takes no time on one machine.
 _STEP_SECONDS = 0.001
+# How long a silent server is waited for before another address is tried, if no timeout says it.
+_TURN_SECONDS = 5.0
 
+_Address = Union[int, str, "os.PathLike[str]"]
 _Batch = tuple[Action, ...]
 _Result = TypeVar("_Result")
 
 
-def _port_or_path(address: int | str | os.PathLike[str]) -> int | str:
+def _port_or_path(address: _Address) -> int | str:
     """An address as a port or as a path. A text of digits is a port."""
     if isinstance(address, str) and address.isascii() and address.isdigit():
         address = int(address)
@@ -53,13 +56,23 @@ class World:
 
     `timeout` is how many seconds of silence a call bears; None waits for ever. A connection that broke stays broken until
     `reconnect`: until then nothing is sent. One thread uses it at a time.
+
+    A list of addresses is for one world that at most one of them serves at a time. They are tried in turn. A server that is
+    silent for `timeout` seconds, or for 5, is left for the next address. `play_once` and `play_again` leave one only if
+    another address answers.
     """
 
-    def __init__(self, address: int | str | os.PathLike[str], timeout: float | None = None) -> None:
+    def __init__(self, address: _Address | Iterable[_Address], timeout: float | None = None) -> None:
         if timeout is not None and not timeout > 0:
             raise ValueError(f"timeout is {timeout!r}: it is above 0, or None")
-        self.address = _port_or_path(address)
+        several = [address] if isinstance(address, (int, str, bytes, os.PathLike)) else list(address)
+        if not several:
+            raise ValueError("there is no address")
+        # The first one is that of the connection, or of the next one.
+        self._addresses = collections.deque(map(_port_or_path, several))
         self.timeout = timeout
+        self._turn_seconds = timeout or _TURN_SECONDS
+        self._insists = False
         #: How often it connected.
         self.connections = 1
         # Answers that have come and weren't received, of which so many are of earlier connections.
@@ -72,14 +85,20 @@ class World:
         self._marks: dict[int, int] = {}
         # The connection, and one on which the server wasn't heard yet.
         self._coming: socket.socket | None = None
+        self._coming_until = 0.0
         self._rest = bytearray()
-        self._stream: socket.socket | None = self._dial(timeout)
+        self._stream: socket.socket | None = self._dial_any()
 
     def __enter__(self) -> World:
         return self
 
     def __exit__(self, *_why: object) -> None:
         self.close()
+
+    @property
+    def address(self) -> int | str:
+        """The address of the connection, or the one that is tried next."""
+        return self._addresses[0]
 
     @property
     def waiting(self) -> int:
@@ -209,7 +228,7 @@ class World:
     def reconnect(self, patience: float = 30.0, wait: bool = True) -> list[_Batch] | None:
         """Connects again, waits until the server answers an empty batch, and returns the batches that weren't answered. It
         tries for `patience` seconds, and raises `NotConnected` then. With `wait=False` it makes one step of this, doesn't
-        wait, and returns None until the server has answered.
+        wait, and returns None until the server has answered. Several addresses are tried in turn.
 
         Each of these batches was played as a whole or not at all. `was_played` finds out which. If the connection breaks
         again before another batch is answered, the next call returns them again. Answers that had come stay for `receive`.
@@ -222,7 +241,7 @@ class World:
             if not wait:
                 return None
             if self._coming is not None and left > 0:
-                self._is_readable(self._coming, left)
+                self._is_readable(self._coming, min(left, self._turn_seconds) if len(self._addresses) > 1 else left)
                 continue
             if pause >= left:
                 self.close()
@@ -242,6 +261,15 @@ class World:
         held = self._held(cell, self.timeout)
         self._settle(lambda batch: marker in batch)
         return held >= number
+
+    def _dial_any(self) -> socket.socket:
+        """Connects to the first address of which somebody is there. OSError if there is none."""
+        for _ in range(len(self._addresses) - 1):
+            try:
+                return self._dial(self._turn_seconds)
+            except OSError:
+                self._addresses.rotate(-1)
+        return self._dial(self.timeout)
 
     def _dial(self, seconds: float | None) -> socket.socket:
         """Connects to the address. OSError if nobody is there."""
@@ -275,11 +303,15 @@ class World:
             if self._coming is None:
                 self._rest.clear()
                 self._coming = self._dial(_STEP_SECONDS)
+                self._coming_until = time.monotonic() + self._turn_seconds
                 self._coming.sendall(b"end\n")
             self._take(self._coming)
             line, end, _ = self._rest.partition(b"\n")
             if not end and len(self._rest) <= _ANSWER_BYTES:
-                return TimeoutError("the server is silent")
+                silent = TimeoutError("the server is silent")
+                if len(self._addresses) > 1 and time.monotonic() >= self._coming_until:
+                    raise silent
+                return silent
             answer = read_answer(line.decode("ascii", "replace"), 0)
             if answer is None:
                 raise self._garbled()
@@ -289,6 +321,7 @@ class World:
             raise
         except OSError as error:
             self.close()
+            self._addresses.rotate(-1)
             return error
         self._stream, self._coming = self._coming, None
         self._rest.clear()
@@ -297,17 +330,21 @@ class World:
 
     def _insist(self, call: Callable[[float], _Result], patience: float) -> _Result:
         """What a call returns. It is called again if the connection breaks, and after a refusal that passes. It gets the
-        seconds that are left: a server that is silent has the batch, so nothing is sent again before the connection ends."""
+        seconds that are left: a server that is silent has the batch, so nothing is sent again before the connection ends, or
+        another address serves."""
         deadline, pause = time.monotonic() + patience, _PAUSE_SECONDS
         while True:
             try:
                 if self._stream is None:
                     self.reconnect(deadline - time.monotonic())
+                self._insists = len(self._addresses) > 1
                 return call(max(deadline - time.monotonic(), _PAUSE_SECONDS))
             except (BatchRefused, NotConnected, Unanswered) as error:
                 passes = not isinstance(error, BatchRefused) or error.fault in (Fault.SEGMENT_FULL, Fault.NO_MEMORY)
                 if not passes or time.monotonic() + pause >= deadline:
                     raise self._given_up(error)
+            finally:
+                self._insists = False
             time.sleep(pause)
             pause = min(2 * pause, _LONGEST_PAUSE_SECONDS)
 
@@ -422,7 +459,7 @@ class World:
         if self._stream is None:
             raise self._broken("the connection is closed")
         try:
-            if not self._is_readable(self._stream, seconds):
+            if not self._is_heard(self._stream, seconds):
                 if seconds == 0:
                     return False
                 raise TimeoutError("the server is silent")
@@ -431,6 +468,31 @@ class World:
             raise self._broken(str(error)) from error
         self._sort()
         return True
+
+    def _is_heard(self, stream: socket.socket, seconds: float | None) -> bool:
+        """Waits so long until a connection can be read or has ended. A call that insists ends the wait if another address
+        serves: this server is off then."""
+        if not self._insists or seconds is None:
+            return self._is_readable(stream, seconds)
+        deadline = time.monotonic() + seconds
+        while (left := deadline - time.monotonic()) > 0:
+            if self._is_readable(stream, min(left, self._turn_seconds)):
+                return True
+            if self._serves_elsewhere():
+                break
+        return False
+
+    def _serves_elsewhere(self) -> bool:
+        """Whether another address answers an empty batch. It is the next one then."""
+        for _ in range(len(self._addresses) - 1):
+            self._addresses.rotate(-1)
+            with contextlib.suppress(OSError), self._dial(_STEP_SECONDS) as stream:
+                stream.settimeout(self._turn_seconds)
+                stream.sendall(b"end\n")
+                if stream.recv(1) == b"t":
+                    return True
+        self._addresses.rotate(-1)
+        return False
 
     def _is_readable(self, stream: socket.socket, seconds: float | None) -> bool:
         """Waits so long until a connection can be read or has ended."""
