@@ -707,11 +707,13 @@ def try_largest(trial: Trial) -> None:
     batch = "".join(f"add {cell} 1\n" for cell in range(last - 254, last + 1)) + f"get {last}\nend\n"
     with new_folder() as folder:
         trial.ends("the largest world", create(trial, folder, last + 1), f"created {last + 1}\n", "", 0)
-        line = f"serve --dir {folder} --method zigzag --every 65536 --port 0 --clients 1".split()
+        port = str(free_port())
+        line = f"serve --dir {folder} --method zigzag --every 65536 --port {port} --clients 1".split()
         for first in (0, LARGEST_TICKS):
             with subprocess.Popen([trial.program, *line], stdout=subprocess.PIPE, stderr=subprocess.DEVNULL, text=True) as server:
-                trial.check("the largest world", server.stdout.readline(), f"recovered {first} from 0\n")
-                answers = answer_to(server.stdout.readline().split()[-1], batch.encode() * LARGEST_TICKS)
+                begun = server.stdout.readline(), server.stdout.readline()
+                trial.check("the largest world", begun, (f"recovered {first} from 0\n", f"listening {port}\n"))
+                answers = answer_to(port, batch.encode() * LARGEST_TICKS) if begun[1] else ""
                 want = [f"tick {n}:{' +' * 255} ={n}" for n in range(first + 1, first + LARGEST_TICKS + 1)]
                 trial.check("answers of the largest world", answers.splitlines() == want, True)
                 output, _ = server.communicate(timeout=SECONDS)
