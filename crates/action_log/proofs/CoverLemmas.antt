@@ -56,8 +56,8 @@ place_found tick (x ∷ queue) (suc i) first get is none =
 some_by : (tick number : ℕ) (here : Bool) (place : Option ℕ) (n : ℕ) → nat_eq number tick ≡ here → (if here then Some 0 else option_map suc place) ≡ Some n
     → ((n ≡ 0) × (number ≡ tick)) ⊎ ((m : ℕ) × (n ≡ suc m) × (place ≡ Some m))
 some_by tick number true place n same is = elim (eqb_tells number tick) [
-  | inl tells ↦ inl ((let e : n ≡ 0 = cc in e), tells.1)
-  | inr tells ↦ absurd (let e : true ≡ false = sym same ∙ tells.0 in cc)
+  | inl reports ↦ inl ((let e : n ≡ 0 = cc in e), reports.1)
+  | inr reports ↦ absurd (let e : true ≡ false = sym same ∙ reports.0 in cc)
 ]
 some_by tick number false place n same is = inr (map_some place n is)
 

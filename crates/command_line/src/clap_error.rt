@@ -10,8 +10,8 @@ use std::io;
 /// lacking.
 pub fn refused<R: Print + Eprint>(rt: &R, error: &Error) -> NotRun
     ensures memory { kind_of error.now ≡ ErrorKind.OutOfMemory → result ≡ NotRun.NoMemory }
-    ensures told { (kind_of error.now ≡ ErrorKind.DisplayHelp) ⊎ (kind_of error.now ≡ ErrorKind.DisplayVersion)
-        → (result ≡ NotRun.Told) ⊎ ((why : SystemError) × (result ≡ NotRun.Unprinted why)) }
+    ensures reported { (kind_of error.now ≡ ErrorKind.DisplayHelp) ⊎ (kind_of error.now ≡ ErrorKind.DisplayVersion)
+        → (result ≡ NotRun.HelpPrinted) ⊎ ((why : SystemError) × (result ≡ NotRun.Unprinted why)) }
     ensures mistaken { kind_of error.now ≢ ErrorKind.OutOfMemory → kind_of error.now ≢ ErrorKind.DisplayHelp
         → kind_of error.now ≢ ErrorKind.DisplayVersion → result ≡ NotRun.Mistaken }
 {
@@ -22,17 +22,17 @@ pub fn refused<R: Print + Eprint>(rt: &R, error: &Error) -> NotRun
     if error.use_stderr() {
         NotRun::Mistaken
     } else {
-        told(printed)
+        reported(printed)
     }
 }
 
 // Help or the version that was printed so.
-fn told(printed: io::Result<()>) -> NotRun
-    ensures ok { IsOk printed → result ≡ NotRun.Told }
+fn reported(printed: io::Result<()>) -> NotRun
+    ensures ok { IsOk printed → result ≡ NotRun.HelpPrinted }
     ensures err { IfErr printed (λ why. result ≡ NotRun.Unprinted why) }
 {
     match printed {
-        Ok(()) => NotRun::Told,
+        Ok(()) => NotRun::HelpPrinted,
         Err(error) => NotRun::Unprinted(error),
     }
 }

@@ -7,7 +7,7 @@ use std::{fmt, io};
 #[derive(Clone, Copy, Debug)]
 pub enum NotRun {
     /// Help or the version was asked for, and printed.
-    Told,
+    HelpPrinted,
     /// Help or the version was asked for, and standard output failed.
     Unprinted(io::Error),
     /// The command line is wrong, and the reason was printed.
@@ -20,18 +20,18 @@ impl NotRun {
     ghost use Rattle.std.specs.Prelude.{◌≡◌};
     ghost use Rattle.std.specs.Process.{exit_status};
     ghost use Rattle.std.specs.declared.io.Error.{Error};
-    ghost use Rattle.command_line.specs.declared.not_run.NotRun.TheVariants.{Told, Unprinted, Mistaken, NoMemory};
+    ghost use Rattle.command_line.specs.declared.not_run.NotRun.TheVariants.{HelpPrinted, Unprinted, Mistaken, NoMemory};
 
     /// Returns the exit status. A failed output and want of memory weren't reported before, so they are printed on
     /// standard error.
     pub fn report<R: Eprint>(self, rt: &R) -> ExitCode
-        ensures told { self ≡ Told → exit_status result ≡ 0 }
+        ensures reported { self ≡ HelpPrinted → exit_status result ≡ 0 }
         ensures unprinted { (error : Error) → self ≡ Unprinted error → exit_status result ≡ 1 }
         ensures mistaken { self ≡ Mistaken → exit_status result ≡ 2 }
         ensures memory { self ≡ NoMemory → exit_status result ≡ 1 }
     {
         match self {
-            NotRun::Told => ExitCode::SUCCESS,
+            NotRun::HelpPrinted => ExitCode::SUCCESS,
             NotRun::Unprinted(error) => exit_code_of(rt, Err(Output(error))),
             NotRun::Mistaken => ExitCode::from(2),
             NotRun::NoMemory => exit_code_of(rt, Err(AllocError)),

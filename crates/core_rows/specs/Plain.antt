@@ -8,8 +8,8 @@ use Rattle.world_core.specs.declared.moves.Answer.{Answer}
 use Rattle.world_core.specs.declared.moves.Answer.TheVariants as answer
 use Rattle.core_rows.specs.declared.asked.Asked.{Asked}
 use Rattle.core_rows.specs.declared.asked.Asked.TheVariants as asked
-use Rattle.core_rows.specs.declared.told.Told.{Told}
-use Rattle.core_rows.specs.declared.told.Told.TheVariants as told
+use Rattle.core_rows.specs.declared.plain_answer.PlainAnswer.{PlainAnswer}
+use Rattle.core_rows.specs.declared.plain_answer.PlainAnswer.TheVariants as reported
 
 -- the move that is asked, if it is no crash
 abbrev pub move_of : Asked → Option Move
@@ -24,19 +24,19 @@ move_of asked.Crash = None
 move_of asked.ImpossibleCrash = None
 
 -- an answer as a plain value
-abbrev pub told_of : Answer → Told
-told_of answer.Did = told.Did
-told_of (answer.Word word) = told.Word word
-told_of (answer.Ended tick) = told.Ended tick
-told_of (answer.Started tick) = told.Started tick
-told_of (answer.Image image_answer.Idle) = told.ImageIdle
-told_of (answer.Image image_answer.Working) = told.ImageWorking
-told_of (answer.Image (image_answer.Opened tick)) = told.ImageOpened tick
-told_of (answer.Image image_answer.Down) = told.ImageDown
-told_of (answer.Log log_answer.Idle) = told.LogIdle
-told_of (answer.Log log_answer.Working) = told.LogWorking
-told_of (answer.Log (log_answer.Acked tick)) = told.LogAcked tick
-told_of (answer.Log log_answer.Down) = told.LogDown
-told_of (answer.Recovered tick from) = told.Recovered tick from
-told_of answer.Blank = told.Blank
-told_of (answer.Refused refusal) = told.Refused refusal
+abbrev pub reported_of : Answer → PlainAnswer
+reported_of answer.Did = reported.Did
+reported_of (answer.Word word) = reported.Word word
+reported_of (answer.Ended tick) = reported.Ended tick
+reported_of (answer.Started tick) = reported.Started tick
+reported_of (answer.Image image_answer.Idle) = reported.ImageIdle
+reported_of (answer.Image image_answer.Working) = reported.ImageWorking
+reported_of (answer.Image (image_answer.Opened tick)) = reported.ImageOpened tick
+reported_of (answer.Image image_answer.Down) = reported.ImageDown
+reported_of (answer.Log log_answer.Idle) = reported.LogIdle
+reported_of (answer.Log log_answer.Working) = reported.LogWorking
+reported_of (answer.Log (log_answer.Acked tick)) = reported.LogAcked tick
+reported_of (answer.Log log_answer.Down) = reported.LogDown
+reported_of (answer.Recovered tick from) = reported.Recovered tick from
+reported_of answer.Blank = reported.Blank
+reported_of (answer.Refused refusal) = reported.Refused refusal

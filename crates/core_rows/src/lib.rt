@@ -2,7 +2,7 @@
 #![tactic(auto)]
 
 mod asked;
-mod told;
+mod plain_answer;
 
 pub use asked::Asked;
-pub use told::Told;
+pub use plain_answer::PlainAnswer;

@@ -80,7 +80,7 @@ impl FileDisk {
         metadata: io::Result<Metadata>,
     ) -> io::Result<FileDisk>
         ensures opened { IfOk result (λ disk. IsOk synced × IsOk dropped × IsOkAnd metadata
-            (λ told. disk ≡ record { known_length = metadata_len told; faults = 0 })) }
+            (λ reported. disk ≡ record { known_length = metadata_len reported; faults = 0 })) }
         ensures succeeds { IsOk synced → IsOk dropped → IsOk metadata → IsOk result }
         ensures unsynced { IfErr synced (λ error. IsErrAnd result (λ why. why ≡ error)) }
         ensures undropped { IsOk synced → IfErr dropped (λ error. IsErrAnd result (λ why. why ≡ error)) }

@@ -13,7 +13,7 @@ use Rattle.image_files.specs.Image.{Image, image_of, words_from}
 use Rattle.image_files.specs.Images.{Round, Images, FirstImages, ImageFiles, NoneYet, Newest, ImageFilesAre, IsTarget}
 use Rattle.image_files.specs.Progress.{Progress, PhaseFits, IsInOrder, made_keeper, target_of, newest_words, round_so_far, round_in_phase, round_of}
 use Rattle.image_files.specs.Keeper.{Fits, TargetFits, TargetEndures}
-use Rattle.image_files.specs.Files.{FitsFiles, before_in, Stands, StandsFor, HoldsNewest, IsTold, TellsShut}
+use Rattle.image_files.specs.Files.{FitsFiles, before_in, Stands, StandsFor, HoldsNewest, IsReported, ReportsShut}
 use Rattle.image_files.proofs.SpellingLemmas.{open_file}
 use Rattle.image_files.proofs.GateLemmas.{shut_reads_closed}
 use Rattle.image_files.proofs.BodyLemmas.{length_done}
@@ -95,28 +95,28 @@ module _ (cells : ℕ) (some : 1 ≤ cells) (most : cells ≤ CELLS_MAX) where
   fresh_order newest target_shut newest_shut = record { some = some; most = most; ticks = omega arith; within = omega arith; by_phase = tt }
 
   -- by the parts of the files
-  module _ (target_shut newest_shut : Bool) (target newest : List ℕ) (target_tells : target_shut ≡ true → HasShutGate target) (newest_tells : newest_shut ≡ true → HasShutGate newest) where
+  module _ (target_shut newest_shut : Bool) (target newest : List ℕ) (target_reports : target_shut ≡ true → HasShutGate target) (newest_reports : newest_shut ≡ true → HasShutGate newest) where
     fits_without : Fits (fresh None target_shut newest_shut) target newest
-    fits_without = record { in_order = fresh_order None target_shut newest_shut; image = tt; newest_shut = newest_tells; of_target = target_tells; chunk = refl }
+    fits_without = record { in_order = fresh_order None target_shut newest_shut; image = tt; newest_shut = newest_reports; of_target = target_reports; chunk = refl }
 
     fits_with : (slot : Slot) (tick : ℕ) (words : List ℕ) → length words ≡ cells → image_of newest ≡ Image.Open tick words → Fits (fresh (Some (slot, tick)) target_shut newest_shut) target newest
     fits_with slot tick words count is =
         let same : words ≡ words_from newest 17 cells = sym (open_file newest tick words is).words_are ∙ ap (words_from newest 17) count in
-        record { in_order = fresh_order (Some (slot, tick)) target_shut newest_shut; image = is ∙ ap (Image.Open tick) same; newest_shut = newest_tells; of_target = target_tells; chunk = refl }
+        record { in_order = fresh_order (Some (slot, tick)) target_shut newest_shut; image = is ∙ ap (Image.Open tick) same; newest_shut = newest_reports; of_target = target_reports; chunk = refl }
 
   pub made_fits : (newest : Option (Slot × ℕ)) (shut_a shut_b : Bool) (image_a image_b : List ℕ) → HoldsNewest cells newest image_a image_b → (shut_a ≡ true → HasShutGate image_a) → (shut_b ≡ true → HasShutGate image_b)
       → FitsFiles (made_keeper cells newest shut_a shut_b) image_a image_b
-  made_fits None shut_a shut_b image_a image_b holds a_tells b_tells = fits_without shut_a shut_b image_a image_b a_tells b_tells
-  made_fits (Some (A, tick)) shut_a shut_b image_a image_b holds a_tells b_tells = fits_with shut_b shut_a image_b image_a b_tells a_tells A tick holds.0 holds.1 holds.2
-  made_fits (Some (B, tick)) shut_a shut_b image_a image_b holds a_tells b_tells = fits_with shut_a shut_b image_a image_b a_tells b_tells B tick holds.0 holds.1 holds.2
+  made_fits None shut_a shut_b image_a image_b holds a_reports b_reports = fits_without shut_a shut_b image_a image_b a_reports b_reports
+  made_fits (Some (A, tick)) shut_a shut_b image_a image_b holds a_reports b_reports = fits_with shut_b shut_a image_b image_a b_reports a_reports A tick holds.0 holds.1 holds.2
+  made_fits (Some (B, tick)) shut_a shut_b image_a image_b holds a_reports b_reports = fits_with shut_a shut_b image_a image_b a_reports b_reports B tick holds.0 holds.1 holds.2
 
   module _ (target_shut newest_shut : Bool) (target newest : List ℕ) (target_outcomes newest_outcomes : List ℕ → Type 0)
-      (only_target : Only target target_outcomes) (only_newest : Only newest newest_outcomes) (target_tells : TellsShut target_shut target) (newest_tells : TellsShut newest_shut newest) where
+      (only_target : Only target target_outcomes) (only_newest : Only newest newest_outcomes) (target_reports : ReportsShut target_shut target) (newest_reports : ReportsShut newest_shut newest) where
     made_without : (images : FirstImages) → images.round ≡ None → image_of target ≡ Image.Closed → image_of newest ≡ Image.Closed
         → StandsFor (fresh None target_shut newest_shut) (NoneYet images) target newest target_outcomes newest_outcomes
     made_without images no_round target_closed newest_closed = record {
-      fits = fits_without target_shut newest_shut target newest target_tells.yes newest_tells.yes;
-      endures = record { newest_stays = only_newest; newest_not_shut = newest_tells.no; of_target = (only_target, target_closed, target_tells.no) };
+      fits = fits_without target_shut newest_shut target newest target_reports.yes newest_reports.yes;
+      endures = record { newest_stays = only_newest; newest_not_shut = newest_reports.no; of_target = (only_target, target_closed, target_reports.no) };
       held = (refl, newest_closed, no_round);
     }
 
@@ -125,27 +125,27 @@ module _ (cells : ℕ) (some : 1 ≤ cells) (most : cells ≤ CELLS_MAX) where
     made_with images no_round count is was =
         let words : images.words ≡ words_from newest 17 cells = sym (open_file newest images.tick images.words is).words_are ∙ ap (words_from newest 17) count in
         record {
-          fits = fits_with target_shut newest_shut target newest target_tells.yes newest_tells.yes images.slot images.tick images.words count is;
-          endures = record { newest_stays = only_newest; newest_not_shut = newest_tells.no; of_target = (only_target, was, target_tells.no) };
+          fits = fits_with target_shut newest_shut target newest target_reports.yes newest_reports.yes images.slot images.tick images.words count is;
+          endures = record { newest_stays = only_newest; newest_not_shut = newest_reports.no; of_target = (only_target, was, target_reports.no) };
           held = (refl, words, no_round);
         }
 
   -- by their names
   module _ (shut_a shut_b : Bool) (image_a image_b : List ℕ) (outcomes_a outcomes_b : List ℕ → Type 0)
-      (only_a : Only image_a outcomes_a) (only_b : Only image_b outcomes_b) (a_tells : TellsShut shut_a image_a) (b_tells : TellsShut shut_b image_b) where
+      (only_a : Only image_a outcomes_a) (only_b : Only image_b outcomes_b) (a_reports : ReportsShut shut_a image_a) (b_reports : ReportsShut shut_b image_b) where
     abbrev MadeStands : ImageFiles → Option (Slot × ℕ) → Type 0
     MadeStands images newest = Stands (made_keeper cells newest shut_a shut_b) images image_a image_b outcomes_a outcomes_b
 
     made_at : (slot : Slot) (tick : ℕ) (words : List ℕ) (before : Image) (round : Option Round) → round ≡ None → length words ≡ cells → image_of (of_slot slot image_a image_b) ≡ Image.Open tick words → image_of (of_slot slot image_b image_a) ≡ before
         → MadeStands (Newest (record { slot = slot; tick = tick; words = words; before = before; round = round })) (Some (slot, tick))
-    made_at A tick words before round = made_with shut_b shut_a image_b image_a outcomes_b outcomes_a only_b only_a b_tells a_tells (record { slot = A; tick = tick; words = words; before = before; round = round })
-    made_at B tick words before round = made_with shut_a shut_b image_a image_b outcomes_a outcomes_b only_a only_b a_tells b_tells (record { slot = B; tick = tick; words = words; before = before; round = round })
+    made_at A tick words before round = made_with shut_b shut_a image_b image_a outcomes_b outcomes_a only_b only_a b_reports a_reports (record { slot = A; tick = tick; words = words; before = before; round = round })
+    made_at B tick words before round = made_with shut_a shut_b image_a image_b outcomes_a outcomes_b only_a only_b a_reports b_reports (record { slot = B; tick = tick; words = words; before = before; round = round })
 
-    pub made_stands : (newest : Option (Slot × ℕ)) (images : ImageFiles) → IsTold cells newest images image_a image_b → MadeStands images newest
-    made_stands newest (NoneYet images) told =
-        subst (MadeStands (NoneYet images)) (sym told.0) (made_without shut_a shut_b image_a image_b outcomes_a outcomes_b only_a only_b a_tells b_tells images told.1 told.2 told.3)
-    made_stands newest (Newest images) told =
-        subst (MadeStands (Newest images)) (sym told.0) (made_at images.slot images.tick images.words images.before images.round told.1 told.2 told.3 told.4)
+    pub made_stands : (newest : Option (Slot × ℕ)) (images : ImageFiles) → IsReported cells newest images image_a image_b → MadeStands images newest
+    made_stands newest (NoneYet images) reported =
+        subst (MadeStands (NoneYet images)) (sym reported.0) (made_without shut_a shut_b image_a image_b outcomes_a outcomes_b only_a only_b a_reports b_reports images reported.1 reported.2 reported.3)
+    made_stands newest (Newest images) reported =
+        subst (MadeStands (Newest images)) (sym reported.0) (made_at images.slot images.tick images.words images.before images.round reported.1 reported.2 reported.3 reported.4)
 
 -- ---- between two rounds
 

@@ -48,15 +48,15 @@ DisksStand content may_leave keeper images image_a image_b = Stands keeper image
 -- ---- a keeper just made
 
 -- the flag says correctly if the file is shut
-pub record TellsShut (shut : Bool) (file : List ℕ) : Type 0 where
+pub record ReportsShut (shut : Bool) (file : List ℕ) : Type 0 where
   pub yes : shut ≡ true → HasShutGate file
   pub no : shut ≡ false → HasNoShutGate file
 
 -- no round is in work, and the files hold the images for which a new keeper is made
-abbrev pub IsTold : (cells : ℕ) → Option (Slot × ℕ) → ImageFiles → (image_a image_b : List ℕ) → Type 0
-IsTold cells newest (NoneYet images) image_a image_b =
+abbrev pub IsReported : (cells : ℕ) → Option (Slot × ℕ) → ImageFiles → (image_a image_b : List ℕ) → Type 0
+IsReported cells newest (NoneYet images) image_a image_b =
     (newest ≡ None) × (images.round ≡ None) × (image_of image_a ≡ Closed) × (image_of image_b ≡ Closed)
-IsTold cells newest (Newest images) image_a image_b =
+IsReported cells newest (Newest images) image_a image_b =
     (newest ≡ Some (images.slot, images.tick)) × (images.round ≡ None) × (length images.words ≡ cells)
     × (image_of (of_slot images.slot image_a image_b) ≡ Open images.tick images.words) × (image_of (of_slot images.slot image_b image_a) ≡ images.before)
 

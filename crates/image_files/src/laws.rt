@@ -7,7 +7,7 @@ ghost use Rattle.image_files.specs.declared.format.TheConstants.{CELLS_MAX};
 ghost use Rattle.image_files.specs.declared.phase.Phase.TheVariants.{Idle};
 ghost use Rattle.image_files.specs.Images.{Round, ImageFiles, ImageFilesAre, newest_in, round_in, with_round};
 ghost use Rattle.image_files.specs.Progress.{Progress, made_keeper, begun_keeper, cells_taken};
-ghost use Rattle.image_files.specs.Files.{FitsFiles, DisksStand, HoldsNewest, TellsShut, IsTold};
+ghost use Rattle.image_files.specs.Files.{FitsFiles, DisksStand, HoldsNewest, ReportsShut, IsReported};
 
 use disk_model::Disk;
 
@@ -25,8 +25,8 @@ pub fn images_stay<D: Disk>()
         (images : ImageFiles) (image_a image_b : D) → 1 ≤ cells → cells ≤ CELLS_MAX
         → Only (D.content image_a) (D.may_leave image_a)
         → Only (D.content image_b) (D.may_leave image_b)
-        → TellsShut shut_a (D.content image_a) → TellsShut shut_b (D.content image_b)
-        → IsTold cells newest images (D.content image_a) (D.content image_b)
+        → ReportsShut shut_a (D.content image_a) → ReportsShut shut_b (D.content image_b)
+        → IsReported cells newest images (D.content image_a) (D.content image_b)
         → DisksStand D.content D.may_leave (made_keeper cells newest shut_a shut_b) images image_a image_b }
     ensures begun { (keeper : Progress) (tick : ℕ) (images : ImageFiles) (image_a image_b : D)
         → keeper.phase ≡ Idle → tick ≤ TICK_MAX

@@ -25,7 +25,7 @@ pub fn make_calls<R: Print + AllocGlobal>(rt: &R) -> Result<(), Error> {
 }
 
 /// Prints the most allocations that a call may make.
-pub fn tell_most<R: Print>(rt: &R, call: &str, most: u32) -> Result<(), Error> {
+pub fn report_most<R: Print>(rt: &R, call: &str, most: u32) -> Result<(), Error> {
     println!(rt; "{call}: at most {most}")?;
     Ok(())
 }
@@ -41,7 +41,7 @@ fn do_action<R: Print + AllocGlobal>(
     let done = act(words, tick, action);
     end_stretch(rt.alloc());
     done?;
-    tell_most(rt, "an action with room", 0)
+    report_most(rt, "an action with room", 0)
 }
 
 fn take_rounds<R: Print + AllocGlobal>(rt: &R) -> Result<(), Error> {
@@ -74,11 +74,11 @@ fn take_round<R: Print + AllocGlobal, S: Store + Drop>(
         return Err(Error::from(Refusal::Busy));
     }
     print!(rt; "a mark of ")?;
-    tell_most(rt, name, 0)?;
+    report_most(rt, name, 0)?;
     count_each(rt.alloc());
     store.find_round();
     take_cells(&mut store, CELLS);
     end_stretch(rt.alloc());
     print!(rt; "all takes of a round of ")?;
-    tell_most(rt, name, 0)
+    report_most(rt, name, 0)
 }

@@ -96,7 +96,7 @@ impl<D> Counted<D> {
 
     /// Returns the calls since it was last asked, and begins to count anew.
     pub fn take_calls(&mut self) -> Calls
-        ensures told { result ≡ self.old.calls }
+        ensures reported { result ≡ self.old.calls }
         ensures begins { self.new ≡ record self.old { calls = no_calls } }
     {
         let calls = self.calls;

@@ -26,29 +26,29 @@ struct Counts {
 
 /// Prints for each store what its takes hand out, and how many bytes a cell needs. A cell needs some words of 8 bytes, and
 /// some marks, of which 64 are in a word.
-pub fn tell_counts<R: Print + AllocGlobal>(rt: &R) -> Result<(), Error> {
-    tell_owned(rt)?;
-    tell_shared(rt)
+pub fn report_counts<R: Print + AllocGlobal>(rt: &R) -> Result<(), Error> {
+    report_owned(rt)?;
+    report_shared(rt)
 }
 
-fn tell_owned<R: Print + AllocGlobal>(rt: &R) -> Result<(), Error> {
+fn report_owned<R: Print + AllocGlobal>(rt: &R) -> Result<(), Error> {
     let words = zeros(rt.alloc(), CELLS)?;
     let plain_copy = PlainCopy::build(rt.alloc(), &words)?;
-    tell_store(rt, "plain copy", plain_copy, 2, 0)?;
+    report_store(rt, "plain copy", plain_copy, 2, 0)?;
     let zigzag = Zigzag::new(rt.alloc(), &words)?;
-    tell_store(rt, "zigzag", zigzag, 2, 2)?;
+    report_store(rt, "zigzag", zigzag, 2, 2)?;
     let ping_pong = PingPong::new(rt.alloc(), &words)?;
-    tell_store(rt, "pingpong", ping_pong, 3, 2)
+    report_store(rt, "pingpong", ping_pong, 3, 2)
 }
 
-fn tell_shared<R: Print + AllocGlobal>(rt: &R) -> Result<(), Error> {
+fn report_shared<R: Print + AllocGlobal>(rt: &R) -> Result<(), Error> {
     let (front, back) = zigzag_pair(rt.alloc(), zeros(rt.alloc(), CELLS)?)?;
-    tell_store(rt, "shared zigzag", Seats::new(front, back), 3, 5)?;
+    report_store(rt, "shared zigzag", Seats::new(front, back), 3, 5)?;
     let (front, back) = ping_pong_pair(rt.alloc(), zeros(rt.alloc(), CELLS)?)?;
-    tell_store(rt, "shared pingpong", Seats::new(front, back), 3, 3)
+    report_store(rt, "shared pingpong", Seats::new(front, back), 3, 3)
 }
 
-fn tell_store<R: Print, S: Store + Drop>(
+fn report_store<R: Print, S: Store + Drop>(
     rt: &R,
     name: &str,
     mut store: S,

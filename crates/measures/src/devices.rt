@@ -11,46 +11,46 @@ use zigzag::Zigzag;
 const WRITES: u32 = 1024;
 
 /// Prints the calls on the files of a log and of images.
-pub fn tell_devices<R: Print + AllocGlobal>(rt: &R) -> Result<(), Error> {
+pub fn report_devices<R: Print + AllocGlobal>(rt: &R) -> Result<(), Error> {
     let mut log = Log::new(rt.alloc())?;
-    tell_log(rt, &mut log)?;
-    tell_round::<R, Zigzag>(rt, "zigzag")?;
-    tell_round::<R, PingPong>(rt, "pingpong")
+    report_log(rt, &mut log)?;
+    report_round::<R, Zigzag>(rt, "zigzag")?;
+    report_round::<R, PingPong>(rt, "pingpong")
 }
 
-fn tell_log<R: Print + AllocGlobal>(rt: &R, log: &mut Log) -> Result<(), Error> {
+fn report_log<R: Print + AllocGlobal>(rt: &R, log: &mut Log) -> Result<(), Error> {
     log.write()?;
     println!(rt; "start of a log: {}", log.take_calls())?;
-    tell_group(rt, log, 1)?;
-    tell_group(rt, log, 8)?;
-    tell_group(rt, log, GROUP_TICKS)?;
-    tell_switch(rt, log, "a closed")?;
-    tell_switch(rt, log, "an open")
+    report_group(rt, log, 1)?;
+    report_group(rt, log, 8)?;
+    report_group(rt, log, GROUP_TICKS)?;
+    report_switch(rt, log, "a closed")?;
+    report_switch(rt, log, "an open")
 }
 
 // Writes a group of so many ticks of four actions, and prints its calls.
-fn tell_group<R: Print + AllocGlobal>(rt: &R, log: &mut Log, ticks: usize) -> Result<(), Error> {
+fn report_group<R: Print + AllocGlobal>(rt: &R, log: &mut Log, ticks: usize) -> Result<(), Error> {
     log.push_group(rt.alloc(), ticks)?;
     log.write()?;
     println!(rt; "group of {ticks}: {}", log.take_calls())?;
     Ok(())
 }
 
-fn tell_switch<R: Print>(rt: &R, log: &mut Log, segment: &str) -> Result<(), Error> {
+fn report_switch<R: Print>(rt: &R, log: &mut Log, segment: &str) -> Result<(), Error> {
     log.switch()?;
     log.write()?;
     println!(rt; "switch into {segment} segment: {}", log.take_calls())?;
     Ok(())
 }
 
-fn tell_round<R: Print + AllocGlobal, C: Capture>(rt: &R, method: &str) -> Result<(), Error> {
+fn report_round<R: Print + AllocGlobal, C: Capture>(rt: &R, method: &str) -> Result<(), Error> {
     let mut rounds = Rounds::<C>::new(rt.alloc(), CELLS as u32)?;
-    tell_third_round(rt, method, &mut rounds)
+    report_third_round(rt, method, &mut rounds)
 }
 
 // Counts the third round. Both files have an image by then, and the newest one has the words of the cells that weren't
 // written since.
-fn tell_third_round<R: Print, C: Capture>(
+fn report_third_round<R: Print, C: Capture>(
     rt: &R,
     method: &str,
     rounds: &mut Rounds<C>,

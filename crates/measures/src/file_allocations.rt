@@ -1,4 +1,4 @@
-use crate::allocations::tell_most;
+use crate::allocations::report_most;
 use crate::counted::{File, empty_file};
 use crate::images::image_of;
 use crate::logs::Log;
@@ -48,7 +48,7 @@ fn write_group<R: Print + AllocGlobal>(rt: &R, log: &mut Log) -> Result<(), Erro
     let written = log.write();
     end_stretch(rt.alloc());
     written?;
-    tell_most(rt, "a group of 32 ticks logged", 0)
+    report_most(rt, "a group of 32 ticks logged", 0)
 }
 
 fn write_switch<R: Print + AllocGlobal>(rt: &R, log: &mut Log) -> Result<(), Error> {
@@ -57,7 +57,7 @@ fn write_switch<R: Print + AllocGlobal>(rt: &R, log: &mut Log) -> Result<(), Err
     let written = log.write();
     end_stretch(rt.alloc());
     written?;
-    tell_most(rt, "a switch logged", 0)
+    report_most(rt, "a switch logged", 0)
 }
 
 fn write_image<R: Print + AllocGlobal, C: Capture>(rt: &R, method: &str) -> Result<(), Error> {
@@ -68,7 +68,7 @@ fn write_image<R: Print + AllocGlobal, C: Capture>(rt: &R, method: &str) -> Resu
     end_stretch(rt.alloc());
     written?;
     print!(rt; "an image written by ")?;
-    tell_most(rt, method, 0)
+    report_most(rt, method, 0)
 }
 
 /// Reads a batch, and serves it.
@@ -86,7 +86,7 @@ fn read_batch<R: Print + AllocGlobal>(rt: &R, reader: &mut BatchReader) -> Resul
     if fed != Fed::Whole {
         return Err(Error::from(Refusal::BadLine));
     }
-    tell_most(rt, "a batch of four lines read", 0)
+    report_most(rt, "a batch of four lines read", 0)
 }
 
 fn serve_batch<R: Print + AllocGlobal>(
@@ -99,7 +99,7 @@ fn serve_batch<R: Print + AllocGlobal>(
     let answer = served.batch(batch, &mut text);
     end_stretch(rt.alloc());
     answer?;
-    tell_most(rt, "that batch served", 2)
+    report_most(rt, "that batch served", 2)
 }
 
 // A world of two cells on new files.
@@ -127,7 +127,7 @@ fn opened(alloc: Global, files: FourFiles<File>) -> Result<SerialWorld<Zigzag, F
 pub fn recover_files<R: Print + AllocGlobal>(rt: &R) -> Result<(), Error> {
     let image = image_of(rt.alloc(), Format::Second, MOST_CELLS)?;
     recover_one(rt, &image, &[])?;
-    tell_most(rt, "an image of 1,048,576 cells recovered", 1)?;
+    report_most(rt, "an image of 1,048,576 cells recovered", 1)?;
     recover_segment(rt, &image, &mut Log::new(rt.alloc())?)
 }
 
@@ -138,7 +138,7 @@ fn recover_segment<R: Print + AllocGlobal>(
 ) -> Result<(), Error> {
     log.write_segment(rt.alloc())?;
     recover_one(rt, image, log.first_segment())?;
-    tell_most(rt, "the same with a full segment", 3)
+    report_most(rt, "the same with a full segment", 3)
 }
 
 fn recover_one<R: AllocGlobal>(rt: &R, image: &[u8], log: &[u8]) -> Result<(), Refusal> {

@@ -1,12 +1,12 @@
 use crate::keeper_speed::KeeperSpeed;
 use crate::recovery_speed::RecoverySpeed;
-use crate::report::{decimal, tell_ratio};
+use crate::report::{decimal, report_ratio};
 use crate::ticks::{ACTIONS, SEGMENT_ACTIONS};
 use crate::times::picoseconds;
 use anyhow::Error;
 
 /// Prints how fast both keepers are, beside `take`, the picoseconds of a take of Zigzag.
-pub fn tell_keepers<R: Print + AllocGlobal>(
+pub fn report_keepers<R: Print + AllocGlobal>(
     rt: &R,
     speed: &mut KeeperSpeed,
     take: u64,
@@ -16,33 +16,33 @@ pub fn tell_keepers<R: Print + AllocGlobal>(
         speed.tick.median(),
         speed.cell.median(),
     );
-    tell_time(rt, "an action replayed", "ns", action)?;
-    tell_time(
+    report_time(rt, "an action replayed", "ns", action)?;
+    report_time(
         rt,
         "a tick of four actions logged in a group of 32",
         "ns",
         tick,
     )?;
-    tell_time(rt, "a cell of a round of zigzag written", "ns", cell)?;
+    report_time(rt, "a cell of a round of zigzag written", "ns", cell)?;
     let actions = action.saturating_mul(ACTIONS as u64);
-    tell_ratio(
+    report_ratio(
         rt,
         "a tick logged to its actions replayed",
         tick,
         actions,
         "8",
     )?;
-    tell_ratio(rt, "a cell written to a take of zigzag", cell, take, "8")
+    report_ratio(rt, "a cell written to a take of zigzag", cell, take, "8")
 }
 
 /// Prints how fast recovery is, beside `action`, the picoseconds of a replayed action.
-pub fn tell_recovery<R: Print + AllocGlobal>(
+pub fn report_recovery<R: Print + AllocGlobal>(
     rt: &R,
     speed: &mut RecoverySpeed,
     action: u64,
 ) -> Result<(), Error> {
-    tell_images(rt, speed)?;
-    tell_segment(rt, speed, action)?;
+    report_images(rt, speed)?;
+    report_segment(rt, speed, action)?;
     println!(rt;
         "sum of the ticks and words that were recovered: {}",
         speed.sum
@@ -50,37 +50,37 @@ pub fn tell_recovery<R: Print + AllocGlobal>(
     Ok(())
 }
 
-fn tell_images<R: Print + AllocGlobal>(rt: &R, speed: &mut RecoverySpeed) -> Result<(), Error> {
+fn report_images<R: Print + AllocGlobal>(rt: &R, speed: &mut RecoverySpeed) -> Result<(), Error> {
     let (read, image) = (speed.read.median(), speed.image.median());
-    tell_time(
+    report_time(
         rt,
         "the file of an image of 65,536 cells read",
         "ms",
         read / 1000,
     )?;
-    tell_time(rt, "that image recovered", "ms", image / 1000)?;
+    report_time(rt, "that image recovered", "ms", image / 1000)?;
     let large_image = speed.large_image.median();
-    tell_time(
+    report_time(
         rt,
         "an image of 1,048,576 cells recovered",
         "ms",
         large_image / 1000,
     )?;
-    tell_ratio(rt, "an image recovered to its file read", image, read, "1")
+    report_ratio(rt, "an image recovered to its file read", image, read, "1")
 }
 
-fn tell_segment<R: Print + AllocGlobal>(
+fn report_segment<R: Print + AllocGlobal>(
     rt: &R,
     speed: &mut RecoverySpeed,
     action: u64,
 ) -> Result<(), Error> {
     let time = speed.segment.median();
     let recovered = picoseconds(time, SEGMENT_ACTIONS);
-    tell_time(rt, "a full segment recovered", "ms", time / 1000)?;
-    tell_time(rt, "an action of it", "ns", recovered)?;
+    report_time(rt, "a full segment recovered", "ms", time / 1000)?;
+    report_time(rt, "an action of it", "ns", recovered)?;
     let rate = speed.segment_bytes.saturating_mul(1000).checked_div(time);
     println!(rt; "its bytes: {} MB a second", rate.unwrap_or(0))?;
-    tell_ratio(
+    report_ratio(
         rt,
         "an action recovered to one replayed",
         recovered,
@@ -89,7 +89,7 @@ fn tell_segment<R: Print + AllocGlobal>(
     )
 }
 
-fn tell_time<R: Print + AllocGlobal>(
+fn report_time<R: Print + AllocGlobal>(
     rt: &R,
     name: &str,
     unit: &str,

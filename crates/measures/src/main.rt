@@ -30,14 +30,14 @@ use allocations::make_calls;
 use anyhow::Error;
 use arguments::matches_of;
 use command_line::{command_words, exit_code_of, refused, unreadable};
-use counts::tell_counts;
-use devices::tell_devices;
-use file_report::{tell_keepers, tell_recovery};
+use counts::report_counts;
+use devices::report_devices;
+use file_report::{report_keepers, report_recovery};
 use keeper_speed::KeeperSpeed;
 use logs::Log;
 use measuring::{measure_ping_pong_pair, measure_stores, measure_zigzag_pair};
 use recovery_speed::RecoverySpeed;
-use report::{tell_figures, tell_pair, tell_ratios};
+use report::{report_figures, report_pair, report_ratios};
 use std::env::Env;
 use std::fs::Files;
 use std::process::ExitCode;
@@ -67,19 +67,19 @@ fn run<R: Print + AllocGlobal + Clock + Env + Files + Threads + Sync>(
 }
 
 fn count_all<R: Print + AllocGlobal>(rt: &R) -> Result<(), Error> {
-    tell_counts(rt)?;
-    tell_devices(rt)
+    report_counts(rt)?;
+    report_devices(rt)
 }
 
 fn measure_all<R: Print + AllocGlobal + Clock + Env + Files + Threads + Sync>(
     rt: &R,
 ) -> Result<(), Error> {
     let mut all = measure_stores(rt, rt.alloc())?;
-    tell_figures(rt, &mut all)?;
-    tell_ratios(rt, &mut all)?;
+    report_figures(rt, &mut all)?;
+    report_ratios(rt, &mut all)?;
     measure_files(rt, all.zigzag.take.median())?;
-    tell_pair(rt, "shared zigzag", &measure_zigzag_pair(rt, rt.alloc())?)?;
-    tell_pair(
+    report_pair(rt, "shared zigzag", &measure_zigzag_pair(rt, rt.alloc())?)?;
+    report_pair(
         rt,
         "shared pingpong",
         &measure_ping_pong_pair(rt, rt.alloc())?,
@@ -104,7 +104,7 @@ fn measure_keepers<R: Print + AllocGlobal + Clock>(
 ) -> Result<u64, Error> {
     let mut speed = KeeperSpeed::new(rt.alloc());
     speed.time_all(rt, rt.alloc(), log)?;
-    tell_keepers(rt, &mut speed, take)?;
+    report_keepers(rt, &mut speed, take)?;
     Ok(speed.action.median())
 }
 
@@ -115,5 +115,5 @@ fn measure_recovery<R: Print + AllocGlobal + Clock + Env + Files>(
 ) -> Result<(), Error> {
     let mut speed = RecoverySpeed::new(rt.alloc(), segment.len() as u64);
     speed.time_all(rt, segment)?;
-    tell_recovery(rt, &mut speed, action)
+    report_recovery(rt, &mut speed, action)
 }

@@ -5,7 +5,7 @@ use anyhow::Error;
 use std::alloc::{AllocError, Global};
 
 /// Prints the time of the clock, and a line of times for each store.
-pub fn tell_figures<R: Print + AllocGlobal>(rt: &R, all: &mut AllFigures) -> Result<(), Error> {
+pub fn report_figures<R: Print + AllocGlobal>(rt: &R, all: &mut AllFigures) -> Result<(), Error> {
     println!(rt;
         "two calls of the clock: {} ns, taken off each mark",
         all.clock.median()
@@ -14,18 +14,18 @@ pub fn tell_figures<R: Print + AllocGlobal>(rt: &R, all: &mut AllFigures) -> Res
         "nanoseconds      {:>12} {:>12} {:>12} {:>9} {:>11} {:>9}",
         "random write", "in order", "random read", "take", "mark median", "mark p99"
     )?;
-    tell_cells(rt, "vector", &mut all.vector)?;
+    report_cells(rt, "vector", &mut all.vector)?;
     println!(rt; " {:>9} {:>11} {:>9}", "-", "-", "-")?;
-    tell_store(rt, "plain copy", &mut all.plain_copy)?;
-    tell_store(rt, "zigzag", &mut all.zigzag)?;
-    tell_store(rt, "pingpong", &mut all.ping_pong)?;
-    tell_store(rt, "shared zigzag", &mut all.shared_zigzag)?;
-    tell_store(rt, "shared pingpong", &mut all.shared_ping_pong)?;
+    report_store(rt, "plain copy", &mut all.plain_copy)?;
+    report_store(rt, "zigzag", &mut all.zigzag)?;
+    report_store(rt, "pingpong", &mut all.ping_pong)?;
+    report_store(rt, "shared zigzag", &mut all.shared_zigzag)?;
+    report_store(rt, "shared pingpong", &mut all.shared_ping_pong)?;
     println!(rt; "sum of the words that were read and taken: {}", all.sum())?;
     Ok(())
 }
 
-fn tell_cells<R: Print + AllocGlobal>(
+fn report_cells<R: Print + AllocGlobal>(
     rt: &R,
     name: &str,
     figures: &mut Figures,
@@ -37,12 +37,12 @@ fn tell_cells<R: Print + AllocGlobal>(
     Ok(())
 }
 
-fn tell_store<R: Print + AllocGlobal>(
+fn report_store<R: Print + AllocGlobal>(
     rt: &R,
     name: &str,
     figures: &mut Figures,
 ) -> Result<(), Error> {
-    tell_cells(rt, name, figures)?;
+    report_cells(rt, name, figures)?;
     let take = decimal(rt.alloc(), figures.take.median())?;
     let (median, last) = (figures.mark.median(), figures.mark.percentile(99));
     println!(rt; " {take:>9} {median:>11} {last:>9}")?;
@@ -50,11 +50,11 @@ fn tell_store<R: Print + AllocGlobal>(
 }
 
 /// Prints each ratio beside its limit.
-pub fn tell_ratios<R: Print>(rt: &R, all: &mut AllFigures) -> Result<(), Error> {
-    tell_mark_ratios(rt, all)?;
-    tell_write_ratios(rt, all)?;
+pub fn report_ratios<R: Print>(rt: &R, all: &mut AllFigures) -> Result<(), Error> {
+    report_mark_ratios(rt, all)?;
+    report_write_ratios(rt, all)?;
     let take = all.plain_copy.take.median();
-    tell_ratio(
+    report_ratio(
         rt,
         "a take of zigzag to plain copy's",
         all.zigzag.take.median(),
@@ -63,12 +63,12 @@ pub fn tell_ratios<R: Print>(rt: &R, all: &mut AllFigures) -> Result<(), Error> 
     )
 }
 
-fn tell_mark_ratios<R: Print>(rt: &R, all: &mut AllFigures) -> Result<(), Error> {
+fn report_mark_ratios<R: Print>(rt: &R, all: &mut AllFigures) -> Result<(), Error> {
     let mark = all.plain_copy.mark.median();
     let zigzag = all.zigzag.mark.median();
-    tell_ratio(rt, "a mark of zigzag to plain copy's", zigzag, mark, "0.03")?;
+    report_ratio(rt, "a mark of zigzag to plain copy's", zigzag, mark, "0.03")?;
     let ping_pong = all.ping_pong.mark.median();
-    tell_ratio(
+    report_ratio(
         rt,
         "a mark of pingpong to plain copy's",
         ping_pong,
@@ -76,7 +76,7 @@ fn tell_mark_ratios<R: Print>(rt: &R, all: &mut AllFigures) -> Result<(), Error>
         "0.001",
     )?;
     let shared_zigzag = all.shared_zigzag.mark.median();
-    tell_ratio(
+    report_ratio(
         rt,
         "a mark of shared zigzag to plain copy's",
         shared_zigzag,
@@ -85,7 +85,7 @@ fn tell_mark_ratios<R: Print>(rt: &R, all: &mut AllFigures) -> Result<(), Error>
     )
 }
 
-fn tell_write_ratios<R: Print>(rt: &R, all: &mut AllFigures) -> Result<(), Error> {
+fn report_write_ratios<R: Print>(rt: &R, all: &mut AllFigures) -> Result<(), Error> {
     let write = all.vector.random_write.median();
     for (name, time) in [
         ("plain copy", all.plain_copy.random_write.median()),
@@ -98,13 +98,13 @@ fn tell_write_ratios<R: Print>(rt: &R, all: &mut AllFigures) -> Result<(), Error
         ),
     ] {
         print!(rt; "a write of {name} ")?;
-        tell_ratio(rt, "to vector's", time, write, "7")?;
+        report_ratio(rt, "to vector's", time, write, "7")?;
     }
     Ok(())
 }
 
 /// Prints a ratio beside its limit.
-pub fn tell_ratio<R: Print>(
+pub fn report_ratio<R: Print>(
     rt: &R,
     name: &str,
     part: u64,
@@ -121,7 +121,7 @@ pub fn tell_ratio<R: Print>(
 }
 
 /// Prints how many writes, marks and takes two threads made in a second.
-pub fn tell_pair<R: Print + AllocGlobal>(
+pub fn report_pair<R: Print + AllocGlobal>(
     rt: &R,
     name: &str,
     speed: &PairSpeed,

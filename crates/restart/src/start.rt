@@ -4,7 +4,7 @@ ghost use Rattle.world_actions.specs.World.{IsWord};
 ghost use Rattle.world_actions.specs.declared.world.TheConstants.{CELLS};
 ghost use Rattle.world_ticks.specs.declared.tick.TheConstants.{TICK_MAX};
 ghost use Rattle.image_files.specs.Progress.{made_keeper};
-ghost use Rattle.image_files.specs.Files.{FitsFiles as ImagesFit, HoldsNewest, TellsShut};
+ghost use Rattle.image_files.specs.Files.{FitsFiles as ImagesFit, HoldsNewest, ReportsShut};
 ghost use Rattle.action_log.specs.Progress.{begun};
 ghost use Rattle.action_log.specs.Files.{FitsFiles as LogFits};
 ghost use Rattle.restart.specs.Start.{has_round, started_keeper, IsBuilt, is_shut as is_shut_file};
@@ -62,7 +62,7 @@ pub fn images_of(
     ensures memory { IfErr result (λ refusal. refusal ≡ Refusal.NoMemory) }
 {
     images_stay::<ModelFile>();
-    gates_are_told();
+    gates_are_reported();
     let shut = [known_shut(image_a), known_shut(image_b)];
     let mut images = ImageKeeper::new(alloc, cells, newest, shut)?;
     if round {
@@ -80,13 +80,13 @@ pub fn log_of(alloc: Global, tick: u64, log_a: &[u8], log_b: &[u8]) -> Result<Lo
     ensures memory { IfErr result (λ refusal. refusal ≡ Refusal.NoMemory) }
 {
     log_outcomes::<ModelFile>();
-    gates_are_told();
+    gates_are_reported();
     LogKeeper::new(alloc, tick, [known_shut(log_a), known_shut(log_b)])
 }
 
 /// Law: the test if a gate is shut is right for any bytes.
-pub fn gates_are_told()
-    ensures { (file : List ℕ) → TellsShut (is_shut_file file) file }
+pub fn gates_are_reported()
+    ensures { (file : List ℕ) → ReportsShut (is_shut_file file) file }
 {}
 
 fn known_shut(file: &[u8]) -> bool

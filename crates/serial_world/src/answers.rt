@@ -11,7 +11,7 @@ use world_ticks::{Cells, Tick};
 /// The answers to a batch in some form.
 pub trait Answers {
     /// These are the answers to a batch in a world of these words, as the tick of this number.
-    ghost tells: { Self → List Request → List ℕ → ℕ → Type 0 };
+    ghost reports: { Self → List Request → List ℕ → ℕ → Type 0 };
 
     /// Runs a batch on a store as the tick of this number, into an empty tick. All memory is taken first.
     fn answer<C: Cells>(
@@ -22,7 +22,7 @@ pub trait Answers {
         number: u64,
     ) -> Result<(), Refusal>
         requires { t.old.list ≡ [] }
-        ensures tells { OnOk result (tells self.new b.now.list (C.words c.old) number) }
+        ensures reports { OnOk result (reports self.new b.now.list (C.words c.old) number) }
         ensures tick { OnOk result (t.new.list ≡ accepted_of b.now.list (C.words c.old)) }
         ensures words { OnOk result (C.words c.new ≡ words_after b.now.list (C.words c.old)) }
         ensures writes { OnOk result (Performs C.accessed c.old
@@ -33,7 +33,7 @@ pub trait Answers {
 
 // The line that answers the batch.
 impl Answers for Vec<u8> {
-    ghost tells = { λ text requests words number. text.items ≡ answer requests words number };
+    ghost reports = { λ text requests words number. text.items ≡ answer requests words number };
 
     fn answer<C: Cells>(
         &mut self,
@@ -48,7 +48,7 @@ impl Answers for Vec<u8> {
 
 // One answer to each request.
 impl Answers for Vec<Answer> {
-    ghost tells = { λ answers requests words number. answers.items ≡ answers_of requests words };
+    ghost reports = { λ answers requests words number. answers.items ≡ answers_of requests words };
 
     fn answer<C: Cells>(
         &mut self,

@@ -36,7 +36,7 @@ impl<C: Capture, D: Disk> SerialState<C, D> {
         ensures rest { IsAtRest C.content D.content D.honest self.new.engine self.new.files }
         ensures acknowledged { OnOk result (
             Acknowledged C.content D.content D.may_leave D.honest self.old b.now.list self.new) }
-        ensures answers { OnOk result (A.tells answers.new
+        ensures answers { OnOk result (A.reports answers.new
             b.now.list (C.content self.old.engine.store).live (self.old.engine.ended + 1)) }
         ensures refused { IfErr result (λ refusal.
             IsRefusedBatch C.content D.content D.may_leave D.honest self.old b.now.list refusal self.new) }

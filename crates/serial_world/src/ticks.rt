@@ -31,7 +31,7 @@ pub fn play<C: Capture, A: Answers>(
     requires since { engine.old.since < SEGMENT_TICKS }
     requires none { engine.old.queue.items ≡ [] }
     requires ring { 1 ≤ engine.old.queue.capacity }
-    ensures answers { OnOk result (A.tells answers.new
+    ensures answers { OnOk result (A.reports answers.new
         b.now.list (C.content engine.old.store).live (engine.old.ended + 1)) }
     ensures plays { OnOk result (Plays C.content engine.old engine.new b.now.list) }
     ensures memory { IfErr result (λ refusal. refusal ≡ Refusal.NoMemory) }

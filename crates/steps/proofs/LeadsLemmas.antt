@@ -50,17 +50,17 @@ cover_leads newest old new (Ok given) is moves = record {
 }
 
 -- a line that is many steps of a keeper
-pub images_lead : (line : Line) (fate : Fate) (old new : State) (told : ImageAnswer) → line ≡ Images fate
-    → ((past : Past) → IsCoreAt past old → (next : Past) × IsCoreAt next new × RepeatsImages fate past old told next new)
-    → Leads line old (answer_text (answer.Image told)) new
-images_lead line fate old new told is repeats =
-    runs_lead line (Images fate) (answer.Image told) old new is (λ past stands. let made = repeats past stands in (made.0, made.1, (told, made.2, refl)))
+pub images_lead : (line : Line) (fate : Fate) (old new : State) (reported : ImageAnswer) → line ≡ Images fate
+    → ((past : Past) → IsCoreAt past old → (next : Past) × IsCoreAt next new × RepeatsImages fate past old reported next new)
+    → Leads line old (answer_text (answer.Image reported)) new
+images_lead line fate old new reported is repeats =
+    runs_lead line (Images fate) (answer.Image reported) old new is (λ past stands. let made = repeats past stands in (made.0, made.1, (reported, made.2, refl)))
 
-pub logs_lead : (line : Line) (fate : Fate) (old new : State) (told : LogAnswer) → line ≡ Logs fate
-    → ((past : Past) → IsCoreAt past old → (next : Past) × IsCoreAt next new × RepeatsLog fate past old told next new)
-    → Leads line old (answer_text (answer.Log told)) new
-logs_lead line fate old new told is repeats =
-    runs_lead line (Logs fate) (answer.Log told) old new is (λ past stands. let made = repeats past stands in (made.0, made.1, (told, made.2, refl)))
+pub logs_lead : (line : Line) (fate : Fate) (old new : State) (reported : LogAnswer) → line ≡ Logs fate
+    → ((past : Past) → IsCoreAt past old → (next : Past) × IsCoreAt next new × RepeatsLog fate past old reported next new)
+    → Leads line old (answer_text (answer.Log reported)) new
+logs_lead line fate old new reported is repeats =
+    runs_lead line (Logs fate) (answer.Log reported) old new is (λ past stands. let made = repeats past stands in (made.0, made.1, (reported, made.2, refl)))
 
 -- a start after an answer that is no refusal
 pub starts_run : (given : Answer) (from to : Played) → ((refusal : Refusal) → given ≢ answer.Refused refusal)

@@ -15,9 +15,9 @@ use Rattle.steps.specs.OpenCore.{Leads}
 use Rattle.steps.proofs.TextLemmas.{words_first, words_more}
 
 -- a core answers the word of a cell that it has
-pub word_told : (past : Past) (state : State) (cell : ℕ) (given : Answer) → IsCoreAt past state → given ≡ get_answer state.content.live cell → cell < state.cells
+pub word_reported : (past : Past) (state : State) (cell : ℕ) (given : Answer) → IsCoreAt past state → given ≡ get_answer state.content.live cell → cell < state.cells
     → given ≡ answer.Word (slice_index state.content.live cell)
-word_told past state cell given stands exact below =
+word_reported past state cell given stands exact below =
     let all = stands.live.all in
     let inside : not (nat_lt cell (length state.content.live)) ≡ false = let few : cell < length state.content.live = omega (arith, all) in grind (arith, nat_tests) in
     exact ∙ ap (λ (outside : Bool). if outside then answer.Refused BadCell else answer.Word (slice_index state.content.live cell)) inside

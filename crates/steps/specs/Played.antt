@@ -74,8 +74,8 @@ Runs Image from text to = Plays (move.Image Done) from text to
 Runs Log from text to = Plays (move.Log Done) from text to
 Runs Cover from text to = Plays (move.Cover from.past.standing.newest) from text to
 Runs (Images fate) from text to =
-    (told : ImageAnswer) × RepeatsImages fate from.past from.state told to.past to.state × (text ≡ answer_text (answer.Image told))
+    (reported : ImageAnswer) × RepeatsImages fate from.past from.state reported to.past to.state × (text ≡ answer_text (answer.Image reported))
 Runs (Logs fate) from text to =
-    (told : LogAnswer) × RepeatsLog fate from.past from.state told to.past to.state × (text ≡ answer_text (answer.Log told))
+    (reported : LogAnswer) × RepeatsLog fate from.past from.state reported to.past to.state × (text ≡ answer_text (answer.Log reported))
 Runs (Crash leaving) from text to = (given : Answer) × Crashes leaving from given to × (text ≡ answer_text given)
 Runs World from text to = (to ≡ from) × (text ≡ join_with_byte 32 (map decimal from.state.content.live))

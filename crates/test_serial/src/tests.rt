@@ -12,7 +12,7 @@ use typed::{try_last, try_lost, try_typed};
 use world_actions::Refusal;
 use world_start::Parts;
 use worlds::{
-    Case, IMAGE, NONE, Session, created, files_of, fresh, long_batch, open, play, stands, told,
+    Case, IMAGE, NONE, Session, created, files_of, fresh, long_batch, open, play, reported, stands,
     try_case, try_new,
 };
 use zigzag::Zigzag;
@@ -328,7 +328,7 @@ static MARKED: Session<'static> = Session {
 fn marked_parts<C: Capture>(rt: &impl Abort, alloc: Global) -> Parts<ModelFile> {
     let mut served = open::<C>(rt, alloc, fresh(rt, alloc, 2), 2);
     play(rt, alloc, &mut served, &MARKED, usize::MAX);
-    told(served.into_parts()).expect(rt, "the parts of a world")
+    reported(served.into_parts()).expect(rt, "the parts of a world")
 }
 
 fn try_parts<C: Capture>(rt: &impl Abort, alloc: Global) {

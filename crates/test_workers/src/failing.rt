@@ -3,7 +3,7 @@ ghost use Rattle.std.specs.Prelude.{◌≤◌};
 
 use crate::running::{Page, begin, end, is_page, play};
 use crate::same::same;
-use crate::worlds::{Told, fused_files, open_world, stands_in_fused};
+use crate::worlds::{Report, fused_files, open_world, stands_in_fused};
 use crossbeam_channel::{Receiver, unbounded};
 use disk_model::{FourFiles, Fused, ModelFile};
 use shared_capture::{Method, Pong, Zig};
@@ -73,7 +73,7 @@ fn first_call<M: Seats>(rt: &impl Abort, alloc: Global, broken: Broken) -> u64 {
 struct Left<M: Method> {
     stopped: StoppedWorkers<M, BrokenFile, Open, Open, Open>,
     page: Page,
-    heard: Receiver<Told>,
+    heard: Receiver<Report>,
 }
 
 // Runs a session of four batches over files one of which fails at its call of this number.
@@ -111,18 +111,18 @@ fn answered(acked: u64) -> &'static [u8] {
 }
 
 // The expected results of four batches: how many ticks end and are acknowledged, and if the log goes down or else the images
-// do. Exactly one report comes, which is `told`.
+// do. Exactly one report comes, which is `reported`.
 #[derive(Clone, Copy)]
 struct Outcome {
     ended: u64,
     acked: u64,
     is_log_down: bool,
-    told: Told,
+    reported: Report,
 }
 
-fn is_told(rt: &(impl Wait + Abort), heard: &Receiver<Told>, told: Told) {
-    same(rt, "what is told", heard.recv(rt).ok(), Some(told));
-    same(rt, "what is told then", heard.recv(rt).ok(), None);
+fn is_reported(rt: &(impl Wait + Abort), heard: &Receiver<Report>, reported: Report) {
+    same(rt, "what is reported", heard.recv(rt).ok(), Some(reported));
+    same(rt, "what is reported then", heard.recv(rt).ok(), None);
 }
 
 fn are_ends<M: Method>(
@@ -143,7 +143,7 @@ fn is_left<M: Method>(rt: &(impl Wait + Abort), alloc: Global, left: &Left<M>, o
     let acked = outcome.acked;
     is_page(rt, &left.page, answered(acked));
     are_ends(rt, &left.stopped, outcome);
-    is_told(rt, &left.heard, outcome.told);
+    is_reported(rt, &left.heard, outcome.reported);
     let stopped = &left.stopped;
     let found = stands_in_fused(
         rt,
@@ -183,7 +183,7 @@ fn log_down(acked: u64) -> Outcome {
         ended: acked.saturating_add(1),
         acked,
         is_log_down: true,
-        told: Told::LogDown(acked),
+        reported: Report::LogDown(acked),
     }
 }
 
@@ -211,7 +211,7 @@ const IMAGES_DOWN: Outcome = Outcome {
     ended: 4,
     acked: 4,
     is_log_down: false,
-    told: Told::ImagesDown,
+    reported: Report::ImagesDown,
 };
 
 // Lets each of the first four calls of an image fail in turn.

@@ -36,7 +36,7 @@ impl Held {
 impl Gate for Held {
     ghost use Rattle.std.specs.Prelude.{⊤};
 
-    ghost told = { λ old place pass new. ⊤ };
+    ghost answers = { λ old place pass new. ⊤ };
 
     fn at(&mut self, place: Place) -> Pass {
         let Some(answered) = &self.answered else {

@@ -3,7 +3,7 @@ ghost use Rattle.std.specs.Prelude.{◌≡◌, ◌++◌, ◌∷◌, []};
 
 use crate::same::same;
 use crate::tcp::try_client;
-use crate::worlds::{Teller, new_files};
+use crate::worlds::{Reporter, new_files};
 use crossbeam_channel::unbounded;
 use disk_model::ModelFile;
 use shared_capture::{Method, Pong, Zig};
@@ -18,7 +18,7 @@ use transports::Listener;
 use worker_steps::Opened;
 use worker_threads::Seats;
 use world_actions::Refusal;
-use world_folder::{Ending, WorldTold};
+use world_folder::{Ending, WorldReport};
 use world_server::{Every, Front, Line, Losses, serve_world};
 
 const BATCHES: &[u8] = b"add 0 1\nget 0\nend\nadd 0 1\nget 0\nend\n";
@@ -35,12 +35,12 @@ const ONE: Admission = Admission {
 struct Desk<R: Wait + Abort + Copy> {
     rt: R,
     listener: Option<Listener>,
-    watch: Option<Teller<R>>,
+    watch: Option<Reporter<R>>,
     printed: Vec<Line>,
     noted: Vec<Line>,
 }
 
-impl<R: Wait + Abort + Copy, M: Method> Front<M, ModelFile, Teller<R>> for Desk<R> {
+impl<R: Wait + Abort + Copy, M: Method> Front<M, ModelFile, Reporter<R>> for Desk<R> {
     ghost use Rattle.std.specs.Prelude.{true};
 
     ghost known = { true };
@@ -57,7 +57,7 @@ impl<R: Wait + Abort + Copy, M: Method> Front<M, ModelFile, Teller<R>> for Desk<
         keep(&self.rt, &mut self.noted, line);
     }
 
-    fn open(&mut self, _opened: &Opened<M, ModelFile>) -> Result<(Listener, Teller<R>), Ending> {
+    fn open(&mut self, _opened: &Opened<M, ModelFile>) -> Result<(Listener, Reporter<R>), Ending> {
         match (self.listener.take(), self.watch.take()) {
             (Some(listener), Some(watch)) => Ok((listener, watch)),
             _ => Err(Ending::Fault(Refusal::Device)),
@@ -92,12 +92,12 @@ fn serve_one<M: Seats + Send + 'static, R: Threads + Wait + Clock + Abort + Copy
     let mut desk = Desk {
         rt: *rt,
         listener: Some(listener),
-        watch: Some(Teller { rt: *rt, to }),
+        watch: Some(Reporter { rt: *rt, to }),
         printed: Vec::new(alloc),
         noted: Vec::new(alloc),
     };
     let files = new_files(rt, alloc, 2);
-    let served = serve_world::<R, M, ModelFile, Teller<R>, Desk<R>>(
+    let served = serve_world::<R, M, ModelFile, Reporter<R>, Desk<R>>(
         rt,
         alloc,
         &mut desk,
@@ -111,7 +111,7 @@ fn serve_one<M: Seats + Send + 'static, R: Threads + Wait + Clock + Abort + Copy
                 rt,
                 "the world",
                 served.recovered,
-                WorldTold { tick: 0, from: 0 },
+                WorldReport { tick: 0, from: 0 },
             );
             same(
                 rt,

@@ -29,7 +29,7 @@ fn mutator_at<M: Seats>(
     let opened = open_files::<M, ModelFile>(rt, alloc, new_files(rt, alloc, 2));
     let (to, from) = open(rt, alloc, ended).expect(rt, "a channel");
     let (bell, _rung) = bounded(alloc, 1).expect(rt, "a channel");
-    let (_told_down, heard) = cover_pair(alloc).expect(rt, "a word");
+    let (_reported_down, heard) = cover_pair(alloc).expect(rt, "a word");
     let mutator = Mutator::new(
         Open,
         alloc,
@@ -59,7 +59,7 @@ fn is_refused<M: Method>(
     }
     let (reply, _slot) = awaited.wait(rt, 0);
     match reply {
-        Some(Reply::Fault(fault)) => same(rt, "what is told", fault.reason(), refusal),
+        Some(Reply::Fault(fault)) => same(rt, "what is reported", fault.reason(), refusal),
         _ => panic!(rt; "no fault"),
     }
 }

@@ -2,7 +2,7 @@
 use crate::held::{HELD, Held};
 use crate::running::{Page, begin, is_page, only_session};
 use crate::same::same;
-use crate::worlds::{Told, new_files, stands_in};
+use crate::worlds::{Report, new_files, stands_in};
 use crossbeam_channel::{Receiver, unbounded};
 use disk_model::ModelFile;
 use shared_capture::{Method, Pong, Zig};
@@ -37,7 +37,7 @@ fn play_batches<R: Wait + Abort + Copy>(
     world: &mut Remote<R>,
     text: &mut Vec<u8>,
     answered: &AtomicU64,
-    heard: &Receiver<Told>,
+    heard: &Receiver<Report>,
 ) -> Result<(), Refusal> {
     for _ in 0..HELD {
         play_batch(alloc, world, text)?;
@@ -53,7 +53,7 @@ fn play_held(
     alloc: Global,
     asks: AskChannel,
     answered: &AtomicU64,
-    heard: &Receiver<Told>,
+    heard: &Receiver<Report>,
 ) -> Page {
     let mut world = only_session(rt, alloc, asks);
     let mut text = Vec::new(alloc);
@@ -65,7 +65,7 @@ fn play_held(
 #[derive(Drop)]
 struct Left<M: Method> {
     stopped: StoppedWorkers<M, ModelFile, Held, Held, Held>,
-    heard: Receiver<Told>,
+    heard: Receiver<Report>,
     page: Page,
 }
 
@@ -114,11 +114,16 @@ fn check_ends<M: Method>(
 }
 
 // The image of the first round was opened, and then at most that of the last.
-fn check_heard(rt: &(impl Wait + Abort), heard: &Receiver<Told>) {
+fn check_heard(rt: &(impl Wait + Abort), heard: &Receiver<Report>) {
     let first = heard.recv(rt).ok();
-    same(rt, "what is told", first, Some(Told::ImageOpened(1)));
-    for told in heard.iter(rt) {
-        same(rt, "what is told then", told, Told::ImageOpened(4));
+    same(rt, "what is reported", first, Some(Report::ImageOpened(1)));
+    for reported in heard.iter(rt) {
+        same(
+            rt,
+            "what is reported then",
+            reported,
+            Report::ImageOpened(4),
+        );
     }
 }
 

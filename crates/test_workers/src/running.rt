@@ -1,6 +1,6 @@
 //! Workers in threads, and sessions on them.
 use crate::same::same;
-use crate::worlds::{Teller, Told, open_files};
+use crate::worlds::{Report, Reporter, open_files};
 use crossbeam_channel::Sender;
 use disk_model::{Disk, FourFiles};
 use shared_capture::Method;
@@ -27,11 +27,11 @@ pub fn begin<
     alloc: Global,
     files: FourFiles<D>,
     gates: Gates<A, B, C>,
-    to: Sender<Told>,
+    to: Sender<Report>,
     every: u32,
 ) -> (Workers<M, D, A, B, C>, AskChannel) {
     let opened = open_files::<M, D>(rt, alloc, files);
-    let watch = Teller { rt: *rt, to };
+    let watch = Reporter { rt: *rt, to };
     let looks = Looks::on_this_machine(rt, alloc).expect(rt, "a count");
     start(rt, alloc, gates, watch, opened, every, looks).expect(rt, "workers")
 }

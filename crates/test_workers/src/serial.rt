@@ -38,19 +38,19 @@ pub struct Serial<M: Method, D: Disk + Drop> {
 struct Signals {
     bell: Sender<()>,
     rung: Receiver<()>,
-    told_down: CoverOut,
+    reported_down: CoverOut,
     heard: CoverIn,
 }
 
 fn new_signals(rt: &impl Abort, alloc: Global) -> Signals
-    ensures { result.told_down.ticks ≡ [] }
+    ensures { result.reported_down.ticks ≡ [] }
 {
     let (bell, rung) = bounded(alloc, 1).expect(rt, "a channel");
-    let (told_down, heard) = cover_pair(alloc).expect(rt, "a word");
+    let (reported_down, heard) = cover_pair(alloc).expect(rt, "a word");
     Signals {
         bell,
         rung,
-        told_down,
+        reported_down,
         heard,
     }
 }
@@ -61,7 +61,7 @@ struct Channel {
     to: ItemSender,
     from: ItemReceiver,
     out: CoverOut,
-    told: CoverIn,
+    reported: CoverIn,
 }
 
 fn new_channel(rt: &(impl Wait + Abort), alloc: Global, ended: u64) -> Channel
@@ -71,13 +71,13 @@ fn new_channel(rt: &(impl Wait + Abort), alloc: Global, ended: u64) -> Channel
     ensures from { result.from.items ≡ Start ended ∷ [] }
     ensures out { result.out.ticks ≡ [] }
 {
-    let (out, told) = cover_pair(alloc).expect(rt, "a word");
+    let (out, reported) = cover_pair(alloc).expect(rt, "a word");
     let (to, from) = open(rt, alloc, ended).expect(rt, "a channel");
     Channel {
         to,
         from,
         out,
-        told,
+        reported,
     }
 }
 
@@ -112,7 +112,7 @@ fn joined<M: Method, D: Disk + Drop>(
     requires pushes { channel.to.refused ≡ false }
     requires from { channel.from.items ≡ Start opened.ended ∷ [] }
     requires out { channel.out.ticks ≡ [] }
-    requires untold { signals.told_down.ticks ≡ [] }
+    requires unreported { signals.reported_down.ticks ≡ [] }
     ensures rest { IsAtRest result.log_writer }
     ensures takes { MayTake result.checkpointer }
 {
@@ -126,18 +126,18 @@ fn joined<M: Method, D: Disk + Drop>(
     let Signals {
         bell,
         rung,
-        told_down,
+        reported_down,
         heard,
     } = signals;
     let Channel {
         to,
         from,
         out,
-        told,
+        reported,
     } = channel;
     let mutator = Mutator::new(Open, alloc, asks, front, to, ended, 1, bell, heard);
     let checkpointer = Checkpointer::new(held, back, out, images, rung);
-    let log_writer = LogWriter::new(alloc, Open, from, told, log, told_down, ended).expect(
+    let log_writer = LogWriter::new(alloc, Open, from, reported, log, reported_down, ended).expect(
         rt, "memory",
     );
     Serial {

@@ -91,7 +91,7 @@ fn answers_each_batch_of_a_session(rt: HostRuntime) {
 }
 
 #[test]
-fn tells_workers_that_are_gone(rt: HostRuntime) {
+fn reports_workers_that_are_gone(rt: HostRuntime) {
     let (asks, asked) = AskChannel::open(rt.alloc()).expect(&rt, "a channel");
     drop(asked);
     let page = play(&rt, rt.alloc(), asks, BATCHES);

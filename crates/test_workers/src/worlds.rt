@@ -19,7 +19,7 @@ use world_start::{fresh_files, recover_world};
 
 /// The reports of a running world.
 #[derive(Clone, Copy, Debug, PartialEq, Eq)]
-pub enum Told {
+pub enum Report {
     ImageOpened(u64),
     ImagesDown,
     LogDown(u64),
@@ -32,65 +32,65 @@ pub enum Told {
 
 /// Passes each report on.
 #[derive(Drop)]
-pub struct Teller<R: Wait + Copy> {
+pub struct Reporter<R: Wait + Copy> {
     pub rt: R,
-    pub to: Sender<Told>,
+    pub to: Sender<Report>,
 }
 
-impl<R: Wait + Copy> Teller<R> {
-    fn tell(&self, told: Told) {
-        let _ = self.to.send(&self.rt, told);
+impl<R: Wait + Copy> Reporter<R> {
+    fn report(&self, reported: Report) {
+        let _ = self.to.send(&self.rt, reported);
     }
 }
 
-impl<R: Wait + Copy> Clone for Teller<R> {
+impl<R: Wait + Copy> Clone for Reporter<R> {
     fn clone(&self) -> Result<Self, AllocError> {
-        Ok(Teller {
+        Ok(Reporter {
             rt: self.rt,
             to: self.to.clone()?,
         })
     }
 }
 
-impl<R: Wait + Copy> TickWatch for Teller<R> {
+impl<R: Wait + Copy> TickWatch for Reporter<R> {
     fn ticks_ended(&mut self, _ticks: u64) {}
 }
 
-impl<R: Wait + Copy, D: Disk + Drop> Watch<D> for Teller<R> {
+impl<R: Wait + Copy, D: Disk + Drop> Watch<D> for Reporter<R> {
     fn image_opened(&mut self, tick: u64) {
-        self.tell(Told::ImageOpened(tick));
+        self.report(Report::ImageOpened(tick));
     }
 
     fn images_down(&mut self, _images: &ImageWriter<D>) {
-        self.tell(Told::ImagesDown);
+        self.report(Report::ImagesDown);
     }
 
     fn log_down(&mut self, acked: u64, _log: &Log<D>) {
-        self.tell(Told::LogDown(acked));
+        self.report(Report::LogDown(acked));
     }
 }
 
-impl<R: Wait + Copy> Door for Teller<R> {
+impl<R: Wait + Copy> Door for Reporter<R> {
     fn opened(&mut self) {
-        self.tell(Told::Opened);
+        self.report(Report::Opened);
     }
 
     fn session_refused(&mut self, _why: Unserved) {
-        self.tell(Told::SessionRefused);
+        self.report(Report::SessionRefused);
     }
 
     fn shortage_began(&mut self, _error: &io::Error) {
-        self.tell(Told::Shortage);
+        self.report(Report::Shortage);
     }
 
     fn shortage_ended(&mut self) {}
 
     fn listener_failed(&mut self, _error: &io::Error) {
-        self.tell(Told::ListenerFailed);
+        self.report(Report::ListenerFailed);
     }
 
     fn closed(&mut self) {
-        self.tell(Told::Closed);
+        self.report(Report::Closed);
     }
 
     fn is_left(&self) -> bool {

@@ -33,16 +33,16 @@ fn main(rt: HostRuntime) -> ExitCode {
 fn run<R: Print + AllocGlobal>(rt: &R) -> io::Result<bool> {
     let mut passes = true;
     for cells in SIZES {
-        passes &= tell(rt, "zigzag", cells, try_images::<Zigzag>(rt.alloc(), cells))?;
+        passes &= report(rt, "zigzag", cells, try_images::<Zigzag>(rt.alloc(), cells))?;
         let seen = try_images::<PingPong>(rt.alloc(), cells);
-        passes &= tell(rt, "pingpong", cells, seen)?;
+        passes &= report(rt, "pingpong", cells, seen)?;
     }
-    passes &= tell(rt, "log", 1, try_log(rt.alloc()))?;
+    passes &= report(rt, "log", 1, try_log(rt.alloc()))?;
     Ok(passes)
 }
 
 // Prints the counts of a method or of the log, and returns true if they pass.
-fn tell<R: Print>(
+fn report<R: Print>(
     rt: &R,
     method: &str,
     cells: u32,

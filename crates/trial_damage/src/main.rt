@@ -34,7 +34,7 @@ fn main(rt: HostRuntime) -> ExitCode {
 // Tries all copies. Returns true if all answers were right, and each kind came.
 fn run<R: Print + AllocGlobal>(rt: &R) -> io::Result<bool> {
     match try_copies(rt.alloc()) {
-        Ok(tally) => tell(rt, &tally),
+        Ok(tally) => report(rt, &tally),
         Err(refusal) => {
             println!(rt; "refused with {}: {refusal}", refusal.code())?;
             Ok(false)
@@ -73,11 +73,11 @@ fn try_copy(alloc: Global, copy: &Files, tally: &mut Tally) -> Result<(), Refusa
 }
 
 // Prints the counts, and returns true if they pass.
-fn tell<R: Print>(rt: &R, tally: &Tally) -> io::Result<bool> {
+fn report<R: Print>(rt: &R, tally: &Tally) -> io::Result<bool> {
     println!(rt;
         "{COPIES} damaged copies, {MIXES} mixes of formats: {} answered right, {} wrong",
         tally.right, tally.wrong
     )?;
-    tally.wanted.tell(rt, &NAMES)?;
+    tally.wanted.report(rt, &NAMES)?;
     Ok(tally.passes())
 }

@@ -65,7 +65,7 @@ impl<const N: usize> Counts<N> {
     }
 
     /// Prints a line for each thing, its name first. Returns true if each came.
-    pub fn tell<R: Print>(&self, rt: &R, names: &[&str]) -> io::Result<bool>
+    pub fn report<R: Print>(&self, rt: &R, names: &[&str]) -> io::Result<bool>
         ensures { IfOk result (λ each. IsTrue each ↔ All (λ count. 0 < count) self.now) }
     {
         for (name, count) in names.iter().zip(&self.counts) {

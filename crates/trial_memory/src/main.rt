@@ -43,7 +43,7 @@ fn try_all<R: Print + AllocGlobal>(rt: &R) -> io::Result<bool> {
         & try_growth(rt)?;
     match try_free_calls(rt.alloc()) {
         Ok(are_same) => {
-            println!(rt; "calls that take none: {}", told(are_same))?;
+            println!(rt; "calls that take none: {}", reported(are_same))?;
             Ok(are_right && are_same)
         }
         Err(refusal) => {
@@ -53,70 +53,70 @@ fn try_all<R: Print + AllocGlobal>(rt: &R) -> io::Result<bool> {
     }
 }
 
-fn told(are_same: bool) -> &'static str {
+fn reported(are_same: bool) -> &'static str {
     if are_same { "made" } else { "wrong" }
 }
 
 fn try_values<R: Print + AllocGlobal>(rt: &R) -> io::Result<bool> {
     Ok(
-        tell::<R, Act>(rt)?
-            & tell::<R, ReserveTick>(rt)?
-            & tell::<R, CopyBatch>(rt)?
-            & tell::<R, AnswerEach>(rt)?
-            & tell::<R, NewReader>(rt)?
-            & tell::<R, Play>(rt)?
-            & tell::<R, NewFile>(rt)?
-            & tell::<R, ReserveFile>(rt)?
-            & tell::<R, GrowFile>(rt)?,
+        report::<R, Act>(rt)?
+            & report::<R, ReserveTick>(rt)?
+            & report::<R, CopyBatch>(rt)?
+            & report::<R, AnswerEach>(rt)?
+            & report::<R, NewReader>(rt)?
+            & report::<R, Play>(rt)?
+            & report::<R, NewFile>(rt)?
+            & report::<R, ReserveFile>(rt)?
+            & report::<R, GrowFile>(rt)?,
     )
 }
 
 fn try_stores<R: Print + AllocGlobal>(rt: &R) -> io::Result<bool> {
     Ok(
-        tell::<R, Build<PlainCopy>>(rt)?
-            & tell::<R, Build<Zigzag>>(rt)?
-            & tell::<R, Build<PingPong>>(rt)?
-            & tell::<R, Build<Joined<Zig>>>(rt)?
-            & tell::<R, Build<Joined<Pong>>>(rt)?,
+        report::<R, Build<PlainCopy>>(rt)?
+            & report::<R, Build<Zigzag>>(rt)?
+            & report::<R, Build<PingPong>>(rt)?
+            & report::<R, Build<Joined<Zig>>>(rt)?
+            & report::<R, Build<Joined<Pong>>>(rt)?,
     )
 }
 
 fn try_keepers<R: Print + AllocGlobal>(rt: &R) -> io::Result<bool> {
     Ok(
-        tell::<R, ZigzagPair>(rt)?
-            & tell::<R, PingPongPair>(rt)?
-            & tell::<R, CoverPair>(rt)?
-            & tell::<R, Images>(rt)?
-            & tell::<R, Log>(rt)?,
+        report::<R, ZigzagPair>(rt)?
+            & report::<R, PingPongPair>(rt)?
+            & report::<R, CoverPair>(rt)?
+            & report::<R, Images>(rt)?
+            & report::<R, Log>(rt)?,
     )
 }
 
 fn try_worlds<R: Print + AllocGlobal>(rt: &R) -> io::Result<bool> {
     Ok(
-        tell::<R, ReadImage>(rt)?
-            & tell::<R, ReadLog>(rt)?
-            & tell::<R, Recover>(rt)?
-            & tell::<R, Fresh>(rt)?
-            & tell::<R, Crash>(rt)?
-            & tell::<R, Run>(rt)?
-            & tell::<R, NewWorld<Ample>>(rt)?
-            & tell::<R, Open<Ample>>(rt)?
-            & tell::<R, Serve<Ample, Line>>(rt)?
-            & tell::<R, Serve<Ample, Values>>(rt)?,
+        report::<R, ReadImage>(rt)?
+            & report::<R, ReadLog>(rt)?
+            & report::<R, Recover>(rt)?
+            & report::<R, Fresh>(rt)?
+            & report::<R, Crash>(rt)?
+            & report::<R, Run>(rt)?
+            & report::<R, NewWorld<Ample>>(rt)?
+            & report::<R, Open<Ample>>(rt)?
+            & report::<R, Serve<Ample, Line>>(rt)?
+            & report::<R, Serve<Ample, Values>>(rt)?,
     )
 }
 
 fn try_growth<R: Print + AllocGlobal>(rt: &R) -> io::Result<bool> {
     Ok(
-        tell::<R, NewWorld<Scarce>>(rt)?
-            & tell::<R, Open<Scarce>>(rt)?
-            & tell::<R, Serve<Scarce, Line>>(rt)?
-            & tell::<R, Serve<Scarce, Values>>(rt)?,
+        report::<R, NewWorld<Scarce>>(rt)?
+            & report::<R, Open<Scarce>>(rt)?
+            & report::<R, Serve<Scarce, Line>>(rt)?
+            & report::<R, Serve<Scarce, Values>>(rt)?,
     )
 }
 
 // Prints how a call went, and returns true if that is right.
-fn tell<R: Print + AllocGlobal, X: Case>(rt: &R) -> io::Result<bool> {
+fn report<R: Print + AllocGlobal, X: Case>(rt: &R) -> io::Result<bool> {
     match try_case::<X>(rt.alloc()) {
         Ok(outcome) => {
             println!(rt; "{}: {outcome}", X::name())?;

@@ -1,5 +1,5 @@
 use crate::wrong::{Rule, Wrong, expect, hold};
-use core_rows::Told;
+use core_rows::PlainAnswer;
 use world_core::Fate;
 
 /// A round that is open.
@@ -55,17 +55,17 @@ impl ImageModel {
     }
 
     /// Judges the answer to a step, and follows it.
-    pub fn step(&mut self, fate: Fate, given: Told) -> Result<(), Wrong> {
+    pub fn step(&mut self, fate: Fate, given: PlainAnswer) -> Result<(), Wrong> {
         let Some(round) = self.round else {
-            return expect(Told::ImageIdle, given);
+            return expect(PlainAnswer::ImageIdle, given);
         };
         if self.down {
-            return expect(Told::ImageDown, given);
+            return expect(PlainAnswer::ImageDown, given);
         }
         match given {
-            Told::ImageWorking => self.work(round),
-            Told::ImageOpened(tick) => self.open(round, fate, tick),
-            Told::ImageDown => {
+            PlainAnswer::ImageWorking => self.work(round),
+            PlainAnswer::ImageOpened(tick) => self.open(round, fate, tick),
+            PlainAnswer::ImageDown => {
                 self.down = true;
                 hold(fate == Fate::Failed, Rule::ImagesDownByFailure)
             }

@@ -1,4 +1,4 @@
-use core_rows::{Asked, Told};
+use core_rows::{Asked, PlainAnswer};
 use world_actions::Refusal;
 
 /// The kinds of answers that can come. NoMemory would need a refused allocation, and TicksEnded more ticks than can be
@@ -84,42 +84,42 @@ pub const NAMES: [&str; KINDS] = [
 ];
 
 /// The kind of an answer to a move, if it can come.
-pub fn kind_of(asked: Asked, given: Told) -> Option<Kind> {
+pub fn kind_of(asked: Asked, given: PlainAnswer) -> Option<Kind> {
     match asked {
         Asked::Cover(_) => kind_of_cover(given),
         _ => kind_of_other(given),
     }
 }
 
-fn kind_of_cover(given: Told) -> Option<Kind> {
+fn kind_of_cover(given: PlainAnswer) -> Option<Kind> {
     match given {
-        Told::LogIdle => Some(Kind::CoverIdle),
-        Told::LogAcked(_) => Some(Kind::CoverAcked),
-        Told::Refused(Refusal::LogDown) => Some(Kind::CoverLogDown),
-        Told::Refused(Refusal::Starting) => Some(Kind::CoverStarting),
-        Told::Refused(Refusal::Uncovered) => Some(Kind::Uncovered),
+        PlainAnswer::LogIdle => Some(Kind::CoverIdle),
+        PlainAnswer::LogAcked(_) => Some(Kind::CoverAcked),
+        PlainAnswer::Refused(Refusal::LogDown) => Some(Kind::CoverLogDown),
+        PlainAnswer::Refused(Refusal::Starting) => Some(Kind::CoverStarting),
+        PlainAnswer::Refused(Refusal::Uncovered) => Some(Kind::Uncovered),
         _ => None,
     }
 }
 
-fn kind_of_other(given: Told) -> Option<Kind> {
+fn kind_of_other(given: PlainAnswer) -> Option<Kind> {
     match given {
-        Told::Did => Some(Kind::Did),
-        Told::Word(_) => Some(Kind::Word),
-        Told::Ended(_) => Some(Kind::Ended),
-        Told::Started(_) => Some(Kind::Started),
-        Told::ImageIdle => Some(Kind::ImageIdle),
-        Told::ImageWorking => Some(Kind::ImageWorking),
-        Told::ImageOpened(_) => Some(Kind::ImageOpened),
-        Told::ImageDown => Some(Kind::ImageDown),
-        Told::LogIdle => Some(Kind::LogIdle),
-        Told::LogWorking => Some(Kind::LogWorking),
-        Told::LogAcked(_) => Some(Kind::LogAcked),
-        Told::LogDown => Some(Kind::LogDown),
-        Told::Recovered { tick, from } if from < tick => Some(Kind::RecoveredReplayed),
-        Told::Recovered { .. } => Some(Kind::RecoveredAtImage),
-        Told::Blank => Some(Kind::Blank),
-        Told::Refused(refusal) => kind_of_refusal(refusal),
+        PlainAnswer::Did => Some(Kind::Did),
+        PlainAnswer::Word(_) => Some(Kind::Word),
+        PlainAnswer::Ended(_) => Some(Kind::Ended),
+        PlainAnswer::Started(_) => Some(Kind::Started),
+        PlainAnswer::ImageIdle => Some(Kind::ImageIdle),
+        PlainAnswer::ImageWorking => Some(Kind::ImageWorking),
+        PlainAnswer::ImageOpened(_) => Some(Kind::ImageOpened),
+        PlainAnswer::ImageDown => Some(Kind::ImageDown),
+        PlainAnswer::LogIdle => Some(Kind::LogIdle),
+        PlainAnswer::LogWorking => Some(Kind::LogWorking),
+        PlainAnswer::LogAcked(_) => Some(Kind::LogAcked),
+        PlainAnswer::LogDown => Some(Kind::LogDown),
+        PlainAnswer::Recovered { tick, from } if from < tick => Some(Kind::RecoveredReplayed),
+        PlainAnswer::Recovered { .. } => Some(Kind::RecoveredAtImage),
+        PlainAnswer::Blank => Some(Kind::Blank),
+        PlainAnswer::Refused(refusal) => kind_of_refusal(refusal),
     }
 }
 

@@ -1,5 +1,5 @@
 use crate::wrong::{Rule, Wrong, expect, hold};
-use core_rows::Told;
+use core_rows::PlainAnswer;
 use std::alloc::Global;
 use std::collections::VecDeque;
 use world_core::Fate;
@@ -108,7 +108,7 @@ impl LogModel {
 
     /// Judges the answer to a cover of an open image's tick, and follows it. While no job is in work, the records before the
     /// switch at that tick are dropped.
-    pub fn cover(&mut self, tick: u64, given: Told) -> Result<(), Wrong> {
+    pub fn cover(&mut self, tick: u64, given: PlainAnswer) -> Result<(), Wrong> {
         let before = self.taken;
         let count = self.before_switch(tick);
         for _ in 0..count {
@@ -117,11 +117,11 @@ impl LogModel {
             }
         }
         if self.taken == before {
-            return expect(Told::LogIdle, given);
+            return expect(PlainAnswer::LogIdle, given);
         }
         self.acknowledge(self.taken);
         hold(self.taken == tick, Rule::CoversItsTick)?;
-        expect(Told::LogAcked(tick), given)
+        expect(PlainAnswer::LogAcked(tick), given)
     }
 
     // How many records wait before the switch at this tick. The number is 0 if a job is in work or no such switch waits.
@@ -145,13 +145,13 @@ impl LogModel {
         &mut self,
         fate: Fate,
         waits: bool,
-        given: Told,
+        given: PlainAnswer,
         starting: bool,
     ) -> Result<(), Wrong> {
         expect(self.answer(fate, waits), given)?;
         match given {
-            Told::LogWorking | Told::LogAcked(_) => self.advance(starting),
-            Told::LogDown => {
+            PlainAnswer::LogWorking | PlainAnswer::LogAcked(_) => self.advance(starting),
+            PlainAnswer::LogDown => {
                 self.down = true;
                 Ok(())
             }
@@ -160,16 +160,16 @@ impl LogModel {
     }
 
     // The right answer to a step. Each step that has work makes a call.
-    fn answer(&self, fate: Fate, waits: bool) -> Told {
+    fn answer(&self, fate: Fate, waits: bool) -> PlainAnswer {
         let rests = self.job == Job::Rest && self.queue.is_empty();
         if waits || (rests && !self.down) {
-            Told::LogIdle
+            PlainAnswer::LogIdle
         } else if self.down || fate == Fate::Failed {
-            Told::LogDown
+            PlainAnswer::LogDown
         } else if self.job == (Job::Group { left: 1 }) {
-            Told::LogAcked(self.taken)
+            PlainAnswer::LogAcked(self.taken)
         } else {
-            Told::LogWorking
+            PlainAnswer::LogWorking
         }
     }
 

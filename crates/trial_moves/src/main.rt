@@ -55,7 +55,7 @@ fn run<R: Print + AllocGlobal>(rt: &R) -> io::Result<bool> {
         && try_store::<R, Joined<Zig>>(rt, "zigzag-shared", &mut all)?
         && try_store::<R, Joined<Pong>>(rt, "pingpong-shared", &mut all)?
         && try_long(rt, &mut all)?;
-    Ok(are_right && all.counts().tell(rt, &NAMES)?)
+    Ok(are_right && all.counts().report(rt, &NAMES)?)
 }
 
 // Tries random moves over worlds of all sizes, and the moves that meet each limit.
@@ -66,14 +66,14 @@ fn try_store<R: Print + AllocGlobal, C: Capture>(
 ) -> io::Result<bool> {
     let before = all.moves();
     let seen = try_sizes::<C>(rt.alloc(), all);
-    tell(rt, store, seen, all.moves().saturating_sub(before))
+    report(rt, store, seen, all.moves().saturating_sub(before))
 }
 
 // Fills a segment, which takes many moves.
 fn try_long<R: Print + AllocGlobal>(rt: &R, all: &mut Tally) -> io::Result<bool> {
     let before = all.moves();
     let seen = try_segment::<PlainCopy>(rt.alloc(), all);
-    tell(
+    report(
         rt,
         "a full segment",
         seen,
@@ -110,7 +110,7 @@ fn play<C: Capture>(trial: &mut Trial<C>) -> Result<(), Stop> {
 }
 
 // Prints how many moves a trial had, or what was wrong. Returns true if all was right.
-fn tell<R: Print>(rt: &R, name: &str, seen: Result<(), Stop>, moves: u32) -> io::Result<bool> {
+fn report<R: Print>(rt: &R, name: &str, seen: Result<(), Stop>, moves: u32) -> io::Result<bool> {
     match seen {
         Ok(()) => println!(rt; "{name}: {moves} moves")?,
         Err(Stop::Refused(refusal)) => println!(rt; "{name}: refused: {refusal}")?,

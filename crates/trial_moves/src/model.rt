@@ -2,7 +2,7 @@ use crate::image_model::ImageModel;
 use crate::log_model::LogModel;
 use crate::words::Words;
 use crate::wrong::{Rule, Wrong, expect, hold};
-use core_rows::{Asked, Told};
+use core_rows::{Asked, PlainAnswer};
 use std::alloc::Global;
 use world_actions::Refusal;
 use world_core::Fate;
@@ -45,7 +45,12 @@ impl PlainModel {
     }
 
     /// Judges the answer to a move, and follows it. `starting` is true if the core says that its start isn't over then.
-    pub fn follow(&mut self, asked: Asked, given: Told, starting: bool) -> Result<(), Wrong> {
+    pub fn follow(
+        &mut self,
+        asked: Asked,
+        given: PlainAnswer,
+        starting: bool,
+    ) -> Result<(), Wrong> {
         match asked {
             Asked::Act(action) => self.follow_act(action, given)?,
             Asked::Get(cell) => self.follow_get(cell, given)?,
@@ -58,15 +63,15 @@ impl PlainModel {
             },
             Asked::Cover(tick) => self.follow_cover(tick, given)?,
             Asked::Crash => self.follow_crash(given)?,
-            Asked::ImpossibleCrash => expect(Told::Refused(Refusal::Impossible), given)?,
+            Asked::ImpossibleCrash => expect(PlainAnswer::Refused(Refusal::Impossible), given)?,
         }
         hold(starting == self.is_starting(), Rule::StartsAlike)
     }
 
     // Follows a step of the images. An open image acknowledges its tick.
-    fn follow_image(&mut self, fate: Fate, given: Told) -> Result<(), Wrong> {
+    fn follow_image(&mut self, fate: Fate, given: PlainAnswer) -> Result<(), Wrong> {
         self.images.step(fate, given)?;
-        if let Told::ImageOpened(tick) = given {
+        if let PlainAnswer::ImageOpened(tick) = given {
             self.log.acknowledge(tick);
         }
         Ok(())

@@ -4,7 +4,7 @@ ghost use Rattle.world_actions.specs.declared.world.TheConstants.{CELLS};
 use crate::tally::Tally;
 use crate::trial::{Stop, Trial};
 use capture_core::Capture;
-use core_rows::{Asked, Told};
+use core_rows::{Asked, PlainAnswer};
 use std::alloc::Global;
 use trial_kit::Random;
 use world_actions::Action;
@@ -77,7 +77,7 @@ impl<C: Capture> Stretch<C> {
         })
     }
 
-    fn ask(&mut self, asked: Asked) -> Result<Told, Stop> {
+    fn ask(&mut self, asked: Asked) -> Result<PlainAnswer, Stop> {
         self.trial.ask(asked, &mut self.random)
     }
 
@@ -136,7 +136,7 @@ impl<C: Capture> Stretch<C> {
     fn images(&mut self) -> Result<(), Stop> {
         for _ in 0..MOVES {
             let given = self.ask(Asked::Image(Fate::Done))?;
-            if given != Told::ImageWorking {
+            if given != PlainAnswer::ImageWorking {
                 break;
             }
         }
@@ -147,7 +147,7 @@ impl<C: Capture> Stretch<C> {
     fn log(&mut self) -> Result<(), Stop> {
         for _ in 0..MOVES {
             let given = self.ask(Asked::Log(Fate::Done))?;
-            if given == Told::LogIdle {
+            if given == PlainAnswer::LogIdle {
                 break;
             }
         }

@@ -1,5 +1,5 @@
 use crate::kind::{KINDS, kind_of};
-use core_rows::{Asked, Told};
+use core_rows::{Asked, PlainAnswer};
 use trial_kit::Counts;
 
 /// How many moves were made, and how often each kind of answer came.
@@ -19,7 +19,7 @@ impl Tally {
     }
 
     /// Counts a move and its answer.
-    pub fn count(&mut self, asked: Asked, given: Told) {
+    pub fn count(&mut self, asked: Asked, given: PlainAnswer) {
         self.moves = self.moves.saturating_add(1);
         if let Some(kind) = kind_of(asked, given) {
             self.counts.count(kind as usize);

@@ -6,7 +6,7 @@ use crate::spoiling::spoil;
 use crate::tally::Tally;
 use crate::wrong::Wrong;
 use capture_core::Capture;
-use core_rows::{Asked, Told};
+use core_rows::{Asked, PlainAnswer};
 use std::alloc::Global;
 use trial_kit::{Random, left_by};
 use world_actions::Refusal;
@@ -20,7 +20,7 @@ pub struct Difference {
     /// The move.
     pub asked: Asked,
     /// Its answer.
-    pub given: Told,
+    pub given: PlainAnswer,
     /// The reason why the answer is wrong.
     pub wrong: Wrong,
 }
@@ -81,7 +81,7 @@ impl<C: Capture> Trial<C> {
 
     /// Makes a move, and judges its answer. `random` chooses the bytes that a crash leaves. If a crash may leave them, each
     /// cell is read then.
-    pub fn ask(&mut self, asked: Asked, random: &mut Random) -> Result<Told, Stop> {
+    pub fn ask(&mut self, asked: Asked, random: &mut Random) -> Result<PlainAnswer, Stop> {
         if let Some(plain) = asked.as_move() {
             return self.step(asked, plain);
         }
@@ -95,8 +95,8 @@ impl<C: Capture> Trial<C> {
         Ok(given)
     }
 
-    fn step(&mut self, asked: Asked, plain: Move) -> Result<Told, Stop> {
-        let given = Told::of(self.core.step(plain));
+    fn step(&mut self, asked: Asked, plain: Move) -> Result<PlainAnswer, Stop> {
+        let given = PlainAnswer::of(self.core.step(plain));
         self.tally.count(asked, given);
         let starting = self.core.starting();
         match self.model.follow(asked, given, starting) {

@@ -1,4 +1,4 @@
-use core_rows::Told;
+use core_rows::PlainAnswer;
 use std::alloc::{AllocError, AllocFailed};
 use world_actions::Refusal;
 
@@ -33,7 +33,7 @@ pub enum Rule {
 #[derive(Clone, Copy, Debug, PartialEq, Eq)]
 pub enum Wrong {
     /// This is the right answer.
-    Wanted(Told),
+    Wanted(PlainAnswer),
     /// The answer breaks this rule.
     Breaks(Rule),
     /// There is no memory left.
@@ -59,7 +59,7 @@ impl<T: Drop> From<AllocFailed<T>> for Wrong {
 }
 
 /// Passes if the only right answer was given.
-pub fn expect(wanted: Told, given: Told) -> Result<(), Wrong> {
+pub fn expect(wanted: PlainAnswer, given: PlainAnswer) -> Result<(), Wrong> {
     if given == wanted {
         Ok(())
     } else {

@@ -71,12 +71,12 @@ fn try_method<
     M: Seats + Send + 'static,
 >(rt: &R, method: &str, seed: u64) -> Result<bool, Refusal> {
     let tally = cut_power::<R, M>(rt, FOLDER, seed)?;
-    let is_kept = tell_cuts(rt, method, tally)?;
+    let is_kept = report_cuts(rt, method, tally)?;
     let failures = fail_calls::<R, M>(rt, rt.alloc())?;
-    Ok(tell_failures(rt, method, failures)? && is_kept)
+    Ok(report_failures(rt, method, failures)? && is_kept)
 }
 
-fn tell_cuts<R: Print + Eprint>(rt: &R, method: &str, tally: CutTally) -> Result<bool, Refusal> {
+fn report_cuts<R: Print + Eprint>(rt: &R, method: &str, tally: CutTally) -> Result<bool, Refusal> {
     let _ = eprintln!(rt; "{method}: {tally}");
     let passes = tally.passes(CUTS);
     println!(rt; "{method}: {CUTS} power cuts, {}", text_of(passes)).map_err(
@@ -85,7 +85,7 @@ fn tell_cuts<R: Print + Eprint>(rt: &R, method: &str, tally: CutTally) -> Result
     Ok(passes)
 }
 
-fn tell_failures<R: Print + Eprint>(
+fn report_failures<R: Print + Eprint>(
     rt: &R,
     method: &str,
     failures: FailureTally,

@@ -47,7 +47,7 @@ fn run<R: Print + AllocGlobal + Threads + Sync>(rt: &R) -> io::Result<bool> {
         && try_sizes::<R, PingPong>(rt, "pingpong", true, &mut all)?
         && try_sizes::<R, Joined<Zig>>(rt, "shared zigzag", false, &mut all)?
         && try_sizes::<R, Joined<Pong>>(rt, "shared pingpong", true, &mut all)?;
-    Ok(are_same && all.tell(rt, &NAMES)? && try_threads(rt)?)
+    Ok(are_same && all.report(rt, &NAMES)? && try_threads(rt)?)
 }
 
 // Tries a store of each size beside the plain copy.
@@ -62,7 +62,7 @@ fn try_sizes<R: Print + AllocGlobal, C: Capture>(
         if let Ok(counts) = &seen {
             all.add(counts);
         }
-        if !tell_takes(rt, store, has_same, cells, seen)? {
+        if !report_takes(rt, store, has_same, cells, seen)? {
             return Ok(false);
         }
     }
@@ -71,7 +71,7 @@ fn try_sizes<R: Print + AllocGlobal, C: Capture>(
 
 // Prints how many takes were the same, or what was wrong. Returns true if all was right. `has_same` says if the store
 // answers Same for unchanged cells.
-fn tell_takes<R: Print>(
+fn report_takes<R: Print>(
     rt: &R,
     store: &str,
     has_same: bool,
@@ -99,12 +99,12 @@ fn tell_takes<R: Print>(
 // Tries two threads at stores of both methods.
 fn try_threads<R: Print + AllocGlobal + Threads + Sync>(rt: &R) -> io::Result<bool> {
     for cells in THREAD_SIZES {
-        let are_same = tell_rounds(
+        let are_same = report_rounds(
             rt,
             "zigzag",
             cells,
             try_zigzag(rt, rt.alloc(), cells, ROUNDS),
-        )? && tell_rounds(
+        )? && report_rounds(
             rt,
             "pingpong",
             cells,
@@ -118,7 +118,7 @@ fn try_threads<R: Print + AllocGlobal + Threads + Sync>(rt: &R) -> io::Result<bo
 }
 
 // Prints how many rounds were the same, or what was wrong. Returns true if all was right.
-fn tell_rounds<R: Print>(
+fn report_rounds<R: Print>(
     rt: &R,
     method: &str,
     cells: usize,

@@ -24,7 +24,7 @@ impl Hold {
 impl Gate for Hold {
     ghost use Rattle.std.specs.Prelude.{⊤};
 
-    ghost told = { λ old place pass new. ⊤ };
+    ghost answers = { λ old place pass new. ⊤ };
 
     fn at(&mut self, _place: Place) -> Pass {
         if self.sticks > 0 && self.random.below(self.sticks) == 0 {

@@ -59,15 +59,15 @@ fn try_with<
     M: Seats + Send + 'static,
 >(rt: &R, method: &str, trial: &mut Trial) -> Result<bool, Refusal> {
     let ends = try_steps::<R, M>(rt, trial);
-    let were_right = tell(rt, method, ALL_STEPS, "steps", ends, trial.tally.broken())?;
+    let were_right = report(rt, method, ALL_STEPS, "steps", ends, trial.tally.broken())?;
     let ends = try_cuts::<R, M>(rt, trial);
     let broken = trial.tally.broken();
-    let are_right = tell(rt, method, CUTS, "cuts in threads", ends, broken)?;
-    Ok(trial.tally.tell(rt, method) && were_right && are_right)
+    let are_right = report(rt, method, CUTS, "cuts in threads", ends, broken)?;
+    Ok(trial.tally.report(rt, method) && were_right && are_right)
 }
 
 // Prints that all was right so far, or the first thing that was wrong.
-fn tell<R: Print>(
+fn report<R: Print>(
     rt: &R,
     method: &str,
     count: u64,
@@ -75,11 +75,11 @@ fn tell<R: Print>(
     ends: Result<(), Refusal>,
     broken: Option<&str>,
 ) -> Result<bool, Refusal> {
-    let told = match (broken, ends) {
+    let reported = match (broken, ends) {
         (Some(rule), _) => println!(rt; "{method}: {count} {what}; {rule}"),
         (None, Err(refusal)) => println!(rt; "{method}: {count} {what}; {refusal}"),
         (None, Ok(())) => println!(rt; "{method}: {count} {what}; no acknowledged tick lost"),
     };
-    told.map_err(|_: _| Refusal::Device)?;
+    reported.map_err(|_: _| Refusal::Device)?;
     Ok(broken.is_none() && ends.is_ok())
 }

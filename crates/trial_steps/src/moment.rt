@@ -29,7 +29,7 @@ impl Moment {
     }
 
     /// Counts the things that a step led to. `self` is the state before it.
-    pub fn tell(&self, step: Kind, after: &Moment, tally: &mut Tally) {
+    pub fn report(&self, step: Kind, after: &Moment, tally: &mut Tally) {
         tally.count_if(self.image != after.image, Kind::ImageOpened);
         tally.count_if(
             !self.images_stuck && after.images_stuck,

@@ -106,7 +106,7 @@ impl<M: Method> Run<M> {
         let before = Moment::of(&self.world);
         trial.tally.count(step);
         self.go(rt, trial, step)?;
-        before.tell(step, &Moment::of(&self.world), &mut trial.tally);
+        before.report(step, &Moment::of(&self.world), &mut trial.tally);
         let is_right = self.world.ended() == trial.model.last();
         trial.tally.hold(is_right, Rule::Counts);
         self.look(rt, trial);

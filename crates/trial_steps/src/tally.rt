@@ -176,15 +176,15 @@ impl Tally {
     }
 
     /// Prints to standard error how often each kind came and each rule was broken. Returns true if each kind came.
-    pub fn tell<R: Eprint>(&self, rt: &R, method: &str) -> bool {
-        tell_counts(rt, method, &NAMES, &self.came);
-        tell_counts(rt, method, &RULE_NAMES, &self.broken);
+    pub fn report<R: Eprint>(&self, rt: &R, method: &str) -> bool {
+        report_counts(rt, method, &NAMES, &self.came);
+        report_counts(rt, method, &RULE_NAMES, &self.broken);
         self.came.each_came()
     }
 }
 
 // Prints a line for each name.
-fn tell_counts<R: Eprint, const N: usize>(
+fn report_counts<R: Eprint, const N: usize>(
     rt: &R,
     method: &str,
     names: &[&str],

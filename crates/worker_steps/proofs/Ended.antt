@@ -42,7 +42,7 @@ module _ {D : Type 0} (file : D → List ℕ) (leaves : D → List ℕ → Type 
       let images = images_end file leaves stands.images c.images c.back (files.left c.images) (files.newest c.images) (files.idle c.images) is_c.step
       (is_c.follows.stands sure (Newest stands.images) stands.has_images) in
       let writes = is_w.writes sure stands.logs stands.has_log in
-      let few = covered_at_most c.covers.ticks w.covers.ticks (newest_tick c.images.keeper.newest) met.told is_c.published.older in
+      let few = covered_at_most c.covers.ticks w.covers.ticks (newest_tick c.images.keeper.newest) met.reported is_c.published.older in
       let few_images : (tick : ℕ) → _ → tick ≤ images.images.tick = λ tick has. subst (λ n. tick ≤ n) images.tick (few tick has) in
       let logged = was_logged file leaves w.log w.ring.items w.covers.ticks w.acked w.down stands.logs (records_of w.from.items) writes in
       let reached = was_acknowledged file leaves w.log w.ring.items w.covers.ticks w.acked w.down stands.logs (records_of w.from.items) writes (newest_tick c.images.keeper.newest) few in

@@ -27,7 +27,7 @@ use Rattle.workers.specs.Items.{records_of, end_after, end_all, items_end, GoAll
 use Rattle.workers.specs.Worlds.{World, Leads, begun, AreUnchanged, IsLate}
 use Rattle.workers.specs.Mutating.{Playing, IsMutator}
 use Rattle.workers.specs.Covering.{LeavesOut}
-use Rattle.workers.specs.Logging.{told_in, Writes}
+use Rattle.workers.specs.Logging.{content_in, Writes}
 use Rattle.workers.specs.Imaging as imaging
 use Rattle.workers.specs.Imaging.{images_after, AreInStep, ImagesStand, StandAfter}
 use Rattle.image_files.specs.Progress.{newest_tick}
@@ -64,8 +64,8 @@ was_played m tick b is numbered =
       late = h.late;
       no_ticks = late_ticks (Start tick ∷ b.0) h.late late;
       numbered = go_late tick b.0 h.late (subst AreNumbered b.1 numbered) late;
-      told = h.told;
-      leads = leads_begun m.opening tick b.0 h.late h.told (subst (λ l. Leads (begun m.opening) (l ++ h.late) h.told) b.1 h.leads);
+      reported = h.reported;
+      leads = leads_begun m.opening tick b.0 h.late h.reported (subst (λ l. Leads (begun m.opening) (l ++ h.late) h.reported) b.1 h.leads);
       rounds = h.rounds;
       unchanged = fewer_unchanged m.opening m.front.rounds _ is.unchanged;
     }
@@ -192,8 +192,8 @@ module _ {D : Type 0} (file : D → List ℕ) (leaves : D → List ℕ → Type 
 
 -- no tick that was loaded is above the newest image's
 pub covered_at_most : (stored loaded : List ℕ) (most : ℕ) → AreStored stored loaded → All (λ (t : ℕ). t ≤ most) stored → (tick : ℕ) → Contains loaded tick → tick ≤ most
-covered_at_most stored loaded most told few tick has =
-    elim (told has.0 tick (slice_get_read loaded (length loaded) has.0 tick refl has.1 (sym has.2))) [
+covered_at_most stored loaded most reported few tick has =
+    elim (reported has.0 tick (slice_get_read loaded (length loaded) has.0 tick refl has.1 (sym has.2))) [
       | inl none ↦ omega (arith, none)
       | inr one ↦ (let at = few one.0 0 (slice_get_within stored one.0 tick one.1) in let is = get_or_from_slice_get stored one.0 tick 0 one.1 in omega (arith, at, is))
     ]
@@ -203,12 +203,12 @@ work_append None queue more = refl
 work_append (Some tick) queue more = refl
 
 module _ {D : Type 0} (file : D → List ℕ) (leaves : D → List ℕ → Type 0) (log : Log D) (ring : List Record) (covers : List ℕ) (acked : ℕ) (down : Bool) (start : Logs) (popped : List Record)
-    (w : Writes file leaves log ring covers acked down (told_in start) popped) where
-  pub was_logged : IsLogged (told_in start) popped covers w.logs
+    (w : Writes file leaves log ring covers acked down (content_in start) popped) where
+  pub was_logged : IsLogged (content_in start) popped covers w.logs
   was_logged = record {
     given = w.given;
     more = ring ++ w.lost;
-    told = w.told;
+    reported = w.reported;
     order = subst (λ l. LeavesOut covers popped (w.given ++ l)) (work_append w.logs.switch ring w.lost) w.order;
     one_job = w.one_job;
   }

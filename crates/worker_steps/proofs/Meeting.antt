@@ -17,12 +17,12 @@ use Rattle.shared_capture.specs.Rounds.{Agree}
 use Rattle.workers.specs.declared.item.Item.{Item}
 use Rattle.workers.specs.Items.{record_of, records_of}
 use Rattle.workers.specs.Worlds.{begun, AreUnchanged}
-use Rattle.workers.specs.Logging.{Told, told_in, after_records}
+use Rattle.workers.specs.Logging.{LogContent, content_in, after_records}
 use Rattle.worker_steps.proofs.Below.{Laws}
 use Rattle.restart.specs.InStep.{IsSettled}
 use Rattle.worker_steps.proofs.Parts.{IsPlayed, IsTaken, IsLogged, one_or_none, images_with}
 use Rattle.worker_steps.proofs.Playing.{marked, marked_rounds, AtRest, Played, plays}
-use Rattle.worker_steps.proofs.Written.{SameTold, TakenUp, taken_up, follows_same, marks_same, told_kept, told_idle}
+use Rattle.worker_steps.proofs.Written.{SameReported, TakenUp, taken_up, follows_same, marks_same, content_kept, reported_idle}
 
 records_behind : (items more : List Item) → records_of (items ++ more) ≡ records_of items ++ records_of more
 records_behind [] more = refl
@@ -41,30 +41,30 @@ all_ticks items late is =
 module _ (laws : Laws) (origin : List ℕ) (ticks : List (List Action)) (words : List ℕ) (first images : Images) (start logs : Logs) (items : List Item) (rounds : List Round) (done : List Snapshot) (now : Option Snapshot) where
   -- the items are played
   played : IsSettled origin ticks words first start → (p : IsPlayed words (length ticks) items rounds) → IsTaken (length origin) rounds done now
-      → Played laws origin start (ticks ++ ticks_in (records_of (items ++ p.late))) p.told.words (records_of (items ++ p.late)) first done now
+      → Played laws origin start (ticks ++ ticks_in (records_of (items ++ p.late))) p.reported.words (records_of (items ++ p.late)) first done now
   played o p t =
       let end : QueueEnd = record { base = length ticks; count = 0 } in
-      let opened : List Round = marked (begun words) (items ++ p.late) p.told p.leads in
-      let are : p.told.rounds ≡ opened = marked_rounds (begun words) (items ++ p.late) p.told p.leads in
+      let opened : List Round = marked (begun words) (items ++ p.late) p.reported p.leads in
+      let are : p.reported.rounds ≡ opened = marked_rounds (begun words) (items ++ p.late) p.reported p.leads in
       let same : rounds ≡ opened = p.rounds ∙ are in
       let rest : AtRest laws origin start end ticks words first = record { none = o.none; tick = o.tick; words = o.image; count = omega arith } in
-      plays laws origin start (items ++ p.late) end ticks words [] first done now (begun words) p.told (o.acknowledged, o.kept, o.world) rest p.numbered p.leads
+      plays laws origin start (items ++ p.late) end ticks words [] first done now (begun words) p.reported (o.acknowledged, o.kept, o.world) rest p.numbered p.leads
       (subst (AreUnchanged words) same p.unchanged) (subst (λ r. Agree r (done ++ one_or_none now)) same t.agree) (ap length (sym same) ∙ t.all) t.whole
 
   taken_logs : (all : List (List Action)) (popped rest : List Record) (covers : List ℕ) → (acknowledged : ℕ) → IsKept origin all acknowledged images start (popped ++ rest)
-      → (opened : (tick : ℕ) → Contains covers tick → tick ≤ images.tick) → start.pending ≡ [] → start.switch ≡ None → (l : IsLogged (told_in start) popped covers logs)
+      → (opened : (tick : ℕ) → Contains covers tick → tick ≤ images.tick) → start.pending ≡ [] → start.switch ≡ None → (l : IsLogged (content_in start) popped covers logs)
       → TakenUp laws origin all images covers opened start l.given logs.switch
   taken_logs all popped rest covers acknowledged k opened none idle l = taken_up laws origin all images covers opened l.given popped l.more rest start logs.switch (acknowledged, k) (none, idle) l.order
 
   -- the segments have the same content, with or without the group in work
-  same_told : (given : List Record) (a : Logs) → told_kept a ≡ after_records (told_kept start) given → start.pending ≡ [] → a.pending ≡ [] → a.switch ≡ logs.switch
-      → told_in logs ≡ after_records (told_in start) given → IfSome logs.switch (λ _. logs.pending ≡ []) → SameTold a logs
-  same_told given a told none none_of_a switch is one_job =
-      let same : told_kept a ≡ told_in logs = told ∙ ap (λ t. after_records t given) (sym (told_idle start none)) ∙ sym is in
+  same_reported : (given : List Record) (a : Logs) → content_kept a ≡ after_records (content_kept start) given → start.pending ≡ [] → a.pending ≡ [] → a.switch ≡ logs.switch
+      → content_in logs ≡ after_records (content_in start) given → IfSome logs.switch (λ _. logs.pending ≡ []) → SameReported a logs
+  same_reported given a reported none none_of_a switch is one_job =
+      let same : content_kept a ≡ content_in logs = reported ∙ ap (λ t. after_records t given) (sym (reported_idle start none)) ∙ sym is in
       record {
-        base = ap (λ (t : Told). t.base) same;
-        before = ap (λ (t : Told). t.before) same;
-        kept = ap (λ (t : Told). t.ticks) same;
+        base = ap (λ (t : LogContent). t.base) same;
+        before = ap (λ (t : LogContent). t.before) same;
+        kept = ap (λ (t : LogContent). t.ticks) same;
         none = none_of_a;
         switch = switch;
         one_job = one_job;
@@ -73,7 +73,7 @@ module _ (laws : Laws) (origin : List ℕ) (ticks : List (List Action)) (words :
   pub sound : {image_a image_b log_a log_b : List ℕ → Type 0} → LawOfRecovery image_a image_b log_a log_b → (popped rest : List Record) (covers : List ℕ) (acknowledged : ℕ)
       → IsSettled origin ticks words first start → IsPlayed words (length ticks) items rounds → IsTaken (length origin) rounds done now
       → images_with (Newest first) done now ≡ Newest images → popped ++ rest ≡ records_of items
-      → ((tick : ℕ) → Contains covers tick → tick ≤ images.tick) → IsLogged (told_in start) popped covers logs
+      → ((tick : ℕ) → Contains covers tick → tick ≤ images.tick) → IsLogged (content_in start) popped covers logs
       → (acknowledged ≤ logs.base + length logs.kept) ⊎ (acknowledged ≤ images.tick)
       → ImagesAre (length origin) images image_a image_b → LogsAre logs log_a log_b
       → IsSound image_a image_b log_a log_b origin (ticks ++ ticks_in (records_of items)) acknowledged
@@ -92,7 +92,7 @@ module _ (laws : Laws) (origin : List ℕ) (ticks : List (List Action)) (words :
       (subst (λ q. IsKept origin (ticks ++ ticks_in (records_of (items ++ p.late))) end.2.0 images start q) queue_same kept) in
       let up = taken_logs all popped (rest ++ late) covers end.2.0 from opened o.idle.0 o.idle.1 l in
       let k = up.keeps.1 in
-      let told : SameTold up.next logs = same_told l.given up.next up.told o.idle.0 up.none up.switch_is l.told l.one_job in
+      let reported : SameReported up.next logs = same_reported l.given up.next up.reported o.idle.0 up.none up.switch_is l.reported l.one_job in
       law origin all acknowledged k.last images logs (switches_in up.queue) k.accepted k.images_follow
-      (follows_same all up.keeps.0 acknowledged images.tick up.next logs told k.logs_follow reached)
-      (marks_same (switches_in up.queue) images up.next logs told k.follow_marks) images_are logs_are
+      (follows_same all up.keeps.0 acknowledged images.tick up.next logs reported k.logs_follow reached)
+      (marks_same (switches_in up.queue) images up.next logs reported k.follow_marks) images_are logs_are

@@ -11,7 +11,7 @@ use Rattle.workers.specs.declared.item.Item.{Item}
 use Rattle.workers.specs.Items.{records_of, GoAll}
 use Rattle.workers.specs.Worlds.{World, Leads, begun, AreUnchanged}
 use Rattle.workers.specs.Covering.{LeavesOut}
-use Rattle.workers.specs.Logging.{Told, told_in, after_records, HasOneJob}
+use Rattle.workers.specs.Logging.{LogContent, content_in, after_records, HasOneJob}
 use Rattle.workers.specs.Imaging as imaging
 use Rattle.workers.specs.Imaging.{images_after}
 
@@ -31,9 +31,9 @@ pub record IsPlayed (words : List ℕ) (ended : ℕ) (items : List Item) (opened
   pub late : List Item
   pub no_ticks : ticks_in (records_of late) ≡ []
   pub numbered : GoAll (record { base = ended; count = 0 }) (items ++ late)
-  pub told : World
-  pub leads : Leads (begun words) (items ++ late) told
-  pub rounds : opened ≡ told.rounds
+  pub reported : World
+  pub leads : Leads (begun words) (items ++ late) reported
+  pub rounds : opened ≡ reported.rounds
   pub unchanged : AreUnchanged words opened
 
 -- The back has done all of these rounds, with each of their cells, or all except the last one, which is in work.
@@ -44,9 +44,9 @@ pub record IsTaken (cells : ℕ) (rounds : List Round) (done : List Snapshot) (n
 
 -- The segments hold what they held at first, followed by the first of the popped records, except those left out for a switch
 -- at one of these ticks. The switch in work is the next of the records.
-pub record IsLogged (first : Told) (popped : List Record) (covers : List ℕ) (logs : Logs) : Type 0 where
+pub record IsLogged (first : LogContent) (popped : List Record) (covers : List ℕ) (logs : Logs) : Type 0 where
   pub given : List Record
   pub more : List Record
-  pub told : told_in logs ≡ after_records first given
+  pub reported : content_in logs ≡ after_records first given
   pub order : LeavesOut covers popped (given ++ with_work logs.switch more)
   pub one_job : HasOneJob logs

@@ -14,7 +14,7 @@ use Rattle.action_log.specs.declared.record.Record.TheVariants as records
 use Rattle.recovery.specs.Follow.{FollowsFrom, Reaches, LeadsTo, LogsFollow, FollowMarks, BeginFrom, RiseFrom, base_in, coming, round_tick}
 use Rattle.recovery.specs.Events.{with_work, IsKept}
 use Rattle.workers.specs.Covering.{BeginsAt, LeavesOut}
-use Rattle.workers.specs.Logging.{Told, told_in, after_records}
+use Rattle.workers.specs.Logging.{LogContent, content_in, after_records}
 use Rattle.worker_steps.proofs.Below.{Laws}
 
 -- the first record that isn't left out, and those before it
@@ -37,11 +37,11 @@ next_of covers (x ∷ all) first logged (inr out) =
     record { run = x ∷ more.run; behind = more.behind; split = ap (λ l. x ∷ l) more.split; left = more.left; why = inr out.0 }
 
 -- the content of the segments with no group in work
-abbrev pub told_kept : Logs → Told
-told_kept logs = record { before = logs.before; base = logs.base; ticks = logs.kept }
+abbrev pub content_kept : Logs → LogContent
+content_kept logs = record { before = logs.before; base = logs.base; ticks = logs.kept }
 
-pub told_idle : (logs : Logs) → logs.pending ≡ [] → told_in logs ≡ told_kept logs
-told_idle logs none = ap (λ l. record { before = logs.before; base = logs.base; ticks = l }) (ap (λ p. logs.kept ++ p) none ∙ append-nil logs.kept)
+pub reported_idle : (logs : Logs) → logs.pending ≡ [] → content_in logs ≡ content_kept logs
+reported_idle logs none = ap (λ l. record { before = logs.before; base = logs.base; ticks = l }) (ap (λ p. logs.kept ++ p) none ∙ append-nil logs.kept)
 
 module _ (laws : Laws) (origin : List ℕ) (ticks : List (List Action)) (images : Images) (covers : List ℕ) (opened : (tick : ℕ) → Contains covers tick → tick ≤ images.tick) where
   abbrev pub KeepsLog : Logs → List Record → Type 0
@@ -76,16 +76,16 @@ module _ (laws : Laws) (origin : List ℕ) (ticks : List (List Action)) (images 
     pub keeps : KeepsLog next (left ++ rest)
     pub idle : is_idle next
     pub leaves : LeavesOut covers left more
-    pub told : told_kept next ≡ after_records (told_kept logs) given
+    pub reported : content_kept next ≡ after_records (content_kept logs) given
 
   pub written : (given all more rest : List Record) (logs : Logs) → KeepsLog logs (all ++ rest) → is_idle logs → LeavesOut covers all (given ++ more) → WrittenOn logs given more rest
-  written [] all more rest logs k idle leaves = record { next = logs; left = all; keeps = k; idle = idle; leaves = leaves; told = refl }
+  written [] all more rest logs k idle leaves = record { next = logs; left = all; keeps = k; idle = idle; leaves = leaves; reported = refl }
   written (records.Tick tick ∷ given) all more rest logs k idle leaves =
       let n = next_of covers all (records.Tick tick) (given ++ more) leaves in
       let first = brought logs all rest (records.Tick tick) (given ++ more) idle n k in
       let after : Logs = record logs { kept = logs.kept ++ tick.list ∷ [] } in
       let on = written given n.behind more rest after (first.0, laws.whole.written origin ticks first.0 images logs tick (n.behind ++ rest) first.1 idle) idle n.left in
-      record { next = on.next; left = on.left; keeps = on.keeps; idle = on.idle; leaves = on.leaves; told = on.told }
+      record { next = on.next; left = on.left; keeps = on.keeps; idle = on.idle; leaves = on.leaves; reported = on.reported }
   written (records.Switch tick ∷ given) all more rest logs k idle leaves =
       let n = next_of covers all (records.Switch tick) (given ++ more) leaves in
       let first = brought logs all rest (records.Switch tick) (given ++ more) idle n k in
@@ -93,7 +93,7 @@ module _ (laws : Laws) (origin : List ℕ) (ticks : List (List Action)) (images 
       let after : Logs = switched_to begun tick in
       let on = written given n.behind more rest after
       (first.0, laws.whole.switched origin ticks first.0 images begun tick (n.behind ++ rest) (laws.whole.switch origin ticks first.0 images logs tick (n.behind ++ rest) first.1 idle) refl) (refl, refl) n.left in
-      record { next = on.next; left = on.left; keeps = on.keeps; idle = on.idle; leaves = on.leaves; told = on.told }
+      record { next = on.next; left = on.left; keeps = on.keeps; idle = on.idle; leaves = on.leaves; reported = on.reported }
 
   -- the same with the switch in work taken
   pub record TakenUp (logs : Logs) (given : List Record) (switch : Option ℕ) : Type 0 where
@@ -102,12 +102,12 @@ module _ (laws : Laws) (origin : List ℕ) (ticks : List (List Action)) (images 
     pub keeps : KeepsLog next queue
     pub none : next.pending ≡ []
     pub switch_is : next.switch ≡ switch
-    pub told : told_kept next ≡ after_records (told_kept logs) given
+    pub reported : content_kept next ≡ after_records (content_kept logs) given
 
   pub taken_up : (given all more rest : List Record) (logs : Logs) (switch : Option ℕ) → KeepsLog logs (all ++ rest) → is_idle logs → LeavesOut covers all (given ++ with_work switch more) → TakenUp logs given switch
   taken_up given all more rest logs None k idle leaves =
       let on = written given all more rest logs k idle leaves in
-      record { next = on.next; queue = on.left ++ rest; keeps = on.keeps; none = on.idle.0; switch_is = on.idle.1; told = on.told }
+      record { next = on.next; queue = on.left ++ rest; keeps = on.keeps; none = on.idle.0; switch_is = on.idle.1; reported = on.reported }
   taken_up given all more rest logs (Some tick) k idle leaves =
       let on = written given all (records.Switch tick ∷ more) rest logs k idle leaves in
       let n = next_of covers on.left (records.Switch tick) more on.leaves in
@@ -118,12 +118,12 @@ module _ (laws : Laws) (origin : List ℕ) (ticks : List (List Action)) (images 
         keeps = (first.0, laws.whole.switch origin ticks first.0 images on.next tick (n.behind ++ rest) first.1 on.idle);
         none = on.idle.0;
         switch_is = refl;
-        told = on.told;
+        reported = on.reported;
       }
 
 -- ---- the same segments, with or without a group in work
 
-pub record SameTold (a l : Logs) : Type 0 where
+pub record SameReported (a l : Logs) : Type 0 where
   pub base : a.base ≡ l.base
   pub before : a.before ≡ l.before
   pub kept : a.kept ≡ l.kept ++ l.pending
@@ -139,10 +139,10 @@ switch_same newest a l (Some tick) base kept none h =
     let end : a.base + length a.kept ≡ l.base + length l.kept = omega (arith, base, ap length kept, length-append l.kept l.pending, ap length none) in
     (subst (λ n. n < tick) base h.0, none, subst (λ n. Reaches n tick newest) end h.2)
 
-all_kept : (a l : Logs) → SameTold a l → a.kept ++ a.pending ≡ l.kept ++ l.pending
+all_kept : (a l : Logs) → SameReported a l → a.kept ++ a.pending ≡ l.kept ++ l.pending
 all_kept a l s = ap (λ p. a.kept ++ p) s.none ∙ append-nil a.kept ∙ s.kept
 
-pub follows_same : (ticks : List (List Action)) (acknowledged k newest : ℕ) (a l : Logs) → SameTold a l → LogsFollow ticks acknowledged newest a → (k ≤ l.base + length l.kept) ⊎ (k ≤ newest) → LogsFollow ticks k newest l
+pub follows_same : (ticks : List (List Action)) (acknowledged k newest : ℕ) (a l : Logs) → SameReported a l → LogsFollow ticks acknowledged newest a → (k ≤ l.base + length l.kept) ⊎ (k ≤ newest) → LogsFollow ticks k newest l
 follows_same ticks acknowledged k newest a l s f reached = record {
   taken = subst (λ b. FollowsFrom ticks b (l.kept ++ l.pending)) s.base (subst (FollowsFrom ticks a.base) (all_kept a l s) f.taken);
   acknowledges = reached;
@@ -150,7 +150,7 @@ follows_same ticks acknowledged k newest a l s f reached = record {
   switch = switch_same newest a l l.switch s.base s.kept s.one_job (subst (λ o. IfSome o (λ tick. (a.base < tick) × (a.pending ≡ []) × Reaches (a.base + length a.kept) tick newest)) s.switch f.switch);
 }
 
-pub marks_same : (later : List ℕ) (images : Images) (a l : Logs) → SameTold a l → FollowMarks later images a → FollowMarks later images l
+pub marks_same : (later : List ℕ) (images : Images) (a l : Logs) → SameReported a l → FollowMarks later images a → FollowMarks later images l
 marks_same later images a l s m =
     let whole = m.earlier ++ images.tick ∷ round_tick images.round in
     record {

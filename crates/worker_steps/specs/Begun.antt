@@ -39,7 +39,7 @@ pub record AreTogether {D : Type 0} (workers : Started D) : Type 0 where
   pub pair : workers.mutator.front.pair ≡ workers.checkpointer.back.pair
   pub channel : AreOneChannel workers.log_writer.from.end workers.mutator.to.end
   pub word : workers.log_writer.covers.pair ≡ workers.checkpointer.covers.pair
-  pub flag : workers.mutator.heard.pair ≡ workers.log_writer.told_down.pair
+  pub flag : workers.mutator.heard.pair ≡ workers.log_writer.reported_down.pair
 
 -- They began with this world: these seats, keepers and files, after `ended` ticks. A round is due after every `every` ticks.
 pub record IsBegun {D : Type 0} (front : FrontState) (back : BackState) (writer : ImageWriter D) (log : Log D) (ended every : ℕ) (workers : Started D) : Type 0 where
@@ -52,7 +52,7 @@ pub record IsBegun {D : Type 0} (front : FrontState) (back : BackState) (writer 
   pub up : workers.mutator.down ≡ false
   pub owes : workers.mutator.owed ≡ None
   pub checkpointer : workers.checkpointer ≡ record { back = back; covers = workers.checkpointer.covers; images = writer; opening = writer; over = false }
-  pub log_writer : workers.log_writer ≡ writer_at workers.log_writer.from workers.log_writer.covers workers.log_writer.told_down log ended
-  pub none_told : (workers.checkpointer.covers.ticks ≡ []) × (workers.log_writer.covers.ticks ≡ [])
-  pub none_heard : (workers.log_writer.told_down.ticks ≡ []) × (workers.mutator.heard.ticks ≡ [])
+  pub log_writer : workers.log_writer ≡ writer_at workers.log_writer.from workers.log_writer.covers workers.log_writer.reported_down log ended
+  pub none_reported : (workers.checkpointer.covers.ticks ≡ []) × (workers.log_writer.covers.ticks ≡ [])
+  pub none_heard : (workers.log_writer.reported_down.ticks ≡ []) × (workers.mutator.heard.ticks ≡ [])
   pub popped : workers.log_writer.from.items ≡ Start ended ∷ []

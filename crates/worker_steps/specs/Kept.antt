@@ -20,6 +20,6 @@ pub record KeepsFront (old new : Playing) : Type 0 where
 pub record KeepsLog {D : Type 0} (old new : Logging D) : Type 0 where
   pub end : new.from.end ≡ old.from.end
   pub word : new.covers.pair ≡ old.covers.pair
-  pub flag : new.told_down.pair ≡ old.told_down.pair
+  pub flag : new.reported_down.pair ≡ old.reported_down.pair
   pub opening : new.opening ≡ old.opening
   pub acked : old.acked ≤ new.acked

@@ -17,7 +17,7 @@ use Rattle.workers.specs.Covering.{loaded, LoadsOn}
 use Rattle.workers.specs.Gates.{MayGo, MayStick}
 use Rattle.workers.specs.Mutating.{Playing, OpensNone, OwesSwitch, Plays, Pays, StopsPlay}
 use Rattle.workers.specs.Imaging.{Imaging, place_of, HasRound, FindsNone, FindsRound, GoesOn}
-use Rattle.workers.specs.Logging.{Logging, Pops, refused as refuses, Settles, receipt_of, Acknowledges, LogTellsFaults}
+use Rattle.workers.specs.Logging.{Logging, Pops, refused as refuses, Settles, receipt_of, Acknowledges, LogReportsFaults}
 use Rattle.worker_steps.specs.Begun.{Started}
 use Rattle.worker_steps.specs.declared.next.Next.{Next}
 use Rattle.worker_steps.specs.declared.next.Next.TheVariants.{Play, Mark, Push, Stop, Pop, Log as Write, Image}
@@ -42,16 +42,16 @@ MayPop old new = (new ≡ old) ⊎ ((item : Item) × Pops old item new)
 -- image has. It posts exactly the ticks that its receipt acknowledges. The log goes down only by a failed call, or by its
 -- gate, and then each answer that waits is refused.
 pub record LogSteps {D : Type 0} (go stuck : Type 0) (called : D → Call → Bool → D → Type 0) (faults : D → ℕ) (old new : Logging D) : Type 0 where
-  pub same : new ≡ record old { covers = new.covers; told_down = new.told_down; log = new.log; ring = new.ring; answers = new.answers; acked = new.acked; down = new.down }
+  pub same : new ≡ record old { covers = new.covers; reported_down = new.reported_down; log = new.log; ring = new.ring; answers = new.answers; acked = new.acked; down = new.down }
   pub loads : LoadsOn old.covers new.covers
-  pub word : new.told_down.pair ≡ old.told_down.pair
+  pub word : new.reported_down.pair ≡ old.reported_down.pair
   pub covered : new.down ≡ false → (tick : ℕ) × (new.covers ≡ loaded old.covers tick)
       × (cover_answer old.log.keeper tick old.ring.items ≢ Idle → (new.log ≡ old.log) × (new.ring.items ≡ uncovered old.log.keeper tick old.ring.items))
   pub acked : old.acked ≤ new.acked
   pub posts : new.down ≡ false → (tick : ℕ) × (new.covers ≡ loaded old.covers tick)
       × Acknowledges (receipt_of old.log.keeper tick old.ring.items new.log.keeper) old new
   pub lowers : new.down ≡ false → work_of new.log.keeper new.ring.items < work_of old.log.keeper old.ring.items
-  pub failures : LogTellsFaults faults old.log new.log
+  pub failures : LogReportsFaults faults old.log new.log
   pub asks : (new.log ≡ old.log) ⊎ go
   pub calls : OneCalledAtMostOnce called old.log.a new.log.a old.log.b new.log.b
   pub cause : new.down ≡ true → (new.log.keeper.down ≡ true) ⊎ ((new.log ≡ old.log) × stuck)

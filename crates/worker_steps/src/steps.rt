@@ -14,7 +14,7 @@ use workers::{Checkpointer, Gate, LogWriter, Mutator};
 /// Runs the next batch, if there is one, and owes its tick.
 pub fn play<R: Wait, M: Method, G: Gate + Drop>(rt: &R, mutator: &mut Mutator<M, G>)
     ensures keeps { KeepsFront mutator.old mutator.new }
-    ensures made { MayPlay (MayGo G.told Tick) (MayStick G.told Tick) mutator.old mutator.new }
+    ensures made { MayPlay (MayGo G.answers Tick) (MayStick G.answers Tick) mutator.old mutator.new }
 {
     let _ = mutator.run_next(rt);
 }
@@ -56,7 +56,7 @@ pub fn pop<R: Wait, D: Disk + Drop, G: Gate + Drop>(rt: &R, log_writer: &mut Log
 /// Makes a step of the log, or refuses the answers that can't be posted.
 pub fn write_log<R: Wait, D: Disk + Drop, G: Gate + Drop>(rt: &R, log_writer: &mut LogWriter<D, G>)
     ensures keeps { KeepsLog log_writer.old log_writer.new }
-    ensures made { LogGoes G.told D.called D.faults log_writer.old log_writer.new }
+    ensures made { LogGoes G.answers D.called D.faults log_writer.old log_writer.new }
 {
     if log_writer.is_down() {
         return;
@@ -74,7 +74,7 @@ pub fn write_image<R: Wait, M: Method, D: Disk + Drop, G: Gate + Drop>(
     checkpointer: &mut Checkpointer<M, D, G>,
 )
     ensures keeps { KeepsBack checkpointer.old checkpointer.new }
-    ensures made { ImageGoes G.told D.called D.faults checkpointer.old checkpointer.new }
+    ensures made { ImageGoes G.answers D.called D.faults checkpointer.old checkpointer.new }
 {
     if checkpointer.is_over() {
         return;

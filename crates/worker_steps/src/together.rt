@@ -29,7 +29,7 @@ pub struct Together<M: Method, D: Disk + Drop, A: Gate + Drop, B: Gate + Drop, C
     ghost pair: { mutator.front.pair ≡ checkpointer.back.pair },
     ghost channel: { AreOneChannel log_writer.from.end mutator.to.end },
     ghost word: { log_writer.covers.pair ≡ checkpointer.covers.pair },
-    ghost flag: { mutator.heard.pair ≡ log_writer.told_down.pair },
+    ghost flag: { mutator.heard.pair ≡ log_writer.reported_down.pair },
 }
 
 impl<M: Method, D: Disk + Drop, A: Gate + Drop, B: Gate + Drop, C: Gate + Drop> Together<
@@ -71,12 +71,20 @@ impl<M: Method, D: Disk + Drop, A: Gate + Drop, B: Gate + Drop, C: Gate + Drop> 
         } = gates;
         let Signals {
             bell: (bell, rung),
-            images: (out, told),
-            down: (told_down, heard),
+            images: (out, reported),
+            down: (reported_down, heard),
         } = signals;
         let mutator = Mutator::new(mutator, alloc, asks, front, to, ended, every, bell, heard);
         let checkpointer = Checkpointer::new(checkpointer, back, out, images, rung);
-        let log_writer = LogWriter::new(alloc, log_writer, from, told, log, told_down, ended)?;
+        let log_writer = LogWriter::new(
+            alloc,
+            log_writer,
+            from,
+            reported,
+            log,
+            reported_down,
+            ended,
+        )?;
         Ok(Together {
             mutator,
             checkpointer,
@@ -87,7 +95,7 @@ impl<M: Method, D: Disk + Drop, A: Gate + Drop, B: Gate + Drop, C: Gate + Drop> 
     /// Makes the step. Whatever the steps before it were, the four files are sound after it, on disks that keep to the disk
     /// model. For this the workers meet after the step. A server's workers meet only once they have stopped.
     pub fn step<R: Wait>(&mut self, rt: &R, next: Next)
-        ensures made { (mid : Started D) × Makes A.told B.told C.told D.called D.faults next
+        ensures made { (mid : Started D) × Makes A.reported B.reported C.reported D.called D.faults next
             (record { mutator = self.old.mutator; checkpointer = self.old.checkpointer; log_writer = self.old.log_writer }) mid
             × Meets mid (record { mutator = self.new.mutator; checkpointer = self.new.checkpointer; log_writer = self.new.log_writer }) }
         ensures sound { IsTrue D.honest → AreSound D.content D.may_leave self.new.mutator self.new.checkpointer self.new.log_writer }
@@ -117,7 +125,7 @@ impl<M: Method, D: Disk + Drop, A: Gate + Drop, B: Gate + Drop, C: Gate + Drop> 
 
     // One worker makes the step, and the others stay as they are.
     fn make_step<R: Wait>(&mut self, rt: &R, next: Next)
-        ensures made { Makes A.told B.told C.told D.called D.faults next
+        ensures made { Makes A.reported B.reported C.reported D.called D.faults next
             (record { mutator = self.old.mutator; checkpointer = self.old.checkpointer; log_writer = self.old.log_writer })
             (record { mutator = self.new.mutator; checkpointer = self.new.checkpointer; log_writer = self.new.log_writer }) }
         ensures mutator { KeepsFront self.old.mutator self.new.mutator }

@@ -55,8 +55,8 @@ answers_send waiting =
 pub log_writer_sends : (D G : RattleType) (d : disk.Ghosts D.Denot) (h : gate.Ghosts G.Denot)
     → IsSend D → IsSend G → IsSend ItemReceiver.the_row → IsSend CoverIn.the_row → IsSend (Ring.the_row Record.the_row Heap.the_row ghosts) → IsSend (Ring.the_row Waiting.the_row Heap.the_row ghosts)
     → IsSend CoverOut.the_row → IsSend (LogWriter.the_row D G d h)
-log_writer_sends D G d h disks gates from covers ring waiting told =
+log_writer_sends D G d h disks gates from covers ring waiting reported =
     let T = LogWriter.TheInside.the_type D G d h in
     let answers = answers_send waiting in
     view_send (LogWriter.TheInside.the_row D G d h) _ _ _ _ (recorded_send (Struct (shape T)) T.D T.to T.to_one (struct_send (shape T)
-    (gates, (from, (covers, (told, (search (sendable, crosses) depth 60 fits 20000, (ring, (answers, (search (sendable, crosses) depth 60 fits 20000, (search (sendable, crosses) depth 60 fits 20000, (search (sendable, crosses) depth 60 fits 20000, (search (sendable, crosses) depth 60 fits 20000, tt)))))))))))))
+    (gates, (from, (covers, (reported, (search (sendable, crosses) depth 60 fits 20000, (ring, (answers, (search (sendable, crosses) depth 60 fits 20000, (search (sendable, crosses) depth 60 fits 20000, (search (sendable, crosses) depth 60 fits 20000, (search (sendable, crosses) depth 60 fits 20000, tt)))))))))))))

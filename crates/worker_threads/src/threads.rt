@@ -79,7 +79,7 @@ pub struct StoppedWorkers<
     ghost pair: { mutator.front.pair ≡ checkpointer.back.pair },
     ghost channel: { AreOneChannel log_writer.from.end mutator.to.end },
     ghost word: { log_writer.covers.pair ≡ checkpointer.covers.pair },
-    ghost flag: { mutator.heard.pair ≡ log_writer.told_down.pair },
+    ghost flag: { mutator.heard.pair ≡ log_writer.reported_down.pair },
     ghost over: { checkpointer.over ≡ true },
 }
 
@@ -163,7 +163,7 @@ fn start_threads<
     requires pair { mutator.front.pair ≡ checkpointer.back.pair }
     requires channel { AreOneChannel log_writer.from.end mutator.to.end }
     requires word { log_writer.covers.pair ≡ checkpointer.covers.pair }
-    requires flag { mutator.heard.pair ≡ log_writer.told_down.pair }
+    requires flag { mutator.heard.pair ≡ log_writer.reported_down.pair }
     requires takes { MayTake checkpointer }
     requires writes { MayWrite log_writer }
     ensures { IfOk result (λ workers. workers ≡ record { mutator = mutator; checkpointer = checkpointer; log_writer = log_writer }) }

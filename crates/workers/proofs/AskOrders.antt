@@ -34,11 +34,11 @@ module _ {X : Type 0} (R : X → X → Type 0) where
 -- ---- counts
 
 is_eqb : (a b : ℕ) → a ≡ b → (a == b) ≡ true
-is_eqb a b e = told (eqb_tells a b)
+is_eqb a b e = reported (eqb_tells a b)
   where
-    told : ((a == b ≡ true) × (a ≡ b)) ⊎ ((a == b ≡ false) × (a ≢ b)) → (a == b) ≡ true
-    told (inl same) = same.0
-    told (inr other) = absurd (other.1 e)
+    reported : ((a == b ≡ true) × (a ≡ b)) ⊎ ((a == b ≡ false) × (a ≢ b)) → (a == b) ≡ true
+    reported (inl same) = same.0
+    reported (inr other) = absurd (other.1 e)
 
 abbrev is_of : (session : ℕ) → AskedBatch → ℕ
 is_of session asked = cond (asked.session == session) 1 0

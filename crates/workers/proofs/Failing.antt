@@ -2,17 +2,17 @@
 use Rattle.std.proofs.Common.{◌≡◌, ℕ, Bool, true, false, refl, sym, ap, ◌∙◌, subst}
 use Rattle.disk_model.specs.Disk.{FaultsBy}
 use Rattle.workers.specs.declared.log_writer.Log.{Log}
-use Rattle.workers.specs.Logging.{LogTellsFaults}
+use Rattle.workers.specs.Logging.{LogReportsFaults}
 
 module _ {D : Type 0} (faults : D → ℕ) where
-  pub faults_same : (old new : Log D) → new ≡ old → LogTellsFaults faults old new
+  pub faults_same : (old new : Log D) → new ≡ old → LogReportsFaults faults old new
   faults_same old new same = record {
     down = λ up fell. absurd (let e : true ≡ false = sym fell ∙ (ap (λ (l : Log D). l.keeper.down) same ∙ up) in cc);
     up = λ _. (ap (λ (l : Log D). faults l.a) same, ap (λ (l : Log D). faults l.b) same);
     stays = λ _. same;
   }
 
-  module _ (u v w : Log D) (s : LogTellsFaults faults u v) (t : LogTellsFaults faults v w) where
+  module _ (u v w : Log D) (s : LogReportsFaults faults u v) (t : LogReportsFaults faults v w) where
     down_by : (down : Bool) → v.keeper.down ≡ down → u.keeper.down ≡ false → w.keeper.down ≡ true → FaultsBy true (faults u.a) (faults w.a) (faults u.b) (faults w.b)
     down_by true is up fell = subst (λ (x : Log D). FaultsBy true (faults u.a) (faults x.a) (faults u.b) (faults x.b)) (sym (t.stays is)) (s.down up is)
     down_by false is up fell = subst (λ (x : ℕ × ℕ). FaultsBy true x.0 (faults w.a) x.1 (faults w.b)) (λ i. ((s.up is).0 i, (s.up is).1 i)) (t.down is fell)
@@ -21,7 +21,7 @@ module _ {D : Type 0} (faults : D → ℕ) where
     up_by true is up = absurd (let e : true ≡ false = sym is ∙ (sym (ap (λ (l : Log D). l.keeper.down) (t.stays is)) ∙ up) in cc)
     up_by false is up = ((t.up up).0 ∙ (s.up is).0, (t.up up).1 ∙ (s.up is).1)
 
-    pub faults_then : LogTellsFaults faults u w
+    pub faults_then : LogReportsFaults faults u w
     faults_then = record {
       down = down_by v.keeper.down refl;
       up = up_by v.keeper.down refl;

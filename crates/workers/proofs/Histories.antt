@@ -31,7 +31,7 @@ leads_snoc w (y ∷ ys) mid x v lead after = (lead.0, lead.1, leads_snoc lead.0 
 -- the pushed items lead to the present front
 leads_now : (opening : List ℕ) (items : List Item) (down : Bool) (front : FrontState) → History opening items down front → down ≡ false → Leads (begun opening) items (world_of front)
 leads_now opening items down front h up =
-    let all = h.all_told up in
+    let all = h.all_reported up in
     subst (λ (l : List Item). Leads (begun opening) l (world_of front)) (ap (λ (l : List Item). items ++ l) all.0 ∙ append-nil items)
     (subst (Leads (begun opening) (items ++ h.late)) all.1 h.leads)
 
@@ -39,11 +39,11 @@ pub history_more : (opening : List ℕ) (items : List Item) (down : Bool) (x : I
 history_more opening items down x front front' h up after = record {
   late = [];
   is_late = inl refl;
-  told = world_of front';
+  reported = world_of front';
   leads = subst (λ (l : List Item). Leads (begun opening) l (world_of front')) (sym (append-nil (items ++ x ∷ [])))
       (leads_snoc (begun opening) items (world_of front) x (world_of front') (leads_now opening items down front h up) after);
   rounds = refl;
-  all_told = λ _. (refl, refl);
+  all_reported = λ _. (refl, refl);
 }
 
 -- ---- cells that aren't touched
@@ -93,10 +93,10 @@ module _ (m : Playing) (front : FrontState) (heard : CoverState) (is : IsMutator
         history = record {
           late = h.late;
           is_late = h.is_late;
-          told = h.told;
+          reported = h.reported;
           leads = h.leads;
           rounds = same.1 ∙ h.rounds;
-          all_told = λ no. absurd (cc);
+          all_reported = λ no. absurd (cc);
         };
         in_turn = is.in_turn;
         counts = counts;
@@ -127,10 +127,10 @@ module _ (m : Playing) (front : FrontState) (heard : CoverState) (is : IsMutator
         history = record {
           late = Switch m.ended ∷ [];
           is_late = inr (m.ended, refl, switch_goes some);
-          told = world_of front;
+          reported = world_of front;
           leads = leads;
           rounds = refl;
-          all_told = λ no. absurd (cc);
+          all_reported = λ no. absurd (cc);
         };
         in_turn = is.in_turn;
         counts = counts;
@@ -166,14 +166,14 @@ module _ (m : Playing) (to : Pushing) (is : IsMutator m) (owed : Option Item) (n
   owes_none new = subst (λ (o : Option Item). IfSome o (Owes new)) (sym none) tt
 
   -- all acts of the front are stated once the item is pushed
-  told_paid : (item : Item) → Owes m item → to.items ≡ m.to.items ++ item ∷ [] → History m.opening to.items false m.front
-  told_paid item owes pushed = record {
+  reported_paid : (item : Item) → Owes m item → to.items ≡ m.to.items ++ item ∷ [] → History m.opening to.items false m.front
+  reported_paid item owes pushed = record {
     late = [];
     is_late = inl refl;
-    told = world_of m.front;
+    reported = world_of m.front;
     leads = subst (λ (l : List Item). Leads (begun m.opening) l (world_of m.front)) (sym (append-nil to.items ∙ pushed)) owes.leads;
     rounds = refl;
-    all_told = λ _. (refl, refl);
+    all_reported = λ _. (refl, refl);
   }
 
   pub paid_tick : (ended : Ended) → Owes m (Tick ended) → to.items ≡ m.to.items ++ Tick ended ∷ []
@@ -181,7 +181,7 @@ module _ (m : Playing) (to : Pushing) (is : IsMutator m) (owed : Option Item) (n
   paid_tick ended owes pushed =
       let last : items_end to.items ≡ end_after (items_end m.to.items) (Tick ended) = ap items_end pushed ∙ end_more m.to.items (Tick ended) in
       let counts = is.counts in record {
-        history = told_paid (Tick ended) owes pushed;
+        history = reported_paid (Tick ended) owes pushed;
         in_turn = subst (PlaysInTurn m.asks.taken) (sym pushed) owes.in_turn;
         counts = subst (λ (e : QueueEnd). Counts e (m.ended + 1) (m.since + 1)) (sym last) (record { count = ap (λ k. k + 1) counts.count; all = omega (arith, counts.all) });
         rising = λ _. subst (λ (e : QueueEnd). UpTo e.base m.front.rounds) (sym last) owes.rising;
@@ -196,7 +196,7 @@ module _ (m : Playing) (to : Pushing) (is : IsMutator m) (owed : Option Item) (n
   paid_switch number owes pushed =
       let last : items_end to.items ≡ end_after (items_end m.to.items) (Switch number) = ap items_end pushed ∙ end_more m.to.items (Switch number) in
       let counts = is.counts in record {
-        history = told_paid (Switch number) owes pushed;
+        history = reported_paid (Switch number) owes pushed;
         in_turn = subst (PlaysInTurn m.asks.taken) (sym pushed) owes.in_turn;
         counts = subst (λ (e : QueueEnd). Counts e m.ended 0) (sym last) (record { count = refl; all = omega (arith, owes.goes.0, counts.all, counts.count) });
         rising = λ _. subst (λ (e : QueueEnd). UpTo e.base m.front.rounds) (sym last) owes.rising;
@@ -231,10 +231,10 @@ begins asks front to heard opening tick every none start words most flags number
   history = record {
     late = [];
     is_late = inl refl;
-    told = begun opening;
+    reported = begun opening;
     leads = subst (λ (l : List Item). Leads (begun opening) (l ++ []) (begun opening)) (sym start) (begun opening, refl, refl);
     rounds = none;
-    all_told = λ _. (refl, λ i. record { words = words i; rounds = sym none i });
+    all_reported = λ _. (refl, λ i. record { words = words i; rounds = sym none i });
   };
   in_turn = subst (PlaysInTurn asks.taken) (sym start) (plays_none asks.taken tick numbered);
   counts = subst (λ (l : List Item). Counts (items_end l) tick 0) (sym start) (record { count = refl; all = omega arith });
@@ -266,17 +266,17 @@ owes_stop m to pushed (Some item) owes =
       rising = subst (λ (e : QueueEnd). UpTo (end_after e item).base m.front.rounds) (sym last) owes.rising;
     }
 
-pub told_stop : (m : Playing) (to : Pushing) → IsMutator m → to.items ≡ m.to.items ++ Stop ∷ [] → IsMutator (record m { to = to })
-told_stop m to is pushed =
+pub reported_stop : (m : Playing) (to : Pushing) → IsMutator m → to.items ≡ m.to.items ++ Stop ∷ [] → IsMutator (record m { to = to })
+reported_stop m to is pushed =
     let last : items_end to.items ≡ items_end m.to.items = ap items_end pushed ∙ end_more m.to.items Stop in
     let h = is.history in record {
       history = record {
         late = h.late;
         is_late = late_end m.to.items to.items h.late last h.is_late;
-        told = h.told;
-        leads = subst (λ (l : List Item). Leads (begun m.opening) (l ++ h.late) h.told) (sym pushed) (leads_stop (begun m.opening) m.to.items h.late h.told h.leads);
+        reported = h.reported;
+        leads = subst (λ (l : List Item). Leads (begun m.opening) (l ++ h.late) h.reported) (sym pushed) (leads_stop (begun m.opening) m.to.items h.late h.reported h.leads);
         rounds = h.rounds;
-        all_told = h.all_told;
+        all_reported = h.all_reported;
       };
       in_turn = subst (PlaysInTurn m.asks.taken) (sym pushed) (subst (PlaysInTurn m.asks.taken) (append-nil (m.to.items ++ Stop ∷ [])) (plays_stop m.asks.taken m.to.items [] (subst (PlaysInTurn m.asks.taken) (sym (append-nil m.to.items)) is.in_turn)));
       counts = subst (λ (e : QueueEnd). Counts e m.ended m.since) (sym last) is.counts;

@@ -18,7 +18,7 @@ use Rattle.image_files.specs.Taken.{filled_words, word_of}
 use Rattle.shared_capture.specs.declared.view.Snapshot.{Snapshot}
 use Rattle.shared_capture.specs.States.{BackState, TookBack, SameDone, FoundRound}
 use Rattle.workers.specs.declared.checkpointer.round.ImageWriter.{ImageWriter}
-use Rattle.workers.specs.Imaging.{round_of, with_work, images_after, newest_after, HasRound, AreInStep, IsInWork, RoundRuns, IsDone, ImagesStand, FollowsRounds, WriterFits, TellsFaults, Imaging, IsCheckpointer, Turned}
+use Rattle.workers.specs.Imaging.{round_of, with_work, images_after, newest_after, HasRound, AreInStep, IsInWork, RoundRuns, IsDone, ImagesStand, FollowsRounds, WriterFits, ReportsFaults, Imaging, IsCheckpointer, Turned}
 use Rattle.workers.specs.Publishing.{IsNoneDue, ArePublished}
 
 -- ---- the words of a round
@@ -249,14 +249,14 @@ module _ {D : Type 0} (faults : D → ℕ) where
   abbrev pub Causes : ImageAnswer → (old new : ImageWriter D) → Type 0
   Causes given old new = HasCause given old.keeper.phase (faults old.image_a) (faults new.image_a) (faults old.image_b) (faults new.image_b)
 
-  pub faults_step : (given : ImageAnswer) (old new : ImageWriter D) → 0 < left_of old.keeper → ((given ≡ answer.Down) ↔ (new.keeper.phase ≡ Down)) → Causes given old new → TellsFaults faults old new
+  pub faults_step : (given : ImageAnswer) (old new : ImageWriter D) → 0 < left_of old.keeper → ((given ≡ answer.Down) ↔ (new.keeper.phase ≡ Down)) → Causes given old new → ReportsFaults faults old new
   faults_step answer.Idle old new some down cause = record { down = λ is. absurd (let e = down.1 is in cc); up = λ _. cause }
   faults_step answer.Working old new some down cause = record { down = λ is. absurd (let e = down.1 is in cc); up = λ _. cause }
   faults_step (answer.Opened tick) old new some down cause = record { down = λ is. absurd (let e = down.1 is in cc); up = λ _. cause }
   faults_step answer.Down old new some down (inl was) = absurd (not_down old.keeper some was)
   faults_step answer.Down old new some down (inr failed) = record { down = λ _. failed; up = λ up. absurd (up (down.0 refl)) }
 
-  pub faults_none : (images : ImageWriter D) → 0 < left_of images.keeper → TellsFaults faults images images
+  pub faults_none : (images : ImageWriter D) → 0 < left_of images.keeper → ReportsFaults faults images images
   faults_none images some = record { down = λ is. absurd (not_down images.keeper some is); up = λ _. (refl, refl) }
 
 -- ---- a turn

@@ -11,7 +11,7 @@ pub mod Waits
 mod Coverings
 mod Failing
 mod Calling
-pub mod Tellings
+pub mod Reporting
 pub mod Loggings
 mod Imagings
 mod Publishings

@@ -22,9 +22,9 @@ use Rattle.workers.specs.Items.{Goes, end_after, items_end, record_of, records_o
 use Rattle.workers.specs.Channel.{Popping}
 use Rattle.workers.specs.Answering.{Answering, AreNext, answers_of, all_answers_of}
 use Rattle.workers.specs.Covering.{LeavesOut, loaded}
-use Rattle.workers.specs.Logging.{Logging, IsLogging, Writes, told_in, is_stop, has_stop, is_over, Took, HasAcked, LogStands, IsReady, writer_at}
+use Rattle.workers.specs.Logging.{Logging, IsLogging, Writes, content_in, is_stop, has_stop, is_over, Took, HasAcked, LogStands, IsReady, writer_at}
 use Rattle.workers.proofs.Numbers.{end_more}
-use Rattle.workers.proofs.Tellings.{LogAdvances, writes_on, writes_more, writes_lost}
+use Rattle.workers.proofs.Reporting.{LogAdvances, writes_on, writes_more, writes_lost}
 
 pub records_more : (items : List Item) (x : Item) → records_of (items ++ x ∷ []) ≡ records_of items ++ record_of x
 records_more [] x = append-nil (record_of x)
@@ -75,20 +75,20 @@ module _ {D : Type 0} (file : D → List ℕ) (leaves : D → List ℕ → Type 
     most = popped_most item from popped goes;
     posted = λ u. ap (λ (a : Answering). a.posted) answers_is ∙ (is.posted u ∙ sym (ap (λ (a : Answering). a.answered) answers_is));
     durable = subst (λ (a : Answering). a.posted ≤ w.acked) (sym answers_is) is.durable;
-    tells = is.tells;
+    reports = is.reports;
     writes = λ h logs stands.
-        (subst (λ (r : List Record). Writes file leaves w.log ring.items w.covers.ticks w.acked w.down (told_in logs) r) (sym (ap records_of popped ∙ records_more w.from.items item))
-        (subst (λ (b : Buffer Record). Writes file leaves w.log b.items w.covers.ticks w.acked w.down (told_in logs) (records_of w.from.items ++ record_of item)) (sym ring_is)
-        (writes_more file leaves w.log w.ring.items (record_of item) w.covers.ticks w.acked w.down (told_in logs) (records_of w.from.items) up (is.writes h logs stands))));
+        (subst (λ (r : List Record). Writes file leaves w.log ring.items w.covers.ticks w.acked w.down (content_in logs) r) (sym (ap records_of popped ∙ records_more w.from.items item))
+        (subst (λ (b : Buffer Record). Writes file leaves w.log b.items w.covers.ticks w.acked w.down (content_in logs) (records_of w.from.items ++ record_of item)) (sym ring_is)
+        (writes_more file leaves w.log w.ring.items (record_of item) w.covers.ticks w.acked w.down (content_in logs) (records_of w.from.items) up (is.writes h logs stands))));
   }
 
   -- the content of the files after a step with this answer
-  pub told_on : (covers : CoverState) (tick : ℕ) (log : Log D) (ring : Buffer Record) (given : LogAnswer) (acked : ℕ) → (acked ≡ w.acked) ⊎ (given ≡ answer.Acked acked)
+  pub reported_on : (covers : CoverState) (tick : ℕ) (log : Log D) (ring : Buffer Record) (given : LogAnswer) (acked : ℕ) → (acked ≡ w.acked) ⊎ (given ≡ answer.Acked acked)
       → covers ≡ loaded w.covers tick → (IsTrue honest → LogAdvances file leaves tick w.log log w.ring.items ring.items given)
-      → IsTrue honest → (logs : Logs) → LogStands file leaves w.opening logs → Writes file leaves log ring.items covers.ticks acked w.down (told_in logs) (records_of w.from.items)
-  told_on covers tick log ring given acked which told advances = λ h logs stands.
-      subst (λ (c : CoverState). Writes file leaves log ring.items c.ticks acked w.down (told_in logs) (records_of w.from.items)) (sym told)
-      (writes_on file leaves w.log log w.ring.items ring.items tick w.covers.ticks given w.acked acked w.down (told_in logs) (records_of w.from.items) is.follows which (advances h) (is.writes h logs stands))
+      → IsTrue honest → (logs : Logs) → LogStands file leaves w.opening logs → Writes file leaves log ring.items covers.ticks acked w.down (content_in logs) (records_of w.from.items)
+  reported_on covers tick log ring given acked which reported advances = λ h logs stands.
+      subst (λ (c : CoverState). Writes file leaves log ring.items c.ticks acked w.down (content_in logs) (records_of w.from.items)) (sym reported)
+      (writes_on file leaves w.log log w.ring.items ring.items tick w.covers.ticks given w.acked acked w.down (content_in logs) (records_of w.from.items) is.follows which (advances h) (is.writes h logs stands))
 
   pub advanced : (covers : CoverState) (tick : ℕ) (log : Log D) (ring : Buffer Record) (answers : Answering) (given : LogAnswer) (acked : ℕ) → log.keeper.starting ≡ false → (IsTrue honest → FitsFiles log.keeper (file log.a) (file log.b))
       → QueueFollows log.keeper ring.items → end_of log.keeper ring.items ≡ end_of w.log.keeper w.ring.items → ring.capacity ≡ w.ring.capacity
@@ -96,7 +96,7 @@ module _ {D : Type 0} (file : D → List ℕ) (leaves : D → List ℕ → Type 
       → (acked ≡ w.acked) ⊎ (given ≡ answer.Acked acked)
       → covers ≡ loaded w.covers tick → (IsTrue honest → LogAdvances file leaves tick w.log log w.ring.items ring.items given)
       → IsLogging file leaves honest (record w { covers = covers; log = log; ring = ring; answers = answers; acked = acked })
-  advanced covers tick log ring answers given acked started fits follows end capacity room count posted durable which told advances = record {
+  advanced covers tick log ring answers given acked started fits follows end capacity room count posted durable which reported advances = record {
     started = started;
     fits = fits;
     follows = follows;
@@ -107,8 +107,8 @@ module _ {D : Type 0} (file : D → List ℕ) (leaves : D → List ℕ → Type 
     most = is.most;
     posted = λ up. posted (is.posted up);
     durable = durable;
-    tells = is.tells;
-    writes = told_on covers tick log ring given acked which told advances;
+    reports = is.reports;
+    writes = reported_on covers tick log ring given acked which reported advances;
   }
 
   -- an item is popped and its answer refused, if no other answer waits
@@ -133,10 +133,10 @@ module _ {D : Type 0} (file : D → List ℕ) (leaves : D → List ℕ → Type 
           most = popped_most item from popped goes;
           posted = λ up. absurd (let e : true ≡ false = sym down ∙ up in cc);
           durable = subst (λ (a : Answering). a.posted ≤ w.acked) (sym answers_is) is.durable;
-          tells = is.tells;
+          reports = is.reports;
           writes = λ h logs stands.
-              (subst (λ (r : List Record). Writes file leaves w.log w.ring.items w.covers.ticks w.acked w.down (told_in logs) r) (sym (ap records_of popped ∙ records_more w.from.items item))
-              (writes_lost file leaves w.log w.ring.items (record_of item) w.covers.ticks w.acked w.down (told_in logs) (records_of w.from.items) down (is.writes h logs stands)));
+              (subst (λ (r : List Record). Writes file leaves w.log w.ring.items w.covers.ticks w.acked w.down (content_in logs) r) (sym (ap records_of popped ∙ records_more w.from.items item))
+              (writes_lost file leaves w.log w.ring.items (record_of item) w.covers.ticks w.acked w.down (content_in logs) (records_of w.from.items) down (is.writes h logs stands)));
         }
 
 -- ---- the items that a turn pops
@@ -224,9 +224,9 @@ module _ {D : Type 0} (file : D → List ℕ) (leaves : D → List ℕ → Type 
     switched = λ number is. absurd (let none = ready_switch log tick logs ready stands in cc);
   }
 
-  begins : (from : Popping) (covers told_down : CoverState) (log : Log D) (tick : ℕ) → from.items ≡ Start tick ∷ [] → told_down.ticks ≡ [] → tick ≤ TICK_MAX → IsReady log.keeper tick → (IsTrue honest → FitsFiles log.keeper (file log.a) (file log.b))
-      → IsLogging file leaves honest (writer_at from covers told_down log tick)
-  begins from covers told_down log tick opened untold most ready fits =
+  begins : (from : Popping) (covers reported_down : CoverState) (log : Log D) (tick : ℕ) → from.items ≡ Start tick ∷ [] → reported_down.ticks ≡ [] → tick ≤ TICK_MAX → IsReady log.keeper tick → (IsTrue honest → FitsFiles log.keeper (file log.a) (file log.b))
+      → IsLogging file leaves honest (writer_at from covers reported_down log tick)
+  begins from covers reported_down log tick opened unreported most ready fits =
       let k = log.keeper in
       let last : items_end from.items ≡ record { base = tick; count = 0 } = ap items_end opened in record {
         started = ready.started;
@@ -239,13 +239,13 @@ module _ {D : Type 0} (file : D → List ℕ) (leaves : D → List ℕ → Type 
         most = subst (λ (e : QueueEnd). e.base + e.count ≤ TICK_MAX) (sym last) (omega (arith, most));
         posted = λ up. refl;
         durable = omega arith;
-        tells = (λ up. untold, λ no. absurd (cc));
+        reports = (λ up. unreported, λ no. absurd (cc));
         writes = λ h logs stands. let none = ready_switch log tick logs ready stands in record {
           logs = logs;
           stands = stands;
           given = [];
           lost = [];
-          told = refl;
+          reported = refl;
           order = subst (λ (all : List Record). LeavesOut covers.ticks all (with_work logs.switch [] ++ [])) (sym (ap records_of opened)) (ap (λ (s : Option ℕ). with_work s [] ++ []) none);
           one_job = subst (λ (s : Option ℕ). IfSome s (λ _. logs.pending ≡ [])) (sym none) tt;
           none_lost = λ up. refl;
@@ -253,11 +253,11 @@ module _ {D : Type 0} (file : D → List ℕ) (leaves : D → List ℕ → Type 
         };
       }
 
-  pub begins_of : (from : Popping) (covers told_down : CoverState) (log opening : Log D) (ring : Buffer Record) (answers : Answering) (tick : ℕ) → from.items ≡ Start tick ∷ [] → told_down.ticks ≡ [] → tick ≤ TICK_MAX → IsReady log.keeper tick → (IsTrue honest → FitsFiles log.keeper (file log.a) (file log.b))
-      → ring ≡ (writer_at from covers told_down log tick).ring → answers ≡ (writer_at from covers told_down log tick).answers → opening ≡ log → IsLogging file leaves honest (record (writer_at from covers told_down log tick) { ring = ring; answers = answers; opening = opening })
-  begins_of from covers told_down log opening ring answers tick opened untold most ready fits ring_is answers_is opening_is =
-      subst (λ (x : Buffer Record × Answering × Log D). IsLogging file leaves honest (record (writer_at from covers told_down log tick) { ring = x.0; answers = x.1; opening = x.2 }))
-      (λ i. (sym ring_is i, sym answers_is i, sym opening_is i)) (begins from covers told_down log tick opened untold most ready fits)
+  pub begins_of : (from : Popping) (covers reported_down : CoverState) (log opening : Log D) (ring : Buffer Record) (answers : Answering) (tick : ℕ) → from.items ≡ Start tick ∷ [] → reported_down.ticks ≡ [] → tick ≤ TICK_MAX → IsReady log.keeper tick → (IsTrue honest → FitsFiles log.keeper (file log.a) (file log.b))
+      → ring ≡ (writer_at from covers reported_down log tick).ring → answers ≡ (writer_at from covers reported_down log tick).answers → opening ≡ log → IsLogging file leaves honest (record (writer_at from covers reported_down log tick) { ring = ring; answers = answers; opening = opening })
+  begins_of from covers reported_down log opening ring answers tick opened unreported most ready fits ring_is answers_is opening_is =
+      subst (λ (x : Buffer Record × Answering × Log D). IsLogging file leaves honest (record (writer_at from covers reported_down log tick) { ring = x.0; answers = x.1; opening = x.2 }))
+      (λ i. (sym ring_is i, sym answers_is i, sym opening_is i)) (begins from covers reported_down log tick opened unreported most ready fits)
 
 pub ready_rests : (keeper : Progress) (tick : ℕ) → IsReady keeper tick → work_of keeper [] ≡ 0
 ready_rests keeper tick ready = ap (λ p. rest_in p keeper.other_shut + 0) ready.phase

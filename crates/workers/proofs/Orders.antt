@@ -12,7 +12,7 @@ use Rattle.workers.specs.declared.item.View.{View}
 use Rattle.workers.specs.declared.item.View.TheVariants as V
 use Rattle.workers.specs.Items.{AreNumbered}
 use Rattle.workers.proofs.Numbers.{prefix_numbered}
-use Rattle.workers.specs.Order.{Knows, IsInOrder, pushed_of, popped_of, pushed, popped, tells_all, pushing_part, popping_part, whole}
+use Rattle.workers.specs.Order.{Knows, IsInOrder, pushed_of, popped_of, pushed, popped, reports_all, pushing_part, popping_part, whole}
 
 -- the knowledge of a seat that is neither end
 others : (a b : List Item) (p o : ℕ) (t s : List Item) (q r j : ℕ) (v : View) → (j ≡ p → a ≡ b) → (j ≡ p → p ≡ o) → (j ≡ q → t ≡ s) → (j ≡ q → q ≡ r) → Knows a p t q j v → Knows b o s r j v
@@ -97,9 +97,9 @@ merges_both id xs there ys items views k at apart beside =
 pub merges : (id : ℕ) (v : View) (there : ℕ) (w : View) → v ≡ V.Pushes (pushed_of v) → w ≡ V.Pops (popped_of w) → Merges IsInOrder id v there w (whole v w) V.Spent
 merges id v there w is is' = subst (λ (z : View × View). Merges IsInOrder id z.0 there z.1 (whole z.0 z.1) V.Spent) (λ i. (sym is i, sym is' i)) (merges_both id (pushed_of v) there (popped_of w))
 
-pub learns : (id : ℕ) (v : View) (xs ys : List Item) → v ≡ V.Both xs ys → Learns IsInOrder id v (tells_all v)
+pub learns : (id : ℕ) (v : View) (xs ys : List Item) → v ≡ V.Both xs ys → Learns IsInOrder id v (reports_all v)
 learns id v xs ys is items views k at = let known = subst (Knows k.all k.pushed_at k.taken k.popped_at id) is (k.each_seat id v at) in
-    subst (λ (z : View). tells_all z items) (sym is) (ap (λ (l : List Item). l ++ items) known.3 ∙ (k.order ∙ sym known.2))
+    subst (λ (z : View). reports_all z items) (sym is) (ap (λ (l : List Item). l ++ items) known.3 ∙ (k.order ∙ sym known.2))
 
 pub learns_nothing : (id : ℕ) (v : View) → Learns IsInOrder id v (λ items. Unit {0})
 learns_nothing id v items views k at = tt

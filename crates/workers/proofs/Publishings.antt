@@ -11,7 +11,7 @@ use Rattle.shared_capture.specs.CoverWord.{CoverState}
 use Rattle.shared_capture.specs.States.{BackState}
 use Rattle.workers.specs.declared.checkpointer.round.ImageWriter.{ImageWriter}
 use Rattle.workers.specs.Imaging.{newest_after, HasRound, RoundRuns, Publishes, AreInStep, FollowsRounds, WriterFits, Imaging, IsCheckpointer}
-use Rattle.workers.specs.Publishing.{told, ArePublished}
+use Rattle.workers.specs.Publishing.{reported, ArePublished}
 use Rattle.workers.proofs.Imagings.{newest_more, is_idle, checkpointer_goes_on}
 
 -- the same rounds are done
@@ -23,7 +23,7 @@ pub publishes_none : (tick : ℕ) (keeper : Progress) (covers : CoverState) → 
 publishes_none tick keeper covers busy = record { in_work = λ _. refl; done = λ over. absurd (busy over) }
 
 done_next : (tick : ℕ) (newest opened newest' : Option (Slot × ℕ)) (done done' : List Snapshot) (covers covers' : CoverState) → ArePublished newest done covers → newest_tick newest < tick
-    → newest' ≡ newest_after opened done' → (s : Snapshot) → s.tick ≡ tick → done' ≡ done ++ s ∷ [] → covers' ≡ told covers tick → ArePublished newest' done' covers'
+    → newest' ≡ newest_after opened done' → (s : Snapshot) → s.tick ≡ tick → done' ≡ done ++ s ∷ [] → covers' ≡ reported covers tick → ArePublished newest' done' covers'
 done_next tick newest opened newest' done done' covers covers' p newer last s of_it more is =
     let ticks : covers'.ticks ≡ covers.ticks ++ tick ∷ [] = ap (λ (c : CoverState). c.ticks) is in
     let newest_is : newest_tick newest' ≡ tick = ap newest_tick (last ∙ (ap (newest_after opened) more ∙ newest_more opened done s)) ∙ of_it in

@@ -48,6 +48,6 @@ cover_receipt answer.Down p last some = refl
 pub acknowledged : {D : Type 0} (seen w : Logging D) → w ≡ seen → (covers : CoverState) (tick : ℕ) (log : Log D) (ring : Buffer Record) (answers : Answering) (acked : ℕ) → covers ≡ loaded w.covers tick
     → (receipt : Option ℕ) → receipt ≡ receipt_of w.log.keeper tick w.ring.items log.keeper → Acknowledges receipt w (record w { covers = covers; log = log; ring = ring; answers = answers; acked = acked })
     → (cover : ℕ) × (covers ≡ loaded seen.covers cover) × Acknowledges (receipt_of seen.log.keeper cover seen.ring.items log.keeper) seen (record w { covers = covers; log = log; ring = ring; answers = answers; acked = acked })
-acknowledged {D} seen w same covers tick log ring answers acked told receipt is acks =
+acknowledged {D} seen w same covers tick log ring answers acked reported receipt is acks =
     subst (λ (x : Logging D). (cover : ℕ) × (covers ≡ loaded x.covers cover) × Acknowledges (receipt_of x.log.keeper cover x.ring.items log.keeper) x (record w { covers = covers; log = log; ring = ring; answers = answers; acked = acked })) same
-    (tick, told, subst (λ (r : Option ℕ). Acknowledges r w (record w { covers = covers; log = log; ring = ring; answers = answers; acked = acked })) is acks)
+    (tick, reported, subst (λ (r : Option ℕ). Acknowledges r w (record w { covers = covers; log = log; ring = ring; answers = answers; acked = acked })) is acks)

@@ -11,7 +11,7 @@ use Rattle.workers.specs.declared.gate.Place.TheVariants.{Device}
 use Rattle.workers.specs.declared.gate.Pass.{Pass}
 use Rattle.workers.specs.Gates.{MayGo}
 use Rattle.workers.specs.declared.checkpointer.round.ImageWriter.{ImageWriter}
-use Rattle.workers.specs.Imaging.{place_of, HasRound, RoundRuns, TellsFaults, Imaging, GoesOn, KeepsBack}
+use Rattle.workers.specs.Imaging.{place_of, HasRound, RoundRuns, ReportsFaults, Imaging, GoesOn, KeepsBack}
 use Rattle.workers.proofs.Imagings.{is_busy}
 
 runs_then : (keeper next : Progress) (old mid new : BackState) → HasRound keeper → RoundRuns old keeper mid → RoundRuns mid next new → RoundRuns old next new
@@ -24,8 +24,8 @@ runs_then keeper next old mid new busy first then =
     }
 
 module _ {D : Type 0} (faults : D → ℕ) where
-  told_then : (old mid new : ImageWriter D) → mid.keeper.phase ≢ Down → TellsFaults faults old mid → TellsFaults faults mid new → TellsFaults faults old new
-  told_then old mid new up first then =
+  reported_then : (old mid new : ImageWriter D) → mid.keeper.phase ≢ Down → ReportsFaults faults old mid → ReportsFaults faults mid new → ReportsFaults faults old new
+  reported_then old mid new up first then =
       let same = first.up up in
       record {
         down = λ fell. subst (λ (x : ℕ × ℕ). FaultsBy true x.0 (faults new.image_a) x.1 (faults new.image_b)) (λ i. (same.0 i, same.1 i)) (then.down fell);
@@ -51,7 +51,7 @@ module _ {D : Type 0} (faults : D → ℕ) where
     pub goes_then : (old mid new : Imaging D) → mid.over ≡ false → 0 < left_of mid.images.keeper → GoesOn go stuck faults old mid → GoesOn go stuck faults mid new → GoesOn go stuck faults old new
     goes_then old mid new goes left first then = record {
       runs = runs_then mid.images.keeper new.images.keeper old.back mid.back new.back (is_busy mid.images.keeper left) first.runs then.runs;
-      failures = told_then old.images mid.images new.images (first.up goes) first.failures then.failures;
+      failures = reported_then old.images mid.images new.images (first.up goes) first.failures then.failures;
       asks = elim first.asks [
         | inl same ↦ elim then.asks [ inl still ↦ inl (still ∙ same) | inr let_go ↦ inr let_go ]
         | inr let_go ↦ inr let_go
@@ -70,16 +70,16 @@ goes_at faults go stuck go' stuck' old new going sticking goes = record {
   up = goes.up;
 }
 
-module _ {D G : Type 0} (told : G → Place → Pass → G → Type 0) where
+module _ {D G : Type 0} (reported : G → Place → Pass → G → Type 0) where
   -- the files stay as they are, or the gate may let a call of a device be made
   abbrev pub FilesAsk : (old new : ImageWriter D) → Type 0
-  FilesAsk old new = ((new.image_a ≡ old.image_a) × (new.image_b ≡ old.image_b)) ⊎ MayGo told Device
+  FilesAsk old new = ((new.image_a ≡ old.image_a) × (new.image_b ≡ old.image_b)) ⊎ MayGo reported Device
 
-  all_same : (old new : ImageWriter D) → (new ≡ old) ⊎ MayGo told Device → FilesAsk old new
+  all_same : (old new : ImageWriter D) → (new ≡ old) ⊎ MayGo reported Device → FilesAsk old new
   all_same old new (inl same) = inl (ap (λ (w : ImageWriter D). w.image_a) same, ap (λ (w : ImageWriter D). w.image_b) same)
   all_same old new (inr let_go) = inr let_go
 
-  pub files_ask : (phase : Phase) (old new : ImageWriter D) → (new ≡ old) ⊎ MayGo told (place_of phase) → (phase ≡ Taking → (new.image_a ≡ old.image_a) × (new.image_b ≡ old.image_b)) → FilesAsk old new
+  pub files_ask : (phase : Phase) (old new : ImageWriter D) → (new ≡ old) ⊎ MayGo reported (place_of phase) → (phase ≡ Taking → (new.image_a ≡ old.image_a) × (new.image_b ≡ old.image_b)) → FilesAsk old new
   files_ask Idle old new asks takes = all_same old new asks
   files_ask Closing old new asks takes = all_same old new asks
   files_ask ClosingSync old new asks takes = all_same old new asks

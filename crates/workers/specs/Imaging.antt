@@ -15,7 +15,7 @@ use Rattle.shared_capture.specs.CoverWord.{CoverState}
 use Rattle.workers.specs.declared.gate.Place.{Place}
 use Rattle.workers.specs.declared.gate.Place.TheVariants.{Take, Device}
 use Rattle.workers.specs.declared.checkpointer.round.ImageWriter.{ImageWriter}
-use Rattle.workers.specs.Publishing.{IsNoneDue, told, ArePublished}
+use Rattle.workers.specs.Publishing.{IsNoneDue, reported, ArePublished}
 
 -- ---- the images of rounds
 
@@ -67,7 +67,7 @@ IsInWork old tick new = (new.working ≡ true) × (new.now.tick ≡ tick) × (ne
 -- a round's tick is published once the keeper has no round any more, and not before
 pub record Publishes (tick : ℕ) (keeper : Progress) (old new : CoverState) : Type 0 where
   pub in_work : HasRound keeper → new ≡ old
-  pub done : keeper.phase ≡ Idle → new ≡ told old tick
+  pub done : keeper.phase ≡ Idle → new ≡ reported old tick
 
 -- A round stays in work as long as the keeper has one, and is done once the keeper has none. The pair, the number of cells
 -- and the loads of the phase stay the same.
@@ -100,7 +100,7 @@ abbrev pub WriterFits : {D : Type 0} → (D → List ℕ) → ImageWriter D → 
 WriterFits file writer = FitsFiles writer.keeper (file writer.image_a) (file writer.image_b)
 
 -- the keeper is down only by a failed call of a device, and no failure is passed over
-pub record TellsFaults {D : Type 0} (faults : D → ℕ) (old new : ImageWriter D) : Type 0 where
+pub record ReportsFaults {D : Type 0} (faults : D → ℕ) (old new : ImageWriter D) : Type 0 where
   pub down : new.keeper.phase ≡ Down → FaultsBy true (faults old.image_a) (faults new.image_a) (faults old.image_b) (faults new.image_b)
   pub up : (new.keeper.phase ≡ Down → ⊥) → FaultsBy false (faults old.image_a) (faults new.image_a) (faults old.image_b) (faults new.image_b)
 
@@ -178,7 +178,7 @@ pub record FindsRound {D : Type 0} (old : Imaging D) (number : ℕ) (new : Imagi
 -- call of a device failed or the gate lets no other be made.
 pub record GoesOn {D : Type 0} (go stuck : Type 0) (faults : D → ℕ) (old new : Imaging D) : Type 0 where
   pub runs : RoundRuns old.back new.images.keeper new.back
-  pub failures : TellsFaults faults old.images new.images
+  pub failures : ReportsFaults faults old.images new.images
   pub asks : (new.images ≡ old.images) ⊎ go
   pub over : new.over ≡ true → HasRound new.images.keeper × ((new.images.keeper.phase ≡ Down) ⊎ stuck)
   pub up : new.over ≡ false → new.images.keeper.phase ≢ Down

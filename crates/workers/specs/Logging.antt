@@ -26,7 +26,7 @@ use Rattle.workers.specs.Items.{items_end, records_of}
 use Rattle.workers.specs.Channel.{Popping}
 use Rattle.workers.specs.Answering.{Answering, Posts, AreLater, answers_of, all_answers_of}
 use Rattle.workers.specs.Covering.{LeavesOut, IsCovered}
-use Rattle.workers.specs.Publishing.{told as with_told}
+use Rattle.workers.specs.Publishing.{reported as with_reported}
 
 -- true if the item is the last one
 abbrev pub is_stop : Item → Bool
@@ -47,22 +47,22 @@ is_over more = has_stop more
 -- ---- the content of the files
 
 -- the other segment as it is read, and the base and the ticks of the current one
-pub record Told : Type 0 where
+pub record LogContent : Type 0 where
   pub before : Segment
   pub base : ℕ
   pub ticks : List Tick
 
-abbrev pub after_record : Told → Record → Told
-after_record told (records.Tick tick) = record told { ticks = told.ticks ++ tick.list ∷ [] }
-after_record told (records.Switch number) = record { before = OpenSegment told.base told.ticks; base = number; ticks = [] }
+abbrev pub after_record : LogContent → Record → LogContent
+after_record content (records.Tick tick) = record content { ticks = content.ticks ++ tick.list ∷ [] }
+after_record content (records.Switch number) = record { before = OpenSegment content.base content.ticks; base = number; ticks = [] }
 
-abbrev pub after_records : Told → List Record → Told
-after_records told [] = told
-after_records told (first ∷ queue) = after_records (after_record told first) queue
+abbrev pub after_records : LogContent → List Record → LogContent
+after_records content [] = content
+after_records content (first ∷ queue) = after_records (after_record content first) queue
 
 -- the content of the two segments, with the group in work and without the switch in work
-abbrev pub told_in : Logs → Told
-told_in logs = record { before = logs.before; base = logs.base; ticks = logs.kept ++ logs.pending }
+abbrev pub content_in : Logs → LogContent
+content_in logs = record { before = logs.before; base = logs.base; ticks = logs.kept ++ logs.pending }
 
 -- a group or a switch is in work, not both
 abbrev pub HasOneJob : Logs → Type 0
@@ -79,7 +79,7 @@ pub record HasAcked (acked : ℕ) (logs : Logs) : Type 0 where
 pub record Logging (D : Type 0) : Type 0 where
   pub from : Popping
   pub covers : CoverState
-  pub told_down : CoverState
+  pub reported_down : CoverState
   pub log : Log D
   pub ring : Buffer Record
   pub answers : Answering
@@ -96,11 +96,11 @@ pub record IsReady (keeper : Progress) (tick : ℕ) : Type 0 where
   pub count : keeper.count ≡ 0
 
 -- the log writer as it begins
-abbrev pub writer_at : {D : Type 0} → Popping → (covers told_down : CoverState) → Log D → (tick : ℕ) → Logging D
-writer_at from covers told_down log tick = record {
+abbrev pub writer_at : {D : Type 0} → Popping → (covers reported_down : CoverState) → Log D → (tick : ℕ) → Logging D
+writer_at from covers reported_down log tick = record {
   from = from;
   covers = covers;
-  told_down = told_down;
+  reported_down = reported_down;
   log = log;
   ring = record { items = []; capacity = QUEUE_RECORDS };
   answers = record { waiting = []; room = QUEUE_RECORDS; answered = tick; posted = tick };
@@ -117,7 +117,7 @@ pub record IsAtRest {D : Type 0} (w : Logging D) : Type 0 where
 
 -- The keeper goes down only by a failed call of a device, and no failure is passed over. A keeper that is down makes no
 -- call.
-pub record LogTellsFaults {D : Type 0} (faults : D → ℕ) (old new : Log D) : Type 0 where
+pub record LogReportsFaults {D : Type 0} (faults : D → ℕ) (old new : Log D) : Type 0 where
   pub down : old.keeper.down ≡ false → new.keeper.down ≡ true → FaultsBy true (faults old.a) (faults new.a) (faults old.b) (faults new.b)
   pub up : new.keeper.down ≡ false → FaultsBy false (faults old.a) (faults new.a) (faults old.b) (faults new.b)
   pub stays : old.keeper.down ≡ true → new ≡ old
@@ -135,8 +135,8 @@ pub record IsPosted {D : Type 0} (w : Logging D) : Type 0 where
   pub acknowledged : w.answers.posted ≤ w.acked
 
 -- the log writer has stored a single 1 once the log is down, and nothing before
-abbrev pub TellsDown : Bool → List ℕ → Type 0
-TellsDown down told = (down ≡ false → told ≡ []) × (down ≡ true → told ≡ 1 ∷ [])
+abbrev pub ReportsDown : Bool → List ℕ → Type 0
+ReportsDown down reported = (down ≡ false → reported ≡ []) × (down ≡ true → reported ≡ 1 ∷ [])
 
 module _ {D : Type 0} (file : D → List ℕ) (leaves : D → List ℕ → Type 0) where
   -- the keeper and its files represent this log
@@ -146,12 +146,12 @@ module _ {D : Type 0} (file : D → List ℕ) (leaves : D → List ℕ → Type 
   -- The files hold what they held at first, followed by the first of these records, except those left out for a switch at
   -- one of these ticks. Then come the switch in work and the queued records. Once the log is down, others after them may be
   -- lost. All ticks up to the acknowledged one are written, or one of these ticks isn't below it.
-  pub record Writes (log : Log D) (ring : List Record) (covers : List ℕ) (acked : ℕ) (down : Bool) (first : Told) (all : List Record) : Type 0 where
+  pub record Writes (log : Log D) (ring : List Record) (covers : List ℕ) (acked : ℕ) (down : Bool) (first : LogContent) (all : List Record) : Type 0 where
     pub logs : Logs
     pub stands : LogStands log logs
     pub given : List Record
     pub lost : List Record
-    pub told : told_in logs ≡ after_records first given
+    pub reported : content_in logs ≡ after_records first given
     pub order : LeavesOut covers all (given ++ (with_work logs.switch ring ++ lost))
     pub one_job : HasOneJob logs
     pub none_lost : down ≡ false → lost ≡ []
@@ -168,8 +168,8 @@ module _ {D : Type 0} (file : D → List ℕ) (leaves : D → List ℕ → Type 
     pub most : (items_end w.from.items).base + (items_end w.from.items).count ≤ TICK_MAX
     pub posted : w.down ≡ false → w.answers.posted ≡ w.answers.answered
     pub durable : w.answers.posted ≤ w.acked
-    pub tells : TellsDown w.down w.told_down.ticks
-    pub writes : IsTrue honest → (logs : Logs) → LogStands w.opening logs → Writes w.log w.ring.items w.covers.ticks w.acked w.down (told_in logs) (records_of w.from.items)
+    pub reports : ReportsDown w.down w.reported_down.ticks
+    pub writes : IsTrue honest → (logs : Logs) → LogStands w.opening logs → Writes w.log w.ring.items w.covers.ticks w.acked w.down (content_in logs) (records_of w.from.items)
 
 -- The log writer while it posts answers: the log as it began, the popped items, the word that it loads, and the log and the
 -- queue now.
@@ -185,7 +185,7 @@ pub record Holding (D : Type 0) : Type 0 where
 abbrev pub IsDurable : {D : Type 0} → (file : D → List ℕ) → (leaves : D → List ℕ → Type 0) → Holding D → (number : ℕ) → Type 0
 IsDurable file leaves held number =
     (first : Logs) → LogStands file leaves held.opening first
-    → Writes file leaves held.log held.ring.items held.covers.ticks number false (told_in first) (records_of held.from.items)
+    → Writes file leaves held.log held.ring.items held.covers.ticks number false (content_in first) (records_of held.from.items)
 
 -- these items were popped, their records are queued, and their answers wait
 pub record Took {D : Type 0} (old new : Logging D) (more : List Item) : Type 0 where
@@ -231,7 +231,7 @@ Acknowledges (Some receipt) old new =
 -- refuses each waiting answer. If none waits, nothing changes.
 abbrev pub Settles : {D : Type 0} → Logging D → Logging D → Type 0
 Settles old new = ((old.answers.waiting ≡ []) × (new ≡ old))
-    ⊎ ((new.answers.posted < new.answers.answered) × (new ≡ record old { down = true; told_down = with_told old.told_down 1; answers = refused old.answers }))
+    ⊎ ((new.answers.posted < new.answers.answered) × (new ≡ record old { down = true; reported_down = with_reported old.reported_down 1; answers = refused old.answers }))
 
 -- this item was popped, and its answer refused
 pub record Loses {D : Type 0} (old : Logging D) (item : Item) (new : Logging D) : Type 0 where

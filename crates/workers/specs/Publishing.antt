@@ -16,8 +16,8 @@ pub record IsNext (covers : CoverState) (tick : ℕ) : Type 0 where
   pub newer : (i earlier : ℕ) → slice_get covers.ticks i ≡ Some earlier → earlier < tick
 
 -- the tick was published
-abbrev pub told : CoverState → ℕ → CoverState
-told covers tick = record covers { ticks = covers.ticks ++ tick ∷ [] }
+abbrev pub reported : CoverState → ℕ → CoverState
+reported covers tick = record covers { ticks = covers.ticks ++ tick ∷ [] }
 
 -- the ticks of the rounds that are done were published, each once and in order, and no other; none is newer than the
 -- newest image

@@ -70,10 +70,10 @@ IsLate items late = (late ≡ []) ⊎ ((number : ℕ) × (late ≡ Switch number
 pub record History (opening : List ℕ) (items : List Item) (down : Bool) (front : FrontState) : Type 0 where
   pub late : List Item
   pub is_late : IsLate items late
-  pub told : World
-  pub leads : Leads (begun opening) (items ++ late) told
-  pub rounds : front.rounds ≡ told.rounds
-  pub all_told : down ≡ false → (late ≡ []) × (told ≡ world_of front)
+  pub reported : World
+  pub leads : Leads (begun opening) (items ++ late) reported
+  pub rounds : front.rounds ≡ reported.rounds
+  pub all_reported : down ≡ false → (late ≡ []) × (reported ≡ world_of front)
 
 -- so many ticks ended, and so many of them since the last switch or start
 pub record Counts (end : QueueEnd) (ended since : ℕ) : Type 0 where

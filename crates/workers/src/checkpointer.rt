@@ -7,7 +7,7 @@ ghost use Rattle.image_files.specs.Progress.{left_of, newest_tick};
 ghost use Rattle.workers.specs.declared.gate.Place.{Place as Asked};
 ghost use Rattle.workers.specs.declared.gate.Place.TheVariants.{Device};
 ghost use Rattle.workers.specs.Gates.{MayGo, MayStick};
-ghost use Rattle.workers.specs.Imaging.{place_of, HasRound, FindsNone, FindsRound, GoesOn, IsAtRest, IsDone, KeepsBack, TellsFaults, Turned, WriterFits};
+ghost use Rattle.workers.specs.Imaging.{place_of, HasRound, FindsNone, FindsRound, GoesOn, IsAtRest, IsDone, KeepsBack, ReportsFaults, Turned, WriterFits};
 ghost use Rattle.workers.specs.Publishing.{IsNoneDue};
 
 use crate::checkpointer::publisher::Publisher;
@@ -108,11 +108,11 @@ impl<M: Method, D: Disk + Drop, G: Gate + Drop> Checkpointer<M, D, G> {
         requires rest { IsAtRest self.old.images.keeper self.old.back }
         ensures rest { self.new.over ≡ false → IsAtRest self.new.images.keeper self.new.back }
         ensures same { (self.new.back.pair ≡ self.old.back.pair) × (self.new.back.cells ≡ self.old.back.cells) × (self.new.covers.pair ≡ self.old.covers.pair) × (self.new.opening ≡ self.old.opening) }
-        ensures turned { Turned ((place : Asked) × MayStick G.told place) self.old self.new }
+        ensures turned { Turned ((place : Asked) × MayStick G.answers place) self.old self.new }
         ensures asks { ((self.new.images.image_a ≡ self.old.images.image_a) × (self.new.images.image_b ≡ self.old.images.image_b))
-            ⊎ MayGo G.told Device }
+            ⊎ MayGo G.answers Device }
         ensures opened { MatchOption result (self.new.back.done ≡ self.old.back.done) (λ tick. IsDone self.old.back tick self.new.back) }
-        ensures faults { TellsFaults D.faults self.old.images self.new.images }
+        ensures faults { ReportsFaults D.faults self.old.images self.new.images }
     {
         let Some(tick) = self.begin() else {
             self.over = self.bell.recv(rt).is_err();
@@ -151,8 +151,8 @@ impl<M: Method, D: Disk + Drop, G: Gate + Drop> Checkpointer<M, D, G> {
         requires goes_on { self.old.over ≡ false }
         requires left { 0 < left_of self.old.images.keeper }
         ensures keeps { KeepsBack self.old self.new }
-        ensures goes { GoesOn (MayGo G.told (place_of self.old.images.keeper.phase))
-            (MayStick G.told (place_of self.old.images.keeper.phase)) D.faults self.old self.new }
+        ensures goes { GoesOn (MayGo G.answers (place_of self.old.images.keeper.phase))
+            (MayStick G.answers (place_of self.old.images.keeper.phase)) D.faults self.old self.new }
         ensures calls { OneCalledAtMostOnce D.called self.old.images.image_a self.new.images.image_a
             self.old.images.image_b self.new.images.image_b }
         ensures takes { self.old.images.keeper.phase ≡ Taking
@@ -176,10 +176,10 @@ impl<M: Method, D: Disk + Drop, G: Gate + Drop> Checkpointer<M, D, G> {
         requires goes_on { self.old.over ≡ false }
         requires round { HasRound self.old.images.keeper × (self.old.images.keeper.phase ≢ Down) × (self.old.back.working ≡ true) }
         ensures keeps { KeepsBack self.old self.new }
-        ensures goes { GoesOn ((place : Asked) × MayGo G.told place) ((place : Asked) × MayStick G.told place)
+        ensures goes { GoesOn ((place : Asked) × MayGo G.answers place) ((place : Asked) × MayStick G.answers place)
             D.faults self.old self.new }
         ensures files { ((self.new.images.image_a ≡ self.old.images.image_a) × (self.new.images.image_b ≡ self.old.images.image_b))
-            ⊎ MayGo G.told Device }
+            ⊎ MayGo G.answers Device }
         ensures ends { self.new.over ≡ false → self.new.images.keeper.phase ≡ Idle }
     {
         while !self.over && self.images.keeper.left() > 0 {

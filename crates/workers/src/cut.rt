@@ -12,7 +12,7 @@ impl Gate for Cut {
     ghost use Rattle.std.specs.Prelude.{◌≡◌, ◌<◌, ◌+◌};
     ghost use Rattle.workers.specs.declared.gate.Pass.TheVariants.{Go, Stuck};
 
-    ghost told = { λ old place pass new. (old.left ≡ 0 → (pass ≡ Stuck) × (new.left ≡ 0))
+    ghost answers = { λ old place pass new. (old.left ≡ 0 → (pass ≡ Stuck) × (new.left ≡ 0))
         × (0 < old.left → (pass ≡ Go) × (new.left + 1 ≡ old.left)) };
 
     fn at(&mut self, _place: Place) -> Pass {

@@ -32,10 +32,10 @@ pub trait Gate {
     ghost use Rattle.workers.specs.declared.gate.Pass.{Pass};
 
     /// The answers that the gate may give in each state, and the state after each.
-    ghost told: { Self → Place → Pass → Self → Type 0 };
+    ghost answers: { Self → Place → Pass → Self → Type 0 };
 
     fn at(&mut self, place: Place) -> Pass
-        ensures { told self.old place result self.new };
+        ensures { answers self.old place result self.new };
 }
 
 /// Lets every step pass.
@@ -46,7 +46,7 @@ impl Gate for Open {
     ghost use Rattle.std.specs.Prelude.{◌≡◌};
     ghost use Rattle.workers.specs.declared.gate.Pass.TheVariants.{Go};
 
-    ghost told = { λ old place pass new. pass ≡ Go };
+    ghost answers = { λ old place pass new. pass ≡ Go };
 
     fn at(&mut self, _place: Place) -> Pass {
         Pass::Go
@@ -55,8 +55,8 @@ impl Gate for Open {
 
 /// Asks until the gate lets the step pass, or says that it never will. Returns true if the step may be made.
 pub(crate) fn passes<R: Wait, G: Gate>(rt: &R, gate: &mut G, place: Place) -> bool
-    ensures goes { result ≡ true → MayGo G.told place }
-    ensures sticks { result ≡ false → MayStick G.told place }
+    ensures goes { result ≡ true → MayGo G.answers place }
+    ensures sticks { result ≡ false → MayStick G.answers place }
 {
     for _ in rt.forever() {
         match gate.at(place) {

@@ -17,8 +17,8 @@ ghost use Rattle.workers.specs.declared.item.Item.{Item as Popped};
 ghost use Rattle.workers.specs.declared.item.Item.TheVariants.{Start};
 ghost use Rattle.workers.specs.Covering.{loaded, LoadsOn};
 ghost use Rattle.workers.specs.Gates.{MayGo, MayStick};
-ghost use Rattle.workers.specs.Publishing.{told as with_told};
-ghost use Rattle.workers.specs.Logging.{is_stop, has_stop, is_over, writer_at, Took, Loses, Pops, refused, Settles, receipt_of, Acknowledges, IsReady, IsAtRest, LogTellsFaults, FallsBy, IsPosted, IsLogging};
+ghost use Rattle.workers.specs.Publishing.{reported as with_reported};
+ghost use Rattle.workers.specs.Logging.{is_stop, has_stop, is_over, writer_at, Took, Loses, Pops, refused, Settles, receipt_of, Acknowledges, IsReady, IsAtRest, LogReportsFaults, FallsBy, IsPosted, IsLogging};
 
 use crate::gate::{Gate, Place, passes};
 use crate::item_channel::ItemReceiver;
@@ -54,7 +54,7 @@ pub struct LogWriter<D: Disk + Drop, G: Gate + Drop> {
     /// Holds the tick of the newest open image.
     pub(crate) covers: CoverIn,
     /// Gets a 1 once the log is down.
-    pub(crate) told_down: CoverOut,
+    pub(crate) reported_down: CoverOut,
     log: Log<D>,
     ring: HeapCircularBuffer<Record>,
     answers: Answers,
@@ -66,14 +66,14 @@ pub struct LogWriter<D: Disk + Drop, G: Gate + Drop> {
 
 impl<D: Disk + Drop, G: Gate + Drop> Model for LogWriter<D, G> {
     ghost use Rattle.workers.specs.Gates.{MayGo, MayStick};
-    ghost use Rattle.workers.specs.Publishing.{told};
+    ghost use Rattle.workers.specs.Publishing.{reported};
     ghost use Rattle.workers.specs.Logging.{Logging, IsLogging};
 
     ghost Value = { Logging D };
 
-    ghost view = { λ w. record { from = w.from; covers = w.covers; told_down = w.told_down; log = w.log; ring = w.ring; answers = w.answers; opening = w.opening.value; acked = w.acked; down = w.down; over = w.over } };
+    ghost view = { λ w. record { from = w.from; covers = w.covers; reported_down = w.reported_down; log = w.log; ring = w.ring; answers = w.answers; opening = w.opening.value; acked = w.acked; down = w.down; over = w.over } };
 
-    ghost invariant = { λ w. IsLogging D.content D.may_leave D.honest (record { from = w.from; covers = w.covers; told_down = w.told_down; log = w.log; ring = w.ring; answers = w.answers; opening = w.opening.value; acked = w.acked; down = w.down; over = w.over }) };
+    ghost invariant = { λ w. IsLogging D.content D.may_leave D.honest (record { from = w.from; covers = w.covers; reported_down = w.reported_down; log = w.log; ring = w.ring; answers = w.answers; opening = w.opening.value; acked = w.acked; down = w.down; over = w.over }) };
 }
 
 impl<D: Disk + Drop, G: Gate + Drop> LogWriter<D, G> {
@@ -85,15 +85,15 @@ impl<D: Disk + Drop, G: Gate + Drop> LogWriter<D, G> {
         from: ItemReceiver,
         covers: CoverIn,
         log: Log<D>,
-        told_down: CoverOut,
+        reported_down: CoverOut,
         tick: u64,
     ) -> Result<Self, AllocError>
         requires opened { from.items ≡ Start tick ∷ [] }
-        requires untold { told_down.ticks ≡ [] }
+        requires unreported { reported_down.ticks ≡ [] }
         requires most { tick ≤ TICK_MAX }
         requires ready { IsReady log.keeper tick }
         requires fits { IsTrue D.honest → FitsFiles log.keeper (D.content log.a) (D.content log.b) }
-        ensures begun { IfOk result (λ w. w ≡ writer_at from covers told_down log tick) }
+        ensures begun { IfOk result (λ w. w ≡ writer_at from covers reported_down log tick) }
         ensures rest { IfOk result (λ w. IsAtRest w) }
     {
         let ring = HeapCircularBuffer::with_capacity(alloc, QUEUE_RECORDS)?;
@@ -103,7 +103,7 @@ impl<D: Disk + Drop, G: Gate + Drop> LogWriter<D, G> {
             gate,
             from,
             covers,
-            told_down,
+            reported_down,
             log,
             ring,
             answers,
@@ -154,12 +154,12 @@ impl<D: Disk + Drop, G: Gate + Drop> LogWriter<D, G> {
         requires up { self.old.down ≡ false }
         ensures { self.new ≡ record self.old {
           down = true;
-          told_down = with_told self.old.told_down 1;
+          reported_down = with_reported self.old.reported_down 1;
           answers = refused self.old.answers;
         } }
     {
         self.down = true;
-        self.told_down.publish(1);
+        self.reported_down.publish(1);
         self.answers.refuse_all(rt);
     }
 
@@ -227,9 +227,9 @@ impl<D: Disk + Drop, G: Gate + Drop> LogWriter<D, G> {
     pub fn step<R: Wait>(&mut self, rt: &R)
         requires up { self.old.down ≡ false }
         ensures same { self.new
-            ≡ record self.old { covers = self.new.covers; told_down = self.new.told_down; log = self.new.log; ring = self.new.ring; answers = self.new.answers; acked = self.new.acked; down = self.new.down } }
+            ≡ record self.old { covers = self.new.covers; reported_down = self.new.reported_down; log = self.new.log; ring = self.new.ring; answers = self.new.answers; acked = self.new.acked; down = self.new.down } }
         ensures loads { LoadsOn self.old.covers self.new.covers }
-        ensures word { self.new.told_down.pair ≡ self.old.told_down.pair }
+        ensures word { self.new.reported_down.pair ≡ self.old.reported_down.pair }
         ensures covers { self.new.down ≡ false → (tick : ℕ) × (self.new.covers ≡ loaded self.old.covers tick)
             × (cover_answer self.old.log.keeper tick self.old.ring.items ≢ Idle → (self.new.log ≡ self.old.log)
             × (self.new.ring.items ≡ uncovered self.old.log.keeper tick self.old.ring.items)) }
@@ -238,11 +238,11 @@ impl<D: Disk + Drop, G: Gate + Drop> LogWriter<D, G> {
             × Acknowledges (receipt_of self.old.log.keeper tick self.old.ring.items self.new.log.keeper) self.old self.new }
         ensures lowers { self.new.down ≡ false → 0 < work_of self.old.log.keeper self.old.ring.items
             → work_of self.new.log.keeper self.new.ring.items < work_of self.old.log.keeper self.old.ring.items }
-        ensures faults { LogTellsFaults D.faults self.old.log self.new.log }
-        ensures asks { (self.new.log ≡ self.old.log) ⊎ MayGo G.told Device }
+        ensures faults { LogReportsFaults D.faults self.old.log self.new.log }
+        ensures asks { (self.new.log ≡ self.old.log) ⊎ MayGo G.answers Device }
         ensures calls { OneCalledAtMostOnce D.called self.old.log.a self.new.log.a self.old.log.b self.new.log.b }
         ensures cause { self.new.down ≡ true → (self.new.log.keeper.down ≡ true)
-            ⊎ ((self.new.log ≡ self.old.log) × MayStick G.told Device) }
+            ⊎ ((self.new.log ≡ self.old.log) × MayStick G.answers Device) }
         ensures refused { self.new.down ≡ true → (self.new.acked ≡ self.old.acked) × (self.new.answers ≡ refused self.old.answers) }
     {
         if !passes(rt, &mut self.gate, Place::Device) {
@@ -272,13 +272,13 @@ impl<D: Disk + Drop, G: Gate + Drop> LogWriter<D, G> {
     fn write_all<R: Wait>(&mut self, rt: &R)
         requires up { self.old.down ≡ false }
         ensures same { self.new
-            ≡ record self.old { covers = self.new.covers; told_down = self.new.told_down; log = self.new.log; ring = self.new.ring; answers = self.new.answers; acked = self.new.acked; down = self.new.down } }
+            ≡ record self.old { covers = self.new.covers; reported_down = self.new.reported_down; log = self.new.log; ring = self.new.ring; answers = self.new.answers; acked = self.new.acked; down = self.new.down } }
         ensures loads { LoadsOn self.old.covers self.new.covers }
-        ensures word { self.new.told_down.pair ≡ self.old.told_down.pair }
+        ensures word { self.new.reported_down.pair ≡ self.old.reported_down.pair }
         ensures acked { self.old.acked ≤ self.new.acked }
-        ensures faults { LogTellsFaults D.faults self.old.log self.new.log }
-        ensures asks { (self.new.log ≡ self.old.log) ⊎ MayGo G.told Device }
-        ensures cause { self.new.down ≡ true → FallsBy (MayStick G.told Device) self.new }
+        ensures faults { LogReportsFaults D.faults self.old.log self.new.log }
+        ensures asks { (self.new.log ≡ self.old.log) ⊎ MayGo G.answers Device }
+        ensures cause { self.new.down ≡ true → FallsBy (MayStick G.answers Device) self.new }
         ensures rest { IsAtRest self.new }
         ensures posted { self.new.down ≡ false → IsPosted self.new }
     {
@@ -367,11 +367,11 @@ impl<D: Disk + Drop, G: Gate + Drop> LogWriter<D, G> {
         ensures popped { (more : List Popped) × (self.new.from.items ≡ self.old.from.items ++ more) × (self.new.over ≡ is_over more) }
         ensures same { (self.new.from.end ≡ self.old.from.end) × (self.new.opening ≡ self.old.opening) }
         ensures loads { LoadsOn self.old.covers self.new.covers }
-        ensures word { self.new.told_down.pair ≡ self.old.told_down.pair }
+        ensures word { self.new.reported_down.pair ≡ self.old.reported_down.pair }
         ensures down { self.old.down ≡ true → self.new ≡ record self.old { from = self.new.from; answers = self.new.answers; over = self.new.over } }
-        ensures faults { LogTellsFaults D.faults self.old.log self.new.log }
-        ensures asks { (self.new.log ≡ self.old.log) ⊎ MayGo G.told Device }
-        ensures cause { self.old.down ≡ false → self.new.down ≡ true → FallsBy (MayStick G.told Device) self.new }
+        ensures faults { LogReportsFaults D.faults self.old.log self.new.log }
+        ensures asks { (self.new.log ≡ self.old.log) ⊎ MayGo G.answers Device }
+        ensures cause { self.old.down ≡ false → self.new.down ≡ true → FallsBy (MayStick G.answers Device) self.new }
         ensures posted { self.new.down ≡ false → IsPosted self.new }
         ensures acked { self.old.acked ≤ self.new.acked }
     {

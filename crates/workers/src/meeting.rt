@@ -25,7 +25,7 @@ pub fn meet_workers<M: Method, D: Disk + Drop, A: Gate + Drop, B: Gate + Drop, C
     requires pair { mutator.old.front.pair ≡ checkpointer.old.back.pair }
     requires channel { AreOneChannel log_writer.old.from.end mutator.old.to.end }
     requires word { log_writer.old.covers.pair ≡ checkpointer.old.covers.pair }
-    requires flag { mutator.old.heard.pair ≡ log_writer.old.told_down.pair }
+    requires flag { mutator.old.heard.pair ≡ log_writer.old.reported_down.pair }
     ensures met { HaveMet mutator.new checkpointer.new log_writer.new }
     ensures mutator { mutator.new ≡ record mutator.old { front = record mutator.old.front { closed = mutator.new.front.closed } } }
     ensures checkpointer { checkpointer.new ≡ record checkpointer.old { back = checkpointer.new.back } }
@@ -38,5 +38,5 @@ pub fn meet_workers<M: Method, D: Disk + Drop, A: Gate + Drop, B: Gate + Drop, C
     meet(&mut mutator.front, &mut checkpointer.back);
     compare(&mut mutator.to, &mut log_writer.from);
     checkpointer.covers.meet(&mut log_writer.covers);
-    meet_cover(&mut log_writer.told_down, &mut mutator.heard);
+    meet_cover(&mut log_writer.reported_down, &mut mutator.heard);
 }

@@ -109,7 +109,7 @@ impl<M: Method, G: Gate + Drop> Mutator<M, G> {
     /// that could ask.
     pub fn turn<R: Wait>(&mut self, rt: &R) -> Option<Result<(), Refused>>
         ensures { MatchOption result (self.new ≡ self.old) (λ given. (asked : AskedBatch)
-            × Turns (MayGo G.told Tick) (MayStick G.told Tick) self.old asked given self.new) }
+            × Turns (MayGo G.answers Tick) (MayStick G.answers Tick) self.old asked given self.new) }
     {
         let ask = self.asks.next(rt)?;
         self.mark_if_due(rt);
@@ -121,7 +121,7 @@ impl<M: Method, G: Gate + Drop> Mutator<M, G> {
     /// Runs the next batch, if there is one, and owes its tick with the answer, or answers with the refusal.
     pub fn run_next<R: Wait>(&mut self, rt: &R) -> Option<Result<(), Refused>>
         ensures { MatchOption result (self.new ≡ self.old) (λ given. (asked : AskedBatch)
-            × Plays (MayGo G.told Tick) (MayStick G.told Tick) self.old asked given self.new) }
+            × Plays (MayGo G.answers Tick) (MayStick G.answers Tick) self.old asked given self.new) }
     {
         let ask = self.asks.try_next(rt)?;
         Some(self.run_batch(rt, ask))
@@ -155,7 +155,7 @@ impl<M: Method, G: Gate + Drop> Mutator<M, G> {
     // Runs the batch that was taken last, and pushes its tick with the answer, or answers with the refusal.
     fn play_batch<R: Wait>(&mut self, rt: &R, ask: Ask) -> Result<(), Refused>
         requires { IsTaken self.old ask }
-        ensures { AnswersBatch (MayGo G.told Tick) (MayStick G.told Tick) self.old ask result self.new }
+        ensures { AnswersBatch (MayGo G.answers Tick) (MayStick G.answers Tick) self.old ask result self.new }
     {
         match self.run_batch(rt, ask) {
             Ok(()) => {
@@ -169,7 +169,7 @@ impl<M: Method, G: Gate + Drop> Mutator<M, G> {
     // Runs the batch that was taken last, and owes its tick with the answer, or answers with the refusal.
     fn run_batch<R: Wait>(&mut self, rt: &R, ask: Ask) -> Result<(), Refused>
         requires { IsTaken self.old ask }
-        ensures { RunsBatch (MayGo G.told Tick) (MayStick G.told Tick) self.old ask result self.new }
+        ensures { RunsBatch (MayGo G.answers Tick) (MayStick G.answers Tick) self.old ask result self.new }
     {
         if self.down {
             return refuse(rt, ask, Refusal::LogDown);

@@ -54,12 +54,12 @@ newest_is : KeeperLaws → (past : Past) (state : State) (c : IsCoreAt past stat
 newest_is laws past state c = ap newest_tick (laws.newest state.images c.images state.image_a state.image_b c.has_images)
 
 pub newest_stands : KeeperLaws → (past : Past) (state : State) → IsCoreAt past state → newest_tick state.images.newest ≡ past.standing.newest
-newest_stands laws past state c = newest_is laws past state c ∙ sym c.told.newest
+newest_stands laws past state c = newest_is laws past state c ∙ sym c.reported.newest
 
 pub cover_refusal_is : KeeperLaws → (past : Past) (state : State) (tick : ℕ) → IsCoreAt past state → refusal_in state tick ≡ cover_refusal_at past.standing tick
 cover_refusal_is laws past state tick c =
     ap (λ b. cover_refusal b state.log.down (newest_tick state.images.newest) tick) (starting_is laws past state c)
-    ∙ ap (λ b. cover_refusal (is_starting past.standing) b (newest_tick state.images.newest) tick) (sym c.told.log_down)
+    ∙ ap (λ b. cover_refusal (is_starting past.standing) b (newest_tick state.images.newest) tick) (sym c.reported.log_down)
     ∙ ap (λ n. cover_refusal (is_starting past.standing) past.standing.is_log_down n tick) (newest_stands laws past state c)
 
 -- ---- the event
@@ -116,7 +116,7 @@ cover_keeps laws keepers past old new tick given c e d =
       has_log = c.has_log;
       in_step = (covered_from laws keepers past old new tick given c e d).in_step;
       at_rest = c.at_rest;
-      told = c.told;
+      reported = c.reported;
     } in
     subst (IsCoreAt after) (sym d.covers.rest) is
 

@@ -10,7 +10,7 @@ use Rattle.disk_model.specs.Disk.{Only}
 use Rattle.capture_core.specs.Content.{Content}
 use Rattle.image_files.specs.declared.phase.Phase.TheVariants.{Idle, Closing, Header}
 use Rattle.image_files.specs.Images.{Round, ImageFiles, NoneYet, Newest, round_in, newest_in}
-use Rattle.image_files.specs.Files.{TellsShut, IsTold}
+use Rattle.image_files.specs.Files.{ReportsShut, IsReported}
 use Rattle.image_files.specs.Progress.{Progress, made_keeper, newest_tick}
 use Rattle.action_log.specs.Segment.{Segment, IsSegment}
 use Rattle.action_log.specs.declared.progress.Progress.{Progress as LogProgress}
@@ -27,8 +27,8 @@ use Rattle.world_core.specs.Facts.{IsCoreAt, is_known}
 
 -- ---- files
 
-tells : KeeperLaws → (bytes : List ℕ) (file : File) → HasOnly bytes file → TellsShut (is_shut bytes) file.inner.content
-tells keepers bytes file h = subst (λ f. TellsShut (is_shut bytes) f) (sym h.content) (keepers.told bytes)
+reports : KeeperLaws → (bytes : List ℕ) (file : File) → HasOnly bytes file → ReportsShut (is_shut bytes) file.inner.content
+reports keepers bytes file h = subst (λ f. ReportsShut (is_shut bytes) f) (sym h.content) (keepers.reported bytes)
 
 only : (bytes : List ℕ) (file : File) → HasOnly bytes file → Only file.inner.content (IsCrashOutcome file.inner)
 only bytes file h = subst (λ f. Only f (IsCrashOutcome file.inner)) (sym h.content) h.only
@@ -69,11 +69,11 @@ keeper_up true tick keeper idle = begun_up keeper.target_shut
 -- ---- the keepers
 
 module _ (keepers : KeeperLaws) (cells : ℕ) (newest : Option (Slot × ℕ)) (tick : ℕ) (words : List ℕ) (round : Bool) (image_a image_b log_a log_b : List ℕ) (new : State) (b : Begins cells newest tick words round image_a image_b log_a log_b new)
-    (some : 1 ≤ cells) (few : cells ≤ CELLS) (numbered : tick ≤ TICK_MAX) (images : ImageFiles) (told : IsTold cells newest images image_a image_b) where
+    (some : 1 ≤ cells) (few : cells ≤ CELLS) (numbered : tick ≤ TICK_MAX) (images : ImageFiles) (reported : IsReported cells newest images image_a image_b) where
   made : ImagesIn (made_keeper cells newest (is_shut image_a) (is_shut image_b)) images new.image_a.inner new.image_b.inner
   made = keepers.made cells newest (is_shut image_a) (is_shut image_b) images new.image_a new.image_b some few (only image_a new.image_a b.file_a) (only image_b new.image_b b.file_b)
-      (tells keepers image_a new.image_a b.file_a) (tells keepers image_b new.image_b b.file_b)
-      (subst (λ f. IsTold cells newest images f new.image_b.inner.content) (sym b.file_a.content) (subst (λ f. IsTold cells newest images image_a f) (sym b.file_b.content) told))
+      (reports keepers image_a new.image_a b.file_a) (reports keepers image_b new.image_b b.file_b)
+      (subst (λ f. IsReported cells newest images f new.image_b.inner.content) (sym b.file_a.content) (subst (λ f. IsReported cells newest images image_a f) (sym b.file_b.content) reported))
 
   begun_images : (r : Bool) → ImagesIn (started_keeper r tick (made_keeper cells newest (is_shut image_a) (is_shut image_b))) (images_begun r tick images) new.image_a.inner new.image_b.inner
   begun_images false = made
@@ -86,7 +86,7 @@ module _ (keepers : KeeperLaws) (cells : ℕ) (newest : Option (Slot × ℕ)) (t
   has_log before_a before_b reads_a reads_b =
       subst (λ k. LogIn k (start_of tick before_a before_b (start_moves (is_shut log_a) (is_shut log_b))) new.log_a.inner new.log_b.inner) (sym b.log)
       (keepers.begins tick (is_shut log_a) (is_shut log_b) new.log_a new.log_b before_a before_b numbered (only log_a new.log_a b.file_la) (only log_b new.log_b b.file_lb)
-      (tells keepers log_a new.log_a b.file_la) (tells keepers log_b new.log_b b.file_lb)
+      (reports keepers log_a new.log_a b.file_la) (reports keepers log_b new.log_b b.file_lb)
       (subst (λ f. IsSegment f before_a) (sym b.file_la.content) reads_a) (subst (λ f. IsSegment f before_b) (sym b.file_lb.content) reads_b))
 
 -- ---- the whole
@@ -96,13 +96,13 @@ start_at tick before_a before_b = record { tick = tick; before_a = before_a; bef
 
 pub begins_core : QueueLaws → KeeperLaws → (cells : ℕ) (newest : Option (Slot × ℕ)) (tick : ℕ) (words : List ℕ) (round : Bool) (image_a image_b log_a log_b : List ℕ) (past : Past) (new : State)
     → Begins cells newest tick words round image_a image_b log_a log_b new → 1 ≤ cells → cells ≤ CELLS → tick ≤ TICK_MAX
-    → (images : ImageFiles) → IsTold cells newest images image_a image_b → round_in images ≡ None
+    → (images : ImageFiles) → IsReported cells newest images image_a image_b → round_in images ≡ None
     → (before_a before_b : Segment) → IsSegment log_a before_a → IsSegment log_b before_b
     → length past.history.ticks ≡ tick → past.history.running ≡ [] → length words ≡ cells → after_ticks (replicate cells 0) past.history.ticks ≡ Ok words
     → past.standing ≡ standing_at (newest_tick newest) tick round (is_shut log_a) (is_shut log_b) → past.has_image ≡ is_known images → newest_in images ≡ newest
     → InStep (replicate cells 0) past.history.ticks past.acknowledged new.content (images_begun round tick images) (InStart (start_at tick before_a before_b)) []
     → IsCoreAt past new
-begins_core queues keepers cells newest tick words round image_a image_b log_a log_b past new b some few numbered images told no_round before_a before_b reads_a reads_b count idle whole after standing known newest_is in_step =
+begins_core queues keepers cells newest tick words round image_a image_b log_a log_b past new b some few numbered images reported no_round before_a before_b reads_a reads_b count idle whole after standing known newest_is in_step =
     let live = built_live words round new.content b.store in
     let q = queues.begins tick (is_shut log_a) (is_shut log_b) in
     let log_is = sym b.log in
@@ -135,12 +135,12 @@ begins_core queues keepers cells newest tick words round image_a image_b log_a l
       };
       images = images_begun round tick images;
       place = start_of tick before_a before_b (start_moves (is_shut log_a) (is_shut log_b));
-      has_images = has_images keepers cells newest tick words round image_a image_b log_a log_b new b some few numbered images told;
-      has_log = has_log keepers cells newest tick words round image_a image_b log_a log_b new b some few numbered images told before_a before_b reads_a reads_b;
+      has_images = has_images keepers cells newest tick words round image_a image_b log_a log_b new b some few numbered images reported;
+      has_log = has_log keepers cells newest tick words round image_a image_b log_a log_b new b some few numbered images reported before_a before_b reads_a reads_b;
       in_step = subst (λ n. InStep (replicate n 0) past.history.ticks past.acknowledged new.content (images_begun round tick images) (InStart (start_at tick before_a before_b)) new.queue) (sym b.cells_are)
           (subst (InStep (replicate cells 0) past.history.ticks past.acknowledged new.content (images_begun round tick images) (InStart (start_at tick before_a before_b))) (sym b.queue) in_step);
       at_rest = b.running;
-      told = record {
+      reported = record {
         is_image_known = known ∙ sym (with_round_known round tick images);
         start_left = ap (λ (s : Standing). s.start_left) standing;
         image_down = ap (λ (s : Standing). s.is_image_down) standing ∙ keeper_up round tick (made_keeper cells newest (is_shut image_a) (is_shut image_b)) refl ∙ ap (λ (k : Progress). is_down k.phase) (sym b.images);

@@ -34,7 +34,7 @@ in_round Idle o none some = sym (none refl)
 in_round p o none some = sym (some (λ e. let g = e in cc))
 
 pub starting_is : KeeperLaws → (past : Past) (state : State) → IsCoreAt past state → state.log.starting ≡ is_starting past.standing
-starting_is laws past state c = true_iff state.log.starting c.place.left (laws.left state.log state.log_a state.log_b c.place c.has_log) ∙ ap (nat_lt 0) (sym c.told.start_left)
+starting_is laws past state c = true_iff state.log.starting c.place.left (laws.left state.log state.log_a state.log_b c.place c.has_log) ∙ ap (nat_lt 0) (sym c.reported.start_left)
 
 pub round_is : KeeperLaws → (past : Past) (state : State) (c : IsCoreAt past state) → is_in_round state.images.phase ≡ is_some (round_in c.images)
 round_is laws past state c = in_round state.images.phase (is_some (round_in c.images))
@@ -46,7 +46,7 @@ some_tick None = refl
 some_tick (Some round) = refl
 
 open_is : (past : Past) (state : State) (c : IsCoreAt past state) → is_round_open past.standing ≡ is_some (round_in c.images)
-open_is past state c = ap is_some c.told.round ∙ some_tick (round_in c.images)
+open_is past state c = ap is_some c.reported.round ∙ some_tick (round_in c.images)
 
 pub waiting_is : KeeperLaws → (past : Past) (state : State) → IsCoreAt past state → (state.log.starting && is_in_round state.images.phase) ≡ is_log_waiting past.standing
 waiting_is laws past state c = (λ i. starting_is laws past state c i && (round_is laws past state c ∙ sym (open_is past state c)) i)
@@ -58,12 +58,12 @@ mark_refusal_is laws past state c =
     let st = past.standing in
     let queued = length state.queue in
     ap (λ b. mark_refusal b state.log.down (is_down state.images.phase) (is_in_round state.images.phase) state.ended (newest_tick state.images.newest) queued state.running) (starting_is laws past state c)
-    ∙ ap (λ b. mark_refusal (is_starting st) b (is_down state.images.phase) (is_in_round state.images.phase) state.ended (newest_tick state.images.newest) queued state.running) (sym c.told.log_down)
-    ∙ ap (λ b. mark_refusal (is_starting st) st.is_log_down b (is_in_round state.images.phase) state.ended (newest_tick state.images.newest) queued state.running) (sym c.told.image_down)
+    ∙ ap (λ b. mark_refusal (is_starting st) b (is_down state.images.phase) (is_in_round state.images.phase) state.ended (newest_tick state.images.newest) queued state.running) (sym c.reported.log_down)
+    ∙ ap (λ b. mark_refusal (is_starting st) st.is_log_down b (is_in_round state.images.phase) state.ended (newest_tick state.images.newest) queued state.running) (sym c.reported.image_down)
     ∙ ap (λ b. mark_refusal (is_starting st) st.is_log_down st.is_image_down b state.ended (newest_tick state.images.newest) queued state.running) (round_is laws past state c ∙ sym (open_is past state c))
     ∙ ap (λ n. mark_refusal (is_starting st) st.is_log_down st.is_image_down (is_round_open st) n (newest_tick state.images.newest) queued state.running) c.counted.ended
     ∙ ap (λ n. mark_refusal (is_starting st) st.is_log_down st.is_image_down (is_round_open st) (length past.history.ticks) n queued state.running)
-    (ap newest_tick (laws.newest state.images c.images state.image_a state.image_b c.has_images) ∙ sym c.told.newest)
+    (ap newest_tick (laws.newest state.images c.images state.image_a state.image_b c.has_images) ∙ sym c.reported.newest)
     ∙ ap (λ r. mark_refusal (is_starting st) st.is_log_down st.is_image_down (is_round_open st) (length past.history.ticks) st.newest queued r) c.live.running
 
 -- ---- the facts if nothing is refused

@@ -134,8 +134,8 @@ image_keeps laws past old new fate given c d =
     let s = d.stands c.images c.has_images in
     let steps : StepsImages Takes old.cells c.images given s.0 old.content new.content = subst (λ n. StepsImages Takes n c.images given s.0 old.content new.content) c.keeper_cells s.2 in
     let steps_zeros : StepsImages Takes (length (replicate old.cells 0)) c.images given s.0 old.content new.content = subst (λ n. StepsImages Takes n c.images given s.0 old.content new.content) (sym (length-replicate old.cells 0)) steps in
-    let round = round_after old.cells old.content new.content past.standing past.history.running fate c.images given s.0 steps c.told.round in
-    let newest = newest_after old.cells old.content new.content past.standing past.history.running fate c.images given s.0 steps c.told.newest in
+    let round = round_after old.cells old.content new.content past.standing past.history.running fate c.images given s.0 steps c.reported.round in
+    let newest = newest_after old.cells old.content new.content past.standing past.history.running fate c.images given s.0 steps c.reported.newest in
     let st = image_standing past.standing past.history.running fate given in
     let k = c.counted in
     let live = step_live old.cells old.content new.content c.images given s.0 steps in
@@ -149,11 +149,11 @@ image_keeps laws past old new fate given c d =
       has_log = c.has_log;
       in_step = laws.goes_on.image_step (replicate old.cells 0) past.history.ticks past.acknowledged c.images c.place.journal old.queue given s.0 old.content new.content steps_zeros c.in_step;
       at_rest = c.at_rest;
-      told = record {
-        is_image_known = known_after old.cells old.content new.content past.has_image c.images given s.0 steps c.told.is_image_known;
-        start_left = st.start_left ∙ c.told.start_left;
-        image_down = down_after past.standing past.history.running fate old.images.phase new.images.phase given d.down d.stays_down c.told.image_down;
-        log_down = st.log_down ∙ c.told.log_down;
+      reported = record {
+        is_image_known = known_after old.cells old.content new.content past.has_image c.images given s.0 steps c.reported.is_image_known;
+        start_left = st.start_left ∙ c.reported.start_left;
+        image_down = down_after past.standing past.history.running fate old.images.phase new.images.phase given d.down d.stays_down c.reported.image_down;
+        log_down = st.log_down ∙ c.reported.log_down;
         round = round;
         newest = newest;
       };
@@ -201,12 +201,12 @@ is_open : (standing : Option ℕ) (tick : ℕ) → standing ≡ Some tick → is
 is_open standing tick e = ap is_some e
 
 pub image_exact : (past : Past) (old new : State) (fate : Fate) (given : ImageAnswer) → IsCoreAt past old → StepsImageKeeper fate old given new → IsImageAnswer past.standing given
-image_exact past old new fate given_.Idle c d = c.told.round ∙ ap round_tick (d.stands c.images c.has_images).2.0
+image_exact past old new fate given_.Idle c d = c.reported.round ∙ ap round_tick (d.stands c.images c.has_images).2.0
 image_exact past old new fate given_.Working c d =
     let s = (d.stands c.images c.has_images).2 in
-    (is_open past.standing.round s.0.tick (some_round past.standing.round (round_in c.images) s.0 c.told.round s.1), c.told.image_down ∙ phase_up old.images.phase (λ e. (let g = d.stays_down e in absurd (let h = g in cc))))
+    (is_open past.standing.round s.0.tick (some_round past.standing.round (round_in c.images) s.0 c.reported.round s.1), c.reported.image_down ∙ phase_up old.images.phase (λ e. (let g = d.stays_down e in absurd (let h = g in cc))))
 image_exact past old new fate (given_.Opened tick) c d =
     let s = (d.stands c.images c.has_images).2 in
-    (some_round past.standing.round (round_in c.images) s.0 c.told.round s.1 ∙ ap (λ t. Some t) (sym s.2), c.told.image_down ∙ phase_up old.images.phase (λ e. (let g = d.stays_down e in absurd (let h = g in cc))))
+    (some_round past.standing.round (round_in c.images) s.0 c.reported.round s.1 ∙ ap (λ t. Some t) (sym s.2), c.reported.image_down ∙ phase_up old.images.phase (λ e. (let g = d.stays_down e in absurd (let h = g in cc))))
 image_exact past old new fate given_.Down c d =
-    let s = (d.stands c.images c.has_images).2 in is_open past.standing.round s.0.tick (some_round past.standing.round (round_in c.images) s.0 c.told.round s.1)
+    let s = (d.stands c.images c.has_images).2 in is_open past.standing.round s.0.tick (some_round past.standing.round (round_in c.images) s.0 c.reported.round s.1)

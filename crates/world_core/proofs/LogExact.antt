@@ -71,11 +71,11 @@ receipt_in laws past old new tick (Newest images) (Writing logs) left next stand
 )
 
 pub log_exact : EventLaws → (past : Past) (old new : State) (fate : Fate) (given : LogAnswer) → IsCoreAt past old → is_log_waiting past.standing ≡ false → StepsLogKeeper fate old given new → IsLogAnswer past old given
-log_exact laws past old new fate given_.Idle c going d = (let i = d.idle.0 refl in inr (c.told.log_down ∙ i.0, no_work old.log old.queue i.1 i.2))
+log_exact laws past old new fate given_.Idle c going d = (let i = d.idle.0 refl in inr (c.reported.log_down ∙ i.0, no_work old.log old.queue i.1 i.2))
 log_exact laws past old new fate given_.Working c going d =
-    (going, c.told.log_down ∙ was_up old new fate given_.Working d (λ e. let g = e in cc), has_work old new fate given_.Working d (λ e. let g = e in cc) (λ e. let g = e in cc))
+    (going, c.reported.log_down ∙ was_up old new fate given_.Working d (λ e. let g = e in cc), has_work old new fate given_.Working d (λ e. let g = e in cc) (λ e. let g = e in cc))
 log_exact laws past old new fate (given_.Acked tick) c going d =
     let s = d.stands c.place c.has_log in
     let r = receipt_in laws past old new tick c.images c.place.journal c.place.left s.0 c.has_log c.in_step.phase s.2 in
-    (ap (nat_lt 0) (c.told.start_left ∙ r.0), c.told.log_down ∙ was_up old new fate (given_.Acked tick) d (λ e. let g = e in cc), has_work old new fate (given_.Acked tick) d (λ e. let g = e in cc) (λ e. let g = e in cc), r.1)
+    (ap (nat_lt 0) (c.reported.start_left ∙ r.0), c.reported.log_down ∙ was_up old new fate (given_.Acked tick) d (λ e. let g = e in cc), has_work old new fate (given_.Acked tick) d (λ e. let g = e in cc) (λ e. let g = e in cc), r.1)
 log_exact laws past old new fate given_.Down c going d = going

@@ -125,13 +125,13 @@ log_keeps laws past old new fate given c waits d =
           (laws.goes_on.log_step (replicate old.cells 0) past.history.ticks past.acknowledged old.content c.images c.place old.queue given s.0 new.queue (some_zeros old.cells c.some_cells)
           (none_waited old c.images c.place.journal c.place.left c.has_log waits) s.2 c.in_step);
       at_rest = log_rests old.running c.place.journal c.place.left old.queue given s.0 new.queue s.2 c.at_rest;
-      told = record {
-        is_image_known = c.told.is_image_known;
-        start_left = left_after past.standing past.history.running fate c.place.journal c.place.left old.queue given s.0 new.queue s.2 (none_in old c.place.journal c.place.left c.has_log) c.told.start_left;
-        image_down = st.image_down ∙ c.told.image_down;
-        log_down = down_after past.standing past.history.running fate old.log.down new.log.down given d.down (stays_down old new fate given d) c.told.log_down;
-        round = st.round ∙ c.told.round;
-        newest = st.newest ∙ c.told.newest;
+      reported = record {
+        is_image_known = c.reported.is_image_known;
+        start_left = left_after past.standing past.history.running fate c.place.journal c.place.left old.queue given s.0 new.queue s.2 (none_in old c.place.journal c.place.left c.has_log) c.reported.start_left;
+        image_down = st.image_down ∙ c.reported.image_down;
+        log_down = down_after past.standing past.history.running fate old.log.down new.log.down given d.down (stays_down old new fate given d) c.reported.log_down;
+        round = st.round ∙ c.reported.round;
+        newest = st.newest ∙ c.reported.newest;
       };
     } in
     subst (IsCoreAt after) (sym d.rest) is

@@ -83,7 +83,7 @@ action_keeps laws past old new action c none d =
       has_log = c.has_log;
       in_step = record { store = laws.goes_on.writes (replicate old.cells 0) past.history.ticks old.content new.content c.images (ap (λ (n : Content). n.left) d.content) d.covers c.in_step.store; phase = c.in_step.phase };
       at_rest = subst (λ j. IsAtRest j (old.running ++ action ∷ [])) (sym s.is_writing) tt;
-      told = c.told;
+      reported = c.reported;
     } in
     subst (IsCoreAt after) (sym d.rest) is
 
@@ -140,7 +140,7 @@ end_keeps laws queues past old new number c none numbered few d =
       in_step = subst (λ i. InStep (replicate old.cells 0) (ticks ++ past.history.running ∷ []) past.acknowledged old.content i c.place.journal (old.queue ++ records.Tick tick ∷ [])) (sym s.is_newest)
           (subst (λ j. InStep (replicate old.cells 0) (ticks ++ past.history.running ∷ []) past.acknowledged old.content (Newest s.newest) j (old.queue ++ records.Tick tick ∷ [])) (sym s.is_writing) in_step);
       at_rest = empty_rests c.place.journal [] refl;
-      told = c.told;
+      reported = c.reported;
     } in
     subst (IsCoreAt after) (sym d.2) is
 
@@ -191,13 +191,13 @@ mark_keeps laws queues keepers past old new number c none idle at_rest news is_n
       has_log = c.has_log;
       in_step = subst (λ j. InStep (replicate old.cells 0) ticks past.acknowledged new.content (with_round old.ended (Newest s.newest)) j (old.queue ++ records.Switch old.ended ∷ [])) (sym s.is_writing) in_step;
       at_rest = c.at_rest;
-      told = record {
-        is_image_known = c.told.is_image_known ∙ ap is_known s.is_newest;
-        start_left = c.told.start_left;
-        image_down = c.told.image_down ∙ ap is_down at_rest ∙ begun_up old.images.target_shut;
-        log_down = c.told.log_down;
+      reported = record {
+        is_image_known = c.reported.is_image_known ∙ ap is_known s.is_newest;
+        start_left = c.reported.start_left;
+        image_down = c.reported.image_down ∙ ap is_down at_rest ∙ begun_up old.images.target_shut;
+        log_down = c.reported.log_down;
         round = refl;
-        newest = c.told.newest ∙ newest;
+        newest = c.reported.newest ∙ newest;
       };
     } in
     subst (λ n. IsCoreAt (past_after past move.Mark (answer.Started n)) new) (sym is_number) (subst (IsCoreAt after) (sym d.1) is)

@@ -14,24 +14,24 @@ use Rattle.world_core.specs.Facts.{IsCoreAt}
 use Rattle.world_core.specs.Moving.{Does}
 use Rattle.world_core.specs.Exact.{IsExact, Progresses}
 use Rattle.world_core.specs.Headline.{Answers, Runs}
-use Rattle.world_core.specs.Repeating.{GoesOn, AllGoOn, told_by, told_of, IsToldAtEnd, Repeats}
+use Rattle.world_core.specs.Repeating.{GoesOn, AllGoOn, reported_by, reported_of, IsReportedAtEnd, Repeats}
 use Rattle.world_core.proofs.Headline.{past_of-more, runs-more}
 
 -- the moves so far; the keeper was neither idle nor down after any of them, and each left less to do
-pub record SoFar (asked : Move) (idle : Answer) (most left : ℕ) (past : Past) (old : State) (told : Answer) (now : State) : Type 0 where
+pub record SoFar (asked : Move) (idle : Answer) (most left : ℕ) (past : Past) (old : State) (reported : Answer) (now : State) : Type 0 where
   pub front : List Answer
   pub going : AllGoOn front
-  pub told_is : told ≡ told_of idle front
+  pub reported_is : reported ≡ reported_of idle front
   pub few : length front + left ≤ most
   pub runs : Runs past old (replicate (length front) asked) front now
   pub stands : IsCoreAt (past_of past (replicate (length front) asked) front) now
 
 pub none_yet : (asked : Move) (idle : Answer) (most : ℕ) (past : Past) (old : State) → IsCoreAt past old → SoFar asked idle most most past old idle old
-none_yet asked idle most past old c = record { front = []; going = tt; told_is = refl; few = omega arith; runs = refl; stands = c }
+none_yet asked idle most past old c = record { front = []; going = tt; reported_is = refl; few = omega arith; runs = refl; stands = c }
 
-told_more : (told : Answer) (front : List Answer) (given : Answer) → told_by (told_of told front) given ≡ told_of told (front ++ given ∷ [])
-told_more told [] given = refl
-told_more told (first ∷ front) given = told_more (told_by told first) front given
+reported_more : (reported : Answer) (front : List Answer) (given : Answer) → reported_by (reported_of reported front) given ≡ reported_of reported (front ++ given ∷ [])
+reported_more reported [] given = refl
+reported_more reported (first ∷ front) given = reported_more (reported_by reported first) front given
 
 all_more : (front : List Answer) (given : Answer) → AllGoOn front → GoesOn given → AllGoOn (front ++ given ∷ [])
 all_more [] given h g = (g, tt)
@@ -41,7 +41,7 @@ pub replicate_more : (asked : Move) (front : List Answer) (given : Answer) → r
 replicate_more asked [] given = refl
 replicate_more asked (first ∷ front) given = ap (λ l. asked ∷ l) (replicate_more asked front given)
 
-module _ (asked : Move) (idle : Answer) (most left : ℕ) (past : Past) (old : State) (told : Answer) (now : State) (s : SoFar asked idle most left past old told now) where
+module _ (asked : Move) (idle : Answer) (most left : ℕ) (past : Past) (old : State) (reported : Answer) (now : State) (s : SoFar asked idle most left past old reported now) where
   -- the past of the moves so far
   abbrev past_now : Past
   past_now = past_of past (replicate (length s.front) asked) s.front
@@ -57,20 +57,20 @@ module _ (asked : Move) (idle : Answer) (most left : ℕ) (past : Past) (old : S
     stands_next = subst (λ p. IsCoreAt p next) (sym (past_of-more past (replicate (length s.front) asked) s.front asked given same_length)) c
 
     -- the keeper continues
-    goes_on : (less : ℕ) → GoesOn given → less < left → SoFar asked idle most less past old (told_by told given) next
+    goes_on : (less : ℕ) → GoesOn given → less < left → SoFar asked idle most less past old (reported_by reported given) next
     goes_on less g lt =
         let moves = replicate_more asked s.front given in
         record {
           front = s.front ++ given ∷ [];
           going = all_more s.front given s.going g;
-          told_is = ap (λ t. told_by t given) s.told_is ∙ told_more idle s.front given;
+          reported_is = ap (λ t. reported_by t given) s.reported_is ∙ reported_more idle s.front given;
           few = omega (arith, s.few, lt, length-append s.front (given ∷ []));
           runs = subst (λ m. Runs past old m (s.front ++ given ∷ []) next) moves runs_next;
           stands = subst (λ m. IsCoreAt (past_of past m (s.front ++ given ∷ [])) next) moves stands_next;
         }
 
     -- it is idle or down
-    ends : (result : Answer) → IsToldAtEnd given told result → (after : Past) × Repeats asked idle most past old result after next
+    ends : (result : Answer) → IsReportedAtEnd given reported result → (after : Past) × Repeats asked idle most past old result after next
     ends result is =
         let moves = replicate (length s.front) asked ++ asked ∷ [] in
         let answers = s.front ++ given ∷ [] in (
@@ -84,7 +84,7 @@ module _ (asked : Move) (idle : Answer) (most left : ℕ) (past : Past) (old : S
               moves_are = replicate_more asked s.front given ∙ ap (λ n. replicate n asked) (length-append s.front (given ∷ []));
               answers_are = refl;
               going = s.going;
-              told = subst (λ t. IsToldAtEnd given t result) s.told_is is;
+              reported = subst (λ t. IsReportedAtEnd given t result) s.reported_is is;
             };
             few = omega (arith, s.few, length-append (replicate (length s.front) asked) (asked ∷ []), same_length);
             on = record { runs = runs_next; next_is = refl; stands = stands_next };
@@ -98,15 +98,15 @@ pub record Stepped (asked : Move) (old : State) (given : Answer) (new : State) :
   pub does : Does asked old given new
   pub progress : Progresses asked given old new
 
-module _ (asked : Move) (idle : Answer) (most left : ℕ) (past : Past) (old : State) (told : Answer) (now : State) (s : SoFar asked idle most left past old told now) (given : Answer) (next : State) (step : Stepped asked now given next) where
-  one_more : Answers (past_now asked idle most left past old told now s) now asked given next
-  one_more = record { exact = step.exact (past_now asked idle most left past old told now s) s.stands; does = step.does; progress = step.progress }
+module _ (asked : Move) (idle : Answer) (most left : ℕ) (past : Past) (old : State) (reported : Answer) (now : State) (s : SoFar asked idle most left past old reported now) (given : Answer) (next : State) (step : Stepped asked now given next) where
+  one_more : Answers (past_now asked idle most left past old reported now s) now asked given next
+  one_more = record { exact = step.exact (past_now asked idle most left past old reported now s) s.stands; does = step.does; progress = step.progress }
 
-  pub step_goes_on : (less : ℕ) → GoesOn given → less < left → SoFar asked idle most less past old (told_by told given) next
-  step_goes_on = goes_on asked idle most left past old told now s given next one_more (step.keeps (past_now asked idle most left past old told now s) s.stands)
+  pub step_goes_on : (less : ℕ) → GoesOn given → less < left → SoFar asked idle most less past old (reported_by reported given) next
+  step_goes_on = goes_on asked idle most left past old reported now s given next one_more (step.keeps (past_now asked idle most left past old reported now s) s.stands)
 
-  pub step_ends : (result : Answer) → IsToldAtEnd given told result → (after : Past) × Repeats asked idle most past old result after next
-  step_ends = ends asked idle most left past old told now s given next one_more (step.keeps (past_now asked idle most left past old told now s) s.stands)
+  pub step_ends : (result : Answer) → IsReportedAtEnd given reported result → (after : Past) × Repeats asked idle most past old result after next
+  step_ends = ends asked idle most left past old reported now s given next one_more (step.keeps (past_now asked idle most left past old reported now s) s.stands)
 
 -- the step, if it had this answer
 pub as_image : (fate : Fate) (old new : State) (result given : ImageAnswer) → Stepped (move.Image fate) old (answer.Image result) new → result ≡ given → Stepped (move.Image fate) old (answer.Image given) new

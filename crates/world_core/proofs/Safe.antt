@@ -35,7 +35,7 @@ pub core_is_safe : SafetyLaws → (past : Past) (state : State) → IsCoreAt pas
 core_is_safe laws past state c =
     let ticks = past.history.ticks in
     let first : List ℕ = replicate state.cells 0 in
-    subst (λ h. AreSafe h (files_in state) first ticks past.acknowledged) (sym c.told.is_image_known)
+    subst (λ h. AreSafe h (files_in state) first ticks past.acknowledged) (sym c.reported.is_image_known)
     (by_known first state ticks past.acknowledged c.images (laws.safe first state ticks past.acknowledged c.images c.place (c.keeper_cells ∙ sym (length-replicate state.cells 0)) c.has_images c.has_log c.in_step))
 
 -- the same for any bytes that may be left of each file

@@ -24,7 +24,7 @@ use Rattle.world_core.specs.Exact.{IsLogAnswer}
 use Rattle.world_core.specs.Moving.{StepsLogKeeper, Waits}
 use Rattle.world_core.specs.Facts.{IsCoreAt}
 use Rattle.world_core.specs.Headline.{Answers, Runs}
-use Rattle.world_core.specs.Repeating.{told_of, IsToldAtEnd, Repeats, RepeatsImages, RepeatsLog, ImagesSettled, LogSettled, StartSettled}
+use Rattle.world_core.specs.Repeating.{reported_of, IsReportedAtEnd, Repeats, RepeatsImages, RepeatsLog, ImagesSettled, LogSettled, StartSettled}
 use Rattle.world_core.proofs.Headline.{past_of-more}
 use Rattle.world_core.proofs.Repeating.{replicate_more}
 use Rattle.world_core.proofs.LogExact.{no_work}
@@ -47,8 +47,8 @@ runs_last past old new asked (given ∷ front) last r = runs_last (past_after pa
 one_replica : (asked : Move) (front : List Answer) (last : Answer) → replicate (length front + 1) asked ≡ replicate (length front) asked ++ asked ∷ []
 one_replica asked front last = ap (λ n. replicate n asked) (sym (length-append front (last ∷ []))) ∙ sym (replicate_more asked front last)
 
-last_of : (asked : Move) (idle : Answer) (most : ℕ) (past : Past) (old : State) (told : Answer) (next : Past) (new : State) (r : Repeats asked idle most past old told next new) → LastOf past old asked r.all.front r.all.last next new
-last_of asked idle most past old told next new r =
+last_of : (asked : Move) (idle : Answer) (most : ℕ) (past : Past) (old : State) (reported : Answer) (next : Past) (new : State) (r : Repeats asked idle most past old reported next new) → LastOf past old asked r.all.front r.all.last next new
+last_of asked idle most past old reported next new r =
     let a = r.all in
     let moves : r.moves ≡ replicate (length a.front) asked ++ asked ∷ [] = a.moves_are ∙ one_replica asked a.front a.last in
     let runs : Runs past old (replicate (length a.front) asked ++ asked ∷ []) (a.front ++ a.last ∷ []) new = subst (λ m. Runs past old m (a.front ++ a.last ∷ []) new) moves (subst (λ l. Runs past old r.moves l new) a.answers_are r.on.runs) in
@@ -63,17 +63,17 @@ last_of asked idle most past old told next new r =
 
 -- ---- the image keeper
 
-images_end : (fate : Fate) (last told result : Answer) (past : Past) (old new : State) → IsToldAtEnd last told result → Answers past old (move.Image fate) last new → ImagesSettled (past_after past (move.Image fate) last).standing
-images_end fate (answer.Image image_answer.Idle) told result past old new is a = inl a.exact
-images_end fate (answer.Image image_answer.Down) told result past old new is a = inr refl
-images_end fate (answer.Log log_answer.Idle) told result past old new is a = absurd a.exact
-images_end fate (answer.Log log_answer.Down) told result past old new is a = absurd a.exact
-images_end fate last told result past old new is a = absurd is
+images_end : (fate : Fate) (last reported result : Answer) (past : Past) (old new : State) → IsReportedAtEnd last reported result → Answers past old (move.Image fate) last new → ImagesSettled (past_after past (move.Image fate) last).standing
+images_end fate (answer.Image image_answer.Idle) reported result past old new is a = inl a.exact
+images_end fate (answer.Image image_answer.Down) reported result past old new is a = inr refl
+images_end fate (answer.Log log_answer.Idle) reported result past old new is a = absurd a.exact
+images_end fate (answer.Log log_answer.Down) reported result past old new is a = absurd a.exact
+images_end fate last reported result past old new is a = absurd is
 
-pub images_settle : (fate : Fate) (past : Past) (old : State) (told : ImageAnswer) (next : Past) (new : State) → RepeatsImages fate past old told next new → ImagesSettled next.standing
-images_settle fate past old told next new r =
-    let l = last_of (move.Image fate) (answer.Image image_answer.Idle) (left_of old.images) past old (answer.Image told) next new r in
-    subst (λ (p : Past). ImagesSettled p.standing) (sym l.next_is) (images_end fate r.all.last (told_of (answer.Image image_answer.Idle) r.all.front) (answer.Image told) l.mid_past l.mid new r.all.told l.one)
+pub images_settle : (fate : Fate) (past : Past) (old : State) (reported : ImageAnswer) (next : Past) (new : State) → RepeatsImages fate past old reported next new → ImagesSettled next.standing
+images_settle fate past old reported next new r =
+    let l = last_of (move.Image fate) (answer.Image image_answer.Idle) (left_of old.images) past old (answer.Image reported) next new r in
+    subst (λ (p : Past). ImagesSettled p.standing) (sym l.next_is) (images_end fate r.all.last (reported_of (answer.Image image_answer.Idle) r.all.front) (answer.Image reported) l.mid_past l.mid new r.all.reported l.one)
 
 -- ---- the log keeper
 
@@ -102,26 +102,26 @@ log_settled standing past state c is (inl waits) = inr (inl waits)
 log_settled standing past state c is (inr done) =
     inr (inr (
       done.1,
-      no_start state.log state.queue c.place.journal c.place.left standing state refl c.has_log (sym (ap (λ (s : Standing). s.start_left) is) ∙ c.told.start_left)
-          (sym c.told.log_down ∙ ap (λ (s : Standing). s.is_log_down) is ∙ done.0) done.1,
+      no_start state.log state.queue c.place.journal c.place.left standing state refl c.has_log (sym (ap (λ (s : Standing). s.start_left) is) ∙ c.reported.start_left)
+          (sym c.reported.log_down ∙ ap (λ (s : Standing). s.is_log_down) is ∙ done.0) done.1,
     ))
 
 log_idle_after : (fate : Fate) (past : Past) (old new : State) → IsCoreAt (past_after past (move.Log fate) (answer.Log log_answer.Idle)) new → Answers past old (move.Log fate) (answer.Log log_answer.Idle) new → LogSettled past.standing new
 log_idle_after fate past old new c a = log_settled past.standing (past_after past (move.Log fate) (answer.Log log_answer.Idle)) new c refl (no_work_after fate past old new a.exact a.does)
 
-log_end : (fate : Fate) (last told result : Answer) (past : Past) (old new : State) → IsCoreAt (past_after past (move.Log fate) last) new → IsToldAtEnd last told result → Answers past old (move.Log fate) last new
+log_end : (fate : Fate) (last reported result : Answer) (past : Past) (old new : State) → IsCoreAt (past_after past (move.Log fate) last) new → IsReportedAtEnd last reported result → Answers past old (move.Log fate) last new
     → LogSettled (past_after past (move.Log fate) last).standing new
-log_end fate (answer.Log log_answer.Idle) told result past old new c is a = log_idle_after fate past old new c a
-log_end fate (answer.Log log_answer.Down) told result past old new c is a = inl refl
-log_end fate (answer.Image image_answer.Idle) told result past old new c is a = absurd a.exact
-log_end fate (answer.Image image_answer.Down) told result past old new c is a = absurd a.exact
-log_end fate last told result past old new c is a = absurd is
+log_end fate (answer.Log log_answer.Idle) reported result past old new c is a = log_idle_after fate past old new c a
+log_end fate (answer.Log log_answer.Down) reported result past old new c is a = inl refl
+log_end fate (answer.Image image_answer.Idle) reported result past old new c is a = absurd a.exact
+log_end fate (answer.Image image_answer.Down) reported result past old new c is a = absurd a.exact
+log_end fate last reported result past old new c is a = absurd is
 
-pub log_settles : (fate : Fate) (past : Past) (old : State) (told : LogAnswer) (next : Past) (new : State) → RepeatsLog fate past old told next new → LogSettled next.standing new
-log_settles fate past old told next new r =
-    let l = last_of (move.Log fate) (answer.Log log_answer.Idle) (work_of old.log old.queue) past old (answer.Log told) next new r in
+pub log_settles : (fate : Fate) (past : Past) (old : State) (reported : LogAnswer) (next : Past) (new : State) → RepeatsLog fate past old reported next new → LogSettled next.standing new
+log_settles fate past old reported next new r =
+    let l = last_of (move.Log fate) (answer.Log log_answer.Idle) (work_of old.log old.queue) past old (answer.Log reported) next new r in
     subst (λ (p : Past). LogSettled p.standing new) (sym l.next_is)
-    (log_end fate r.all.last (told_of (answer.Log log_answer.Idle) r.all.front) (answer.Log told) l.mid_past l.mid new (subst (λ p. IsCoreAt p new) l.next_is r.on.stands) r.all.told l.one)
+    (log_end fate r.all.last (reported_of (answer.Log log_answer.Idle) r.all.front) (answer.Log reported) l.mid_past l.mid new (subst (λ p. IsCoreAt p new) l.next_is r.on.stands) r.all.reported l.one)
 
 -- ---- the start
 
@@ -142,8 +142,8 @@ all_same fate past (given ∷ answers) =
     let rest = all_same fate (past_after past (move.Log fate) given) answers in
     record { round = rest.round ∙ one.round; down = rest.down ∙ one.down }
 
-log_same : (fate : Fate) (past : Past) (old : State) (told : LogAnswer) (next : Past) (new : State) → RepeatsLog fate past old told next new → IsSameImage next.standing past.standing
-log_same fate past old told next new r =
+log_same : (fate : Fate) (past : Past) (old : State) (reported : LogAnswer) (next : Past) (new : State) → RepeatsLog fate past old reported next new → IsSameImage next.standing past.standing
+log_same fate past old reported next new r =
     let a = r.all in
     let moves : replicate (length r.answers) (move.Log fate) ≡ r.moves =
     ap (λ l. replicate (length l) (move.Log fate)) a.answers_are ∙ sym (replicate_more (move.Log fate) a.front a.last) ∙ sym (one_replica (move.Log fate) a.front a.last) ∙ sym a.moves_are in
@@ -164,8 +164,8 @@ still_settled : (new old : Standing) → IsSameImage new old → ImagesSettled o
 still_settled new old same (inl none) = inl (same.round ∙ none)
 still_settled new old same (inr down) = inr (same.down ∙ down)
 
-pub start_settles : (image_told : ImageAnswer) (log_told : LogAnswer) (past mid_past next : Past) (old mid new : State) → RepeatsImages Done past old image_told mid_past mid → RepeatsLog Done mid_past mid log_told next new → StartSettled next.standing
-start_settles image_told log_told past mid_past next old mid new images log =
+pub start_settles : (image_reported : ImageAnswer) (log_reported : LogAnswer) (past mid_past next : Past) (old mid new : State) → RepeatsImages Done past old image_reported mid_past mid → RepeatsLog Done mid_past mid log_reported next new → StartSettled next.standing
+start_settles image_reported log_reported past mid_past next old mid new images log =
     start_ended next.standing new
-    (still_settled next.standing mid_past.standing (log_same Done mid_past mid log_told next new log) (images_settle Done past old image_told mid_past mid images))
-    (log_settles Done mid_past mid log_told next new log)
+    (still_settled next.standing mid_past.standing (log_same Done mid_past mid log_reported next new log) (images_settle Done past old image_reported mid_past mid images))
+    (log_settles Done mid_past mid log_reported next new log)

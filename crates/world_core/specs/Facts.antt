@@ -31,9 +31,9 @@ pub record HasSize (cells keeper : ℕ) : Type 0 where
   pub keeper_cells : keeper ≡ cells
 
 -- how many ticks have ended, and how many since the last mark or start
-pub record HasEnded (ticks : List (List Action)) (told count recent : ℕ) : Type 0 where
+pub record HasEnded (ticks : List (List Action)) (reported count recent : ℕ) : Type 0 where
   pub ended : count ≡ length ticks
-  pub since : recent ≡ told
+  pub since : recent ≡ reported
   pub numbered : count ≤ TICK_MAX
   pub few : recent ≤ SEGMENT_TICKS
   pub within : recent ≤ count
@@ -56,8 +56,8 @@ pub record IsLive (cells : ℕ) (history : History) (words : List ℕ) (actions 
   pub running : actions ≡ history.running
 
 -- all that moves and answers say of the keepers is true
-abbrev pub AreTold : Past → State → ImageFiles → LogPlace → Type 0
-AreTold past state images place = record {
+abbrev pub AreReported : Past → State → ImageFiles → LogPlace → Type 0
+AreReported past state images place = record {
   is_image_known : past.has_image ≡ is_known images;
   start_left : past.standing.start_left ≡ place.left;
   image_down : past.standing.is_image_down ≡ is_down state.images.phase;
@@ -78,4 +78,4 @@ pub record IsCoreAt (past : Past) (state : State) : Type 0 where
   pub has_log : HasLog state place
   pub in_step : InStep (replicate state.cells 0) past.history.ticks past.acknowledged state.content images place.journal state.queue
   pub at_rest : IsAtRest place.journal state.running
-  pub told : AreTold past state images place
+  pub reported : AreReported past state images place

@@ -12,7 +12,7 @@ use Rattle.disk_model.specs.CrashOutcome.{IsCrashOutcome}
 use Rattle.image_files.specs.declared.phase.Phase.TheVariants.{Idle}
 use Rattle.image_files.specs.Images.{Round, ImageFiles, ImageFilesAre, newest_in, round_in, with_round}
 use Rattle.image_files.specs.Progress.{Progress as ImageProgress, made_keeper, begun_keeper, cells_taken}
-use Rattle.image_files.specs.Files.{TellsShut, IsTold}
+use Rattle.image_files.specs.Files.{ReportsShut, IsReported}
 use Rattle.action_log.specs.declared.record.Record.{Record}
 use Rattle.action_log.specs.declared.record.Record.TheVariants as records
 use Rattle.action_log.specs.declared.progress.Progress.{Progress as LogProgress}
@@ -48,10 +48,10 @@ pub record QueueLaws : Type 0 where
       → QueueFollows keeper (queue ++ records.Switch tick ∷ []) × (end_of keeper (queue ++ records.Switch tick ∷ []) ≡ record { base = tick; count = 0 })
 
 pub record KeeperLaws : Type 0 where
-  pub told : (file : List ℕ) → TellsShut (is_shut file) file
+  pub reported : (file : List ℕ) → ReportsShut (is_shut file) file
   pub made : (cells : ℕ) (newest : Option (Slot × ℕ)) (shut_a shut_b : Bool) (images : ImageFiles) (image_a image_b : File) → 1 ≤ cells → cells ≤ CELLS
       → Only image_a.inner.content (IsCrashOutcome image_a.inner) → Only image_b.inner.content (IsCrashOutcome image_b.inner)
-      → TellsShut shut_a image_a.inner.content → TellsShut shut_b image_b.inner.content → IsTold cells newest images image_a.inner.content image_b.inner.content
+      → ReportsShut shut_a image_a.inner.content → ReportsShut shut_b image_b.inner.content → IsReported cells newest images image_a.inner.content image_b.inner.content
       → ImagesIn (made_keeper cells newest shut_a shut_b) images image_a.inner image_b.inner
   pub begun : (keeper : ImageProgress) (tick : ℕ) (images : ImageFiles) (image_a image_b : File) → keeper.phase ≡ Idle → tick ≤ TICK_MAX
       → ImagesIn keeper images image_a.inner image_b.inner → ImagesIn (begun_keeper tick keeper) (with_round tick images) image_a.inner image_b.inner
@@ -62,7 +62,7 @@ pub record KeeperLaws : Type 0 where
   pub left : (keeper : LogProgress) (log_a log_b : File) (place : LogPlace) → LogIn keeper place log_a.inner log_b.inner → IsTrue keeper.starting ↔ (0 < place.left)
   pub ready : (keeper : LogProgress) (log_a log_b : File) (logs : Logs) (left : ℕ) → LogIn keeper (record { journal = Writing logs; left = left }) log_a.inner log_b.inner → keeper.phase ≡ Ready → is_idle logs
   pub begins : (tick : ℕ) (shut_a shut_b : Bool) (log_a log_b : File) (before_a before_b : Segment) → tick ≤ TICK_MAX
-      → Only log_a.inner.content (IsCrashOutcome log_a.inner) → Only log_b.inner.content (IsCrashOutcome log_b.inner) → TellsShut shut_a log_a.inner.content → TellsShut shut_b log_b.inner.content
+      → Only log_a.inner.content (IsCrashOutcome log_a.inner) → Only log_b.inner.content (IsCrashOutcome log_b.inner) → ReportsShut shut_a log_a.inner.content → ReportsShut shut_b log_b.inner.content
       → IsSegment log_a.inner.content before_a → IsSegment log_b.inner.content before_b
       → LogIn (begun_log tick shut_a shut_b) (start_of tick before_a before_b (start_moves shut_a shut_b)) log_a.inner log_b.inner
 

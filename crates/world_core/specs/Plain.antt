@@ -44,7 +44,7 @@ IsPlainAnswer cells past (move.Image fate) (answer.Image given) = IsImageAnswer 
 IsPlainAnswer cells past (move.Image fate) given = ⊥
 IsPlainAnswer cells past (move.Log fate) (answer.Log given) = IsPlainLogAnswer past given
 IsPlainAnswer cells past (move.Log fate) given = ⊥
-IsPlainAnswer cells past (move.Cover tick) given = (told : LogAnswer) × (given ≡ unless_refused (cover_refusal_at past.standing tick) (answer.Log told))
+IsPlainAnswer cells past (move.Cover tick) given = (reported : LogAnswer) × (given ≡ unless_refused (cover_refusal_at past.standing tick) (answer.Log reported))
 IsPlainAnswer cells past (move.Crash left) given =
     (files : FourFiles FileState) × AreSafe past.has_image files (replicate cells 0) past.history.ticks past.acknowledged
     × IsCrashAnswer files left.image_a.items left.image_b.items left.log_a.items left.log_b.items given

@@ -38,22 +38,22 @@ AllGoOn [] = Unit {0}
 AllGoOn (given ∷ answers) = GoesOn given × AllGoOn answers
 
 -- the last news after this answer; an opened image or a receipt is news
-abbrev pub told_by : Answer → Answer → Answer
-told_by told (answer.Image (image_answer.Opened tick)) = answer.Image (image_answer.Opened tick)
-told_by told (answer.Log (log_answer.Acked tick)) = answer.Log (log_answer.Acked tick)
-told_by told given = told
+abbrev pub reported_by : Answer → Answer → Answer
+reported_by reported (answer.Image (image_answer.Opened tick)) = answer.Image (image_answer.Opened tick)
+reported_by reported (answer.Log (log_answer.Acked tick)) = answer.Log (log_answer.Acked tick)
+reported_by reported given = reported
 
-abbrev pub told_of : Answer → List Answer → Answer
-told_of told [] = told
-told_of told (given ∷ answers) = told_of (told_by told given) answers
+abbrev pub reported_of : Answer → List Answer → Answer
+reported_of reported [] = reported
+reported_of reported (given ∷ answers) = reported_of (reported_by reported given) answers
 
 -- the result in the end: Down, or the last news if the keeper is idle
-abbrev pub IsToldAtEnd : (last told result : Answer) → Type 0
-IsToldAtEnd (answer.Image image_answer.Idle) told result = result ≡ told
-IsToldAtEnd (answer.Image image_answer.Down) told result = result ≡ answer.Image image_answer.Down
-IsToldAtEnd (answer.Log log_answer.Idle) told result = result ≡ told
-IsToldAtEnd (answer.Log log_answer.Down) told result = result ≡ answer.Log log_answer.Down
-IsToldAtEnd last told result = ⊥
+abbrev pub IsReportedAtEnd : (last reported result : Answer) → Type 0
+IsReportedAtEnd (answer.Image image_answer.Idle) reported result = result ≡ reported
+IsReportedAtEnd (answer.Image image_answer.Down) reported result = result ≡ answer.Image image_answer.Down
+IsReportedAtEnd (answer.Log log_answer.Idle) reported result = result ≡ reported
+IsReportedAtEnd (answer.Log log_answer.Down) reported result = result ≡ answer.Log log_answer.Down
+IsReportedAtEnd last reported result = ⊥
 
 -- the same move is repeated until its keeper is idle or down
 pub record AreRepeats (asked : Move) (moves : List Move) (answers : List Answer) (idle result : Answer) : Type 0 where
@@ -62,7 +62,7 @@ pub record AreRepeats (asked : Move) (moves : List Move) (answers : List Answer)
   pub moves_are : moves ≡ replicate (length front + 1) asked
   pub answers_are : answers ≡ front ++ last ∷ []
   pub going : AllGoOn front
-  pub told : IsToldAtEnd last (told_of idle front) result
+  pub reported : IsReportedAtEnd last (reported_of idle front) result
 
 -- moves lead from a core of this past to one of that past
 pub record RunsOn (past : Past) (old : State) (moves : List Move) (answers : List Answer) (next : Past) (new : State) : Type 0 where
@@ -71,29 +71,29 @@ pub record RunsOn (past : Past) (old : State) (moves : List Move) (answers : Lis
   pub stands : IsCoreAt next new
 
 -- one move is repeated until its keeper is idle or down, at most `most` times and once more
-pub record Repeats (asked : Move) (idle : Answer) (most : ℕ) (past : Past) (old : State) (told : Answer) (next : Past) (new : State) : Type 0 where
+pub record Repeats (asked : Move) (idle : Answer) (most : ℕ) (past : Past) (old : State) (reported : Answer) (next : Past) (new : State) : Type 0 where
   pub moves : List Move
   pub answers : List Answer
-  pub all : AreRepeats asked moves answers idle told
+  pub all : AreRepeats asked moves answers idle reported
   pub few : length moves ≤ most + 1
   pub on : RunsOn past old moves answers next new
 
 -- steps of the image keeper, at most one more than the open round has left
-abbrev pub RepeatsImages : Fate → Past → State → (told : ImageAnswer) → Past → State → Type 0
-RepeatsImages fate past old told next new = Repeats (move.Image fate) (answer.Image image_answer.Idle) (left_of old.images) past old (answer.Image told) next new
+abbrev pub RepeatsImages : Fate → Past → State → (reported : ImageAnswer) → Past → State → Type 0
+RepeatsImages fate past old reported next new = Repeats (move.Image fate) (answer.Image image_answer.Idle) (left_of old.images) past old (answer.Image reported) next new
 
 -- steps of the log keeper, at most one more than its job and its queue need
-abbrev pub RepeatsLog : Fate → Past → State → (told : LogAnswer) → Past → State → Type 0
-RepeatsLog fate past old told next new = Repeats (move.Log fate) (answer.Log log_answer.Idle) (work_of old.log old.queue) past old (answer.Log told) next new
+abbrev pub RepeatsLog : Fate → Past → State → (reported : LogAnswer) → Past → State → Type 0
+RepeatsLog fate past old reported next new = Repeats (move.Log fate) (answer.Log log_answer.Idle) (work_of old.log old.queue) past old (answer.Log reported) next new
 
 -- a start: steps of the image keeper, and then of the log keeper
 pub record RunsStart (past : Past) (old : State) (next : Past) (new : State) : Type 0 where
-  pub image_told : ImageAnswer
-  pub log_told : LogAnswer
+  pub image_reported : ImageAnswer
+  pub log_reported : LogAnswer
   pub mid_past : Past
   pub mid : State
-  pub images : RepeatsImages Done past old image_told mid_past mid
-  pub log : RepeatsLog Done mid_past mid log_told next new
+  pub images : RepeatsImages Done past old image_reported mid_past mid
+  pub log : RepeatsLog Done mid_past mid log_reported next new
 
 -- ---- when they have ended
 

@@ -7,7 +7,7 @@ use capture_core::PlainCopy;
 use disk_model::{Fused, ModelFile};
 use image_files::images_stay;
 use recovery::{crash_restarts, events_keep};
-use restart::{gates_are_told, worlds_are_safe, worlds_go_on};
+use restart::{gates_are_reported, worlds_are_safe, worlds_go_on};
 use world_ticks::actions_go_on;
 
 /// A file of a core, with a fuse that can make its calls fail.
@@ -36,7 +36,7 @@ pub fn keeper_laws()
 {
     images_stay::<File>();
     log_outcomes::<File>();
-    gates_are_told();
+    gates_are_reported();
 }
 
 /// Laws: whatever a crash leaves of the files of a core, it holds what the keepers represent.

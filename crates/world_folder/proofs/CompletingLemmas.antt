@@ -14,7 +14,7 @@ use Rattle.action_log.specs.Segment.{ClosedSegment, IsSegment}
 use Rattle.world_start.specs.Fresh.{FilesAreClosed}
 use Rattle.world_folder.specs.Completing.{IsOpenFile, IsOpenThere, IsOccupied, KeepsThere, IsReady, AreTaken}
 use Rattle.world_folder.specs.History.{Act}
-use Rattle.world_folder.specs.Making.{TellsUnmade}
+use Rattle.world_folder.specs.Making.{ReportsUnmade}
 use Rattle.world_folder.specs.declared.ending.Ending.{Ending}
 use Rattle.world_folder.specs.declared.ending.Ending.TheVariants.{Fault, Occupied}
 use Rattle.world_folder.specs.declared.entry.Identity.{Identity}
@@ -74,12 +74,12 @@ module _ {D : Type 0} (content : D → List ℕ) (leaves : D → List ℕ → Ty
 
 -- closed files are no reason to name one
 pub closed_not_occupied : {D : Type 0} (file : D → List ℕ) (folder : List ℕ) (files : FourFiles D) (ending : Ending)
-    → FilesAreClosed file files → TellsUnmade file folder files ending → IsOccupied ending → ⊥
-closed_not_occupied file folder files (Fault NotEmpty) closed told occupied =
-    ⊎_elim (λ is. absurd cc) (⊎_elim (λ is. absurd cc) (λ is. is.1 closed)) told
-closed_not_occupied file folder files (Fault refusal) closed told occupied = absurd occupied
-closed_not_occupied file folder files (Occupied named) closed told occupied =
+    → FilesAreClosed file files → ReportsUnmade file folder files ending → IsOccupied ending → ⊥
+closed_not_occupied file folder files (Fault NotEmpty) closed reported occupied =
+    ⊎_elim (λ is. absurd cc) (⊎_elim (λ is. absurd cc) (λ is. is.1 closed)) reported
+closed_not_occupied file folder files (Fault refusal) closed reported occupied = absurd occupied
+closed_not_occupied file folder files (Occupied named) closed reported occupied =
     ⊎_elim (λ is. is.1 closed.image_a_closed)
     (⊎_elim (λ is. is.2 closed.image_b_closed)
-    (⊎_elim (λ is. is.3 closed.log_a_closed) (λ is. is.4 closed.log_b_closed))) told.2
-closed_not_occupied file folder files other closed told occupied = absurd told
+    (⊎_elim (λ is. is.3 closed.log_a_closed) (λ is. is.4 closed.log_b_closed))) reported.2
+closed_not_occupied file folder files other closed reported occupied = absurd reported

@@ -15,7 +15,7 @@ use Rattle.world_start.specs.Fresh.{AreClosed, AreNotMade, FilesAreClosed}
 use Rattle.world_folder.specs.declared.ending.Ending.{Ending}
 use Rattle.world_folder.specs.declared.ending.Ending.TheVariants.{Fault, Occupied}
 use Rattle.world_folder.specs.declared.ending.Occupied.{Occupied as OpenFile}
-use Rattle.world_folder.specs.Making.{IsFirstOpen, TellsUnmade, IsUnmade, HoldsWords, HoldsNoOther, recovery_of_words}
+use Rattle.world_folder.specs.Making.{IsFirstOpen, ReportsUnmade, IsUnmade, HoldsWords, HoldsNoOther, recovery_of_words}
 
 -- the bytes of four files
 abbrev Four : Type 0
@@ -23,14 +23,14 @@ Four = List ℕ × List ℕ × List ℕ × List ℕ
 
 module _ {D : Type 0} (file : D → List ℕ) where
   -- a report of files is also one of files with the same bytes
-  tells_before : (folder : List ℕ) (files left : FourFiles D) (ending : Ending)
+  reports_before : (folder : List ℕ) (files left : FourFiles D) (ending : Ending)
       → file left.image_a ≡ file files.image_a → file left.image_b ≡ file files.image_b → file left.log_a ≡ file files.log_a → file left.log_b ≡ file files.log_b
-      → TellsUnmade file folder left ending → TellsUnmade file folder files ending
-  tells_before folder files left (Fault refusal) a b la lb told =
-      subst (λ (x : Four). (refusal ≡ NoMemory) ⊎ ((refusal ≡ Device) ⊎ ((refusal ≡ NotEmpty) × ¬ AreClosed x.0 x.1 x.2 x.3))) (λ i. (a i, b i, la i, lb i)) told
-  tells_before folder files left (Occupied named) a b la lb told =
-      (told.0, told.1, subst (λ (x : Four). IsFirstOpen x.0 x.1 x.2 x.3 told.0) (λ i. (a i, b i, la i, lb i)) told.2)
-  tells_before folder files left other a b la lb told = absurd told
+      → ReportsUnmade file folder left ending → ReportsUnmade file folder files ending
+  reports_before folder files left (Fault refusal) a b la lb reported =
+      subst (λ (x : Four). (refusal ≡ NoMemory) ⊎ ((refusal ≡ Device) ⊎ ((refusal ≡ NotEmpty) × ¬ AreClosed x.0 x.1 x.2 x.3))) (λ i. (a i, b i, la i, lb i)) reported
+  reports_before folder files left (Occupied named) a b la lb reported =
+      (reported.0, reported.1, subst (λ (x : Four). IsFirstOpen x.0 x.1 x.2 x.3 reported.0) (λ i. (a i, b i, la i, lb i)) reported.2)
+  reports_before folder files left other a b la lb reported = absurd reported
 
 module _ {D : Type 0} (file : D → List ℕ) (leaves : D → List ℕ → Type 0) where
   kept_on : {old mid new : D} → KeepsFile file leaves old mid → KeepsFile file leaves mid new → KeepsFile file leaves old new
@@ -41,15 +41,15 @@ module _ {D : Type 0} (file : D → List ℕ) (leaves : D → List ℕ → Type 
 
   -- no world was made over a file that isn't closed, and the files were read once more
   pub occupied_unmade : (folder : List ℕ) (files : FourFiles D) (cells : ℕ) (left after : FourFiles D) (ending : Ending)
-      → AreNotMade file leaves files cells NotEmpty left → (¬ FilesAreClosed file left → TellsUnmade file folder left ending)
+      → AreNotMade file leaves files cells NotEmpty left → (¬ FilesAreClosed file left → ReportsUnmade file folder left ending)
       → EachFile left after (KeepsFile file leaves) → IsUnmade file leaves folder files cells ending after
-  occupied_unmade folder files cells left after ending n tells again =
+  occupied_unmade folder files cells left after ending n reports again =
       let k = n.kept (λ is. absurd cc) in
       let one_is : ¬ FilesAreClosed file files = n.not_empty refl in
       let one_left : ¬ FilesAreClosed file left =
       (λ closed. one_is (subst (λ (x : Four). AreClosed x.0 x.1 x.2 x.3) (λ i. (k.image_a.same_content i, k.image_b.same_content i, k.log_a.same_content i, k.log_b.same_content i)) closed)) in
       record {
-        told = tells_before file folder files left ending k.image_a.same_content k.image_b.same_content k.log_a.same_content k.log_b.same_content (tells one_left);
+        reported = reports_before file folder files left ending k.image_a.same_content k.image_b.same_content k.log_a.same_content k.log_b.same_content (reports one_left);
         kept = λ other. record {
           image_a = kept_on k.image_a again.image_a;
           image_b = kept_on k.image_b again.image_b;
@@ -84,15 +84,15 @@ module _ {D : Type 0} (file : D → List ℕ) (files : FourFiles D) (ia ib la lb
       others))
       first
 
-  -- the ending names it, or tells of want of memory
-  pub tells_read : (folder name : List ℕ) (ending : Ending) → IsFirstOpen ia ib la lb name
+  -- the ending names it, or reports that memory ran out
+  pub reports_read : (folder name : List ℕ) (ending : Ending) → IsFirstOpen ia ib la lb name
       → (ending ≡ Fault NoMemory) ⊎ ((opened : OpenFile) × (ending ≡ Occupied opened) × (path_buf_bytes opened.path ≡ path_join folder name))
-      → TellsUnmade file folder files ending
-  tells_read folder name ending first told =
+      → ReportsUnmade file folder files ending
+  reports_read folder name ending first reported =
       ⊎_elim
-      (λ none. subst (λ (e : Ending). TellsUnmade file folder files e) (sym none) (inl refl))
-      (λ opened. subst (λ (e : Ending). TellsUnmade file folder files e) (sym opened.1) (name, opened.2, first_open_read name first))
-      told
+      (λ none. subst (λ (e : Ending). ReportsUnmade file folder files e) (sym none) (inl refl))
+      (λ opened. subst (λ (e : Ending). ReportsUnmade file folder files e) (sym opened.1) (name, opened.2, first_open_read name first))
+      reported
 
 -- ---- a world of given words
 
@@ -188,9 +188,9 @@ module _ {D : Type 0} (file : D → List ℕ) (leaves : D → List ℕ → Type 
 
   -- no image is written over files of which one isn't closed
   pub not_closed_unmade : (folder words : List ℕ) (files left : FourFiles D) (ending : Ending) → ¬ FilesAreClosed file files
-      → TellsUnmade file folder files ending → EachFile files left (KeepsFile file leaves) → HoldsNoOther file leaves folder files words ending left
-  not_closed_unmade folder words files left ending not_closed told kept = record {
-    told = told;
+      → ReportsUnmade file folder files ending → EachFile files left (KeepsFile file leaves) → HoldsNoOther file leaves folder files words ending left
+  not_closed_unmade folder words files left ending not_closed reported kept = record {
+    reported = reported;
     kept = λ other. kept;
     safe = λ synced closed. absurd (not_closed closed);
     fresh = λ synced closed. absurd (not_closed closed);
@@ -203,7 +203,7 @@ module _ {D : Type 0} (file : D → List ℕ) (leaves : D → List ℕ → Type 
       → (Only (file read.image_a) (leaves read.image_a) → (left : List ℕ) → leaves image left → (image_of left ≡ Closed) ⊎ (image_of left ≡ Open 0 words))
       → HoldsNoOther file leaves folder files words (Fault refusal) (record { image_a = image; image_b = read.image_b; log_a = read.log_a; log_b = read.log_b })
   unwritten folder words files read image refusal closed kept why memory leaves_so = record {
-    told = ⊎_elim (λ none. inl none) (λ device. inr (inl device)) why;
+    reported = ⊎_elim (λ none. inl none) (λ device. inr (inl device)) why;
     kept = λ other. record {
       image_a = subst (λ (disk : D). KeepsFile file leaves files.image_a disk) (sym (memory (⊎_elim (λ none. none) (λ device. absurd (other (ap Fault device))) why))) kept.image_a;
       image_b = kept.image_b;

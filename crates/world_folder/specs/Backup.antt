@@ -7,7 +7,7 @@ use Rattle.file_format.specs.declared.slot.Slot.TheVariants.{A, B}
 use Rattle.recovery.specs.declared.recovered.Recovered.{Recovered}
 use Rattle.world_folder.specs.declared.copying.Images.TheVariants.{Newest}
 use Rattle.world_folder.specs.declared.entry.Entry.{Entry}
-use Rattle.world_folder.specs.declared.found.WorldTold.{WorldTold}
+use Rattle.world_folder.specs.declared.found.WorldReport.{WorldReport}
 use Rattle.world_folder.specs.declared.world_file.WorldFile.{WorldFile}
 use Rattle.world_folder.specs.declared.world_file.WorldFile.TheVariants.{ImageA, ImageB, LogA, LogB}
 use Rattle.world_folder.specs.Copying.{IsCopied}
@@ -52,7 +52,7 @@ module _ {D : Type 0} (content : D → List ℕ) (leaves : D → List ℕ → Ty
     pub lengths : FourFiles ℕ
     pub tries : ℕ
     pub read : Recovered
-    pub told : WorldTold
+    pub reported : WorldReport
     pub room : List Act
     pub written : List Act
     pub verified : List Act
@@ -61,5 +61,5 @@ module _ {D : Type 0} (content : D → List ℕ) (leaves : D → List ℕ → Ty
     pub whole : IsWhole copied read
     pub is_room : room ≡ FoundEmpty ∷ before
     pub are_written : AreWritten read.slot copied made room written
-    pub is_verified : IsVerified read told written verified
-    pub printed : after ≡ Printed (backed_up_text told.tick told.from) ∷ with_tries tries verified
+    pub is_verified : IsVerified read reported written verified
+    pub printed : after ≡ Printed (backed_up_text reported.tick reported.from) ∷ with_tries tries verified

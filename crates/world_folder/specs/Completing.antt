@@ -59,10 +59,10 @@ module _ {D : Type 0} (file : D → List ℕ) where
       × ¬ IsOpenThere SEGMENT_HEAD present.log_a × IsOpenThere SEGMENT_HEAD present.log_b)))
 
   -- the ending says why no world is made in a folder: it names the first file that is there and open, or no file
-  abbrev pub TellsOpen : (folder : List ℕ) → FourFiles (Option D) → Ending → Type 0
-  TellsOpen folder present (Occupied told) = (name : List ℕ) × (path_buf_bytes told.path ≡ path_join folder name) × IsFirstThere present name
-  TellsOpen folder present (Fault refusal) = (refusal ≡ NoMemory) ⊎ (refusal ≡ Device)
-  TellsOpen folder present other = ⊥
+  abbrev pub ReportsOpen : (folder : List ℕ) → FourFiles (Option D) → Ending → Type 0
+  ReportsOpen folder present (Occupied reported) = (name : List ℕ) × (path_buf_bytes reported.path ≡ path_join folder name) × IsFirstThere present name
+  ReportsOpen folder present (Fault refusal) = (refusal ≡ NoMemory) ⊎ (refusal ≡ Device)
+  ReportsOpen folder present other = ⊥
 
 -- a file that is there is only read; none appears
 abbrev pub KeepsThere : {S : Type 0} → (S → List ℕ) → (S → List ℕ → Type 0) → Option S → Option S → Type 0

@@ -5,7 +5,7 @@ use Rattle.disk_model.specs.declared.four_files.FourFiles.{FourFiles}
 use Rattle.world_actions.specs.declared.refusal.Refusal.TheVariants.{NoMemory}
 use Rattle.world_start.specs.Fresh.{AreMade}
 use Rattle.world_start.specs.Opening.{AreSound, AreSynced}
-use Rattle.world_folder.specs.Completing.{AreFound, AreTaken, KeepsThere, TellsOpen}
+use Rattle.world_folder.specs.Completing.{AreFound, AreTaken, KeepsThere, ReportsOpen}
 use Rattle.world_folder.specs.Making.{HoldsWords}
 use Rattle.world_folder.specs.History.{Act, Printed}
 use Rattle.world_folder.specs.Texts.{created_text}
@@ -50,7 +50,7 @@ module _ {D : Type 0} (identity : D → Identity) (content : D → List ℕ) (le
     pub there : FourFiles (Option D)
     pub left : FourFiles (Option D)
     pub found : AreFound identity there before after
-    pub told : TellsOpen content folder there ending
+    pub reported : ReportsOpen content folder there ending
     pub kept : EachFile there left (KeepsThere content leaves)
 
 -- the ending of a command that made these files: it names them, if a file failed or memory was wanting

@@ -11,7 +11,7 @@ use Rattle.disk_model.specs.declared.four_files.FourFiles.{FourFiles}
 use Rattle.world_folder.specs.declared.ending.Ending.{Ending}
 use Rattle.world_folder.specs.declared.ending.ServerEnding.{ServerEnding}
 use Rattle.world_folder.specs.declared.ending.ServerEnding.TheVariants.{NoPort, NoThread, ListenerFailed, ImagesDown, LogDown}
-use Rattle.world_folder.specs.declared.ending.Ending.TheVariants.{Ran, Told, Mistaken, Fault, Unreadable, NoWorld, Unfinished, Unlisted, Server}
+use Rattle.world_folder.specs.declared.ending.Ending.TheVariants.{Ran, HelpPrinted, Mistaken, Fault, Unreadable, NoWorld, Unfinished, Unlisted, Server}
 use Rattle.world_folder.specs.Fault.{Files, AreRead, Explains, refusal_of}
 use Rattle.world_folder.specs.declared.words_text.BadWords.TheVariants as bad
 use Rattle.world_folder.specs.declared.unfinished.Why.{Why}
@@ -54,7 +54,7 @@ IsStatusOfUnfinished (why.File file) status = IsStatusOfError file.error status
 -- the exit status of each way to end
 abbrev pub IsStatusOf : Ending → (status : ℕ) → Type 0
 IsStatusOf Ran status = status ≡ 0
-IsStatusOf Told status = status ≡ 0
+IsStatusOf HelpPrinted status = status ≡ 0
 IsStatusOf Mistaken status = status ≡ 2
 IsStatusOf (Fault refusal) status = IsStatusOfRefusal refusal status
 IsStatusOf (Unreadable file) status = IsStatusOfError file.error status
@@ -67,7 +67,7 @@ IsStatusOf other status = status ≡ 1
 -- it is printed as a fault, with status 1 or 13
 abbrev pub IsFault : Ending → Type 0
 IsFault Ran = ⊥
-IsFault Told = ⊥
+IsFault HelpPrinted = ⊥
 IsFault Mistaken = ⊥
 IsFault (Server ListenerFailed) = ⊥
 IsFault (Server ImagesDown) = ⊥
@@ -75,30 +75,30 @@ IsFault (Server LogDown) = ⊥
 IsFault other = Unit {0}
 
 -- the ending names this error and the file of this name in a folder, or there was no memory for its path
-abbrev pub TellsOf : (folder name : List ℕ) → Error → Ending → Type 0
-TellsOf folder name error (Fault refusal) = refusal ≡ NoMemory
-TellsOf folder name error (Unreadable file) = (path_buf_bytes file.path ≡ path_join folder name) × (file.error ≡ error)
-TellsOf folder name error other = ⊥
+abbrev pub ReportsOf : (folder name : List ℕ) → Error → Ending → Type 0
+ReportsOf folder name error (Fault refusal) = refusal ≡ NoMemory
+ReportsOf folder name error (Unreadable file) = (path_buf_bytes file.path ≡ path_join folder name) × (file.error ≡ error)
+ReportsOf folder name error other = ⊥
 
 -- the ending names this file of a folder, or there was no memory for its path
 abbrev pub NamesFile : (folder : List ℕ) → WorldFile → Ending → Type 0
-NamesFile folder file ending = (error : Error) × TellsOf folder (name_of file) error ending
+NamesFile folder file ending = (error : Error) × ReportsOf folder (name_of file) error ending
 
 -- the ending names the file of a folder that failed; without one, the device did
-abbrev pub TellsFailure : (folder : List ℕ) → Option (WorldFile × Error) → Ending → Type 0
-TellsFailure folder None ending = ending ≡ Fault Device
-TellsFailure folder (Some failed) ending = TellsOf folder (name_of failed.0) failed.1 ending
+abbrev pub ReportsFailure : (folder : List ℕ) → Option (WorldFile × Error) → Ending → Type 0
+ReportsFailure folder None ending = ending ≡ Fault Device
+ReportsFailure folder (Some failed) ending = ReportsOf folder (name_of failed.0) failed.1 ending
 
 -- the ending names the first of four files in a folder that couldn't be read, with its error
-abbrev pub TellsOfFirst : (folder : List ℕ) → FourFiles (Named (Result (Vec ℕ Global) Error)) → Ending → Type 0
-TellsOfFirst folder files ending =
+abbrev pub ReportsOfFirst : (folder : List ℕ) → FourFiles (Named (Result (Vec ℕ Global) Error)) → Ending → Type 0
+ReportsOfFirst folder files ending =
     MatchResult files.image_a.value (λ _. MatchResult files.image_b.value (λ _. MatchResult files.log_a.value (λ _. MatchResult files.log_b.value (λ _. ⊥)
-    (λ error. TellsOf folder (name_of files.log_b.file) error ending))
-    (λ error. TellsOf folder (name_of files.log_a.file) error ending))
-    (λ error. TellsOf folder (name_of files.image_b.file) error ending))
-    (λ error. TellsOf folder (name_of files.image_a.file) error ending)
+    (λ error. ReportsOf folder (name_of files.log_b.file) error ending))
+    (λ error. ReportsOf folder (name_of files.log_a.file) error ending))
+    (λ error. ReportsOf folder (name_of files.image_b.file) error ending))
+    (λ error. ReportsOf folder (name_of files.image_a.file) error ending)
 
 -- the ending says why no world was found in the four files of a folder, which were read so
-abbrev pub TellsWhy : (folder : List ℕ) → FourFiles (Named (Result (Vec ℕ Global) Error)) → Ending → Type 0
-TellsWhy folder files (NoWorld fault) = (bytes : Files) × AreRead files bytes × Explains bytes fault
-TellsWhy folder files ending = TellsOfFirst folder files ending
+abbrev pub ReportsWhy : (folder : List ℕ) → FourFiles (Named (Result (Vec ℕ Global) Error)) → Ending → Type 0
+ReportsWhy folder files (NoWorld fault) = (bytes : Files) × AreRead files bytes × Explains bytes fault
+ReportsWhy folder files ending = ReportsOfFirst folder files ending

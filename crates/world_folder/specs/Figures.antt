@@ -4,15 +4,15 @@ use Rattle.file_format.specs.declared.slot.Slot.{Slot}
 use Rattle.file_format.specs.declared.slot.Slot.TheVariants.{A, B}
 use Rattle.recovery.specs.declared.recovered.Recovered.{Recovered}
 use Rattle.world_folder.specs.declared.figures.Figures.{Figures as FiguresValue}
-use Rattle.world_folder.specs.declared.told.LogTold.{LogTold}
-use Rattle.world_folder.specs.declared.told.LogTold.TheVariants.{Open}
+use Rattle.world_folder.specs.declared.file_reports.LogReport.{LogReport}
+use Rattle.world_folder.specs.declared.file_reports.LogReport.TheVariants.{Open}
 use Rattle.world_folder.specs.Fault.{Files, Stands}
-use Rattle.world_folder.specs.Told.{IsLogTold}
+use Rattle.world_folder.specs.FileReports.{IsLogReport}
 
 -- the base of an open segment, and how many ticks it has
-abbrev pub told_segment : LogTold → Option (ℕ × ℕ)
-told_segment (Open format base groups ticks) = Some (base, ticks)
-told_segment log = None
+abbrev pub reported_segment : LogReport → Option (ℕ × ℕ)
+reported_segment (Open format base groups ticks) = Some (base, ticks)
+reported_segment log = None
 
 -- of two segments the open one with the greater base, log.b if both have it, and how many ticks it has
 abbrev pub current_segment : Option (ℕ × ℕ) → Option (ℕ × ℕ) → Option (Slot × ℕ)
@@ -28,8 +28,8 @@ pub record AreFigures (files : Files) (figures : FiguresValue) : Type 0 where
   pub tick : figures.tick ≡ found.tick
   pub image : figures.image ≡ found.from
   pub slot : figures.slot ≡ found.slot
-  pub log_a : LogTold
-  pub log_b : LogTold
-  pub told_a : IsLogTold files.log_a.items log_a
-  pub told_b : IsLogTold files.log_b.items log_b
-  pub segment : figures.segment ≡ current_segment (told_segment log_a) (told_segment log_b)
+  pub log_a : LogReport
+  pub log_b : LogReport
+  pub reported_a : IsLogReport files.log_a.items log_a
+  pub reported_b : IsLogReport files.log_b.items log_b
+  pub segment : figures.segment ≡ current_segment (reported_segment log_a) (reported_segment log_b)

@@ -7,37 +7,37 @@ use Rattle.recovery.specs.declared.recovered.Recovered.{Recovered}
 use Rattle.world_folder.specs.Fault.{Files, AreRead, Stands}
 use Rattle.world_folder.specs.History.{Act, Printed, IsPrinted}
 use Rattle.world_folder.specs.Looking.{IsSeen}
-use Rattle.world_folder.specs.Texts.{image_told_text, log_told_text, counted_text, recovered_text}
-use Rattle.world_folder.specs.Told.{IsImageTold, IsLogTold}
+use Rattle.world_folder.specs.Texts.{image_reported_text, log_reported_text, counted_text, recovered_text}
+use Rattle.world_folder.specs.FileReports.{IsImageReport, IsLogReport}
 use Rattle.world_folder.specs.WorldFile.{name_of}
 use Rattle.world_folder.specs.declared.inspecting.FileLine.{FileLine}
-use Rattle.world_folder.specs.declared.inspecting.FileTold.{FileTold}
-use Rattle.world_folder.specs.declared.inspecting.FileTold.TheVariants.{Image, Log, Unreadable}
+use Rattle.world_folder.specs.declared.inspecting.FileReport.{FileReport}
+use Rattle.world_folder.specs.declared.inspecting.FileReport.TheVariants.{Image, Log, Unreadable}
 use Rattle.world_folder.specs.declared.looking.Seen.{Seen}
 use Rattle.world_folder.specs.declared.world_file.Named.{Named}
 use Rattle.world_folder.specs.declared.world_file.WorldFile.{WorldFile}
 use Rattle.world_folder.specs.declared.world_file.WorldFile.TheVariants.{ImageA, ImageB, LogA, LogB}
 
 -- a file's report, and its length
-abbrev pub told_line : (name told : List ℕ) → (length : ℕ) → Option (List ℕ)
-told_line name told length = Some (name ++ codes ": " ++ told ++ codes ", " ++ counted_text length (codes "byte"))
+abbrev pub reported_line : (name reported : List ℕ) → (length : ℕ) → Option (List ℕ)
+reported_line name reported length = Some (name ++ codes ": " ++ reported ++ codes ", " ++ counted_text length (codes "byte"))
 
 -- the text of the line on a file, which isn't stated if it has an error of the system
-abbrev pub told_text : WorldFile → FileTold → (length : ℕ) → Option (List ℕ)
-told_text file (Image told) length = told_line (name_of file) (image_told_text told) length
-told_text file (Log told) length = told_line (name_of file) (log_told_text told) length
-told_text file (Unreadable error) length = None
+abbrev pub reported_text : WorldFile → FileReport → (length : ℕ) → Option (List ℕ)
+reported_text file (Image reported) length = reported_line (name_of file) (image_reported_text reported) length
+reported_text file (Log reported) length = reported_line (name_of file) (log_reported_text reported) length
+reported_text file (Unreadable error) length = None
 
 abbrev pub file_line_text : FileLine → Option (List ℕ)
-file_line_text line = told_text line.file line.told line.length
+file_line_text line = reported_text line.file line.reported line.length
 
 -- how the bytes of a file read, by its format
-abbrev pub IsTold : WorldFile → (bytes : List ℕ) → FileTold → Type 0
-IsTold ImageA bytes (Image told) = IsImageTold bytes told
-IsTold ImageB bytes (Image told) = IsImageTold bytes told
-IsTold LogA bytes (Log told) = IsLogTold bytes told
-IsTold LogB bytes (Log told) = IsLogTold bytes told
-IsTold file bytes told = ⊥
+abbrev pub IsFileReport : WorldFile → (bytes : List ℕ) → FileReport → Type 0
+IsFileReport ImageA bytes (Image reported) = IsImageReport bytes reported
+IsFileReport ImageB bytes (Image reported) = IsImageReport bytes reported
+IsFileReport LogA bytes (Log reported) = IsLogReport bytes reported
+IsFileReport LogB bytes (Log reported) = IsLogReport bytes reported
+IsFileReport file bytes reported = ⊥
 
 -- a length, or that of the bytes
 abbrev pub length_or : Option ℕ → (bytes : List ℕ) → ℕ
@@ -46,8 +46,8 @@ length_or (Some known) bytes = known
 
 -- the line on a file that was read so: how its bytes read, or why it can't be read
 abbrev pub IsLineOf : WorldFile → Result (Vec ℕ Global) Error → Option ℕ → FileLine → Type 0
-IsLineOf file (Ok bytes) known line = (line.file ≡ file) × IsTold file bytes.items line.told × (line.length ≡ length_or known bytes.items)
-IsLineOf file (Err error) known line = (line.file ≡ file) × (line.told ≡ Unreadable error)
+IsLineOf file (Ok bytes) known line = (line.file ≡ file) × IsFileReport file bytes.items line.reported × (line.length ≡ length_or known bytes.items)
+IsLineOf file (Err error) known line = (line.file ≡ file) × (line.reported ≡ Unreadable error)
 
 abbrev pub IsFileLine : Named (Result (Vec ℕ Global) Error) → Option ℕ → FileLine → Type 0
 IsFileLine named known line = IsLineOf named.file named.value known line

@@ -4,7 +4,7 @@ pub mod Fault
 pub mod History
 pub mod OwnFile
 pub mod Failing
-pub mod Told
+pub mod FileReports
 pub mod Completing
 pub mod ReadIn
 pub mod Copying

@@ -30,18 +30,18 @@ IsFirstOpen image_a image_b log_a log_b name =
 module _ {D : Type 0} (file : D → List ℕ) where
   -- the ending says why no world was made of the four files of a folder: it names the first one that isn't closed, or no
   -- file
-  abbrev pub TellsUnmade : (folder : List ℕ) → FourFiles D → Ending → Type 0
-  TellsUnmade folder files (Occupied told) =
-      (name : List ℕ) × (path_buf_bytes told.path ≡ path_join folder name)
+  abbrev pub ReportsUnmade : (folder : List ℕ) → FourFiles D → Ending → Type 0
+  ReportsUnmade folder files (Occupied reported) =
+      (name : List ℕ) × (path_buf_bytes reported.path ≡ path_join folder name)
       × IsFirstOpen (file files.image_a) (file files.image_b) (file files.log_a) (file files.log_b) name
-  TellsUnmade folder files (Fault refusal) = (refusal ≡ NoMemory) ⊎ ((refusal ≡ Device) ⊎ ((refusal ≡ NotEmpty) × ¬ FilesAreClosed file files))
-  TellsUnmade folder files other = ⊥
+  ReportsUnmade folder files (Fault refusal) = (refusal ≡ NoMemory) ⊎ ((refusal ≡ Device) ⊎ ((refusal ≡ NotEmpty) × ¬ FilesAreClosed file files))
+  ReportsUnmade folder files other = ⊥
 
 module _ {D : Type 0} (file : D → List ℕ) (leaves : D → List ℕ → Type 0) where
   -- No world was made, and the program ends so. The files were only read, except if a device failed. If they held no world,
   -- whatever a crash leaves of them is of no world yet, or of one of zeros at tick 0.
   pub record IsUnmade (folder : List ℕ) (files : FourFiles D) (cells : ℕ) (ending : Ending) (left : FourFiles D) : Type 0 where
-    pub told : TellsUnmade file folder files ending
+    pub reported : ReportsUnmade file folder files ending
     pub kept : ending ≢ Fault Device → EachFile files left (KeepsFile file leaves)
     pub safe : AreSynced file leaves files → FilesAreClosed file files → AreFreshOrSound file leaves left (replicate cells 0)
 
@@ -72,7 +72,7 @@ module _ {D : Type 0} (file : D → List ℕ) (leaves : D → List ℕ → Type 
   -- No world was made, and the program ends so. The files were only read, except if a device failed. If they held no world,
   -- a crash leaves none in them, or that of these words at tick 0. So they are those of a fresh world of these words.
   pub record HoldsNoOther (folder : List ℕ) (files : FourFiles D) (words : List ℕ) (ending : Ending) (left : FourFiles D) : Type 0 where
-    pub told : TellsUnmade file folder files ending
+    pub reported : ReportsUnmade file folder files ending
     pub kept : ending ≢ Fault Device → EachFile files left (KeepsFile file leaves)
     pub safe : AreSynced file leaves files → FilesAreClosed file files
         → (a b la lb : List ℕ) → leaves left.image_a a → leaves left.image_b b → leaves left.log_a la → leaves left.log_b lb

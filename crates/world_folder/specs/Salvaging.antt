@@ -18,7 +18,7 @@ use Rattle.world_folder.specs.History.{Act, FoundEmpty, Printed}
 use Rattle.world_folder.specs.ReadIn.{AreReadIn}
 use Rattle.world_folder.specs.Texts.{image_part_text, log_part_text, salvaged_text}
 use Rattle.world_folder.specs.Verified.{IsVerified}
-use Rattle.world_folder.specs.declared.found.WorldTold.{WorldTold}
+use Rattle.world_folder.specs.declared.found.WorldReport.{WorldReport}
 use Rattle.world_folder.specs.declared.world_file.Named.{Named}
 use Rattle.world_folder.specs.declared.world_file.TheConstants.{IMAGE_A, IMAGE_B, LOG_A, LOG_B}
 
@@ -69,7 +69,7 @@ pub record IsSalvagedInto {D : Type 0} (content : D → List ℕ) (leaves : D �
   pub files : Files
   pub salvaged : Salvaged
   pub bytes : Files
-  pub told : WorldTold
+  pub reported : WorldReport
   pub room : List Act
   pub taken : List Act
   pub written : List Act
@@ -79,5 +79,5 @@ pub record IsSalvagedInto {D : Type 0} (content : D → List ℕ) (leaves : D �
   pub is_salvaged : IsSalvagedOf files salvaged
   pub is_room : room ≡ FoundEmpty ∷ before
   pub are_written : AreWritten content leaves A bytes made (parts_printed salvaged taken) written
-  pub is_verified : IsVerified salvaged.found told written verified
-  pub printed : after ≡ Printed (salvaged_text told.tick told.from) ∷ verified
+  pub is_verified : IsVerified salvaged.found reported written verified
+  pub printed : after ≡ Printed (salvaged_text reported.tick reported.from) ∷ verified

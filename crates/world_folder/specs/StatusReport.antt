@@ -5,11 +5,11 @@ use Rattle.world_folder.specs.Copying.{IsCopied}
 use Rattle.world_folder.specs.Fault.{Files}
 use Rattle.world_folder.specs.Figures.{AreFigures}
 use Rattle.world_folder.specs.History.{Act, Printed}
-use Rattle.world_folder.specs.Served.{IsServerTold}
+use Rattle.world_folder.specs.Served.{IsServerReport}
 use Rattle.world_folder.specs.Texts.{figures_text, lengths_text, server_text}
 use Rattle.world_folder.specs.declared.copying.Images.TheVariants.{Newest}
 use Rattle.world_folder.specs.declared.figures.Figures.{Figures as FiguresValue}
-use Rattle.world_folder.specs.declared.served.ServerTold.{ServerTold}
+use Rattle.world_folder.specs.declared.served.ServerReport.{ServerReport}
 
 -- a copy was seen, and its figures were printed, and then the lengths of its files
 pub record AreFiguresReported (before after : List Act) : Type 0 where
@@ -23,10 +23,10 @@ pub record AreFiguresReported (before after : List Act) : Type 0 where
 
 -- the locks were asked for, and what they say was printed
 pub record IsServerReported (before after : List Act) : Type 0 where
-  pub told : ServerTold
+  pub reported : ServerReport
   pub acts : List Act
-  pub is_told : IsServerTold told before acts
-  pub printed : after ≡ Printed (server_text told) ∷ acts
+  pub is_reported : IsServerReport reported before acts
+  pub printed : after ≡ Printed (server_text reported) ∷ acts
 
 pub record IsStatusReported (before after : List Act) : Type 0 where
   pub acts : List Act

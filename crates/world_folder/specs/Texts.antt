@@ -13,19 +13,19 @@ use Rattle.world_folder.specs.declared.fault.Fault.{Fault}
 use Rattle.world_folder.specs.declared.fault.Fault.TheVariants as fault
 use Rattle.world_folder.specs.declared.lost.Lost.{Lost}
 use Rattle.world_folder.specs.declared.lost.Lost.TheVariants as lost
-use Rattle.world_folder.specs.declared.told.ImageTold.{ImageTold}
-use Rattle.world_folder.specs.declared.told.ImageTold.TheVariants as image
-use Rattle.world_folder.specs.declared.told.LogTold.{LogTold}
-use Rattle.world_folder.specs.declared.told.LogTold.TheVariants as log
+use Rattle.world_folder.specs.declared.file_reports.ImageReport.{ImageReport}
+use Rattle.world_folder.specs.declared.file_reports.ImageReport.TheVariants as image
+use Rattle.world_folder.specs.declared.file_reports.LogReport.{LogReport}
+use Rattle.world_folder.specs.declared.file_reports.LogReport.TheVariants as log
 use Rattle.world_folder.specs.declared.figures.Figures.{Figures as FiguresValue}
-use Rattle.world_folder.specs.declared.served.PartTold.{PartTold}
-use Rattle.world_folder.specs.declared.served.PartTold.TheVariants as part
-use Rattle.world_folder.specs.declared.served.ServerTold.{ServerTold}
-use Rattle.world_folder.specs.declared.served.ServerTold.TheVariants as server
+use Rattle.world_folder.specs.declared.served.PartReport.{PartReport}
+use Rattle.world_folder.specs.declared.served.PartReport.TheVariants as part
+use Rattle.world_folder.specs.declared.served.ServerReport.{ServerReport}
+use Rattle.world_folder.specs.declared.served.ServerReport.TheVariants as server
 use Rattle.world_folder.specs.declared.words_text.BadWords.{BadWords}
 use Rattle.world_folder.specs.declared.words_text.BadWords.TheVariants as bad
 use Rattle.world_folder.specs.declared.world_file.TheConstants.{IMAGE_A, IMAGE_B, LOG_A, LOG_B}
-use Rattle.world_folder.specs.Told.{format_number}
+use Rattle.world_folder.specs.FileReports.{format_number}
 use Rattle.salvage.specs.declared.image_part.ImagePart.{ImagePart}
 use Rattle.salvage.specs.declared.image_part.ImagePart.TheVariants as image_part
 use Rattle.salvage.specs.declared.log_part.LogPart.{LogPart}
@@ -69,16 +69,16 @@ recovered_line tick from = codes "recovered " ++ world_text tick from
 
 -- ---- files
 
-abbrev pub image_told_text : ImageTold → List ℕ
-image_told_text image.Closed = codes "closed"
-image_told_text image.Damaged = codes "damaged"
-image_told_text (image.Open format cells tick) =
+abbrev pub image_reported_text : ImageReport → List ℕ
+image_reported_text image.Closed = codes "closed"
+image_reported_text image.Damaged = codes "damaged"
+image_reported_text (image.Open format cells tick) =
     codes "open, format " ++ decimal (format_number format) ++ codes ", " ++ counted_text cells (codes "cell") ++ codes ", tick " ++ decimal tick
 
-abbrev pub log_told_text : LogTold → List ℕ
-log_told_text log.Closed = codes "closed"
-log_told_text log.Damaged = codes "damaged"
-log_told_text (log.Open format base groups ticks) =
+abbrev pub log_reported_text : LogReport → List ℕ
+log_reported_text log.Closed = codes "closed"
+log_reported_text log.Damaged = codes "damaged"
+log_reported_text (log.Open format base groups ticks) =
     codes "open, format " ++ decimal (format_number format) ++ codes ", base " ++ decimal base
     ++ codes ", " ++ counted_text groups (codes "group") ++ codes ", " ++ counted_text ticks (codes "tick")
 
@@ -137,12 +137,12 @@ lengths_text lengths = codes "bytes: " ++ pair_text IMAGE_A.now lengths.image_a 
 
 -- ---- a server
 
-abbrev pub part_text : PartTold → List ℕ
+abbrev pub part_text : PartReport → List ℕ
 part_text part.Up = codes "up"
 part_text part.Down = codes "down"
 part_text part.Unknown = codes "unknown"
 
-abbrev pub server_text : ServerTold → List ℕ
+abbrev pub server_text : ServerReport → List ℕ
 server_text (server.Running log images) = codes "server: running, log " ++ part_text log ++ codes ", images " ++ part_text images
 server_text server.Missing = codes "server: none"
 server_text server.Unknown = codes "server: unknown"

@@ -3,7 +3,7 @@ use Rattle.std.specs.Prelude.{◌≡◌, ℕ, List, Result, Vec}
 use Rattle.std.specs.declared.alloc.Global.{Global}
 use Rattle.std.specs.declared.io.Error.{Error}
 use Rattle.disk_model.specs.declared.four_files.FourFiles.{FourFiles}
-use Rattle.world_folder.specs.declared.found.WorldTold.{WorldTold}
+use Rattle.world_folder.specs.declared.found.WorldReport.{WorldReport}
 use Rattle.world_folder.specs.declared.world_file.Named.{Named}
 use Rattle.world_folder.specs.Fault.{Files, AreRead, Stands}
 use Rattle.world_folder.specs.History.{Act}
@@ -15,7 +15,7 @@ abbrev pub IsSameWorld : (one other : Recovered) → Type 0
 IsSameWorld one other = (one.tick ≡ other.tick) × (one.words.items ≡ other.words.items)
 
 -- The four files of a folder were read, and recovery finds in them the world that was written.
-pub record IsVerified (written : Recovered) (told : WorldTold) (before after : List Act) : Type 0 where
+pub record IsVerified (written : Recovered) (reported : WorldReport) (before after : List Act) : Type 0 where
   pub read : FourFiles (Named (Result (Vec ℕ Global) Error))
   pub bytes : Files
   pub found : Recovered
@@ -23,4 +23,4 @@ pub record IsVerified (written : Recovered) (told : WorldTold) (before after : L
   pub are_read : AreRead read bytes
   pub stands : Stands bytes found
   pub same : IsSameWorld written found
-  pub told_is : told ≡ record { tick = found.tick; from = found.from }
+  pub reported_is : reported ≡ record { tick = found.tick; from = found.from }

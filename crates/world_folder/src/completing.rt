@@ -3,7 +3,7 @@ ghost use Rattle.std.specs.Prelude.{◌≡◌, ◌↔◌, ◌≤◌, IsTrue, Ok,
 ghost use Rattle.disk_model.specs.Disk.{Only};
 ghost use Rattle.disk_model.specs.FourFiles.{EachFile, KeepsFile};
 ghost use Rattle.file_format.specs.Gate.{HasClosedGate};
-ghost use Rattle.world_folder.specs.Completing.{IsOccupied, IsOpenFile, IsOpenThere, IsFirstThere, NoneIsOpen, TellsOpen, KeepsThere, IsReady, AreReady, AreCompleted, with_made};
+ghost use Rattle.world_folder.specs.Completing.{IsOccupied, IsOpenFile, IsOpenThere, IsFirstThere, NoneIsOpen, ReportsOpen, KeepsThere, IsReady, AreReady, AreCompleted, with_made};
 ghost use Rattle.world_folder.specs.Ending.{IsFault, NamesFile};
 ghost use Rattle.world_folder.specs.History.{with_lock};
 
@@ -29,7 +29,7 @@ fn look_for_world<D: Disk>(
     present: &mut FourFiles<Option<D>>,
 ) -> Result<(), Ending>
     ensures none { IsTrue D.honest → OnOk result (NoneIsOpen D.content present.old) }
-    ensures told { IsTrue D.honest → IfErr result (TellsOpen D.content folder.now present.old) }
+    ensures reported { IsTrue D.honest → IfErr result (ReportsOpen D.content folder.now present.old) }
     ensures kept { IsTrue D.honest
         → EachFile present.old present.new (KeepsThere D.content D.may_leave) }
     ensures fault { IfErr result IsFault }
@@ -227,8 +227,8 @@ pub fn complete<F: Folder>(
     ensures none_made { IfErr result (λ ending. IsOccupied ending → made.new ≡ made.old) }
     ensures no_act { IfErr result (λ ending. IsOccupied ending → folder.new ≡ folder.old) }
     ensures none_open { IsTrue F.File.honest → IfOk result (λ _. NoneIsOpen F.File.content present.old) }
-    ensures told { IsTrue F.File.honest → IfErr result (λ ending. IsOccupied ending
-        → TellsOpen F.File.content path.now present.old ending) }
+    ensures reported { IsTrue F.File.honest → IfErr result (λ ending. IsOccupied ending
+        → ReportsOpen F.File.content path.now present.old ending) }
     ensures kept { IsTrue F.File.honest → IfErr result (λ ending. IsOccupied ending
         → EachFile present.old present.new (KeepsThere F.File.content F.File.may_leave)) }
     ensures fault { IfErr result IsFault }

@@ -4,7 +4,7 @@ ghost use Rattle.world_actions.specs.declared.world.TheConstants.{CELLS};
 ghost use Rattle.world_actions.specs.World.{IsWorld};
 ghost use Rattle.world_folder.specs.Completing.{AreTaken, IsOccupied};
 ghost use Rattle.world_folder.specs.Creating.{AreZeros, AreWords, IsCreated, IsCreatedOfWords, IsRefused, IsUnfinished};
-ghost use Rattle.world_folder.specs.Ending.{IsFault, TellsFailure};
+ghost use Rattle.world_folder.specs.Ending.{IsFault, ReportsFailure};
 ghost use Rattle.world_folder.specs.Failing.{failure_there, first_failure};
 ghost use Rattle.world_folder.specs.History.{Printed};
 ghost use Rattle.world_folder.specs.Texts.{created_text};
@@ -221,7 +221,7 @@ fn not_made<D: WorldDisk + Drop>(
 ) -> Ending
     requires { IsFault ending }
     ensures other { ending ≢ Ending.Fault Refusal.Device → result ≡ ending }
-    ensures device { IsTrue D.honest → ending ≡ Ending.Fault Refusal.Device → TellsFailure folder.now (first_failure (D.failure files.image_a)
+    ensures device { IsTrue D.honest → ending ≡ Ending.Fault Refusal.Device → ReportsFailure folder.now (first_failure (D.failure files.image_a)
         (D.failure files.image_b) (D.failure files.log_a) (D.failure files.log_b)) result }
     ensures same { IsOccupied result → result ≡ ending }
     ensures fault { IsFault result }
@@ -241,7 +241,7 @@ fn not_read<D: WorldDisk + Drop>(
 ) -> Ending
     requires { IsFault ending }
     ensures other { ending ≢ Ending.Fault Refusal.Device → result ≡ ending }
-    ensures device { IsTrue D.honest → ending ≡ Ending.Fault Refusal.Device → TellsFailure folder.now (first_failure (failure_there D.failure present.image_a)
+    ensures device { IsTrue D.honest → ending ≡ Ending.Fault Refusal.Device → ReportsFailure folder.now (first_failure (failure_there D.failure present.image_a)
         (failure_there D.failure present.image_b) (failure_there D.failure present.log_a) (failure_there D.failure present.log_b)) result }
     ensures same { IsOccupied result → result ≡ ending }
     ensures fault { IsFault result }

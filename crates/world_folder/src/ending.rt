@@ -24,7 +24,7 @@ pub enum Ending {
     /// The command did its work.
     Ran,
     /// The help or the version was printed.
-    Told,
+    HelpPrinted,
     /// The command line is wrong.
     Mistaken,
     /// This refusal ended the program.
@@ -215,7 +215,7 @@ impl Termination for Ending {
         ensures { IsStatusOf self (exit_status result) }
     {
         match self {
-            Ending::Ran | Ending::Told => ExitCode::SUCCESS,
+            Ending::Ran | Ending::HelpPrinted => ExitCode::SUCCESS,
             Ending::Mistaken => ExitCode::from(2),
             Ending::Fault(refusal) => report_fault(rt, refusal, refusal),
             Ending::Unreadable(file) => report_error(rt, file.error, file),
@@ -259,7 +259,7 @@ fn report_unfinished<R: Eprint>(rt: &R, unfinished: Unfinished) -> ExitCode
 fn report_stream<R: Eprint>(rt: &R, failure: StreamFailure) -> ExitCode
     ensures { exit_status result ≡ 1 }
 {
-    tell(rt, refusal_of(&failure.error), failure);
+    print_refusal(rt, refusal_of(&failure.error), failure);
     ExitCode::from(1)
 }
 
@@ -267,7 +267,7 @@ fn report_stream<R: Eprint>(rt: &R, failure: StreamFailure) -> ExitCode
 fn report_fault<R: Eprint, D: Display + Drop>(rt: &R, refusal: Refusal, words: D) -> ExitCode
     ensures { IsStatusOfRefusal refusal (exit_status result) }
 {
-    tell(rt, refusal, words);
+    print_refusal(rt, refusal, words);
     fault_status(refusal == Refusal::NoMemory)
 }
 
@@ -275,12 +275,12 @@ fn report_fault<R: Eprint, D: Display + Drop>(rt: &R, refusal: Refusal, words: D
 fn report_error<R: Eprint, D: Display + Drop>(rt: &R, error: io::Error, words: D) -> ExitCode
     ensures { IsStatusOfError error (exit_status result) }
 {
-    tell(rt, refusal_of(&error), words);
+    print_refusal(rt, refusal_of(&error), words);
     fault_status(is_shortage(&error))
 }
 
 // Prints a code and the reason.
-fn tell<R: Eprint, D: Display + Drop>(rt: &R, refusal: Refusal, words: D) {
+fn print_refusal<R: Eprint, D: Display + Drop>(rt: &R, refusal: Refusal, words: D) {
     let _ = rt.eprintln(FaultLine(refusal));
     let _ = eprintln!(rt; "worldd: {}", Escaped(words));
 }

@@ -182,7 +182,7 @@ fn is_bad_image(alloc: Global, bytes: &[u8]) -> bool
 
 // True if a segment is open and of neither format. It is refused if there is no memory to read it.
 fn is_bad_segment(alloc: Global, bytes: &[u8]) -> Result<bool, Refusal>
-    ensures told { IfOk result (λ is_bad. IsTrue is_bad ↔ IsSegment bytes.now MalformedSegment) }
+    ensures reported { IfOk result (λ is_bad. IsTrue is_bad ↔ IsSegment bytes.now MalformedSegment) }
     ensures memory { IfErr result (λ refusal. refusal ≡ Refusal.NoMemory) }
 {
     match read_log(alloc, bytes) {

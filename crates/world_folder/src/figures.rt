@@ -3,19 +3,19 @@ ghost use Rattle.std.specs.Prelude.{◌≡◌, IsTrue, IfOk, IfErr, OnOk, Some};
 ghost use Rattle.world_folder.specs.Ending.{IsFault};
 ghost use Rattle.world_folder.specs.Fault.{Explains};
 ghost use Rattle.world_folder.specs.StatusReport.{IsStatusReported, IsServerReported, AreFiguresReported};
-ghost use Rattle.world_folder.specs.Told.{IsLogTold};
-ghost use Rattle.world_folder.specs.Figures.{AreFigures, current_segment, told_segment};
+ghost use Rattle.world_folder.specs.FileReports.{IsLogReport};
+ghost use Rattle.world_folder.specs.Figures.{AreFigures, current_segment, reported_segment};
 ghost use Rattle.world_folder.specs.Texts.{figures_text, lengths_text, pair_text, segment_text, total_of};
 
 use crate::copying::{Images, copy_world};
 use crate::counted::Counted;
 use crate::ending::Ending;
 use crate::fault::{Fault, stands_in};
+use crate::file_reports::{LogReport, report_log};
 use crate::folders::Folder;
-use crate::found::{FoundTold, WorldTold};
+use crate::found::{FoundReport, WorldReport};
 use crate::served::server_in;
 use crate::system_folder::SystemFolder;
-use crate::told::{LogTold, tell_log};
 use crate::world_file::{IMAGE_A, IMAGE_B, LOG_A, LOG_B};
 use action_log::SEGMENT_TICKS;
 use disk_model::FourFiles;
@@ -43,8 +43,10 @@ pub fn figures_of(alloc: Global, files: &FourFiles<Vec<u8>>) -> Result<Figures, 
     ensures figures { IfOk result (AreFigures files.now) }
     ensures fault { IfErr result (Explains files.now) }
 {
-    let (Ok(log_a), Ok(log_b)) = (tell_log(alloc, &files.log_a), tell_log(alloc, &files.log_b))
-    else {
+    let (Ok(log_a), Ok(log_b)) = (
+        report_log(alloc, &files.log_a),
+        report_log(alloc, &files.log_b),
+    ) else {
         return Err(Fault::NoMemory);
     };
     match stands_in(alloc, files) {
@@ -59,8 +61,8 @@ pub fn figures_of(alloc: Global, files: &FourFiles<Vec<u8>>) -> Result<Figures, 
 }
 
 // The open segment with the greater base, log.b if both have it, and how many ticks it has.
-fn current_segment(log_a: LogTold, log_b: LogTold) -> Option<(Slot, usize)>
-    ensures { result ≡ current_segment (told_segment log_a) (told_segment log_b) }
+fn current_segment(log_a: LogReport, log_b: LogReport) -> Option<(Slot, usize)>
+    ensures { result ≡ current_segment (reported_segment log_a) (reported_segment log_b) }
 {
     match (opened_segment(log_a), opened_segment(log_b)) {
         (Some((first, ticks)), Some((second, _))) if second < first => Some((Slot::A, ticks)),
@@ -71,12 +73,12 @@ fn current_segment(log_a: LogTold, log_b: LogTold) -> Option<(Slot, usize)>
 }
 
 // The base of an open segment, and how many ticks it has.
-fn opened_segment(log: LogTold) -> Option<(u64, usize)>
-    ensures { result ≡ told_segment log }
+fn opened_segment(log: LogReport) -> Option<(u64, usize)>
+    ensures { result ≡ reported_segment log }
 {
     match log {
-        LogTold::Open { base, ticks, .. } => Some((base, ticks)),
-        LogTold::Closed | LogTold::Damaged => None,
+        LogReport::Open { base, ticks, .. } => Some((base, ticks)),
+        LogReport::Closed | LogReport::Damaged => None,
     }
 }
 
@@ -105,8 +107,8 @@ fn print_server<F: Folder>(folder: &mut F) -> Result<(), Ending>
     ensures reported { IsTrue F.honest → OnOk result (IsServerReported (F.history folder.old) (F.history folder.new)) }
     ensures fault { IfErr result IsFault }
 {
-    let told = server_in(folder)?;
-    folder.print(told)?;
+    let reported = server_in(folder)?;
+    folder.print(reported)?;
     Ok(())
 }
 
@@ -131,8 +133,8 @@ impl fmt::Display for Figures {
     ghost output = { λ figures. Some (figures_text figures) };
 
     fn fmt<W: fmt::Write>(&self, f: &mut fmt::Formatter<W>) -> fmt::Result {
-        let found = FoundTold {
-            world: WorldTold {
+        let found = FoundReport {
+            world: WorldReport {
                 tick: self.tick,
                 from: self.image,
             },
@@ -142,16 +144,16 @@ impl fmt::Display for Figures {
             count: self.tick.saturating_sub(self.image) as usize,
             noun: "tick",
         };
-        let segment = SegmentTold(self.segment);
+        let segment = SegmentReport(self.segment);
         write!(f, "{found}\nlog: {behind} behind the image, {segment}")
     }
 }
 
 // The segment that the log continues in, and how many ticks it has.
 #[derive(Clone, Copy)]
-struct SegmentTold(Option<(Slot, usize)>);
+struct SegmentReport(Option<(Slot, usize)>);
 
-impl fmt::Display for SegmentTold {
+impl fmt::Display for SegmentReport {
     ghost output = { λ segment. Some (segment_text segment.0) };
 
     fn fmt<W: fmt::Write>(&self, f: &mut fmt::Formatter<W>) -> fmt::Result {

@@ -8,23 +8,23 @@ use std::fmt;
 
 /// A world, by its tick and that of the image from which it was built.
 #[derive(Clone, Copy, Debug, PartialEq, Eq)]
-pub struct WorldTold {
+pub struct WorldReport {
     pub tick: u64,
     pub from: u64,
 }
 
-impl WorldTold {
+impl WorldReport {
     pub fn of(found: &Recovered) -> Self
         ensures { result ≡ record { tick = found.now.tick; from = found.now.from } }
     {
-        WorldTold {
+        WorldReport {
             tick: found.tick,
             from: found.from,
         }
     }
 }
 
-impl fmt::Display for WorldTold {
+impl fmt::Display for WorldReport {
     ghost output = { λ world. Some (world_text world.tick world.from) };
 
     fn fmt<W: fmt::Write>(&self, f: &mut fmt::Formatter<W>) -> fmt::Result {
@@ -34,24 +34,24 @@ impl fmt::Display for WorldTold {
 
 /// A recovered world, and the slot of its image.
 #[derive(Clone, Copy, Debug, PartialEq, Eq)]
-pub struct FoundTold {
-    pub world: WorldTold,
+pub struct FoundReport {
+    pub world: WorldReport,
     pub slot: Slot,
 }
 
-impl FoundTold {
+impl FoundReport {
     pub fn of(found: &Recovered) -> Self
         ensures world { result.world ≡ record { tick = found.now.tick; from = found.now.from } }
         ensures slot { result.slot ≡ found.now.slot }
     {
-        FoundTold {
-            world: WorldTold::of(found),
+        FoundReport {
+            world: WorldReport::of(found),
             slot: found.slot,
         }
     }
 }
 
-impl fmt::Display for FoundTold {
+impl fmt::Display for FoundReport {
     ghost output = { λ found. Some (recovered_text found.world.tick found.world.from found.slot) };
 
     fn fmt<W: fmt::Write>(&self, f: &mut fmt::Formatter<W>) -> fmt::Result {

@@ -1,15 +1,15 @@
 ghost use Rattle.std.specs.Prelude.{◌≡◌, Some, IsTrue, IfOk, IfErr, OnOk, string_bytes};
 ghost use Rattle.world_folder.specs.Ending.{IsFault};
-ghost use Rattle.world_folder.specs.Inspection.{IsFileLine, IsTold, AreFilesReported, IsInspected, file_line_text, words_text, words_printed};
+ghost use Rattle.world_folder.specs.Inspection.{IsFileLine, IsFileReport, AreFilesReported, IsInspected, file_line_text, words_text, words_printed};
 
 use crate::counted::Counted;
 use crate::ending::Ending;
+use crate::file_reports::{ImageReport, LogReport, report_image, report_log};
 use crate::folders::Folder;
-use crate::found::FoundTold;
+use crate::found::FoundReport;
 use crate::looking::{Seen, look_at_folder};
 use crate::recovering::found_in;
 use crate::system_folder::SystemFolder;
-use crate::told::{ImageTold, LogTold, tell_image, tell_log};
 use crate::world_file::{Named, WorldFile};
 use disk_model::FourFiles;
 use recovery::Recovered;
@@ -45,7 +45,7 @@ pub fn report_files<F: Folder>(
     let seen = look_at_folder(alloc, folder, path)?;
     print_files(alloc, folder, &seen)?;
     let found = found_in(alloc, path, seen.files)?;
-    folder.print(FoundTold::of(&found))?;
+    folder.print(FoundReport::of(&found))?;
     print_words(alloc, folder, &found, with_words)?;
     Ok(())
 }
@@ -87,9 +87,9 @@ fn print_files<F: Folder>(alloc: Global, folder: &mut F, seen: &Seen) -> Result<
 
 // The report on a file.
 #[derive(Clone, Copy)]
-enum FileTold {
-    Image(ImageTold),
-    Log(LogTold),
+enum FileReport {
+    Image(ImageReport),
+    Log(LogReport),
     Unreadable(io::Error),
 }
 
@@ -97,7 +97,7 @@ enum FileTold {
 #[derive(Clone, Copy)]
 struct FileLine {
     file: WorldFile,
-    told: FileTold,
+    reported: FileReport,
     length: u64,
 }
 
@@ -111,28 +111,28 @@ fn file_line(
     ensures fault { IfErr result IsFault }
 {
     match &named.value {
-        Ok(bytes) => match told_of(alloc, named.file, bytes) {
-            Ok(told) => Ok(FileLine {
+        Ok(bytes) => match reported_of(alloc, named.file, bytes) {
+            Ok(reported) => Ok(FileLine {
                 file: named.file,
-                told,
+                reported,
                 length: length.unwrap_or(bytes.len() as u64),
             }),
             Err(refusal) => Err(Ending::Fault(refusal)),
         },
         Err(error) => Ok(FileLine {
             file: named.file,
-            told: FileTold::Unreadable(*error),
+            reported: FileReport::Unreadable(*error),
             length: 0,
         }),
     }
 }
 
-fn told_of(alloc: Global, file: WorldFile, bytes: &[u8]) -> Result<FileTold, Refusal>
-    ensures { IfOk result (IsTold file bytes.now) }
+fn reported_of(alloc: Global, file: WorldFile, bytes: &[u8]) -> Result<FileReport, Refusal>
+    ensures { IfOk result (IsFileReport file bytes.now) }
 {
     match file {
-        WorldFile::ImageA | WorldFile::ImageB => Ok(FileTold::Image(tell_image(alloc, bytes)?)),
-        WorldFile::LogA | WorldFile::LogB => Ok(FileTold::Log(tell_log(alloc, bytes)?)),
+        WorldFile::ImageA | WorldFile::ImageB => Ok(FileReport::Image(report_image(alloc, bytes)?)),
+        WorldFile::LogA | WorldFile::LogB => Ok(FileReport::Log(report_log(alloc, bytes)?)),
     }
 }
 
@@ -145,10 +145,10 @@ impl fmt::Display for FileLine {
             count: self.length as usize,
             noun: "byte",
         };
-        match self.told {
-            FileTold::Image(told) => write!(f, "{name}: {told}, {length}"),
-            FileTold::Log(told) => write!(f, "{name}: {told}, {length}"),
-            FileTold::Unreadable(error) => write!(f, "{name}: unreadable: {error}"),
+        match self.reported {
+            FileReport::Image(reported) => write!(f, "{name}: {reported}, {length}"),
+            FileReport::Log(reported) => write!(f, "{name}: {reported}, {length}"),
+            FileReport::Unreadable(error) => write!(f, "{name}: unreadable: {error}"),
         }
     }
 }

@@ -10,7 +10,7 @@ ghost use Rattle.world_start.specs.Fresh.{AreClosed, AreMade, FilesAreClosed};
 ghost use Rattle.world_folder.specs.declared.ending.Occupied.{Occupied as Open};
 ghost use Rattle.world_folder.specs.Ending.{IsFault};
 ghost use Rattle.world_actions.specs.World.{IsWorld};
-ghost use Rattle.world_folder.specs.Making.{IsFirstOpen, TellsUnmade, IsUnmade, HoldsWords, HoldsNoOther, OthersOnlyAsked};
+ghost use Rattle.world_folder.specs.Making.{IsFirstOpen, ReportsUnmade, IsUnmade, HoldsWords, HoldsNoOther, OthersOnlyAsked};
 
 use crate::ending::{Ending, Occupied};
 use crate::opening::path_of;
@@ -118,8 +118,8 @@ pub fn make_of_words<D: Disk>(
 
 // How the program ends if one of the files isn't closed. They are read once more, to find the first such file.
 fn occupied<D: Disk>(alloc: Global, folder: &str, files: &mut FourFiles<D>) -> Ending
-    ensures told { IsTrue D.honest → ¬ FilesAreClosed D.content files.old
-        → TellsUnmade D.content folder.now files.old result }
+    ensures reported { IsTrue D.honest → ¬ FilesAreClosed D.content files.old
+        → ReportsUnmade D.content folder.now files.old result }
     ensures asked { FilesOnlyAsked D.called IMAGE_BYTES_MAX IMAGE_BYTES_MAX SEGMENT_BYTES_MAX SEGMENT_BYTES_MAX
         files.old files.new }
     ensures kept { IsTrue D.honest → EachFile files.old files.new (KeepsFile D.content D.may_leave) }

@@ -1,7 +1,7 @@
 ghost use Rattle.std.specs.Prelude.{◌≡◌, ◌∷◌, [], Some, Ok, IsTrue, IfOk, IfErr, OnOk, IsErrAnd};
 ghost use Rattle.std.specs.Path.{path_buf_bytes, path_join};
 ghost use Rattle.disk_model.specs.FourFiles.{EachFile};
-ghost use Rattle.world_folder.specs.Ending.{IsFault, TellsOf, NamesFile, TellsFailure};
+ghost use Rattle.world_folder.specs.Ending.{IsFault, ReportsOf, NamesFile, ReportsFailure};
 ghost use Rattle.world_folder.specs.Completing.{IsOccupied};
 ghost use Rattle.world_folder.specs.Failing.{failure_there, first_failure};
 ghost use Rattle.world_folder.specs.History.{NamesSynced, synced};
@@ -163,7 +163,7 @@ pub fn opened<T>(
     answer: io::Result<T>,
 ) -> Result<T, Ending>
     ensures ok { IfOk answer (λ value. result ≡ Ok value) }
-    ensures fails { IfErr answer (λ error. IsErrAnd result (TellsOf folder.now name.now error)) }
+    ensures fails { IfErr answer (λ error. IsErrAnd result (ReportsOf folder.now name.now error)) }
     ensures fault { IfErr result IsFault }
 {
     match answer {
@@ -184,7 +184,7 @@ pub fn path_of(alloc: Global, folder: &str, name: &str) -> Result<PathBuf, Alloc
 
 /// How the program ends if a call of one of the files failed: the first one is named.
 pub fn failure_of<D: WorldDisk + Drop>(alloc: Global, folder: &str, files: FourFiles<D>) -> Ending
-    ensures first { IsTrue D.honest → TellsFailure folder.now (first_failure (D.failure files.image_a) (D.failure files.image_b)
+    ensures first { IsTrue D.honest → ReportsFailure folder.now (first_failure (D.failure files.image_a) (D.failure files.image_b)
         (D.failure files.log_a) (D.failure files.log_b)) result }
     ensures other { ¬ IsOccupied result }
     ensures fault { IsFault result }
@@ -210,7 +210,7 @@ pub fn failure_of_present<D: WorldDisk + Drop>(
     folder: &str,
     files: FourFiles<Option<D>>,
 ) -> Ending
-    ensures first { IsTrue D.honest → TellsFailure folder.now (first_failure (failure_there D.failure files.image_a)
+    ensures first { IsTrue D.honest → ReportsFailure folder.now (first_failure (failure_there D.failure files.image_a)
         (failure_there D.failure files.image_b) (failure_there D.failure files.log_a) (failure_there D.failure files.log_b)) result }
     ensures other { ¬ IsOccupied result }
     ensures fault { IsFault result }

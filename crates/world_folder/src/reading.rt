@@ -1,7 +1,7 @@
 //! The files of a folder as readers see them: opened to be read alone, and read as far as their formats go.
 ghost use Rattle.std.specs.Prelude.{◌≡◌, Ok, IsTrue, IfOk, IfErr, OnErr, IfSome, IsErr, IsErrAnd};
 ghost use Rattle.world_folder.specs.Fault.{AreRead};
-ghost use Rattle.world_folder.specs.Ending.{IsFault, TellsOfFirst};
+ghost use Rattle.world_folder.specs.Ending.{IsFault, ReportsOfFirst};
 ghost use Rattle.world_folder.specs.ReadIn.{IsFileRead, IsReadIn, AreReadIn};
 ghost use Rattle.world_folder.specs.WorldFile.{AreNamed};
 
@@ -88,7 +88,7 @@ pub fn all_read(
     files: FourFiles<Named<io::Result<Vec<u8>>>>,
 ) -> Result<FourFiles<Vec<u8>>, Ending>
     ensures read { IfOk result (AreRead files) }
-    ensures unread { IfErr result (TellsOfFirst folder.now files) }
+    ensures unread { IfErr result (ReportsOfFirst folder.now files) }
     ensures fault { IfErr result IsFault }
 {
     let FourFiles {

@@ -1,5 +1,5 @@
 ghost use Rattle.std.specs.Prelude.{◌≡◌, Some, IsTrue, IfOk, IfErr, OnOk};
-ghost use Rattle.world_folder.specs.Ending.{IsFault, TellsWhy};
+ghost use Rattle.world_folder.specs.Ending.{IsFault, ReportsWhy};
 ghost use Rattle.world_folder.specs.Fault.{Files, AreRead, Stands};
 ghost use Rattle.world_folder.specs.Lost.{doubtful_log};
 ghost use Rattle.world_folder.specs.Reports.{IsWorldReported, with_doubt};
@@ -8,7 +8,7 @@ ghost use Rattle.world_folder.specs.Texts.{recovered_line, doubtful_line};
 use crate::ending::Ending;
 use crate::fault::stands_in;
 use crate::folders::Folder;
-use crate::found::WorldTold;
+use crate::found::WorldReport;
 use crate::looking::look_at_folder;
 use crate::lost::{Doubtful, doubtful_log};
 use crate::reading::all_read;
@@ -44,7 +44,7 @@ pub fn report_world<F: Folder>(alloc: Global, folder: &mut F, path: &str) -> Res
         Err(fault) => return Err(Ending::NoWorld(fault)),
     };
     warn_of_doubt(folder, found.tick, &files)?;
-    folder.print(RecoveredLine(WorldTold::of(&found)))?;
+    folder.print(RecoveredLine(WorldReport::of(&found)))?;
     Ok(())
 }
 
@@ -61,7 +61,7 @@ fn warn_of_doubt<F: Folder>(folder: &mut F, tick: u64, files: &FourFiles<Vec<u8>
 
 // The line on a world that was recovered.
 #[derive(Clone, Copy)]
-struct RecoveredLine(WorldTold);
+struct RecoveredLine(WorldReport);
 
 impl fmt::Display for RecoveredLine {
     ghost output = { λ line. Some (recovered_line line.0.tick line.0.from) };
@@ -90,7 +90,7 @@ pub fn found_in(
     files: FourFiles<Named<io::Result<Vec<u8>>>>,
 ) -> Result<Recovered, Ending>
     ensures found { IfOk result (λ found. (bytes : Files) × AreRead files bytes × Stands bytes found) }
-    ensures why { IfErr result (TellsWhy folder.now files) }
+    ensures why { IfErr result (ReportsWhy folder.now files) }
     ensures fault { IfErr result IsFault }
 {
     let files = all_read(alloc, folder, files)?;

@@ -1,6 +1,6 @@
 //! The report on the server of a world, by the locks of its files.
 ghost use Rattle.std.specs.Prelude.{◌≡◌, Some, IsTrue, IfOk};
-ghost use Rattle.world_folder.specs.Served.{IsServerTold, asked, part_told, server_told};
+ghost use Rattle.world_folder.specs.Served.{IsServerReport, asked, part_reported, server_reported};
 ghost use Rattle.world_folder.specs.Texts.{part_text, server_text};
 
 use crate::folders::Folder;
@@ -10,7 +10,7 @@ use std::{fmt, io};
 
 /// The report on a part of a server. A part that is down stays so up to the server's end.
 #[derive(Clone, Copy, Debug, PartialEq, Eq)]
-pub enum PartTold {
+pub enum PartReport {
     Up,
     Down,
     Unknown,
@@ -18,9 +18,9 @@ pub enum PartTold {
 
 /// The report on the server of a world.
 #[derive(Clone, Copy, Debug, PartialEq, Eq)]
-pub enum ServerTold {
+pub enum ServerReport {
     /// A program writes the world: a server, or one that makes it.
-    Running { log: PartTold, images: PartTold },
+    Running { log: PartReport, images: PartReport },
     /// No program does.
     Missing,
     Unknown,
@@ -38,11 +38,11 @@ pub struct Locks {
 }
 
 /// Reports on the server of the world in a folder. It asks for locks, and gives them back at once.
-pub fn server_in<F: Folder>(folder: &mut F) -> io::Result<ServerTold>
-    ensures { IsTrue F.honest → IfOk result (λ told. IsServerTold told (F.history folder.old) (F.history folder.new)) }
+pub fn server_in<F: Folder>(folder: &mut F) -> io::Result<ServerReport>
+    ensures { IsTrue F.honest → IfOk result (λ reported. IsServerReport reported (F.history folder.old) (F.history folder.new)) }
 {
     let locks = locks_in(folder)?;
-    Ok(tell_server(&locks))
+    Ok(report_of_locks(&locks))
 }
 
 // Asks for the lock of image.a last. A server that starts or ends meanwhile is then reported as one without a fault, or as none.
@@ -60,52 +60,52 @@ fn locks_in<F: Folder>(folder: &mut F) -> io::Result<Locks>
 }
 
 // What the locks say of the server.
-fn tell_server(locks: &Locks) -> ServerTold
-    ensures { result ≡ server_told locks.now }
+fn report_of_locks(locks: &Locks) -> ServerReport
+    ensures { result ≡ server_reported locks.now }
 {
     match locks.image_a {
-        LockState::Held => ServerTold::Running {
-            log: tell_part(locks.log_a),
-            images: tell_part(locks.image_b),
+        LockState::Held => ServerReport::Running {
+            log: report_part(locks.log_a),
+            images: report_part(locks.image_b),
         },
-        LockState::Free => ServerTold::Missing,
-        LockState::Unknown => ServerTold::Unknown,
+        LockState::Free => ServerReport::Missing,
+        LockState::Unknown => ServerReport::Unknown,
     }
 }
 
 // What a lock says of the part of a server that takes it when it goes down.
-fn tell_part(lock: LockState) -> PartTold
-    ensures { result ≡ part_told lock }
+fn report_part(lock: LockState) -> PartReport
+    ensures { result ≡ part_reported lock }
 {
     match lock {
-        LockState::Held => PartTold::Down,
-        LockState::Free => PartTold::Up,
-        LockState::Unknown => PartTold::Unknown,
+        LockState::Held => PartReport::Down,
+        LockState::Free => PartReport::Up,
+        LockState::Unknown => PartReport::Unknown,
     }
 }
 
-impl fmt::Display for PartTold {
+impl fmt::Display for PartReport {
     ghost output = { λ part. Some (part_text part) };
 
     fn fmt<W: fmt::Write>(&self, f: &mut fmt::Formatter<W>) -> fmt::Result {
         match self {
-            PartTold::Up => f.write_str("up"),
-            PartTold::Down => f.write_str("down"),
-            PartTold::Unknown => f.write_str("unknown"),
+            PartReport::Up => f.write_str("up"),
+            PartReport::Down => f.write_str("down"),
+            PartReport::Unknown => f.write_str("unknown"),
         }
     }
 }
 
-impl fmt::Display for ServerTold {
+impl fmt::Display for ServerReport {
     ghost output = { λ server. Some (server_text server) };
 
     fn fmt<W: fmt::Write>(&self, f: &mut fmt::Formatter<W>) -> fmt::Result {
         match self {
-            ServerTold::Running { log, images } => {
+            ServerReport::Running { log, images } => {
                 write!(f, "server: running, log {log}, images {images}")
             }
-            ServerTold::Missing => f.write_str("server: none"),
-            ServerTold::Unknown => f.write_str("server: unknown"),
+            ServerReport::Missing => f.write_str("server: none"),
+            ServerReport::Unknown => f.write_str("server: unknown"),
         }
     }
 }

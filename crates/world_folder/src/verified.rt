@@ -6,7 +6,7 @@ ghost use Rattle.world_folder.specs.Verified.{IsSameWorld, IsVerified};
 
 use crate::ending::Ending;
 use crate::folders::Folder;
-use crate::found::WorldTold;
+use crate::found::WorldReport;
 use crate::opening::{Unreadable, path_of};
 use crate::reading::read_folder;
 use crate::recovering::found_in;
@@ -21,7 +21,7 @@ const OTHER_WORLD: &str = "its files hold another world than was written into th
 /// Shows that new files recover to the world that was written into them. Only `Verified::of` gives one.
 #[derive(Clone, Copy, Debug, PartialEq, Eq)]
 pub struct Verified {
-    world: WorldTold,
+    world: WorldReport,
 }
 
 impl Verified {
@@ -32,7 +32,7 @@ impl Verified {
         ensures other { IfNone result (¬ IsSameWorld written.now found.now) }
     {
         if written.tick == found.tick && written.words.as_slice() == found.words.as_slice() {
-            let world = WorldTold::of(found);
+            let world = WorldReport::of(found);
             Some(Verified { world })
         } else {
             None

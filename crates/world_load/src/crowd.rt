@@ -120,7 +120,7 @@ fn play_over<R: Clock>(
     play(rt, alloc, &mut answers, &mut requests, load, seed, progress)
 }
 
-// Tells each second how many batches were answered, until so many clients have ended.
+// Reports each second how many batches were answered, until so many clients have ended.
 fn watch<R: Wait + Clock + Eprint>(
     rt: &R,
     progress: &Progress,

@@ -24,7 +24,7 @@ use command_line::{
 use crowd::run_crowd;
 use failure::Failure;
 use load::Load;
-use report::tell;
+use report::print_report;
 use std::net::{Net, TcpStream};
 use std::process::ExitCode;
 use std::sync::Wait;
@@ -63,5 +63,5 @@ fn run<
         + 'static,
 >(rt: &R, address: Address<'_>, load: Load) -> Result<(), Failure> {
     let seen = run_crowd(rt, rt.alloc(), address, load)?;
-    tell(rt, &load, &seen)
+    print_report(rt, &load, &seen)
 }

@@ -13,8 +13,8 @@ const BOUNDS: [u64; 16] = [
 /// The longest bar.
 const BAR: &str = "##################################################";
 
-/// Tells what the clients of a load saw.
-pub fn tell<R: Print>(rt: &R, load: &Load, seen: &Seen) -> Result<(), Failure> {
+/// Reports what the clients of a load saw.
+pub fn print_report<R: Print>(rt: &R, load: &Load, seen: &Seen) -> Result<(), Failure> {
     let ticks = seen.latencies.len() as u64;
     let actions = ticks.saturating_mul(u64::from(load.lines));
     let time = seen.milliseconds;
@@ -25,18 +25,18 @@ pub fn tell<R: Print>(rt: &R, load: &Load, seen: &Seen) -> Result<(), Failure> {
         time / 1000,
         time % 1000
     )?;
-    tell_rate(rt, counted(ticks, "tick"), time)?;
-    tell_rate(rt, counted(actions, "action"), time)?;
-    tell_latencies(rt, &seen.latencies)?;
-    tell_chart(rt, &seen.latencies)
+    report_rate(rt, counted(ticks, "tick"), time)?;
+    report_rate(rt, counted(actions, "action"), time)?;
+    report_latencies(rt, &seen.latencies)?;
+    report_chart(rt, &seen.latencies)
 }
 
 fn counted(count: u64, noun: &'static str) -> Counted {
     Counted { count, noun }
 }
 
-// Tells how many things there were, and how many a second.
-fn tell_rate<R: Print>(rt: &R, things: Counted, milliseconds: u64) -> Result<(), Failure> {
+// Reports how many things there were, and how many a second.
+fn report_rate<R: Print>(rt: &R, things: Counted, milliseconds: u64) -> Result<(), Failure> {
     println!(rt;
         "{things}, {} a second",
         per_second(things.count, milliseconds)
@@ -52,7 +52,7 @@ fn per_second(things: u64, milliseconds: u64) -> u64 {
         .unwrap_or(0)
 }
 
-fn tell_latencies<R: Print>(rt: &R, latencies: &Latencies) -> Result<(), Failure> {
+fn report_latencies<R: Print>(rt: &R, latencies: &Latencies) -> Result<(), Failure> {
     print!(rt; "milliseconds:")?;
     for (name, latency) in [
         ("p50", latencies.of_thousandths(500)),
@@ -72,7 +72,7 @@ fn tell_latencies<R: Print>(rt: &R, latencies: &Latencies) -> Result<(), Failure
 }
 
 // A row for each bound, from that of the shortest latency to that of the longest one.
-fn tell_chart<R: Print>(rt: &R, latencies: &Latencies) -> Result<(), Failure> {
+fn report_chart<R: Print>(rt: &R, latencies: &Latencies) -> Result<(), Failure> {
     let rows = rows_of(latencies);
     let most = rows.iter().copied().max().unwrap_or(0);
     let all = latencies.len();

@@ -17,7 +17,7 @@ use Rattle.workers.specs.Imaging.{Imaging}
 use Rattle.workers.specs.Logging.{Logging}
 use Rattle.worker_steps.specs.Stopped.{WorldStands, StaysSound}
 use Rattle.worker_threads.specs.Opening.{files_of}
-use Rattle.world_folder.specs.declared.found.WorldTold.{WorldTold}
+use Rattle.world_folder.specs.declared.found.WorldReport.{WorldReport}
 use Rattle.world_server.specs.declared.line.Line.{Line}
 use Rattle.world_server.specs.declared.served.WorldFailure.{WorldFailure}
 use Rattle.world_server.specs.declared.served.WorldFailure.TheVariants as failure
@@ -64,14 +64,14 @@ module _ {D : Type 0} (file : D → List ℕ) (leaves : D → List ℕ → Type 
       (subst (AreSound file leaves (files_of c.images w.log) first all) (sym count) left.0, left.1)
 
   -- the files that an open world gives back still have it
-  pub given_left : (files given : FourFiles D) (world : WorldTold) → KeepsWorld file leaves files world.tick given → (f : WorldFailure D) → GivesBack world given f → LeavesWorld file leaves files f
+  pub given_left : (files given : FourFiles D) (world : WorldReport) → KeepsWorld file leaves files world.tick given → (f : WorldFailure D) → GivesBack world given f → LeavesWorld file leaves files f
   given_left files given world keeps (failure.NotRecovered left why) g = absurd g
   given_left files given world keeps (failure.NotStarted recovered left refusal) g = absurd g
   given_left files given world keeps (failure.NotOpened recovered left ending) g =
       subst (λ r. KeepsWorld file leaves files r.tick left) (sym g.0) (subst (KeepsWorld file leaves files world.tick) (sym g.1) keeps)
   given_left files given world keeps (failure.NotRun recovered ending) g = tt
 
-pub given_reason : {D S : Type 0} (file : D → List ℕ) (honest : Bool) (files given : FourFiles D) (world : WorldTold) (r : Result S (WorldFailure D)) → IfErr r (GivesBack world given) → IfErr r (FailsFor file honest files)
+pub given_reason : {D S : Type 0} (file : D → List ℕ) (honest : Bool) (files given : FourFiles D) (world : WorldReport) (r : Result S (WorldFailure D)) → IfErr r (GivesBack world given) → IfErr r (FailsFor file honest files)
 given_reason file honest files given world (Ok s) g = tt
 given_reason file honest files given world (Err (failure.NotRecovered left why)) g = absurd g
 given_reason file honest files given world (Err (failure.NotStarted recovered left refusal)) g = absurd g
@@ -80,7 +80,7 @@ given_reason file honest files given world (Err (failure.NotRun recovered ending
 
 -- ---- the lines
 
-pub given_lines : {D : Type 0} (given : FourFiles D) (world : WorldTold) (f : WorldFailure D) → GivesBack world given f → recovered_line world ∷ [] ≡ failure_lines f
+pub given_lines : {D : Type 0} (given : FourFiles D) (world : WorldReport) (f : WorldFailure D) → GivesBack world given f → recovered_line world ∷ [] ≡ failure_lines f
 given_lines given world (failure.NotRecovered left why) g = absurd g
 given_lines given world (failure.NotStarted recovered left refusal) g = absurd g
 given_lines given world (failure.NotOpened recovered left ending) g = ap (λ r. recovered_line r ∷ []) (sym g.0)
@@ -89,28 +89,28 @@ given_lines given world (failure.NotRun recovered ending) g = ap (λ r. recovere
 -- ---- the answer of a server
 
 module _ {D S : Type 0} (file : D → List ℕ) (leaves : D → List ℕ → Type 0) where
-  pub served_sound : (files : FourFiles D) (world : WorldTold) (words : List ℕ) (writer : ImageWriter D) (log : Log D) (ended : ℕ) (r : Result S (WorldFailure D))
-      (told : S → WorldTold) (m : S → Playing) (c : S → Imaging D) (w : S → Logging D)
+  pub served_sound : (files : FourFiles D) (world : WorldReport) (words : List ℕ) (writer : ImageWriter D) (log : Log D) (ended : ℕ) (r : Result S (WorldFailure D))
+      (reported : S → WorldReport) (m : S → Playing) (c : S → Imaging D) (w : S → Logging D)
       → StandsOpened file leaves files world.tick words writer log → KeepsWorld file leaves files world.tick (files_of writer log) → ended ≡ world.tick
-      → IfOk r (λ s. told s ≡ world) → IfOk r (λ s. StaysSound file leaves words writer log ended (m s) (c s) (w s)) → IfOk r (λ s. ended ≤ (w s).acked)
-      → IfOk r (λ s. GoesOnSound file leaves files (told s).tick (m s) (c s) (w s))
-  served_sound files world words writer log ended (Ok s) told m c w stands keeps is same stays more =
-      subst (λ (t : WorldTold). GoesOnSound file leaves files t.tick (m s) (c s) (w s)) (sym same)
+      → IfOk r (λ s. reported s ≡ world) → IfOk r (λ s. StaysSound file leaves words writer log ended (m s) (c s) (w s)) → IfOk r (λ s. ended ≤ (w s).acked)
+      → IfOk r (λ s. GoesOnSound file leaves files (reported s).tick (m s) (c s) (w s))
+  served_sound files world words writer log ended (Ok s) reported m c w stands keeps is same stays more =
+      subst (λ (t : WorldReport). GoesOnSound file leaves files t.tick (m s) (c s) (w s)) (sym same)
       (goes_on file leaves files world.tick words writer log ended (m s) (c s) (w s) stands keeps is stays more)
-  served_sound files world words writer log ended (Err f) told m c w stands keeps is same stays more = tt
+  served_sound files world words writer log ended (Err f) reported m c w stands keeps is same stays more = tt
 
-  pub given_back : (files given : FourFiles D) (world : WorldTold) (r : Result S (WorldFailure D)) → KeepsWorld file leaves files world.tick given
+  pub given_back : (files given : FourFiles D) (world : WorldReport) (r : Result S (WorldFailure D)) → KeepsWorld file leaves files world.tick given
       → IfErr r (GivesBack world given) → IfErr r (LeavesWorld file leaves files)
   given_back files given world (Ok s) keeps g = tt
   given_back files given world (Err f) keeps g = given_left file leaves files given world keeps f g
 
-pub printed_on : {D S : Type 0} (world : WorldTold) (given : FourFiles D) (r : Result S (WorldFailure D)) (told : S → WorldTold) (m : S → Playing) (c : S → Imaging D) (w : S → Logging D)
+pub printed_on : {D S : Type 0} (world : WorldReport) (given : FourFiles D) (r : Result S (WorldFailure D)) (reported : S → WorldReport) (m : S → Playing) (c : S → Imaging D) (w : S → Logging D)
     (before between after : List Line) → between ≡ before ++ recovered_line world ∷ []
-    → MatchResult r (λ s. after ≡ between ++ stopped_line (m s) (c s) (w s) ∷ []) (λ f. after ≡ between) → IfOk r (λ s. told s ≡ world) → IfErr r (GivesBack world given)
-    → MatchResult r (λ s. after ≡ before ++ recovered_line (told s) ∷ stopped_line (m s) (c s) (w s) ∷ []) (λ f. after ≡ before ++ failure_lines f)
-printed_on world given (Ok s) told m c w before between after first next same g =
+    → MatchResult r (λ s. after ≡ between ++ stopped_line (m s) (c s) (w s) ∷ []) (λ f. after ≡ between) → IfOk r (λ s. reported s ≡ world) → IfErr r (GivesBack world given)
+    → MatchResult r (λ s. after ≡ before ++ recovered_line (reported s) ∷ stopped_line (m s) (c s) (w s) ∷ []) (λ f. after ≡ before ++ failure_lines f)
+printed_on world given (Ok s) reported m c w before between after first next same g =
     next ∙ ap (λ (l : List Line). l ++ stopped_line (m s) (c s) (w s) ∷ []) first
     ∙ append_assoc before (recovered_line world ∷ []) (stopped_line (m s) (c s) (w s) ∷ [])
-    ∙ ap (λ (t : WorldTold). before ++ recovered_line t ∷ stopped_line (m s) (c s) (w s) ∷ []) (sym same)
-printed_on world given (Err f) told m c w before between after first next same g =
+    ∙ ap (λ (t : WorldReport). before ++ recovered_line t ∷ stopped_line (m s) (c s) (w s) ∷ []) (sym same)
+printed_on world given (Err f) reported m c w before between after first next same g =
     next ∙ first ∙ ap (λ (l : List Line). before ++ l) (given_lines given world f g)

@@ -18,7 +18,7 @@ use Rattle.worker_threads.specs.Opening.{files_of}
 use Rattle.world_folder.specs.Ending.{IsFault}
 use Rattle.world_folder.specs.Unrecovered.{IsUnrecovered}
 use Rattle.world_folder.specs.declared.ending.Ending.{Ending}
-use Rattle.world_folder.specs.declared.found.WorldTold.{WorldTold}
+use Rattle.world_folder.specs.declared.found.WorldReport.{WorldReport}
 use Rattle.world_folder.specs.declared.lost.Doubtful.{Doubtful}
 use Rattle.world_server.specs.Serving.{EndsServing}
 use Rattle.world_server.specs.declared.line.Line.{Line}
@@ -29,7 +29,7 @@ use Rattle.world_server.specs.declared.served.WorldFailure.TheVariants as failur
 -- ---- what is printed
 
 -- the line of the world that was recovered
-abbrev pub recovered_line : WorldTold → Line
+abbrev pub recovered_line : WorldReport → Line
 recovered_line world = line.Recovered world.tick world.from
 
 -- the line of a log that may have been lost, if there is one
@@ -63,7 +63,7 @@ EndsBy other ending = IsFault ending
 -- ---- the files
 
 -- recovery of the files gives these words, after this tick, from an image of that tick
-pub record RecoversTo {D : Type 0} (file : D → List ℕ) (files : FourFiles D) (words : List ℕ) (world : WorldTold) : Type 0 where
+pub record RecoversTo {D : Type 0} (file : D → List ℕ) (files : FourFiles D) (words : List ℕ) (world : WorldReport) : Type 0 where
   pub recovery : Recovery
   pub recovers : RecoversFiles file files recovery
   pub words_are : words ≡ recovery.words
@@ -110,7 +110,7 @@ FailsFor file honest files (failure.NotOpened world left ending) = Unit {0}
 FailsFor file honest files (failure.NotRun world ending) = Unit {0}
 
 -- an open world that isn't served has its files again, unless workers have them
-abbrev pub GivesBack : {D : Type 0} → WorldTold → FourFiles D → WorldFailure D → Type 0
+abbrev pub GivesBack : {D : Type 0} → WorldReport → FourFiles D → WorldFailure D → Type 0
 GivesBack world files (failure.NotRecovered left why) = ⊥
 GivesBack world files (failure.NotStarted recovered left refusal) = ⊥
 GivesBack world files (failure.NotOpened recovered left ending) = (recovered ≡ world) × (left ≡ files)

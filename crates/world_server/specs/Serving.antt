@@ -6,13 +6,13 @@ use Rattle.image_files.specs.declared.phase.Phase.TheVariants.{Down}
 use Rattle.tcp_service.specs.declared.accept.Closed.{Closed}
 use Rattle.tcp_service.specs.declared.accept.Closed.TheVariants as closed
 use Rattle.world_folder.specs.declared.ending.Ending.{Ending}
-use Rattle.world_folder.specs.declared.ending.Ending.TheVariants.{Ran, Told, Mistaken, Fault, Server}
+use Rattle.world_folder.specs.declared.ending.Ending.TheVariants.{Ran, HelpPrinted, Mistaken, Fault, Server}
 use Rattle.world_folder.specs.declared.ending.ServerEnding.TheVariants.{ListenerFailed, ImagesDown, LogDown}
 use Rattle.world_server.specs.declared.standing.Losses.{Losses}
 
 -- A server ran to its end, or a fault or a failure ended it. No command line ends it.
 abbrev pub EndsServing : Ending → Type 0
-EndsServing Told = ⊥
+EndsServing HelpPrinted = ⊥
 EndsServing Mistaken = ⊥
 EndsServing ending = Unit {0}
 

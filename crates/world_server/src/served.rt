@@ -27,13 +27,15 @@ use worker_steps::{Gates, Opened};
 use worker_threads::{Seats, Watch, start_world};
 use workers::{ImageWriter, Log, Open};
 use world_actions::Refusal;
-use world_folder::{Doubtful, Ending, NotRecovered, ServerEnding, Whole, WorldTold, recover_whole};
+use world_folder::{
+    Doubtful, Ending, NotRecovered, ServerEnding, Whole, WorldReport, recover_whole,
+};
 
 /// A world that was served, once its server has stopped.
 #[derive(Drop)]
 pub struct Served<M: Method, D: Disk + Drop> {
     /// The world with which it began.
-    pub recovered: WorldTold,
+    pub recovered: WorldReport,
     pub stopped: Stopped<M, D, Open, Open, Open>,
 }
 
@@ -43,11 +45,11 @@ pub enum WorldFailure<D: Disk + Drop> {
     /// No world is recovered from the files.
     NotRecovered(FourFiles<D>, NotRecovered),
     /// The start of this world failed.
-    NotStarted(WorldTold, FourFiles<D>, Refusal),
+    NotStarted(WorldReport, FourFiles<D>, Refusal),
     /// No client can come to it.
-    NotOpened(WorldTold, FourFiles<D>, Ending),
+    NotOpened(WorldReport, FourFiles<D>, Ending),
     /// Its workers couldn't be started, or the server was left while they run on.
-    NotRun(WorldTold, Ending),
+    NotRun(WorldReport, Ending),
 }
 
 /// Serves the world of four files. It recovers the world, prints which one it is, runs its start, lets the clients in, and
@@ -100,7 +102,7 @@ fn open_files<M: Seats, D: Disk + Drop, W, F: Front<M, D, W>>(
     alloc: Global,
     front: &mut F,
     files: FourFiles<D>,
-) -> Result<(WorldTold, Opened<M, D>), WorldFailure<D>>
+) -> Result<(WorldReport, Opened<M, D>), WorldFailure<D>>
     ensures begins { IfOk result (λ made.
         IsWhole D.honest D.content made.1.front made.1.back made.1.images made.1.log made.1.ended) }
     ensures tick { IfOk result (λ made. made.1.ended ≡ made.0.tick) }
@@ -124,7 +126,7 @@ fn open_files<M: Seats, D: Disk + Drop, W, F: Front<M, D, W>>(
     match recover_whole::<PlainCopy, D>(alloc, &mut files) {
         Ok(found) => {
             let Whole { begun, doubtful } = found;
-            let recovered = WorldTold {
+            let recovered = WorldReport {
                 tick: begun.engine.ended,
                 from: begun.from,
             };
@@ -141,7 +143,7 @@ fn open_files<M: Seats, D: Disk + Drop, W, F: Front<M, D, W>>(
 // Prints which world was recovered, and names the log that may have been lost.
 fn announce<M: Method, D: Disk + Drop, W, F: Front<M, D, W>>(
     front: &mut F,
-    recovered: WorldTold,
+    recovered: WorldReport,
     doubtful: Option<Doubtful>,
 )
     ensures printed { IsTrue F.known → F.printed front.new ≡ F.printed front.old ++ recovered_line recovered ∷ [] }
@@ -167,7 +169,7 @@ fn serve_opened<
     rt: &R,
     alloc: Global,
     front: &mut F,
-    recovered: WorldTold,
+    recovered: WorldReport,
     opened: Opened<M, D>,
     every: Every,
     admission: Admission,

@@ -11,7 +11,7 @@ use Rattle.file_format.specs.declared.slot.Slot.{Slot}
 use Rattle.image_files.specs.declared.phase.Phase.TheVariants.{Idle, Closing, Header}
 use Rattle.image_files.specs.Images.{ImageFiles}
 use Rattle.image_files.specs.Progress.{Progress as ImageProgress, made_keeper}
-use Rattle.image_files.specs.Files.{Stands as ImagesStand, FitsFiles as ImagesFit, IsTold}
+use Rattle.image_files.specs.Files.{Stands as ImagesStand, FitsFiles as ImagesFit, IsReported}
 use Rattle.action_log.specs.Segment.{Segment, IsSegment}
 use Rattle.action_log.specs.Progress.{begun, QueueFollows, end_of}
 use Rattle.action_log.specs.Files.{FitsFiles as LogFits}
@@ -79,22 +79,22 @@ module _ {C D : Type 0} (content : C → Content) (file : D → List ℕ) (leave
       }
 
   begun_images : StartLaws file leaves → (cells : ℕ) (newest : Option (Slot × ℕ)) (tick : ℕ) (round : Bool) (images : ImageFiles) (a b : D) → 1 ≤ cells → cells ≤ CELLS → tick ≤ TICK_MAX
-      → Only (file a) (leaves a) → Only (file b) (leaves b) → IsTold cells newest images (file a) (file b)
+      → Only (file a) (leaves a) → Only (file b) (leaves b) → IsReported cells newest images (file a) (file b)
       → ImagesStand (started_keeper round tick (made_keeper cells newest (is_shut (file a)) (is_shut (file b)))) (images_begun round tick images) (file a) (file b) (leaves a) (leaves b)
-  begun_images laws cells newest tick false images a b some few most oa ob told = laws.made cells newest (is_shut (file a)) (is_shut (file b)) images a b some few oa ob (laws.told (file a)) (laws.told (file b)) told
-  begun_images laws cells newest tick true images a b some few most oa ob told =
+  begun_images laws cells newest tick false images a b some few most oa ob reported = laws.made cells newest (is_shut (file a)) (is_shut (file b)) images a b some few oa ob (laws.reported (file a)) (laws.reported (file b)) reported
+  begun_images laws cells newest tick true images a b some few most oa ob reported =
       laws.round (made_keeper cells newest (is_shut (file a)) (is_shut (file b))) tick images a b refl most
-      (laws.made cells newest (is_shut (file a)) (is_shut (file b)) images a b some few oa ob (laws.told (file a)) (laws.told (file b)) told)
+      (laws.made cells newest (is_shut (file a)) (is_shut (file b)) images a b some few oa ob (laws.reported (file a)) (laws.reported (file b)) reported)
 
   pub start_follows : StartLaws file leaves → (cells : ℕ) (first : List ℕ) → length first ≡ cells → (newest : Option (Slot × ℕ)) (tick : ℕ) (words : List ℕ) (engine : Engine C) (files : FourFiles D)
       → Begins content cells newest tick words (file files.image_a) (file files.image_b) (file files.log_a) (file files.log_b) engine → 1 ≤ cells → cells ≤ CELLS → tick ≤ TICK_MAX
       → Only (file files.image_a) (leaves files.image_a) → Only (file files.image_b) (leaves files.image_b) → Only (file files.log_a) (leaves files.log_a) → Only (file files.log_b) (leaves files.log_b)
-      → (images : ImageFiles) → IsTold cells newest images (file files.image_a) (file files.image_b)
+      → (images : ImageFiles) → IsReported cells newest images (file files.image_a) (file files.image_b)
       → (before_a before_b : Segment) → IsSegment (file files.log_a) before_a → IsSegment (file files.log_b) before_b
       → (ticks : List (List Action)) (acknowledged : ℕ)
       → InStep first ticks acknowledged (content engine.store) (images_begun (has_round newest tick) tick images) (InStart (record { tick = tick; before_a = before_a; before_b = before_b; begun = false })) []
       → after_ticks first ticks ≡ Ok words → tick ≡ length ticks → Follows content file leaves engine files first ticks acknowledged
-  start_follows laws cells first all newest tick words engine files b some few most oa ob ola olb images told before_a before_b reads_a reads_b ticks acknowledged step world count =
+  start_follows laws cells first all newest tick words engine files b some few most oa ob ola olb images reported before_a before_b reads_a reads_b ticks acknowledged step world count =
       let same : engine.images.cells ≡ cells = ap (λ (k : ImageProgress). k.cells) b.images ∙ started_cells (has_round newest tick) tick (made_keeper cells newest (is_shut (file files.image_a)) (is_shut (file files.image_b))) in
       let begun_at = images_begun (has_round newest tick) tick images in
       let place = start_of tick before_a before_b (start_moves (is_shut (file files.log_a)) (is_shut (file files.log_b))) in
@@ -102,11 +102,11 @@ module _ {C D : Type 0} (content : C → Content) (file : D → List ℕ) (leave
         images = begun_at;
         cells = same ∙ sym all;
         has_images = subst (λ k. ImagesStand k begun_at (file files.image_a) (file files.image_b) (leaves files.image_a) (leaves files.image_b)) (sym b.images)
-            (begun_images laws cells newest tick (has_round newest tick) images files.image_a files.image_b some few most oa ob told);
+            (begun_images laws cells newest tick (has_round newest tick) images files.image_a files.image_b some few most oa ob reported);
         log = record {
           place = place;
           stands = subst (λ k. LogStands k (file files.log_a) (file files.log_b) (leaves files.log_a) (leaves files.log_b) place) (sym b.log)
-              (laws.log tick (is_shut (file files.log_a)) (is_shut (file files.log_b)) files.log_a files.log_b before_a before_b most ola olb (laws.told (file files.log_a)) (laws.told (file files.log_b)) reads_a reads_b);
+              (laws.log tick (is_shut (file files.log_a)) (is_shut (file files.log_b)) files.log_a files.log_b before_a before_b most ola olb (laws.reported (file files.log_a)) (laws.reported (file files.log_b)) reads_a reads_b);
           count = acknowledged;
           at_least = omega arith;
           in_step = subst (λ q. InStep first ticks acknowledged (content engine.store) begun_at place.journal q) (sym b.queue) step;

@@ -54,8 +54,8 @@ shut_same (gate ∷ file) (byte ∷ bytes) front =
 
 -- the target of a round that begins, by its gate
 target_begun : (shut : Bool) (keeper : ImageProgress) (target : List ℕ) → (IsTrue shut → HasShutGate target) → TargetFits (if shut then Header else Closing) keeper target
-target_begun true keeper target told = told refl
-target_begun false keeper target told = tt
+target_begun true keeper target reported = reported refl
+target_begun false keeper target reported = tt
 
 phase_begun : (shut : Bool) (keeper : ImageProgress) → keeper.written ≡ 0 → keeper.chunk ≡ [] → PhaseFits (if shut then Header else Closing) keeper
 phase_begun true keeper none empty = (none, empty)
@@ -123,9 +123,9 @@ module _ {D : Type 0} (file : D → List ℕ) (files : FourFiles D) (ia ib la lb
         store = b.store;
         images = images;
         images_fit = λ holds. subst (λ (k : ImageProgress). ImagesFit k fa fb) (sym images)
-            (started_fits (has_round newest tick) cells tick newest (is_shut fa) (is_shut fb) fa fb most (laws.fits_images cells newest (is_shut fa) (is_shut fb) fa fb some few holds (laws.told fa) (laws.told fb)));
+            (started_fits (has_round newest tick) cells tick newest (is_shut fa) (is_shut fb) fa fb most (laws.fits_images cells newest (is_shut fa) (is_shut fb) fa fb some few holds (laws.reported fa) (laws.reported fb)));
         log = log;
-        log_fits = subst (λ k. LogFits k ga gb) (sym log) (laws.fits_log tick (is_shut ga) (is_shut gb) ga gb most (laws.told ga) (laws.told gb));
+        log_fits = subst (λ k. LogFits k ga gb) (sym log) (laws.fits_log tick (is_shut ga) (is_shut gb) ga gb most (laws.reported ga) (laws.reported gb));
         queue = b.queue;
         ring = b.ring;
         ended = b.ended;

@@ -10,7 +10,7 @@ use Rattle.capture_core.specs.Content.{Content}
 use Rattle.disk_model.specs.Disk.{Only}
 use Rattle.disk_model.specs.declared.four_files.FourFiles.{FourFiles}
 use Rattle.file_format.specs.declared.slot.Slot.{Slot}
-use Rattle.image_files.specs.Files.{Stands as ImagesStand, FitsFiles as ImagesFit, HoldsNewest, TellsShut, IsTold}
+use Rattle.image_files.specs.Files.{Stands as ImagesStand, FitsFiles as ImagesFit, HoldsNewest, ReportsShut, IsReported}
 use Rattle.image_files.specs.Images.{ImageFiles, with_round}
 use Rattle.image_files.specs.Progress.{Progress as ImageProgress, made_keeper, begun_keeper}
 use Rattle.image_files.specs.declared.phase.Phase.TheVariants.{Idle, Down}
@@ -80,17 +80,17 @@ module _ {C : Type 0} (content : C → Content) where
 -- the laws on new keepers, on files of which nothing is unsynced, and the law on a world in step
 pub record StartLaws {D : Type 0} (file : D → List ℕ) (leaves : D → List ℕ → Type 0) : Type 0 where
   pub made : (cells : ℕ) (newest : Option (Slot × ℕ)) (shut_a shut_b : Bool) (images : ImageFiles) (image_a image_b : D) → 1 ≤ cells → cells ≤ CELLS
-      → Only (file image_a) (leaves image_a) → Only (file image_b) (leaves image_b) → TellsShut shut_a (file image_a) → TellsShut shut_b (file image_b) → IsTold cells newest images (file image_a) (file image_b)
+      → Only (file image_a) (leaves image_a) → Only (file image_b) (leaves image_b) → ReportsShut shut_a (file image_a) → ReportsShut shut_b (file image_b) → IsReported cells newest images (file image_a) (file image_b)
       → ImagesStand (made_keeper cells newest shut_a shut_b) images (file image_a) (file image_b) (leaves image_a) (leaves image_b)
   pub round : (keeper : ImageProgress) (tick : ℕ) (images : ImageFiles) (image_a image_b : D) → keeper.phase ≡ Idle → tick ≤ TICK_MAX
       → ImagesStand keeper images (file image_a) (file image_b) (leaves image_a) (leaves image_b) → ImagesStand (begun_keeper tick keeper) (with_round tick images) (file image_a) (file image_b) (leaves image_a) (leaves image_b)
   pub log : (tick : ℕ) (shut_a shut_b : Bool) (log_a log_b : D) (before_a before_b : Segment) → tick ≤ TICK_MAX → Only (file log_a) (leaves log_a) → Only (file log_b) (leaves log_b)
-      → TellsShut shut_a (file log_a) → TellsShut shut_b (file log_b) → IsSegment (file log_a) before_a → IsSegment (file log_b) before_b
+      → ReportsShut shut_a (file log_a) → ReportsShut shut_b (file log_b) → IsSegment (file log_a) before_a → IsSegment (file log_b) before_b
       → LogStands (begun tick shut_a shut_b) (file log_a) (file log_b) (leaves log_a) (leaves log_b) (start_of tick before_a before_b (start_moves shut_a shut_b))
   pub fits_images : (cells : ℕ) (newest : Option (Slot × ℕ)) (shut_a shut_b : Bool) (image_a image_b : List ℕ) → 1 ≤ cells → cells ≤ CELLS → HoldsNewest cells newest image_a image_b
-      → TellsShut shut_a image_a → TellsShut shut_b image_b → ImagesFit (made_keeper cells newest shut_a shut_b) image_a image_b
-  pub fits_log : (tick : ℕ) (shut_a shut_b : Bool) (log_a log_b : List ℕ) → tick ≤ TICK_MAX → TellsShut shut_a log_a → TellsShut shut_b log_b → LogFits (begun tick shut_a shut_b) log_a log_b
-  pub told : (bytes : List ℕ) → TellsShut (is_shut bytes) bytes
+      → ReportsShut shut_a image_a → ReportsShut shut_b image_b → ImagesFit (made_keeper cells newest shut_a shut_b) image_a image_b
+  pub fits_log : (tick : ℕ) (shut_a shut_b : Bool) (log_a log_b : List ℕ) → tick ≤ TICK_MAX → ReportsShut shut_a log_a → ReportsShut shut_b log_b → LogFits (begun tick shut_a shut_b) log_a log_b
+  pub reported : (bytes : List ℕ) → ReportsShut (is_shut bytes) bytes
   pub queue : (tick : ℕ) (shut_a shut_b : Bool) → QueueFollows (begun tick shut_a shut_b) [] × (end_of (begun tick shut_a shut_b) [] ≡ record { base = tick; count = 0 })
   pub goes_on : WorldsGoOn
 

@@ -11,7 +11,7 @@ use action_log::{log_outcomes, log_queues};
 use capture_core::Capture;
 use disk_model::Disk;
 use image_files::images_stay;
-use restart::{gates_are_told, worlds_are_safe, worlds_go_on};
+use restart::{gates_are_reported, worlds_are_safe, worlds_go_on};
 
 /// Laws: the files of a world that follows its ticks are sound for them and the acknowledged count, once there is an image.
 /// After a start there is an image.
@@ -36,6 +36,6 @@ pub fn starts_begin<D: Disk>()
     images_stay::<D>();
     log_outcomes::<D>();
     log_queues();
-    gates_are_told();
+    gates_are_reported();
     worlds_go_on();
 }

@@ -81,14 +81,14 @@ fn run<R: Input + Print + Eprint + Clock + Files<File = File> + AllocGlobal + Cl
 
 // How the program ends if it isn't run.
 fn not_run(reason: NotRun) -> Ending
-    ensures told { reason ≡ NotRun.Told → result ≡ Ending.Told }
+    ensures reported { reason ≡ NotRun.HelpPrinted → result ≡ Ending.HelpPrinted }
     ensures unprinted { (error : Error) → reason ≡ NotRun.Unprinted error
         → result ≡ Ending.Stream (record { stream = Stream.Output; error = error }) }
     ensures mistaken { reason ≡ NotRun.Mistaken → result ≡ Ending.Mistaken }
     ensures memory { reason ≡ NotRun.NoMemory → result ≡ Ending.Fault Refusal.NoMemory }
 {
     match reason {
-        NotRun::Told => Ending::Told,
+        NotRun::HelpPrinted => Ending::HelpPrinted,
         NotRun::Unprinted(error) => Ending::Stream(StreamFailure {
             stream: Stream::Output,
             error,

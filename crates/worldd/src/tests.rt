@@ -89,7 +89,7 @@ fn reported(alloc: Global, ending: Ending) -> (ExitCode, String) {
 }
 
 #[test]
-fn faults_are_told_by_code_and_in_words(rt: HostRuntime) {
+fn faults_are_reported_by_code_and_in_words(rt: HostRuntime) {
     for (refusal, code, text) in [
         (
             Refusal::BadCell,
@@ -112,7 +112,7 @@ fn faults_are_told_by_code_and_in_words(rt: HostRuntime) {
 }
 
 #[test]
-fn what_is_down_is_told_by_the_status(rt: HostRuntime) {
+fn what_is_down_is_reported_by_the_status(rt: HostRuntime) {
     for (ending, code) in [
         (ServerEnding::ListenerFailed, 10),
         (ServerEnding::ImagesDown, 11),

@@ -1,5 +1,5 @@
 use capture_core::{Capture, PlainCopy};
-use core_rows::{Asked, Told};
+use core_rows::{Asked, PlainAnswer};
 use ping_pong::PingPong;
 use std::alloc::Global;
 use std::process::Abort;
@@ -21,30 +21,30 @@ const LOG: Asked = Asked::Log(Fate::Done);
 const LOG_FAILS: Asked = Asked::Log(Fate::Failed);
 
 // How often a move is made, the move, and its answer.
-type Line = (u32, Asked, Told);
+type Line = (u32, Asked, PlainAnswer);
 
 const START: [Line; 5] = [
-    (1, SET, Told::Refused(Refusal::Starting)),
-    (7, IMAGE, Told::ImageWorking),
-    (1, IMAGE, Told::ImageOpened(0)),
-    (8, LOG, Told::LogWorking),
-    (1, Asked::Get(0), Told::Word(0)),
+    (1, SET, PlainAnswer::Refused(Refusal::Starting)),
+    (7, IMAGE, PlainAnswer::ImageWorking),
+    (1, IMAGE, PlainAnswer::ImageOpened(0)),
+    (8, LOG, PlainAnswer::LogWorking),
+    (1, Asked::Get(0), PlainAnswer::Word(0)),
 ];
 
 // Makes these moves on a core, and asserts the answer to each.
 fn answers<C: Capture>(rt: &impl Abort, core: &mut Core<C>, lines: &[Line]) {
-    for (times, asked, told) in lines {
+    for (times, asked, reported) in lines {
         for _ in 0..*times {
             if let Some(plain) = asked.as_move() {
-                let given = Told::of(core.step(plain));
-                assert!(rt; given == *told, "{asked:?}");
+                let given = PlainAnswer::of(core.step(plain));
+                assert!(rt; given == *reported, "{asked:?}");
             }
         }
     }
 }
 
-fn crash<C: Capture>(rt: &impl Abort, core: &mut Core<C>, left: Remains, told: Told) {
-    assert_eq!(rt; Told::of(core.step(Move::Crash(left))), told);
+fn crash<C: Capture>(rt: &impl Abort, core: &mut Core<C>, left: Remains, reported: PlainAnswer) {
+    assert_eq!(rt; PlainAnswer::of(core.step(Move::Crash(left))), reported);
 }
 
 // No byte of three files, and so many of image.a.
@@ -60,11 +60,11 @@ fn ones(alloc: Global, count: usize) -> Result<Remains, Refusal> {
 
 fn check_start<C: Capture>(rt: &impl Abort, core: &mut Core<C>) {
     answers(rt, core, &START[..3]);
-    answers(rt, core, &[(7, LOG, Told::LogWorking)]);
+    answers(rt, core, &[(7, LOG, PlainAnswer::LogWorking)]);
     assert!(rt; core.starting());
-    answers(rt, core, &[(1, LOG, Told::LogWorking)]);
+    answers(rt, core, &[(1, LOG, PlainAnswer::LogWorking)]);
     assert!(rt; !core.starting());
-    answers(rt, core, &[(1, Asked::Get(0), Told::Word(0))]);
+    answers(rt, core, &[(1, Asked::Get(0), PlainAnswer::Word(0))]);
 }
 
 fn start_fresh<C: Capture>(rt: &impl Abort, alloc: Global) -> Result<(), Refusal> {
@@ -82,10 +82,10 @@ fn starts(rt: HostRuntime) -> Result<(), Fail> {
 }
 
 const FAILED_START: [Line; 4] = [
-    (1, IMAGE_FAILS, Told::ImageDown),
-    (1, LOG, Told::LogIdle),
-    (1, Asked::Mark, Told::Refused(Refusal::Starting)),
-    (1, Asked::End, Told::Refused(Refusal::Starting)),
+    (1, IMAGE_FAILS, PlainAnswer::ImageDown),
+    (1, LOG, PlainAnswer::LogIdle),
+    (1, Asked::Mark, PlainAnswer::Refused(Refusal::Starting)),
+    (1, Asked::End, PlainAnswer::Refused(Refusal::Starting)),
 ];
 
 fn fail_and_crash<C: Capture>(
@@ -94,13 +94,13 @@ fn fail_and_crash<C: Capture>(
     core: &mut Core<C>,
 ) -> Result<(), Refusal> {
     answers(rt, core, &FAILED_START);
-    crash(rt, core, ones(alloc, 0)?, Told::Blank);
+    crash(rt, core, ones(alloc, 0)?, PlainAnswer::Blank);
     assert!(rt; core.starting());
     crash(
         rt,
         core,
         ones(alloc, 1)?,
-        Told::Refused(Refusal::Impossible),
+        PlainAnswer::Refused(Refusal::Impossible),
     );
     answers(rt, core, &START);
     Ok(())
@@ -122,19 +122,19 @@ fn ends<C: Capture>(core: &mut Core<C>, times: u32) {
     }
 }
 
-const NOTHING_NEW: Line = (1, Asked::Mark, Told::Refused(Refusal::NothingNew));
+const NOTHING_NEW: Line = (1, Asked::Mark, PlainAnswer::Refused(Refusal::NothingNew));
 
 // Marks that are refused for one reason after another, while the earlier reasons still hold. The queue is full, and then a
 // round is open, the running tick has an action, and either keeper is down.
 const MARKS: [Line; 8] = [
-    (1, Asked::Mark, Told::Started(63)),
-    (1, Asked::Mark, Told::Refused(Refusal::Busy)),
-    (1, SET, Told::Did),
-    (1, Asked::Mark, Told::Refused(Refusal::OpenTick)),
-    (1, IMAGE_FAILS, Told::ImageDown),
-    (1, Asked::Mark, Told::Refused(Refusal::ImageDown)),
-    (1, LOG_FAILS, Told::LogDown),
-    (1, Asked::Mark, Told::Refused(Refusal::LogDown)),
+    (1, Asked::Mark, PlainAnswer::Started(63)),
+    (1, Asked::Mark, PlainAnswer::Refused(Refusal::Busy)),
+    (1, SET, PlainAnswer::Did),
+    (1, Asked::Mark, PlainAnswer::Refused(Refusal::OpenTick)),
+    (1, IMAGE_FAILS, PlainAnswer::ImageDown),
+    (1, Asked::Mark, PlainAnswer::Refused(Refusal::ImageDown)),
+    (1, LOG_FAILS, PlainAnswer::LogDown),
+    (1, Asked::Mark, PlainAnswer::Refused(Refusal::LogDown)),
 ];
 
 fn mark_in_order<C: Capture>(rt: &impl Abort, alloc: Global) -> Result<(), Refusal> {
@@ -153,18 +153,18 @@ fn refuses_marks_in_order(rt: HostRuntime) -> Result<(), Fail> {
 
 // The log is down in a start, and the start is the reason why a mark is refused.
 const DOWN_IN_A_START: [Line; 4] = [
-    (7, IMAGE, Told::ImageWorking),
-    (1, IMAGE, Told::ImageOpened(0)),
-    (1, LOG_FAILS, Told::LogDown),
-    (1, Asked::Mark, Told::Refused(Refusal::Starting)),
+    (7, IMAGE, PlainAnswer::ImageWorking),
+    (1, IMAGE, PlainAnswer::ImageOpened(0)),
+    (1, LOG_FAILS, PlainAnswer::LogDown),
+    (1, Asked::Mark, PlainAnswer::Refused(Refusal::Starting)),
 ];
 
 // A round whose cell is unchanged since the newest image.
 const ROUND: [Line; 4] = [
-    (1, Asked::Mark, Told::Started(63)),
-    (7, IMAGE, Told::ImageWorking),
-    (1, IMAGE, Told::ImageOpened(63)),
-    (1, IMAGE, Told::ImageIdle),
+    (1, Asked::Mark, PlainAnswer::Started(63)),
+    (7, IMAGE, PlainAnswer::ImageWorking),
+    (1, IMAGE, PlainAnswer::ImageOpened(63)),
+    (1, IMAGE, PlainAnswer::ImageIdle),
 ];
 
 fn mark_in_a_start<C: Capture>(rt: &impl Abort, alloc: Global) -> Result<(), Refusal> {
@@ -178,9 +178,9 @@ fn refuses_marks_in_starts(rt: HostRuntime) -> Result<(), Fail> {
     Ok(mark_in_a_start::<PlainCopy>(&rt, rt.alloc())?)
 }
 
-const FULL_FOR_A_MARK: [Line; 1] = [(1, Asked::Mark, Told::Refused(Refusal::QueueFull))];
+const FULL_FOR_A_MARK: [Line; 1] = [(1, Asked::Mark, PlainAnswer::Refused(Refusal::QueueFull))];
 
-const FULL_FOR_A_TICK: [Line; 1] = [(1, Asked::End, Told::Refused(Refusal::QueueFull))];
+const FULL_FOR_A_TICK: [Line; 1] = [(1, Asked::End, PlainAnswer::Refused(Refusal::QueueFull))];
 
 fn log_all<C: Capture>(core: &mut Core<C>) {
     for _ in 0..20 {
@@ -222,12 +222,12 @@ fn fills_the_queue(rt: HostRuntime) -> Result<(), Fail> {
 
 // Two groups of 32, and the next tick.
 const DRAINED: [Line; 6] = [
-    (3, LOG, Told::LogWorking),
-    (1, LOG, Told::LogAcked(32)),
-    (3, LOG, Told::LogWorking),
-    (1, LOG, Told::LogAcked(64)),
-    (1, LOG, Told::LogIdle),
-    (1, Asked::End, Told::Ended(65)),
+    (3, LOG, PlainAnswer::LogWorking),
+    (1, LOG, PlainAnswer::LogAcked(32)),
+    (3, LOG, PlainAnswer::LogWorking),
+    (1, LOG, PlainAnswer::LogAcked(64)),
+    (1, LOG, PlainAnswer::LogIdle),
+    (1, Asked::End, PlainAnswer::Ended(65)),
 ];
 
 // A start, a tick, and a round.
@@ -252,7 +252,7 @@ fn some_moves(alloc: Global) -> Result<Vec<Move>, Refusal> {
 }
 
 // The answers of a fresh core, to one move after another.
-fn stepped<C: Capture>(alloc: Global) -> Result<Vec<Told>, Refusal> {
+fn stepped<C: Capture>(alloc: Global) -> Result<Vec<PlainAnswer>, Refusal> {
     let mut core = Core::<C>::fresh(alloc, 1)?;
     step_all(alloc, &mut core, some_moves(alloc)?)
 }
@@ -261,26 +261,26 @@ fn step_all<C: Capture>(
     alloc: Global,
     core: &mut Core<C>,
     moves: Vec<Move>,
-) -> Result<Vec<Told>, Refusal> {
-    let mut told = Vec::new(alloc);
+) -> Result<Vec<PlainAnswer>, Refusal> {
+    let mut reported = Vec::new(alloc);
     for asked in moves {
-        told.push(Told::of(core.step(asked)))?;
+        reported.push(PlainAnswer::of(core.step(asked)))?;
     }
-    Ok(told)
+    Ok(reported)
 }
 
 // The answers of a run of the same moves.
-fn ran<C: Capture>(alloc: Global) -> Result<Vec<Told>, Refusal> {
+fn ran<C: Capture>(alloc: Global) -> Result<Vec<PlainAnswer>, Refusal> {
     let (answers, _) = run::<C>(alloc, 1, some_moves(alloc)?)?;
-    told_by(alloc, &answers)
+    reported_by(alloc, &answers)
 }
 
-fn told_by(alloc: Global, answers: &[Answer]) -> Result<Vec<Told>, Refusal> {
-    let mut told = Vec::new(alloc);
+fn reported_by(alloc: Global, answers: &[Answer]) -> Result<Vec<PlainAnswer>, Refusal> {
+    let mut reported = Vec::new(alloc);
     for given in answers {
-        told.push(Told::of(*given))?;
+        reported.push(PlainAnswer::of(*given))?;
     }
-    Ok(told)
+    Ok(reported)
 }
 
 #[test]

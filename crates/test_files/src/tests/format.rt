@@ -16,7 +16,7 @@ fn number_of(format: Format) -> u8 {
 }
 
 // The format of a file.
-fn told(bytes: &[u8]) -> u8 {
+fn reported(bytes: &[u8]) -> u8 {
     match format_of(bytes) {
         Some(format) => number_of(format),
         None => NONE,
@@ -40,17 +40,20 @@ fn assert_formats(rt: &impl Abort, mut file: [u8; 10]) {
             2 => SECOND,
             _ => NONE,
         };
-        assert_eq!(rt; told(&file), format, "{mark}");
+        assert_eq!(rt; reported(&file), format, "{mark}");
     }
 }
 
 #[test]
-fn byte_8_tells_the_format(rt: HostRuntime) {
+fn byte_8_reports_the_format(rt: HostRuntime) {
     let mut file = [1, 2, 0, 0, 0, 0, 0, 0, 0, 7];
     assert_eq!(rt; mark_of(&file), (FIRST, 2));
     assert_formats(&rt, file);
     file[8] = 0x20;
     assert_eq!(rt; mark_of(&file), (SECOND, 2));
     assert_eq!(rt; u64_at(&file, MARK_PLACE), marked(2));
-    assert_eq!(rt; (told(&file[..8]), told(&file[..9])), (NONE, SECOND));
+    assert_eq!(rt;
+        (reported(&file[..8]), reported(&file[..9])),
+        (NONE, SECOND)
+    );
 }

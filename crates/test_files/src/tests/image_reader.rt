@@ -147,7 +147,7 @@ fn are_numbered(words: &[u64]) -> bool {
 }
 
 // Returns the tick, how many words there are, and if each is the number of its cell. The error is the refusal.
-fn told(alloc: Global, header: &[u8], cells: u32) -> Result<(u64, usize, bool), Refusal> {
+fn reported(alloc: Global, header: &[u8], cells: u32) -> Result<(u64, usize, bool), Refusal> {
     let image = numbered(alloc, header, cells)?;
     match read_image(alloc, &image)? {
         ImageState::Open { tick, words } => Ok((tick, words.len(), are_numbered(&words))),
@@ -175,7 +175,7 @@ fn reads_largest_image_of_each_format(rt: HostRuntime) -> Result<(), Fail> {
             1_048_576,
         ),
     ] {
-        let read = told(rt.alloc(), &header, cells)?;
+        let read = reported(rt.alloc(), &header, cells)?;
         assert_eq!(rt; read, (TICK_MAX, cells as usize, true));
         let code = refused(rt.alloc(), &larger, cells.saturating_add(1))?;
         assert_eq!(rt; code, 14, "{cells} cells and one");

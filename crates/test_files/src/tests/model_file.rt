@@ -142,7 +142,7 @@ fn assert_uncertain(rt: &impl Abort, file: &ModelFile, places: &[(u64, bool)]) {
 }
 
 #[test]
-fn tells_uncertain_places(rt: HostRuntime) -> Result<(), Fail> {
+fn reports_uncertain_places(rt: HostRuntime) -> Result<(), Fail> {
     let mut file = written_file(rt.alloc())?;
     let before_sync = [
         (0, false),

@@ -73,7 +73,7 @@ fn salvaged_text(alloc: Global, salvaged: &Salvaged) -> Result<String, Refusal> 
 }
 
 // What is salvaged of four files, written as in a case.
-fn told(alloc: Global, files: &[Vec<u8>]) -> Result<String, Refusal> {
+fn reported(alloc: Global, files: &[Vec<u8>]) -> Result<String, Refusal> {
     let [image_a, image_b, log_a, log_b] = files else {
         return Ok(format!(in alloc; "not four files")?);
     };
@@ -88,7 +88,7 @@ fn cases_of(rt: &impl Abort, alloc: Global, mix: u32) -> Result<u32, Refusal> {
     let mut cases = 0u32;
     for line in SALVAGED.lines() {
         let (files, answer) = files_of(alloc, line, mix)?;
-        let found = told(alloc, &files)?;
+        let found = reported(alloc, &files)?;
         assert_eq!(rt; found.as_str(), answer, "mix {mix} of {line}");
         cases = cases.saturating_add(1);
     }
@@ -111,7 +111,7 @@ fn accepted_cases(rt: &impl Abort, alloc: Global, mix: u32) -> Result<u32, Refus
         if answer.starts_with("refused") {
             continue;
         }
-        let found = told(alloc, &files)?;
+        let found = reported(alloc, &files)?;
         assert!(rt; found.starts_with(answer), "mix {mix} of {line}: {found}");
         assert!(rt;
             !found.contains("dropped") && !found.contains(" in 27"),

@@ -81,12 +81,12 @@ const REFUSALS: [(Refusal, &str); 23] = [
 // Asserts that a refusal has this code and this text.
 fn check_text(rt: &impl Abort, alloc: Global, refusal: Refusal, code: usize, text: &str) {
     same(rt, refusal.code() as usize, code);
-    let told = refusal.to_string(alloc).expect(rt, "memory");
-    same(rt, told.as_str(), text);
+    let reported = refusal.to_string(alloc).expect(rt, "memory");
+    same(rt, reported.as_str(), text);
 }
 
 #[test]
-fn tells_refusals(rt: HostRuntime) {
+fn reports_refusals(rt: HostRuntime) {
     for (at, (refusal, text)) in REFUSALS.iter().enumerate() {
         check_text(&rt, rt.alloc(), *refusal, at + 1, text);
     }

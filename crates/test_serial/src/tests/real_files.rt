@@ -1,5 +1,5 @@
 use super::same::same;
-use super::worlds::{NONE, Session, long_batch, play, told};
+use super::worlds::{NONE, Session, long_batch, play, reported};
 use super::{BATCH, CUT_OFF, SET_TWICE};
 use capture_core::Capture;
 use disk_model::FourFiles;
@@ -62,7 +62,7 @@ fn try_opening<C: Capture>(
 ) {
     let files = open_files(rt, abort, folder);
     let opened = SerialWorld::<C, FileDisk>::open(rt.alloc(), files, opening.every);
-    let mut served = told(opened).expect(abort, "a world");
+    let mut served = reported(opened).expect(abort, "a world");
     play(
         abort,
         rt.alloc(),
@@ -76,7 +76,7 @@ fn try_opening<C: Capture>(
 // Makes a new world in the files of a folder. Returns the refusal, if there is one.
 fn make(rt: &HostRuntime, abort: &impl Abort, folder: &PathBuf) -> Option<Refusal> {
     let files = open_files(rt, abort, folder);
-    told(fresh_files(rt.alloc(), 2, files)).err()
+    reported(fresh_files(rt.alloc(), 2, files)).err()
 }
 
 static SHORT: [Opening<'static>; 4] = [

@@ -1,6 +1,6 @@
 //! Files in which a world isn't made or isn't opened.
 use super::same::same;
-use super::worlds::{IMAGE, NONE, bytes_of, files_of, fresh, stands, told};
+use super::worlds::{IMAGE, NONE, bytes_of, files_of, fresh, reported, stands};
 use capture_core::PlainCopy;
 use disk_model::{FourFiles, ModelFile};
 use serial_world::{SerialWorld, create_and_open};
@@ -82,7 +82,7 @@ pub fn try_created_again(rt: &impl Abort, alloc: Global) {
 /// Makes a new world of files that are closed.
 pub fn try_closed_files(rt: &impl Abort, alloc: Global) {
     let shut = files_of(rt, alloc, [SHUT; 4]);
-    let files = told(fresh_files(alloc, 2, shut)).expect(rt, "a new world");
+    let files = reported(fresh_files(alloc, 2, shut)).expect(rt, "a new world");
     stands(rt, alloc, &files, (0, 0), &[0, 0]);
     drop(files);
 }

@@ -40,7 +40,7 @@ impl Read for Pieces<'_> {
 }
 
 /// Returns the answer, without the files of a refusal.
-pub fn told<T: Drop, D: Disk + Drop>(
+pub fn reported<T: Drop, D: Disk + Drop>(
     answer: Result<T, (FourFiles<D>, Refusal)>,
 ) -> Result<T, Refusal> {
     match answer {
@@ -80,7 +80,7 @@ pub fn fresh(rt: &impl Abort, alloc: Global, cells: u32) -> FourFiles<ModelFile>
     requires { (1 ≤ cells) × (cells ≤ CELLS) }
 {
     let files = files_of(rt, alloc, [NONE; 4]);
-    told(fresh_files(alloc, cells, files)).expect(rt, "a new world")
+    reported(fresh_files(alloc, cells, files)).expect(rt, "a new world")
 }
 
 pub fn open<C: Capture>(
@@ -89,7 +89,7 @@ pub fn open<C: Capture>(
     files: FourFiles<ModelFile>,
     every: u32,
 ) -> SerialWorld<C, ModelFile> {
-    told(SerialWorld::open(alloc, files, every)).expect(rt, "a world")
+    reported(SerialWorld::open(alloc, files, every)).expect(rt, "a world")
 }
 
 /// A new world, made and opened in one call.
@@ -102,7 +102,7 @@ pub fn created<C: Capture>(
     requires { (1 ≤ cells) × (cells ≤ CELLS) }
 {
     let files = files_of(rt, alloc, [NONE; 4]);
-    told(create_and_open(alloc, cells, files, every)).expect(rt, "a new world")
+    reported(create_and_open(alloc, cells, files, every)).expect(rt, "a new world")
 }
 
 fn durable(alloc: Global, files: &FourFiles<ModelFile>) -> Result<Recovered, Refusal> {

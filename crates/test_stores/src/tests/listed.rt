@@ -6,11 +6,11 @@ use capture_core::{Capture, Taken};
 use std::alloc::Global;
 use std::process::Abort;
 
-// Checks rounds over some numbers of cells, with writes between them and between their takes. `tells_same` is true if takes
+// Checks rounds over some numbers of cells, with writes between them and between their takes. `reports_same` is true if takes
 // give `Same` for the cells that were not written since the mark before.
-pub fn check_list<C: Capture>(rt: &impl Abort, alloc: Global, tells_same: bool) {
+pub fn check_list<C: Capture>(rt: &impl Abort, alloc: Global, reports_same: bool) {
     for cells in [1, 63, 64, 65, 130] {
-        let mut listed: Listed<C> = Listed::new(rt, alloc, cells, tells_same);
+        let mut listed: Listed<C> = Listed::new(rt, alloc, cells, reports_same);
         listed.check_rounds(rt, alloc);
     }
 }
@@ -21,18 +21,18 @@ struct Listed<C: Capture> {
     store: C,
     words: Vec<u64>,
     touched: Vec<bool>,
-    tells_same: bool,
+    reports_same: bool,
 }
 
 impl<C: Capture> Listed<C> {
     // A store of so many cells that are 0.
-    fn new(rt: &impl Abort, alloc: Global, cells: usize, tells_same: bool) -> Self {
+    fn new(rt: &impl Abort, alloc: Global, cells: usize, reports_same: bool) -> Self {
         let words = Vec::from_elem(alloc, 0, cells).expect(rt, "memory");
         Listed {
             store: C::build(alloc, &words).expect(rt, "memory"),
             words,
             touched: Vec::from_elem(alloc, true, cells).expect(rt, "memory"),
-            tells_same,
+            reports_same,
         }
     }
 
@@ -85,7 +85,7 @@ impl<C: Capture> Listed<C> {
     // writes nothing.
     fn writes_opposite(&mut self, i: usize, word: u64) -> bool {
         let cells = self.words.len();
-        if self.tells_same && i % 3 == 0 {
+        if self.reports_same && i % 3 == 0 {
             return true;
         }
         i < cells && self.write(cells - 1 - i, word ^ 1)
@@ -93,7 +93,7 @@ impl<C: Capture> Listed<C> {
 
     // True if the next take gives the word of a touched cell, or `Same` for another one if takes do so.
     fn takes(&mut self, word: u64, touched: bool) -> bool {
-        let want = if touched || !self.tells_same {
+        let want = if touched || !self.reports_same {
             Taken::Word(word)
         } else {
             Taken::Same

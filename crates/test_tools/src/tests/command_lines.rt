@@ -10,7 +10,7 @@ fn matches_of<'a>(alloc: Global, words: &'a [String]) -> Result<ArgMatches<'a>, 
     let all = Command::new(alloc, "all").about("Does all of it");
     Command::new(alloc, "measures")
         .version("0.1.0")
-        .about("Tells how fast it is")
+        .about("Reports how fast it is")
         .subcommand(all)?
         .try_get_matches_from(words)
 }
@@ -57,16 +57,16 @@ fn wrong_command_lines_are_mistaken(rt: HostRuntime) -> Result<(), Fail> {
 }
 
 const TOLD: [(&str, &str); 2] = [
-    ("--help", "Tells how fast it is"),
+    ("--help", "Reports how fast it is"),
     ("--version", "measures 0.1.0"),
 ];
 
 #[test]
-fn help_and_the_version_are_told(rt: HostRuntime) -> Result<(), Fail> {
+fn help_and_the_version_are_reported(rt: HostRuntime) -> Result<(), Fail> {
     for (flag, start) in TOLD {
         let (why, text) = not_run(&rt, &["measures", flag])?;
         assert!(rt;
-            matches!(why, NotRun::Told) && text.as_str().starts_with(start),
+            matches!(why, NotRun::HelpPrinted) && text.as_str().starts_with(start),
             "{text}"
         );
     }

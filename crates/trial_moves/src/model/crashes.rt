@@ -2,13 +2,13 @@ use crate::image_model::ImageModel;
 use crate::log_model::LogModel;
 use crate::model::PlainModel;
 use crate::wrong::{Rule, Wrong, hold};
-use core_rows::Told;
+use core_rows::PlainAnswer;
 
 impl PlainModel {
-    pub fn follow_crash(&mut self, given: Told) -> Result<(), Wrong> {
+    pub fn follow_crash(&mut self, given: PlainAnswer) -> Result<(), Wrong> {
         match given {
-            Told::Recovered { tick, from } => self.recover(tick, from),
-            Told::Blank => {
+            PlainAnswer::Recovered { tick, from } => self.recover(tick, from),
+            PlainAnswer::Blank => {
                 hold(self.images.newest().is_none(), Rule::Recovers)?;
                 self.begin(0, None)
             }

@@ -1,6 +1,6 @@
 use crate::model::PlainModel;
 use crate::wrong::{Wrong, expect};
-use core_rows::Told;
+use core_rows::PlainAnswer;
 use world_actions::{Action, Refusal};
 
 /// The most actions of a tick.
@@ -10,47 +10,47 @@ const ACTIONS: u32 = 256;
 const TICKS: u32 = 65_536;
 
 impl PlainModel {
-    pub fn follow_act(&mut self, action: Action, given: Told) -> Result<(), Wrong> {
+    pub fn follow_act(&mut self, action: Action, given: PlainAnswer) -> Result<(), Wrong> {
         let wanted = match self.act(action) {
-            Ok(()) => Told::Did,
-            Err(refusal) => Told::Refused(refusal),
+            Ok(()) => PlainAnswer::Did,
+            Err(refusal) => PlainAnswer::Refused(refusal),
         };
         expect(wanted, given)
     }
 
-    pub fn follow_get(&mut self, cell: u32, given: Told) -> Result<(), Wrong> {
+    pub fn follow_get(&mut self, cell: u32, given: PlainAnswer) -> Result<(), Wrong> {
         let wanted = match self.live.get(cell) {
-            Ok(word) => Told::Word(word),
-            Err(refusal) => Told::Refused(refusal),
+            Ok(word) => PlainAnswer::Word(word),
+            Err(refusal) => PlainAnswer::Refused(refusal),
         };
         expect(wanted, given)
     }
 
-    pub fn follow_end(&mut self, given: Told) -> Result<(), Wrong> {
+    pub fn follow_end(&mut self, given: PlainAnswer) -> Result<(), Wrong> {
         if let Some(refusal) = self.end_refusal() {
-            return expect(Told::Refused(refusal), given);
+            return expect(PlainAnswer::Refused(refusal), given);
         }
         self.worlds.push(self.live.copy(self.alloc)?)?;
         self.running = 0;
         self.since = self.since.saturating_add(1);
         self.log.queue_tick()?;
-        expect(Told::Ended(self.ended()), given)
+        expect(PlainAnswer::Ended(self.ended()), given)
     }
 
-    pub fn follow_mark(&mut self, given: Told) -> Result<(), Wrong> {
+    pub fn follow_mark(&mut self, given: PlainAnswer) -> Result<(), Wrong> {
         if let Some(refusal) = self.mark_refusal() {
-            return expect(Told::Refused(refusal), given);
+            return expect(PlainAnswer::Refused(refusal), given);
         }
         let ended = self.ended();
         self.images.begin(ended);
         self.since = 0;
         self.log.queue_switch(ended)?;
-        expect(Told::Started(ended), given)
+        expect(PlainAnswer::Started(ended), given)
     }
 
-    pub fn follow_cover(&mut self, tick: u64, given: Told) -> Result<(), Wrong> {
+    pub fn follow_cover(&mut self, tick: u64, given: PlainAnswer) -> Result<(), Wrong> {
         match self.cover_refusal(tick) {
-            Some(refusal) => expect(Told::Refused(refusal), given),
+            Some(refusal) => expect(PlainAnswer::Refused(refusal), given),
             None => self.log.cover(tick, given),
         }
     }

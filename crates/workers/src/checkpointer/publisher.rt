@@ -1,7 +1,7 @@
 //! The publisher, which reports the ticks of open images to the log writer.
 ghost use Rattle.std.specs.Prelude.{◌≡◌, true};
 ghost use Rattle.shared_capture.specs.CoverWord.{CoverState, AreStored};
-ghost use Rattle.workers.specs.Publishing.{IsNext, told};
+ghost use Rattle.workers.specs.Publishing.{IsNext, reported};
 
 use shared_capture::{Back, CoverIn, CoverOut, Method, meet_cover};
 use std::marker::Model;
@@ -31,7 +31,7 @@ impl Publisher {
     pub(crate) fn publish<M: Method>(&mut self, _back: &Back<M>, tick: u64)
         requires in_work { _back.now.working ≡ true }
         requires next { IsNext self.old tick }
-        ensures { self.new ≡ told self.old tick }
+        ensures { self.new ≡ reported self.old tick }
     {
         self.covers.publish(tick);
     }

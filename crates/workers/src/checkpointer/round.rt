@@ -4,7 +4,7 @@ ghost use Rattle.disk_model.specs.Disk.{OneCalledAtMostOnce};
 ghost use Rattle.image_files.specs.declared.phase.Phase.TheVariants.{Taking};
 ghost use Rattle.image_files.specs.Progress.{left_of};
 ghost use Rattle.workers.specs.declared.checkpointer.round.ImageWriter.{ImageWriter as Writer};
-ghost use Rattle.workers.specs.Imaging.{AreInStep, FollowsRounds, Publishes, RoundRuns, TellsFaults, WriterFits};
+ghost use Rattle.workers.specs.Imaging.{AreInStep, FollowsRounds, Publishes, RoundRuns, ReportsFaults, WriterFits};
 ghost use Rattle.workers.specs.Publishing.{IsNext};
 
 use crate::checkpointer::publisher::Publisher;
@@ -33,7 +33,7 @@ pub(crate) fn step<M: Method, D: Disk>(
     requires left { 0 < left_of images.old.keeper }
     ensures step { AreInStep images.new.keeper back.new }
     ensures fits { IsTrue D.honest → WriterFits D.content images.new }
-    ensures faults { TellsFaults D.faults images.old images.new }
+    ensures faults { ReportsFaults D.faults images.old images.new }
     ensures less { left_of images.new.keeper < left_of images.old.keeper }
     ensures calls { OneCalledAtMostOnce D.called images.old.image_a images.new.image_a images.old.image_b images.new.image_b }
     ensures takes { images.old.keeper.phase ≡ Taking

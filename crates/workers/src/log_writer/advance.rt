@@ -7,7 +7,7 @@ ghost use Rattle.action_log.specs.Files.{FitsFiles};
 ghost use Rattle.action_log.specs.Logs.{Logs};
 ghost use Rattle.action_log.specs.Progress.{QueueFollows, end_of, work_of};
 ghost use Rattle.workers.specs.Covering.{Advances};
-ghost use Rattle.workers.specs.Logging.{LogStands, LogTellsFaults, receipt_in, receipt_of};
+ghost use Rattle.workers.specs.Logging.{LogStands, LogReportsFaults, receipt_in, receipt_of};
 
 use super::Log;
 use action_log::{LogAnswer, Record, log_outcomes};
@@ -37,7 +37,7 @@ pub(crate) fn advance<D: Disk + Drop>(
     ensures receipt { result ≢ Down
         → receipt_in result ≡ receipt_of log.old.keeper tick queue.old.items log.new.keeper }
     ensures down { (result ≡ Down) ↔ (log.new.keeper.down ≡ true) }
-    ensures faults { LogTellsFaults D.faults log.old log.new }
+    ensures faults { LogReportsFaults D.faults log.old log.new }
     ensures calls { OneCalledAtMostOnce D.called log.old.a log.new.a log.old.b log.new.b }
     ensures lowers { log.new.keeper.down ≡ false → 0 < work_of log.old.keeper queue.old.items
         → work_of log.new.keeper queue.new.items < work_of log.old.keeper queue.old.items }

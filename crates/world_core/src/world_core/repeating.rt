@@ -16,13 +16,13 @@ impl<C: Capture> Core<C> {
             → (next : Past) × RepeatsImages fate past self.old result next self.new
             × ImagesSettled next.standing }
     {
-        let mut told = ImageAnswer::Idle;
+        let mut reported = ImageAnswer::Idle;
         loop {
             let given = self.image(fate);
             match given {
-                ImageAnswer::Idle => return told,
+                ImageAnswer::Idle => return reported,
                 ImageAnswer::Working => {}
-                ImageAnswer::Opened(_) => told = given,
+                ImageAnswer::Opened(_) => reported = given,
                 ImageAnswer::Down => return given,
             }
         }
@@ -34,13 +34,13 @@ impl<C: Capture> Core<C> {
             → (next : Past) × RepeatsLog fate past self.old result next self.new
             × LogSettled next.standing self.new }
     {
-        let mut told = LogAnswer::Idle;
+        let mut reported = LogAnswer::Idle;
         loop {
             let given = self.log(fate);
             match given {
-                LogAnswer::Idle => return told,
+                LogAnswer::Idle => return reported,
                 LogAnswer::Working => {}
-                LogAnswer::Acked(_) => told = given,
+                LogAnswer::Acked(_) => reported = given,
                 LogAnswer::Down => return given,
             }
         }

@@ -1,6 +1,6 @@
-use super::{IMAGE, IMAGE_FAILS, LOG, LOG_FAILS, Line, SET, ones, told_by};
+use super::{IMAGE, IMAGE_FAILS, LOG, LOG_FAILS, Line, SET, ones, reported_by};
 use capture_core::{Capture, PlainCopy};
-use core_rows::{Asked, Told};
+use core_rows::{Asked, PlainAnswer};
 use disk_model::Leaving;
 use ping_pong::PingPong;
 use shared_capture::{Joined, Pong, Zig};
@@ -19,21 +19,24 @@ const GET: Asked = Asked::Get(0);
 
 // A start over empty files, of one cell and of two.
 const START: [Line; 3] = [
-    (7, IMAGE, Told::ImageWorking),
-    (1, IMAGE, Told::ImageOpened(0)),
-    (8, LOG, Told::LogWorking),
+    (7, IMAGE, PlainAnswer::ImageWorking),
+    (1, IMAGE, PlainAnswer::ImageOpened(0)),
+    (8, LOG, PlainAnswer::LogWorking),
 ];
 
 const START_OF_TWO: [Line; 3] = [
-    (8, IMAGE, Told::ImageWorking),
-    (1, IMAGE, Told::ImageOpened(0)),
-    (8, LOG, Told::LogWorking),
+    (8, IMAGE, PlainAnswer::ImageWorking),
+    (1, IMAGE, PlainAnswer::ImageOpened(0)),
+    (8, LOG, PlainAnswer::LogWorking),
 ];
 
 // Three steps of a group, and the fourth.
-const GROUP: [Line; 2] = [(3, LOG, Told::LogWorking), (1, LOG, Told::LogAcked(1))];
+const GROUP: [Line; 2] = [
+    (3, LOG, PlainAnswer::LogWorking),
+    (1, LOG, PlainAnswer::LogAcked(1)),
+];
 
-const SET_AND_END: [Line; 2] = [(1, SET, Told::Did), (1, END, Told::Ended(1))];
+const SET_AND_END: [Line; 2] = [(1, SET, PlainAnswer::Did), (1, END, PlainAnswer::Ended(1))];
 
 fn set(cell: u32, value: u64) -> Asked {
     Asked::Act(Action::Set { cell, value })
@@ -55,9 +58,9 @@ fn transfer(from: u32, to: u32) -> Asked {
 #[derive(Clone, Copy)]
 enum Part<'a> {
     Lines(&'a [Line]),
-    Crash(Leaving, Told),
+    Crash(Leaving, PlainAnswer),
     // A crash that leaves so many bytes of image.a, and none of the other files.
-    LeavesOnes(usize, Told),
+    LeavesOnes(usize, PlainAnswer),
 }
 
 // Moves, and the right answer of each.
@@ -65,13 +68,13 @@ enum Part<'a> {
 struct Row {
     alloc: Global,
     moves: Vec<Move>,
-    told: Vec<Told>,
+    reported: Vec<PlainAnswer>,
 }
 
 impl Row {
-    fn push(&mut self, asked: Move, told: Told) -> Result<(), Refusal> {
+    fn push(&mut self, asked: Move, reported: PlainAnswer) -> Result<(), Refusal> {
         self.moves.push(asked)?;
-        self.told.push(told)?;
+        self.reported.push(reported)?;
         Ok(())
     }
 }
@@ -80,13 +83,13 @@ impl Row {
 fn add_part<C: Capture>(row: &mut Row, core: &mut Core<C>, part: Part<'_>) -> Result<(), Refusal> {
     match part {
         Part::Lines(lines) => add_lines(row, core, lines),
-        Part::Crash(leaving, told) => {
-            row.push(Move::Crash(core.remains(leaving)?), told)?;
+        Part::Crash(leaving, reported) => {
+            row.push(Move::Crash(core.remains(leaving)?), reported)?;
             crash(core, core.remains(leaving)?);
             Ok(())
         }
-        Part::LeavesOnes(count, told) => {
-            row.push(Move::Crash(ones(row.alloc, count)?), told)?;
+        Part::LeavesOnes(count, reported) => {
+            row.push(Move::Crash(ones(row.alloc, count)?), reported)?;
             crash(core, ones(row.alloc, count)?);
             Ok(())
         }
@@ -98,9 +101,9 @@ fn crash<C: Capture>(core: &mut Core<C>, left: Remains) {
 }
 
 fn add_lines<C: Capture>(row: &mut Row, core: &mut Core<C>, lines: &[Line]) -> Result<(), Refusal> {
-    for (times, asked, told) in lines {
+    for (times, asked, reported) in lines {
         for _ in 0..*times {
-            add_line(row, core, asked, *told)?;
+            add_line(row, core, asked, *reported)?;
         }
     }
     Ok(())
@@ -110,20 +113,24 @@ fn add_line<C: Capture>(
     row: &mut Row,
     core: &mut Core<C>,
     asked: &Asked,
-    told: Told,
+    reported: PlainAnswer,
 ) -> Result<(), Refusal> {
     if let Some(one) = asked.as_move() {
         core.step(one);
     }
     match asked.as_move() {
-        Some(same) => row.push(same, told),
+        Some(same) => row.push(same, reported),
         None => Ok(()),
     }
 }
 
-fn ran<C: Capture>(alloc: Global, cells: u32, moves: Vec<Move>) -> Result<Vec<Told>, Refusal> {
+fn ran<C: Capture>(
+    alloc: Global,
+    cells: u32,
+    moves: Vec<Move>,
+) -> Result<Vec<PlainAnswer>, Refusal> {
     let (answers, _) = run::<C>(alloc, cells.clamp(1, 65536), moves)?;
-    told_by(alloc, &answers)
+    reported_by(alloc, &answers)
 }
 
 fn add_parts<C: Capture>(
@@ -145,9 +152,13 @@ fn fill<C: Capture>(row: &mut Row, cells: u32, parts: &[Part<'_>]) -> Result<(),
 
 // Asserts that a run of a fresh world answers the moves of a row as it says.
 fn compare<C: Capture>(rt: &impl Abort, cells: u32, row: Row) -> Result<(), Refusal> {
-    let Row { alloc, moves, told } = row;
+    let Row {
+        alloc,
+        moves,
+        reported,
+    } = row;
     let given = ran::<C>(alloc, cells, moves)?;
-    assert!(rt; given.as_slice() == told.as_slice());
+    assert!(rt; given.as_slice() == reported.as_slice());
     Ok(())
 }
 
@@ -161,7 +172,7 @@ fn check<C: Capture>(
     let mut row = Row {
         alloc,
         moves: Vec::new(alloc),
-        told: Vec::new(alloc),
+        reported: Vec::new(alloc),
     };
     fill::<C>(&mut row, cells, parts)?;
     compare::<C>(rt, cells, row)
@@ -191,19 +202,23 @@ fn check_ping_pong<R: Abort + AllocGlobal>(
 fn actions(rt: HostRuntime) -> Result<(), Fail> {
     check_all(&rt, 1, &[])?;
     let one_cell = [
-        (1, GET, Told::Word(0)),
-        (1, set(0, LIMIT), Told::Did),
-        (1, add(1), Told::Refused(Refusal::OutOfRange)),
-        (1, set(0, LIMIT + 1), Told::Refused(Refusal::BadValue)),
-        (1, add(-(LIMIT as i64)), Told::Did),
-        (1, GET, Told::Word(0)),
+        (1, GET, PlainAnswer::Word(0)),
+        (1, set(0, LIMIT), PlainAnswer::Did),
+        (1, add(1), PlainAnswer::Refused(Refusal::OutOfRange)),
+        (
+            1,
+            set(0, LIMIT + 1),
+            PlainAnswer::Refused(Refusal::BadValue),
+        ),
+        (1, add(-(LIMIT as i64)), PlainAnswer::Did),
+        (1, GET, PlainAnswer::Word(0)),
     ];
     check_all(&rt, 1, &[Part::Lines(&START), Part::Lines(&one_cell)])?;
     let two_cells = [
-        (1, transfer(0, 0), Told::Refused(Refusal::SameCell)),
-        (1, transfer(0, 1), Told::Refused(Refusal::OutOfRange)),
-        (1, transfer(0, 2), Told::Refused(Refusal::BadCell)),
-        (1, set(2, LIMIT + 1), Told::Refused(Refusal::BadCell)),
+        (1, transfer(0, 0), PlainAnswer::Refused(Refusal::SameCell)),
+        (1, transfer(0, 1), PlainAnswer::Refused(Refusal::OutOfRange)),
+        (1, transfer(0, 2), PlainAnswer::Refused(Refusal::BadCell)),
+        (1, set(2, LIMIT + 1), PlainAnswer::Refused(Refusal::BadCell)),
     ];
     check_all(
         &rt,
@@ -216,22 +231,22 @@ fn actions(rt: HostRuntime) -> Result<(), Fail> {
 #[test]
 fn full_ticks_and_queues(rt: HostRuntime) -> Result<(), Fail> {
     let full_tick = [
-        (256, add(1), Told::Did),
-        (1, add(1), Told::Refused(Refusal::TickFull)),
-        (1, GET, Told::Word(256)),
+        (256, add(1), PlainAnswer::Did),
+        (1, add(1), PlainAnswer::Refused(Refusal::TickFull)),
+        (1, GET, PlainAnswer::Word(256)),
     ];
     check_all(&rt, 1, &[Part::Lines(&START), Part::Lines(&full_tick)])?;
-    let mut ended = [(1, END, Told::Ended(1)); 64];
+    let mut ended = [(1, END, PlainAnswer::Ended(1)); 64];
     for (line, tick) in ended.iter_mut().zip(1..=64) {
-        line.2 = Told::Ended(tick);
+        line.2 = PlainAnswer::Ended(tick);
     }
     let drained = [
-        (1, END, Told::Refused(Refusal::QueueFull)),
-        (3, LOG, Told::LogWorking),
-        (1, LOG, Told::LogAcked(32)),
-        (3, LOG, Told::LogWorking),
-        (1, LOG, Told::LogAcked(64)),
-        (1, END, Told::Ended(65)),
+        (1, END, PlainAnswer::Refused(Refusal::QueueFull)),
+        (3, LOG, PlainAnswer::LogWorking),
+        (1, LOG, PlainAnswer::LogAcked(32)),
+        (3, LOG, PlainAnswer::LogWorking),
+        (1, LOG, PlainAnswer::LogAcked(64)),
+        (1, END, PlainAnswer::Ended(65)),
     ];
     check_all(
         &rt,
@@ -248,8 +263,8 @@ fn full_ticks_and_queues(rt: HostRuntime) -> Result<(), Fail> {
 // An empty tick counts.
 #[test]
 fn empty_ticks(rt: HostRuntime) -> Result<(), Fail> {
-    let ended = [(1, END, Told::Ended(1))];
-    let recovered = Part::Crash(Leaving::Lose, Told::Recovered { tick: 1, from: 0 });
+    let ended = [(1, END, PlainAnswer::Ended(1))];
+    let recovered = Part::Crash(Leaving::Lose, PlainAnswer::Recovered { tick: 1, from: 0 });
     check_all(
         &rt,
         1,
@@ -273,8 +288,8 @@ fn torn_groups(rt: HostRuntime) -> Result<(), Fail> {
         (3, Leaving::Fill(0), 0),
     ];
     for (calls, leaving, tick) in torn {
-        let lines = [(calls, LOG, Told::LogWorking)];
-        let word = [(1, GET, Told::Word(tick * 5))];
+        let lines = [(calls, LOG, PlainAnswer::LogWorking)];
+        let word = [(1, GET, PlainAnswer::Word(tick * 5))];
         check_all(
             &rt,
             1,
@@ -282,7 +297,7 @@ fn torn_groups(rt: HostRuntime) -> Result<(), Fail> {
                 Part::Lines(&START),
                 Part::Lines(&SET_AND_END),
                 Part::Lines(&lines),
-                Part::Crash(leaving, Told::Recovered { tick, from: 0 }),
+                Part::Crash(leaving, PlainAnswer::Recovered { tick, from: 0 }),
                 Part::Lines(&word),
             ],
         )?;
@@ -294,7 +309,10 @@ fn torn_groups(rt: HostRuntime) -> Result<(), Fail> {
             Part::Lines(&START),
             Part::Lines(&SET_AND_END),
             Part::Lines(&GROUP),
-            Part::Crash(Leaving::Fill(0), Told::Recovered { tick: 1, from: 0 }),
+            Part::Crash(
+                Leaving::Fill(0),
+                PlainAnswer::Recovered { tick: 1, from: 0 },
+            ),
         ],
     )?;
     Ok(())
@@ -303,20 +321,20 @@ fn torn_groups(rt: HostRuntime) -> Result<(), Fail> {
 // A round of one cell into a file that is not known to be shut.
 fn round(tick: u64) -> [Line; 3] {
     [
-        (1, MARK, Told::Started(tick)),
-        (7, IMAGE, Told::ImageWorking),
-        (1, IMAGE, Told::ImageOpened(tick)),
+        (1, MARK, PlainAnswer::Started(tick)),
+        (7, IMAGE, PlainAnswer::ImageWorking),
+        (1, IMAGE, PlainAnswer::ImageOpened(tick)),
     ]
 }
 
 #[test]
 fn images_ahead_of_the_log(rt: HostRuntime) -> Result<(), Fail> {
     let played = [
-        (1, MARK, Told::Started(1)),
-        (1, set(0, 9), Told::Did),
-        (1, END, Told::Ended(2)),
-        (7, IMAGE, Told::ImageWorking),
-        (1, IMAGE, Told::ImageOpened(1)),
+        (1, MARK, PlainAnswer::Started(1)),
+        (1, set(0, 9), PlainAnswer::Did),
+        (1, END, PlainAnswer::Ended(2)),
+        (7, IMAGE, PlainAnswer::ImageWorking),
+        (1, IMAGE, PlainAnswer::ImageOpened(1)),
     ];
     check_all(
         &rt,
@@ -325,8 +343,8 @@ fn images_ahead_of_the_log(rt: HostRuntime) -> Result<(), Fail> {
             Part::Lines(&START),
             Part::Lines(&SET_AND_END),
             Part::Lines(&played),
-            Part::Crash(Leaving::Lose, Told::Recovered { tick: 1, from: 1 }),
-            Part::Lines(&[(1, GET, Told::Word(5))]),
+            Part::Crash(Leaving::Lose, PlainAnswer::Recovered { tick: 1, from: 1 }),
+            Part::Lines(&[(1, GET, PlainAnswer::Word(5))]),
         ],
     )?;
     Ok(())
@@ -335,24 +353,27 @@ fn images_ahead_of_the_log(rt: HostRuntime) -> Result<(), Fail> {
 // Two ticks, and a round of the first. Then come so many steps of a round of the second.
 fn two_rounds(steps: u32) -> [Line; 10] {
     [
-        (1, set(0, 5), Told::Did),
-        (1, set(1, 7), Told::Did),
-        (1, END, Told::Ended(1)),
-        (1, MARK, Told::Started(1)),
-        (8, IMAGE, Told::ImageWorking),
-        (1, IMAGE, Told::ImageOpened(1)),
-        (1, set(1, 8), Told::Did),
-        (1, END, Told::Ended(2)),
-        (1, MARK, Told::Started(2)),
-        (steps, IMAGE, Told::ImageWorking),
+        (1, set(0, 5), PlainAnswer::Did),
+        (1, set(1, 7), PlainAnswer::Did),
+        (1, END, PlainAnswer::Ended(1)),
+        (1, MARK, PlainAnswer::Started(1)),
+        (8, IMAGE, PlainAnswer::ImageWorking),
+        (1, IMAGE, PlainAnswer::ImageOpened(1)),
+        (1, set(1, 8), PlainAnswer::Did),
+        (1, END, PlainAnswer::Ended(2)),
+        (1, MARK, PlainAnswer::Started(2)),
+        (steps, IMAGE, PlainAnswer::ImageWorking),
     ]
 }
 
 // The word of cell 0 comes from the other file.
 #[test]
 fn rounds_cut_off_or_whole(rt: HostRuntime) -> Result<(), Fail> {
-    let opened = [(1, IMAGE, Told::ImageOpened(2))];
-    let words = [(1, GET, Told::Word(5)), (1, Asked::Get(1), Told::Word(8))];
+    let opened = [(1, IMAGE, PlainAnswer::ImageOpened(2))];
+    let words = [
+        (1, GET, PlainAnswer::Word(5)),
+        (1, Asked::Get(1), PlainAnswer::Word(8)),
+    ];
     check_ping_pong(
         &rt,
         2,
@@ -360,18 +381,24 @@ fn rounds_cut_off_or_whole(rt: HostRuntime) -> Result<(), Fail> {
             Part::Lines(&START_OF_TWO),
             Part::Lines(&two_rounds(9)),
             Part::Lines(&opened),
-            Part::Crash(Leaving::Lose, Told::Recovered { tick: 2, from: 2 }),
+            Part::Crash(Leaving::Lose, PlainAnswer::Recovered { tick: 2, from: 2 }),
             Part::Lines(&words),
         ],
     )?;
-    let words = [(1, GET, Told::Word(5)), (1, Asked::Get(1), Told::Word(7))];
+    let words = [
+        (1, GET, PlainAnswer::Word(5)),
+        (1, Asked::Get(1), PlainAnswer::Word(7)),
+    ];
     check_ping_pong(
         &rt,
         2,
         &[
             Part::Lines(&START_OF_TWO),
             Part::Lines(&two_rounds(6)),
-            Part::Crash(Leaving::Fill(1), Told::Recovered { tick: 1, from: 1 }),
+            Part::Crash(
+                Leaving::Fill(1),
+                PlainAnswer::Recovered { tick: 1, from: 1 },
+            ),
             Part::Lines(&words),
         ],
     )?;
@@ -381,12 +408,12 @@ fn rounds_cut_off_or_whole(rt: HostRuntime) -> Result<(), Fail> {
 #[test]
 fn refused_marks(rt: HostRuntime) -> Result<(), Fail> {
     let lines = [
-        (1, MARK, Told::Refused(Refusal::NothingNew)),
-        (1, set(0, 1), Told::Did),
-        (1, MARK, Told::Refused(Refusal::OpenTick)),
-        (1, END, Told::Ended(1)),
-        (1, MARK, Told::Started(1)),
-        (1, MARK, Told::Refused(Refusal::Busy)),
+        (1, MARK, PlainAnswer::Refused(Refusal::NothingNew)),
+        (1, set(0, 1), PlainAnswer::Did),
+        (1, MARK, PlainAnswer::Refused(Refusal::OpenTick)),
+        (1, END, PlainAnswer::Ended(1)),
+        (1, MARK, PlainAnswer::Started(1)),
+        (1, MARK, PlainAnswer::Refused(Refusal::Busy)),
     ];
     check_all(&rt, 1, &[Part::Lines(&START), Part::Lines(&lines)])?;
     Ok(())
@@ -395,22 +422,22 @@ fn refused_marks(rt: HostRuntime) -> Result<(), Fail> {
 // A tick that sets the cell to its number.
 fn tick(number: u64) -> [Line; 2] {
     [
-        (1, set(0, number), Told::Did),
-        (1, END, Told::Ended(number)),
+        (1, set(0, number), PlainAnswer::Did),
+        (1, END, PlainAnswer::Ended(number)),
     ]
 }
 
 // A switch into the segment that the start has shut takes four steps. A switch into another one takes six.
 const SWITCHES: [Line; 9] = [
-    (3, LOG, Told::LogWorking),
-    (1, LOG, Told::LogAcked(1)),
-    (4, LOG, Told::LogWorking),
-    (3, LOG, Told::LogWorking),
-    (1, LOG, Told::LogAcked(2)),
-    (6, LOG, Told::LogWorking),
-    (3, LOG, Told::LogWorking),
-    (1, LOG, Told::LogAcked(3)),
-    (6, LOG, Told::LogWorking),
+    (3, LOG, PlainAnswer::LogWorking),
+    (1, LOG, PlainAnswer::LogAcked(1)),
+    (4, LOG, PlainAnswer::LogWorking),
+    (3, LOG, PlainAnswer::LogWorking),
+    (1, LOG, PlainAnswer::LogAcked(2)),
+    (6, LOG, PlainAnswer::LogWorking),
+    (3, LOG, PlainAnswer::LogWorking),
+    (1, LOG, PlainAnswer::LogAcked(3)),
+    (6, LOG, PlainAnswer::LogWorking),
 ];
 
 #[test]
@@ -427,9 +454,9 @@ fn switches_use_segments_again(rt: HostRuntime) -> Result<(), Fail> {
             Part::Lines(&tick(3)),
             Part::Lines(&round(3)),
             Part::Lines(&SWITCHES),
-            Part::Lines(&[(1, LOG, Told::LogIdle)]),
-            Part::Crash(Leaving::Lose, Told::Recovered { tick: 3, from: 3 }),
-            Part::Lines(&[(1, GET, Told::Word(3))]),
+            Part::Lines(&[(1, LOG, PlainAnswer::LogIdle)]),
+            Part::Crash(Leaving::Lose, PlainAnswer::Recovered { tick: 3, from: 3 }),
+            Part::Lines(&[(1, GET, PlainAnswer::Word(3))]),
         ],
     )?;
     Ok(())
@@ -439,29 +466,32 @@ fn switches_use_segments_again(rt: HostRuntime) -> Result<(), Fail> {
 // the next.
 #[test]
 fn open_images_cover_ticks(rt: HostRuntime) -> Result<(), Fail> {
-    let before = [(1, Asked::Cover(0), Told::Refused(Refusal::Starting))];
+    let before = [(1, Asked::Cover(0), PlainAnswer::Refused(Refusal::Starting))];
     let first = [
-        (1, Asked::Cover(0), Told::LogIdle),
-        (1, Asked::Cover(1), Told::Refused(Refusal::Uncovered)),
-        (1, MARK, Told::Started(1)),
-        (7, IMAGE, Told::ImageWorking),
-        (1, Asked::Cover(1), Told::Refused(Refusal::Uncovered)),
-        (1, IMAGE, Told::ImageOpened(1)),
+        (1, Asked::Cover(0), PlainAnswer::LogIdle),
+        (1, Asked::Cover(1), PlainAnswer::Refused(Refusal::Uncovered)),
+        (1, MARK, PlainAnswer::Started(1)),
+        (7, IMAGE, PlainAnswer::ImageWorking),
+        (1, Asked::Cover(1), PlainAnswer::Refused(Refusal::Uncovered)),
+        (1, IMAGE, PlainAnswer::ImageOpened(1)),
     ];
     let covers = [
-        (1, Asked::Cover(1), Told::LogAcked(1)),
-        (1, Asked::Cover(1), Told::LogIdle),
-        (1, Asked::Cover(2), Told::LogAcked(2)),
-        (1, LOG, Told::LogWorking),
-        (1, Asked::Cover(2), Told::LogIdle),
-        (3, LOG, Told::LogWorking),
-        (1, LOG, Told::LogIdle),
+        (1, Asked::Cover(1), PlainAnswer::LogAcked(1)),
+        (1, Asked::Cover(1), PlainAnswer::LogIdle),
+        (1, Asked::Cover(2), PlainAnswer::LogAcked(2)),
+        (1, LOG, PlainAnswer::LogWorking),
+        (1, Asked::Cover(2), PlainAnswer::LogIdle),
+        (3, LOG, PlainAnswer::LogWorking),
+        (1, LOG, PlainAnswer::LogIdle),
     ];
-    let logged = [(3, LOG, Told::LogWorking), (1, LOG, Told::LogAcked(3))];
+    let logged = [
+        (3, LOG, PlainAnswer::LogWorking),
+        (1, LOG, PlainAnswer::LogAcked(3)),
+    ];
     let down = [
-        (1, Asked::End, Told::Ended(4)),
-        (1, LOG_FAILS, Told::LogDown),
-        (1, Asked::Cover(2), Told::Refused(Refusal::LogDown)),
+        (1, Asked::End, PlainAnswer::Ended(4)),
+        (1, LOG_FAILS, PlainAnswer::LogDown),
+        (1, Asked::Cover(2), PlainAnswer::Refused(Refusal::LogDown)),
     ];
     check_all(
         &rt,
@@ -477,8 +507,8 @@ fn open_images_cover_ticks(rt: HostRuntime) -> Result<(), Fail> {
             Part::Lines(&tick(3)),
             Part::Lines(&logged),
             Part::Lines(&down),
-            Part::Crash(Leaving::Lose, Told::Recovered { tick: 3, from: 2 }),
-            Part::Lines(&[(1, GET, Told::Word(3))]),
+            Part::Crash(Leaving::Lose, PlainAnswer::Recovered { tick: 3, from: 2 }),
+            Part::Lines(&[(1, GET, PlainAnswer::Word(3))]),
         ],
     )?;
     Ok(())
@@ -487,17 +517,17 @@ fn open_images_cover_ticks(rt: HostRuntime) -> Result<(), Fail> {
 #[test]
 fn images_down(rt: HostRuntime) -> Result<(), Fail> {
     let lines = [
-        (1, MARK, Told::Started(1)),
-        (1, IMAGE_FAILS, Told::ImageDown),
-        (1, MARK, Told::Refused(Refusal::ImageDown)),
-        (1, set(0, 2), Told::Did),
-        (1, END, Told::Ended(2)),
-        (3, LOG, Told::LogWorking),
-        (1, LOG, Told::LogAcked(1)),
-        (4, LOG, Told::LogWorking),
-        (3, LOG, Told::LogWorking),
-        (1, LOG, Told::LogAcked(2)),
-        (1, LOG, Told::LogIdle),
+        (1, MARK, PlainAnswer::Started(1)),
+        (1, IMAGE_FAILS, PlainAnswer::ImageDown),
+        (1, MARK, PlainAnswer::Refused(Refusal::ImageDown)),
+        (1, set(0, 2), PlainAnswer::Did),
+        (1, END, PlainAnswer::Ended(2)),
+        (3, LOG, PlainAnswer::LogWorking),
+        (1, LOG, PlainAnswer::LogAcked(1)),
+        (4, LOG, PlainAnswer::LogWorking),
+        (3, LOG, PlainAnswer::LogWorking),
+        (1, LOG, PlainAnswer::LogAcked(2)),
+        (1, LOG, PlainAnswer::LogIdle),
     ];
     check_all(
         &rt,
@@ -506,7 +536,7 @@ fn images_down(rt: HostRuntime) -> Result<(), Fail> {
             Part::Lines(&START),
             Part::Lines(&SET_AND_END),
             Part::Lines(&lines),
-            Part::Crash(Leaving::Lose, Told::Recovered { tick: 2, from: 0 }),
+            Part::Crash(Leaving::Lose, PlainAnswer::Recovered { tick: 2, from: 0 }),
         ],
     )?;
     Ok(())
@@ -516,20 +546,20 @@ fn images_down(rt: HostRuntime) -> Result<(), Fail> {
 #[test]
 fn starts_and_blanks(rt: HostRuntime) -> Result<(), Fail> {
     let failed = [
-        (1, SET, Told::Refused(Refusal::Starting)),
-        (1, IMAGE_FAILS, Told::ImageDown),
-        (1, LOG, Told::LogIdle),
-        (1, MARK, Told::Refused(Refusal::Starting)),
-        (1, END, Told::Refused(Refusal::Starting)),
+        (1, SET, PlainAnswer::Refused(Refusal::Starting)),
+        (1, IMAGE_FAILS, PlainAnswer::ImageDown),
+        (1, LOG, PlainAnswer::LogIdle),
+        (1, MARK, PlainAnswer::Refused(Refusal::Starting)),
+        (1, END, PlainAnswer::Refused(Refusal::Starting)),
     ];
     check_all(
         &rt,
         1,
         &[
             Part::Lines(&failed),
-            Part::LeavesOnes(0, Told::Blank),
-            Part::LeavesOnes(1, Told::Refused(Refusal::Impossible)),
-            Part::Lines(&[(1, LOG, Told::LogIdle)]),
+            Part::LeavesOnes(0, PlainAnswer::Blank),
+            Part::LeavesOnes(1, PlainAnswer::Refused(Refusal::Impossible)),
+            Part::Lines(&[(1, LOG, PlainAnswer::LogIdle)]),
             Part::Lines(&START),
             Part::Lines(&SET_AND_END),
         ],
@@ -542,13 +572,16 @@ fn starts_and_blanks(rt: HostRuntime) -> Result<(), Fail> {
 #[test]
 fn crashes_twice(rt: HostRuntime) -> Result<(), Fail> {
     let image = [
-        (7, IMAGE, Told::ImageWorking),
-        (1, IMAGE, Told::ImageOpened(1)),
+        (7, IMAGE, PlainAnswer::ImageWorking),
+        (1, IMAGE, PlainAnswer::ImageOpened(1)),
     ];
-    let segments = [(1, IMAGE, Told::ImageIdle), (6, LOG, Told::LogWorking)];
+    let segments = [
+        (1, IMAGE, PlainAnswer::ImageIdle),
+        (6, LOG, PlainAnswer::LogWorking),
+    ];
     let reads = [
-        (1, GET, Told::Word(5)),
-        (1, END, Told::Refused(Refusal::Starting)),
+        (1, GET, PlainAnswer::Word(5)),
+        (1, END, PlainAnswer::Refused(Refusal::Starting)),
     ];
     check_all(
         &rt,
@@ -557,13 +590,13 @@ fn crashes_twice(rt: HostRuntime) -> Result<(), Fail> {
             Part::Lines(&START),
             Part::Lines(&SET_AND_END),
             Part::Lines(&GROUP),
-            Part::Crash(Leaving::Lose, Told::Recovered { tick: 1, from: 0 }),
+            Part::Crash(Leaving::Lose, PlainAnswer::Recovered { tick: 1, from: 0 }),
             Part::Lines(&image),
             Part::Lines(&segments),
-            Part::Crash(Leaving::Lose, Told::Recovered { tick: 1, from: 1 }),
+            Part::Crash(Leaving::Lose, PlainAnswer::Recovered { tick: 1, from: 1 }),
             Part::Lines(&reads),
             Part::Lines(&segments),
-            Part::Lines(&[(1, END, Told::Ended(2))]),
+            Part::Lines(&[(1, END, PlainAnswer::Ended(2))]),
         ],
     )?;
     Ok(())

@@ -73,7 +73,7 @@ fn check_newest(rt: &impl Abort, out: &mut CoverOut, from: &mut CoverIn)
 }
 
 #[test]
-fn the_newest_image_is_told(rt: HostRuntime) {
+fn the_newest_image_is_reported(rt: HostRuntime) {
     let (mut out, mut from) = cover_pair(rt.alloc()).expect(&rt, "memory");
     check_newest(&rt, &mut out, &mut from);
 }

@@ -17,6 +17,6 @@ spawn-requires-send-T g c κs within =
     let covers : IsSend CoverIn.the_row = record { owned = c.crosses-2.ensures.owned; leaving = λ k d w. tt } in
     let ring : IsSend (Ring.the_row Record.the_row Heap.the_row ghosts) = record { owned = c.crosses-3.ensures.owned; leaving = λ k d w. tt } in
     let waiting : IsSend (Ring.the_row Waiting.the_row Heap.the_row ghosts) = record { owned = c.crosses-4.ensures.owned; leaving = λ k d w. tt } in
-    let told : IsSend CoverOut.the_row = record { owned = c.crosses-5.ensures.owned; leaving = λ k d w. tt } in
-    let whole = log_writer_sends (param 1 g.row.D) (param 2 g.row.G) g.D.Disk g.G.Gate c.type_bounds.send-D c.type_bounds.send-G from covers ring waiting told in
+    let reported : IsSend CoverOut.the_row = record { owned = c.crosses-5.ensures.owned; leaving = λ k d w. tt } in
+    let whole = log_writer_sends (param 1 g.row.D) (param 2 g.row.G) g.D.Disk g.G.Gate c.type_bounds.send-D c.type_bounds.send-G from covers ring waiting reported in
     record { owned = whole.owned; leaving = (param_send 2 _ whole).leaving }

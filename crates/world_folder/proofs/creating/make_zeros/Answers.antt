@@ -18,5 +18,5 @@ returns-in-Ok-clause-zeros g c = λ honest honest_files.
 pub returns-in-Err-clause-refused : goal.returns-in-Err-clause-refused
 returns-in-Err-clause-refused g c = λ honest honest_files occupied.
     let closed = taken_closed g.F.File.Disk.content g.F.File.Disk.may_leave g.F.Folder.identity c.in_ok-files.files _ _ (c.in_ok-files.ensures.taken honest honest_files) in
-    let told = (c.in-Err.ensures.unmade honest_files).told in
-    absurd (closed_not_occupied g.F.File.Disk.content c.args.path.now c.in_ok-files.files c.in-Err.ending closed told (subst IsOccupied (c.not_made.ensures.same occupied) occupied))
+    let reported = (c.in-Err.ensures.unmade honest_files).reported in
+    absurd (closed_not_occupied g.F.File.Disk.content c.args.path.now c.in_ok-files.files c.in-Err.ending closed reported (subst IsOccupied (c.not_made.ensures.same occupied) occupied))

@@ -3,8 +3,8 @@ use Rattle.action_log.specs.Segment.{MalformedSegment, IsSegment}
 use Rattle.world_folder.proofs.fault.fault_of_log.Goals as goal
 
 -- a finding on bytes is one on the file that has them
-told_of : (is_bad : Bool) (bytes file : List ℕ) → bytes ≡ file → (IsTrue is_bad ↔ IsSegment bytes MalformedSegment) → (IsTrue is_bad ↔ IsSegment file MalformedSegment)
-told_of is_bad bytes file e = subst (λ (b : List ℕ). IsTrue is_bad ↔ IsSegment b MalformedSegment) e
+reported_of : (is_bad : Bool) (bytes file : List ℕ) → bytes ≡ file → (IsTrue is_bad ↔ IsSegment bytes MalformedSegment) → (IsTrue is_bad ↔ IsSegment file MalformedSegment)
+reported_of is_bad bytes file e = subst (λ (b : List ℕ). IsTrue is_bad ↔ IsSegment b MalformedSegment) e
 
 one_of : (a b : Bool) → (a ≡ true) ⊎ ((a ≡ false) × (b ≡ true)) → (a || b) ≡ true
 one_of a b (inl is) = ap (λ (x : Bool). x || b) is
@@ -16,13 +16,13 @@ not_both b is_false is_true = (let h : true ≡ false = sym is_true ∙ is_false
 pub returns-then-b : goal.returns-then-b
 returns-then-b c = (
   c.requires,
-  told_of c.in-Ok-Ok.a c.deref.result.now c.args.files.now.log_a.items c.deref.ensures.value c.in-Ok-Ok.ensures.told,
-  told_of c.in-Ok-Ok.b c.deref-2.result.now c.args.files.now.log_b.items c.deref-2.ensures.value c.in-Ok-Ok.ensures'.told,
+  reported_of c.in-Ok-Ok.a c.deref.result.now c.args.files.now.log_a.items c.deref.ensures.value c.in-Ok-Ok.ensures.reported,
+  reported_of c.in-Ok-Ok.b c.deref-2.result.now c.args.files.now.log_b.items c.deref-2.ensures.value c.in-Ok-Ok.ensures'.reported,
   one_of c.in-Ok-Ok.a c.in-Ok-Ok.b c.if-b.either,
 )
 
 pub returns-else-b : goal.returns-else-b
 returns-else-b c =
-    let a = told_of c.in-Ok-Ok.a c.deref.result.now c.args.files.now.log_a.items c.deref.ensures.value c.in-Ok-Ok.ensures.told in
-    let b = told_of c.in-Ok-Ok.b c.deref-2.result.now c.args.files.now.log_b.items c.deref-2.ensures.value c.in-Ok-Ok.ensures'.told in
+    let a = reported_of c.in-Ok-Ok.a c.deref.result.now c.args.files.now.log_a.items c.deref.ensures.value c.in-Ok-Ok.ensures.reported in
+    let b = reported_of c.in-Ok-Ok.b c.deref-2.result.now c.args.files.now.log_b.items c.deref-2.ensures.value c.in-Ok-Ok.ensures'.reported in
     (c.requires, λ bad. not_both c.in-Ok-Ok.a c.if-b.false.0 (a.1 bad), λ bad. not_both c.in-Ok-Ok.b c.if-b.false.1 (b.1 bad))

@@ -1,5 +1,5 @@
 use Rattle.std.proofs.Common.{List, ℕ, subst, refl}
-use Rattle.world_folder.specs.Told.{IsLogTold}
+use Rattle.world_folder.specs.FileReports.{IsLogReport}
 use Rattle.world_folder.proofs.figures.figures_of.Goals as goal
 
 pub returns-in-Ok-clause-figures : goal.returns-in-Ok-clause-figures
@@ -11,7 +11,7 @@ returns-in-Ok-clause-figures c = record {
   slot = refl;
   log_a = c.in-Ok-Ok.log_a;
   log_b = c.in-Ok-Ok.log_b;
-  told_a = subst (λ (l : List ℕ). IsLogTold l c.in-Ok-Ok.log_a) c.deref.ensures.value c.in-Ok-Ok.ensures.told;
-  told_b = subst (λ (l : List ℕ). IsLogTold l c.in-Ok-Ok.log_b) c.deref-2.ensures.value c.in-Ok-Ok.ensures'.told;
+  reported_a = subst (λ (l : List ℕ). IsLogReport l c.in-Ok-Ok.log_a) c.deref.ensures.value c.in-Ok-Ok.ensures.reported;
+  reported_b = subst (λ (l : List ℕ). IsLogReport l c.in-Ok-Ok.log_b) c.deref-2.ensures.value c.in-Ok-Ok.ensures'.reported;
   segment = c.current_segment.ensures;
 }

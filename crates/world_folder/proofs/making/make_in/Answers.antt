@@ -8,6 +8,6 @@ returns-in-Err-default-NotEmpty-clause-unmade g c = λ honest.
     let file = g.D.Disk.content in
     let leaves = g.D.Disk.may_leave in
     let refused = c.in-Err-default-NotEmpty in
-    let told = c.occupied-ending.ensures in
+    let reported = c.occupied-ending.ensures in
     occupied_unmade file leaves c.args.folder.now c.args.files c.args.cells refused.files c.occupied-ending.new.files c.occupied-ending.result
-    (subst (λ r. AreNotMade file leaves c.args.files c.args.cells r refused.files) refused.field-0-1-is (refused.ensures.left honest)) (told.told honest) (told.kept honest)
+    (subst (λ r. AreNotMade file leaves c.args.files c.args.cells r refused.files) refused.field-0-1-is (refused.ensures.left honest)) (reported.reported honest) (reported.kept honest)

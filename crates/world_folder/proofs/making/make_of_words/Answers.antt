@@ -3,7 +3,7 @@ use Rattle.std.proofs.lemmas.Bool.{false≢true}
 use Rattle.world_start.specs.Fresh.{AreClosed}
 use Rattle.world_start.proofs.Carried.{read_closed, closed_read}
 use Rattle.world_start.proofs.Faults.{some_of_one}
-use Rattle.world_folder.proofs.MakingLemmas.{device_named, tells_read, not_closed_unmade, words_made, unwritten}
+use Rattle.world_folder.proofs.MakingLemmas.{device_named, reports_read, not_closed_unmade, words_made, unwritten}
 use Rattle.world_folder.proofs.making.make_of_words.Goals as goal
 
 pub returns-in-Err-clause-device : goal.returns-in-Err-clause-device
@@ -17,7 +17,7 @@ returns-then-not-are_closed-clause-unmade g c = λ honest.
     let not_closed : ¬ AreClosed bytes.image_a.items bytes.image_b.items bytes.log_a.items bytes.log_b.items = (λ closed. false≢true (c.if-not-are_closed.ensures.1 closed)) in
     not_closed_unmade file g.D.Disk.may_leave c.args.folder.now c.args.words.now c.args.files c.read_files.new.files c.occupied_by-ending.result
     (λ closed. not_closed (closed_read file c.args.files bytes.image_a.items bytes.image_b.items bytes.log_a.items bytes.log_b.items read closed))
-    (tells_read file c.args.files bytes.image_a.items bytes.image_b.items bytes.log_a.items bytes.log_b.items read c.args.folder.now c.first_open.result.now c.occupied_by-ending.result
+    (reports_read file c.args.files bytes.image_a.items bytes.image_b.items bytes.log_a.items bytes.log_b.items read c.args.folder.now c.first_open.result.now c.occupied_by-ending.result
     (c.first_open.ensures not_closed) c.occupied_by-ending.ensures)
     (c.in-Ok.ensures.kept honest)
 

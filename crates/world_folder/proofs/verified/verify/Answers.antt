@@ -11,5 +11,5 @@ returns-in-Some-clause-verified g c = λ honest honest_files.
       are_read = stands.1;
       stands = stands.2;
       same = c.in-Some.ensures.same.0;
-      told_is = c.in-Some.ensures.same.1;
+      reported_is = c.in-Some.ensures.same.1;
     }

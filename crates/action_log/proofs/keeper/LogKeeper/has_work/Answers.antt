@@ -24,9 +24,9 @@ returns-in-Ready c =
     let k = c.args.self.now in
     let queue = c.args.queue.now.items in
     let ready = ap (λ (p : Progress). p.phase) (sym c.self.view_is) ∙ c.in-Ready.is in
-    let told : ((c.is_empty.result ≡ true) × (length queue ≡ 0)) ⊎ ((c.is_empty.result ≡ false) × (length queue ≢ 0)) =
+    let reported : ((c.is_empty.result ≡ true) × (length queue ≡ 0)) ⊎ ((c.is_empty.result ≡ false) × (length queue ≢ 0)) =
     elim (eqb_tells (length queue) 0) [
       | inl none ↦ inl (c.is_empty.ensures ∙ none.0, none.1)
       | inr some ↦ inr (c.is_empty.ensures ∙ some.0, some.1)
     ] in
-    queued queue (rest_of k) c.is_empty.result told (subst (λ (p : Phase). rest_in p k.other_shut ≡ 0) (sym ready) refl)
+    queued queue (rest_of k) c.is_empty.result reported (subst (λ (p : Phase). rest_in p k.other_shut ≡ 0) (sym ready) refl)

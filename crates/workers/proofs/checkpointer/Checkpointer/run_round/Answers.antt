@@ -9,13 +9,13 @@ use Rattle.workers.proofs.checkpointer.Checkpointer.run_round.Goals as goal
 pub loop-self-init : goal.loop-self-init
 loop-self-init g c = record {
   keeps = record { pair = refl; cells = refl; word = refl; opening = refl };
-  goes = goes_none g.D.Disk.faults ((place : Place) × MayGo g.G.Gate.told place) ((place : Place) × MayStick g.G.Gate.told place) c.args.self.now c.requires.round.0 c.requires.round.1 c.requires.round.2 c.requires.goes_on;
+  goes = goes_none g.D.Disk.faults ((place : Place) × MayGo g.G.Gate.answers place) ((place : Place) × MayStick g.G.Gate.answers place) c.args.self.now c.requires.round.0 c.requires.round.1 c.requires.round.2 c.requires.goes_on;
   files = inl (refl, refl);
 }
 
 pub loop-self-preserved : goal.loop-self-preserved
 loop-self-preserved g c =
-    let told = g.G.Gate.told in
+    let reported = g.G.Gate.answers in
     let known = c.loop-self.invariant in
     let first = c.args.self.now in
     let mid = c.loop-self.self in
@@ -26,7 +26,7 @@ loop-self-preserved g c =
     let left : 0 < left_of mid.images.keeper = search rules in
     record {
       keeps = keeps_then first mid new known.keeps e.keeps;
-      goes = goes_then g.D.Disk.faults ((at : Place) × MayGo told at) ((at : Place) × MayStick told at) first mid new going left known.goes
-          (goes_at g.D.Disk.faults (MayGo told place) (MayStick told place) ((at : Place) × MayGo told at) ((at : Place) × MayStick told at) mid new (λ go. (place, go)) (λ stuck. (place, stuck)) e.goes);
-      files = files_then told first.images mid.images new.images known.files (files_ask told mid.images.keeper.phase mid.images new.images e.goes.asks e.takes);
+      goes = goes_then g.D.Disk.faults ((at : Place) × MayGo reported at) ((at : Place) × MayStick reported at) first mid new going left known.goes
+          (goes_at g.D.Disk.faults (MayGo reported place) (MayStick reported place) ((at : Place) × MayGo reported at) ((at : Place) × MayStick reported at) mid new (λ go. (place, go)) (λ stuck. (place, stuck)) e.goes);
+      files = files_then reported first.images mid.images new.images known.files (files_ask reported mid.images.keeper.phase mid.images new.images e.goes.asks e.takes);
     }

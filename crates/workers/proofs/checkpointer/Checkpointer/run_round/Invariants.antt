@@ -10,8 +10,8 @@ use Rattle.workers.proofs.checkpointer.Checkpointer.run_round.Given as goal
 abbrev pub invariant-loop-self : goal.invariant-loop-self
 invariant-loop-self g l = record {
   keeps : KeepsBack l.fn.self l.self;
-  goes : GoesOn ((place : Place) × MayGo g.G.Gate.told place) ((place : Place) × MayStick g.G.Gate.told place) g.D.Disk.faults l.fn.self l.self;
-  files : FilesAsk g.G.Gate.told l.fn.self.images l.self.images;
+  goes : GoesOn ((place : Place) × MayGo g.G.Gate.answers place) ((place : Place) × MayStick g.G.Gate.answers place) g.D.Disk.faults l.fn.self l.self;
+  files : FilesAsk g.G.Gate.answers l.fn.self.images l.self.images;
 }
 
 abbrev pub decreases-loop-self : goal.decreases-loop-self

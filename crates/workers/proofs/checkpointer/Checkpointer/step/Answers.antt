@@ -27,18 +27,18 @@ invariant_of-self-2 g c =
 
 pub returns-clause-goes : goal.returns-clause-goes
 returns-clause-goes g c =
-    let told = g.G.Gate.told in
+    let reported = g.G.Gate.answers in
     let inside = c.self.inside in
     let left = subst (λ (p : Imaging g.row.D.Denot). 0 < left_of p.images.keeper) (sym c.self.view_is) c.requires.left in
     let busy = is_busy inside.images.keeper left in
     let known = c.look.ensures.known (c.self.invariant.step.round busy).working in
     let down = c.is_down-self-inside.ensures in
-    subst (λ (p : Imaging g.row.D.Denot). GoesOn (MayGo told (place_of p.images.keeper.phase)) (MayStick told (place_of p.images.keeper.phase)) g.D.Disk.faults p
+    subst (λ (p : Imaging g.row.D.Denot). GoesOn (MayGo reported (place_of p.images.keeper.phase)) (MayStick reported (place_of p.images.keeper.phase)) g.D.Disk.faults p
     (record { back = c.step.new.back; covers = c.step.new.covers; images = c.step.new.images; opening = inside.opening.value; over = c.is_down-self-inside.result })) c.self.view_is
     (record {
       runs = subst (λ (b : BackState). RoundRuns b c.step.new.images.keeper c.step.new.back) known.1 c.step.ensures.runs;
       failures = c.step.ensures.faults;
-      asks = inr (subst (MayGo told) c.next_place.ensures (c.if-not-passes.ensures.goes refl));
+      asks = inr (subst (MayGo reported) c.next_place.ensures (c.if-not-passes.ensures.goes refl));
       over = λ over. (λ idle. absurd (let fell = down.0 over in cc), inl (down.0 over));
       up = λ up fell. absurd (let over = down.1 fell in cc);
     })

@@ -1,9 +1,9 @@
 use Rattle.std.proofs.Common.{arith, ◌≡◌, ◌≢◌, ◌⊎◌, inl, inr, ℕ, ◌+◌, ◌≤◌, max, Bool, false, Some, None, length, length-append, refl, sym, ap, ◌∙◌, subst}
 use Rattle.action_log.specs.declared.answer.LogAnswer.TheVariants as answer
 use Rattle.workers.specs.Items.{records_of}
-use Rattle.workers.specs.Logging.{Logging, Writes, told_in, receipt_in}
+use Rattle.workers.specs.Logging.{Logging, Writes, content_in, receipt_in}
 use Rattle.workers.proofs.Coverings.{loads_one}
-use Rattle.workers.proofs.Loggings.{told_on, advanced}
+use Rattle.workers.proofs.Loggings.{reported_on, advanced}
 use Rattle.workers.proofs.Receipts.{acknowledged}
 use Rattle.workers.proofs.log_writer.LogWriter.step.Goals as goal
 
@@ -11,8 +11,8 @@ pub post_all-requires : goal.post_all-requires
 post_all-requires g c = record {
   held = λ honest first stands.
       let up : c.self.inside.down ≡ false = ap (λ (w : Logging g.row.D.Denot). w.down) c.self.view_is ∙ c.requires.up in
-      subst (λ (b : Bool). Writes g.D.Disk.content g.D.Disk.may_leave c.advance.new.log c.advance.new.queue.items c.latest-tick.new.self.ticks c.in-Acked.receipt b (told_in first) (records_of c.self.inside.from.items)) up
-      (told_on g.D.Disk.content g.D.Disk.may_leave g.D.Disk.honest _ c.self.invariant c.latest-tick.new.self c.latest-tick.result c.advance.new.log c.advance.new.queue c.advance.result c.in-Acked.receipt (inr c.in-Acked.is) c.latest-tick.ensures c.advance.ensures.advances honest first stands);
+      subst (λ (b : Bool). Writes g.D.Disk.content g.D.Disk.may_leave c.advance.new.log c.advance.new.queue.items c.latest-tick.new.self.ticks c.in-Acked.receipt b (content_in first) (records_of c.self.inside.from.items)) up
+      (reported_on g.D.Disk.content g.D.Disk.may_leave g.D.Disk.honest _ c.self.invariant c.latest-tick.new.self c.latest-tick.result c.advance.new.log c.advance.new.queue c.advance.result c.in-Acked.receipt (inr c.in-Acked.is) c.latest-tick.ensures c.advance.ensures.advances honest first stands);
 }
 
 pub invariant_of-self-in-Down : goal.invariant_of-self-in-Down

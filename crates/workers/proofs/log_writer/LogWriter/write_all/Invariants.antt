@@ -3,18 +3,18 @@ use Rattle.action_log.specs.Progress.{work_of}
 use Rattle.workers.specs.declared.gate.Place.TheVariants.{Device}
 use Rattle.workers.specs.Gates.{MayGo, MayStick}
 use Rattle.workers.specs.Covering.{LoadsOn}
-use Rattle.workers.specs.Logging.{LogTellsFaults, FallsBy}
+use Rattle.workers.specs.Logging.{LogReportsFaults, FallsBy}
 use Rattle.workers.proofs.log_writer.LogWriter.write_all.Given as goal
 
 abbrev pub invariant-loop-self : goal.invariant-loop-self
 invariant-loop-self g l = record {
-  same : l.self ≡ record l.fn.self { covers = l.self.covers; told_down = l.self.told_down; log = l.self.log; ring = l.self.ring; answers = l.self.answers; acked = l.self.acked; down = l.self.down };
+  same : l.self ≡ record l.fn.self { covers = l.self.covers; reported_down = l.self.reported_down; log = l.self.log; ring = l.self.ring; answers = l.self.answers; acked = l.self.acked; down = l.self.down };
   loads : LoadsOn l.fn.self.covers l.self.covers;
-  word : l.self.told_down.pair ≡ l.fn.self.told_down.pair;
+  word : l.self.reported_down.pair ≡ l.fn.self.reported_down.pair;
   acked : l.fn.self.acked ≤ l.self.acked;
-  faults : LogTellsFaults g.D.Disk.faults l.fn.self.log l.self.log;
-  asks : (l.self.log ≡ l.fn.self.log) ⊎ MayGo g.G.Gate.told Device;
-  cause : l.self.down ≡ true → FallsBy (MayStick g.G.Gate.told Device) l.self;
+  faults : LogReportsFaults g.D.Disk.faults l.fn.self.log l.self.log;
+  asks : (l.self.log ≡ l.fn.self.log) ⊎ MayGo g.G.Gate.answers Device;
+  cause : l.self.down ≡ true → FallsBy (MayStick g.G.Gate.answers Device) l.self;
   refused : l.self.down ≡ true → l.self.answers.waiting ≡ [];
 }
 

@@ -7,9 +7,9 @@ use Rattle.world_core.specs.Facts.{IsCoreAt}
 use Rattle.world_core.proofs.Repeating.{SoFar}
 use Rattle.world_core.proofs.world_core.Core.run_images.Given as goal
 
-abbrev pub invariant-loop-told : goal.invariant-loop-told
-invariant-loop-told g l = (past : Past) → IsCoreAt past l.fn.self
-    → SoFar (move.Image l.fate) (answer.Image image_answer.Idle) (left_of l.fn.self.images) (left_of l.self.images) past l.fn.self (answer.Image l.told) l.self
+abbrev pub invariant-loop-reported : goal.invariant-loop-reported
+invariant-loop-reported g l = (past : Past) → IsCoreAt past l.fn.self
+    → SoFar (move.Image l.fate) (answer.Image image_answer.Idle) (left_of l.fn.self.images) (left_of l.self.images) past l.fn.self (answer.Image l.reported) l.self
 
-abbrev pub decreases-loop-told : goal.decreases-loop-told
-decreases-loop-told g l = left_of l.self.images
+abbrev pub decreases-loop-reported : goal.decreases-loop-reported
+decreases-loop-reported g l = left_of l.self.images

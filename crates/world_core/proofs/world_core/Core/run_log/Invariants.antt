@@ -7,9 +7,9 @@ use Rattle.world_core.specs.Facts.{IsCoreAt}
 use Rattle.world_core.proofs.Repeating.{SoFar}
 use Rattle.world_core.proofs.world_core.Core.run_log.Given as goal
 
-abbrev pub invariant-loop-told : goal.invariant-loop-told
-invariant-loop-told g l = (past : Past) → IsCoreAt past l.fn.self
-    → SoFar (move.Log l.fate) (answer.Log log_answer.Idle) (work_of l.fn.self.log l.fn.self.queue) (work_of l.self.log l.self.queue) past l.fn.self (answer.Log l.told) l.self
+abbrev pub invariant-loop-reported : goal.invariant-loop-reported
+invariant-loop-reported g l = (past : Past) → IsCoreAt past l.fn.self
+    → SoFar (move.Log l.fate) (answer.Log log_answer.Idle) (work_of l.fn.self.log l.fn.self.queue) (work_of l.self.log l.self.queue) past l.fn.self (answer.Log l.reported) l.self
 
-abbrev pub decreases-loop-told : goal.decreases-loop-told
-decreases-loop-told g l = work_of l.self.log l.self.queue
+abbrev pub decreases-loop-reported : goal.decreases-loop-reported
+decreases-loop-reported g l = work_of l.self.log l.self.queue

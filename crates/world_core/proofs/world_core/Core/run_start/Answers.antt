@@ -7,7 +7,7 @@ returns g c = record {
       (let images = c.run_images.ensures.repeats past h in
       let log = c.run_log.ensures.repeats images.0 images.1.on.stands in (
         log.0,
-        record { image_told = c.run_images.result; log_told = c.run_log.result; mid_past = images.0; mid = c.run_images.new.self; images = images.1; log = log.1 },
+        record { image_reported = c.run_images.result; log_reported = c.run_log.result; mid_past = images.0; mid = c.run_images.new.self; images = images.1; log = log.1 },
         start_settles c.run_images.result c.run_log.result past images.0 log.0 c.args.self.now c.run_images.new.self c.run_log.new.self images.1 log.1,
       ));
 }

@@ -4,9 +4,9 @@ use Rattle.workers.specs.Posts.{Unposted}
 use Rattle.workers.specs.declared.log_writer.answers.Given.{Given}
 use Rattle.workers.specs.Answering.{Posts}
 use Rattle.workers.specs.Items.{records_of}
-use Rattle.workers.specs.Logging.{told_in}
+use Rattle.workers.specs.Logging.{content_in}
 use Rattle.workers.proofs.Waits.{first_is, posts_more}
-use Rattle.workers.proofs.Tellings.{writes_below}
+use Rattle.workers.proofs.Reporting.{writes_below}
 use Rattle.workers.proofs.log_writer.answers.Answers.post_all.Goals as goal
 
 pub post-requires-clause-held : goal.post-requires-clause-held
@@ -16,7 +16,7 @@ post-requires-clause-held g c = λ honest first stands.
     let next = c.in-Some.next in
     let is : Some next ≡ slice_get inside.waiting.items 0 = sym c.in-Some.is ∙ c.pop_front.ensures.value in
     let durable : next.number ≤ c.args.receipt = search rules in
-    writes_below g.D.Disk.content g.D.Disk.may_leave held.log held.ring.items held.covers.ticks c.args.receipt next.number false (told_in first) (records_of held.from.items) durable
+    writes_below g.D.Disk.content g.D.Disk.may_leave held.log held.ring.items held.covers.ticks c.args.receipt next.number false (content_in first) (records_of held.from.items) durable
     (c.requires.held honest first stands)
 
 pub loop-receipt-preserved-in-Some : goal.loop-receipt-preserved-in-Some

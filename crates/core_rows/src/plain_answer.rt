@@ -1,5 +1,5 @@
 ghost use Rattle.std.specs.Prelude.{◌≡◌};
-ghost use Rattle.core_rows.specs.Plain.{told_of};
+ghost use Rattle.core_rows.specs.Plain.{reported_of};
 
 use action_log::LogAnswer;
 use image_files::ImageAnswer;
@@ -8,7 +8,7 @@ use world_core::Answer;
 
 /// An answer as the model sees it.
 #[derive(Clone, Copy, Debug, PartialEq, Eq)]
-pub enum Told {
+pub enum PlainAnswer {
     /// The action was accepted.
     Did,
     /// The word of a cell.
@@ -41,43 +41,43 @@ pub enum Told {
     Refused(Refusal),
 }
 
-impl Told {
+impl PlainAnswer {
     /// Turns an answer into a plain value.
     pub fn of(given: Answer) -> Self
-        ensures { result ≡ told_of given }
+        ensures { result ≡ reported_of given }
     {
         match given {
-            Answer::Did => Told::Did,
-            Answer::Word(word) => Told::Word(word),
-            Answer::Ended(tick) => Told::Ended(tick),
-            Answer::Started(tick) => Told::Started(tick),
-            Answer::Image(given) => Told::of_image(given),
-            Answer::Log(given) => Told::of_log(given),
-            Answer::Recovered { tick, from } => Told::Recovered { tick, from },
-            Answer::Blank => Told::Blank,
-            Answer::Refused(refusal) => Told::Refused(refusal),
+            Answer::Did => PlainAnswer::Did,
+            Answer::Word(word) => PlainAnswer::Word(word),
+            Answer::Ended(tick) => PlainAnswer::Ended(tick),
+            Answer::Started(tick) => PlainAnswer::Started(tick),
+            Answer::Image(given) => PlainAnswer::of_image(given),
+            Answer::Log(given) => PlainAnswer::of_log(given),
+            Answer::Recovered { tick, from } => PlainAnswer::Recovered { tick, from },
+            Answer::Blank => PlainAnswer::Blank,
+            Answer::Refused(refusal) => PlainAnswer::Refused(refusal),
         }
     }
 
     fn of_image(given: ImageAnswer) -> Self
-        ensures { result ≡ told_of (Answer.Image given) }
+        ensures { result ≡ reported_of (Answer.Image given) }
     {
         match given {
-            ImageAnswer::Idle => Told::ImageIdle,
-            ImageAnswer::Working => Told::ImageWorking,
-            ImageAnswer::Opened(tick) => Told::ImageOpened(tick),
-            ImageAnswer::Down => Told::ImageDown,
+            ImageAnswer::Idle => PlainAnswer::ImageIdle,
+            ImageAnswer::Working => PlainAnswer::ImageWorking,
+            ImageAnswer::Opened(tick) => PlainAnswer::ImageOpened(tick),
+            ImageAnswer::Down => PlainAnswer::ImageDown,
         }
     }
 
     fn of_log(given: LogAnswer) -> Self
-        ensures { result ≡ told_of (Answer.Log given) }
+        ensures { result ≡ reported_of (Answer.Log given) }
     {
         match given {
-            LogAnswer::Idle => Told::LogIdle,
-            LogAnswer::Working => Told::LogWorking,
-            LogAnswer::Acked(receipt) => Told::LogAcked(receipt.tick()),
-            LogAnswer::Down => Told::LogDown,
+            LogAnswer::Idle => PlainAnswer::LogIdle,
+            LogAnswer::Working => PlainAnswer::LogWorking,
+            LogAnswer::Acked(receipt) => PlainAnswer::LogAcked(receipt.tick()),
+            LogAnswer::Down => PlainAnswer::LogDown,
         }
     }
 }

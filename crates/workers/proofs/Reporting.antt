@@ -20,89 +20,89 @@ use Rattle.recovery.specs.Events.{with_work}
 use Rattle.workers.specs.declared.log_writer.Log.{Log}
 use Rattle.action_log.specs.Cover.{Covers, CoverStep}
 use Rattle.workers.specs.Covering.{LeavesOut, IsCovered, Advances}
-use Rattle.workers.specs.Logging.{Told, after_record, after_records, told_in, HasOneJob, HasAcked, LogStands, Writes}
+use Rattle.workers.specs.Logging.{LogContent, after_record, after_records, content_in, HasOneJob, HasAcked, LogStands, Writes}
 use Rattle.workers.proofs.Coverings.{leaves_more, leaves_later, covered_later, cover_leaves}
 
-pub after_append : (told : Told) (xs ys : List Record) → after_records told (xs ++ ys) ≡ after_records (after_records told xs) ys
-after_append told [] ys = refl
-after_append told (x ∷ xs) ys = after_append (after_record told x) xs ys
+pub after_append : (reported : LogContent) (xs ys : List Record) → after_records reported (xs ++ ys) ≡ after_records (after_records reported xs) ys
+after_append reported [] ys = refl
+after_append reported (x ∷ xs) ys = after_append (after_record reported x) xs ys
 
-group_told : (group : List Tick) (queue left : List Record) (told : Told) → StandBefore group queue left
-    → (taken : List Record) × (queue ≡ taken ++ left) × (after_records told taken ≡ record told { ticks = told.ticks ++ group })
-group_told [] queue left told s = ([], s, ap (λ (t : List Tick). record told { ticks = t }) (sym (append-nil told.ticks)))
-group_told (actions ∷ ticks) [] left told s = absurd s
-group_told (actions ∷ ticks) (records.Tick first ∷ queue) left told s =
-    let rest = group_told ticks queue left (after_record told (records.Tick first)) s.1 in (
+group_reported : (group : List Tick) (queue left : List Record) (reported : LogContent) → StandBefore group queue left
+    → (taken : List Record) × (queue ≡ taken ++ left) × (after_records reported taken ≡ record reported { ticks = reported.ticks ++ group })
+group_reported [] queue left reported s = ([], s, ap (λ (t : List Tick). record reported { ticks = t }) (sym (append-nil reported.ticks)))
+group_reported (actions ∷ ticks) [] left reported s = absurd s
+group_reported (actions ∷ ticks) (records.Tick first ∷ queue) left reported s =
+    let rest = group_reported ticks queue left (after_record reported (records.Tick first)) s.1 in (
       records.Tick first ∷ rest.0,
       ap (λ (l : List Record). records.Tick first ∷ l) rest.1,
-      rest.2 ∙ ap (λ (t : List Tick). record told { ticks = t }) (append_assoc told.ticks (first.list ∷ []) ticks ∙ ap (λ (a : Tick). told.ticks ++ a ∷ ticks) s.0),
+      rest.2 ∙ ap (λ (t : List Tick). record reported { ticks = t }) (append_assoc reported.ticks (first.list ∷ []) ticks ∙ ap (λ (a : Tick). reported.ticks ++ a ∷ ticks) s.0),
     )
-group_told (actions ∷ ticks) (records.Switch tick ∷ queue) left told s = absurd s
+group_reported (actions ∷ ticks) (records.Switch tick ∷ queue) left reported s = absurd s
 
 -- the files have the records that a step has written, and at most one job is in work
-abbrev StepTells : Logs → List Record → Logs → List Record → Type 0
-StepTells logs queue next left =
-    (written : List Record) × (with_work logs.switch queue ≡ written ++ with_work next.switch left) × (told_in next ≡ after_records (told_in logs) written) × HasOneJob next
+abbrev StepReports : Logs → List Record → Logs → List Record → Type 0
+StepReports logs queue next left =
+    (written : List Record) × (with_work logs.switch queue ≡ written ++ with_work next.switch left) × (content_in next ≡ after_records (content_in logs) written) × HasOneJob next
 
 same_work : (queue left : List Record) (old new : Option ℕ) → new ≡ old → left ≡ queue → with_work old queue ≡ with_work new left
 same_work queue left old new switch rest = ap (λ (s : Option ℕ). with_work s queue) (sym switch) ∙ ap (λ (q : List Record). with_work new q) (sym rest)
 
-same_told : (logs : Logs) (queue : List Record) (next : Logs) (left : List Record) → next ≡ logs → left ≡ queue → HasOneJob logs → StepTells logs queue next left
-same_told logs queue next left is rest one = ([], same_work queue left logs.switch next.switch (ap (λ (l : Logs). l.switch) is) rest, ap told_in is, subst HasOneJob (sym is) one)
+same_reported : (logs : Logs) (queue : List Record) (next : Logs) (left : List Record) → next ≡ logs → left ≡ queue → HasOneJob logs → StepReports logs queue next left
+same_reported logs queue next left is rest one = ([], same_work queue left logs.switch next.switch (ap (λ (l : Logs). l.switch) is) rest, ap content_in is, subst HasOneJob (sym is) one)
 
 no_switch_one : (logs : Logs) → logs.switch ≡ None → HasOneJob logs
 no_switch_one logs none = subst (λ (s : Option ℕ). IfSome s (λ _. logs.pending ≡ [])) (sym none) tt
 
-takes_group_told : (logs : Logs) (queue : List Record) (next : Logs) (left : List Record) → TakesGroup logs queue next left → StepTells logs queue next left
-takes_group_told logs queue next left t =
-    let group = group_told t.group queue left (told_in logs) t.in_front in
+takes_group_reported : (logs : Logs) (queue : List Record) (next : Logs) (left : List Record) → TakesGroup logs queue next left → StepReports logs queue next left
+takes_group_reported logs queue next left t =
+    let group = group_reported t.group queue left (content_in logs) t.in_front in
     let none : next.switch ≡ None = ap (λ (l : Logs). l.switch) t.is ∙ t.idle.1 in
     let kept : logs.kept ++ logs.pending ≡ logs.kept = ap (λ (p : List Tick). logs.kept ++ p) t.idle.0 ∙ append-nil logs.kept in (
       group.0,
       ap (λ (s : Option ℕ). with_work s queue) t.idle.1 ∙ (group.1 ∙ ap (λ (s : Option ℕ). group.0 ++ with_work s left) (sym none)),
-      ap told_in t.is ∙ sym (group.2 ∙ ap (λ (k : List Tick). let told : Told = record { before = logs.before; base = logs.base; ticks = k ++ t.group } in told) kept),
+      ap content_in t.is ∙ sym (group.2 ∙ ap (λ (k : List Tick). let reported : LogContent = record { before = logs.before; base = logs.base; ticks = k ++ t.group } in reported) kept),
       no_switch_one next none,
     )
 
-takes_switch_told : (logs : Logs) (queue : List Record) (next : Logs) (left : List Record) → TakesSwitch logs queue next left → StepTells logs queue next left
-takes_switch_told logs queue next left t = (
+takes_switch_reported : (logs : Logs) (queue : List Record) (next : Logs) (left : List Record) → TakesSwitch logs queue next left → StepReports logs queue next left
+takes_switch_reported logs queue next left t = (
   [],
   ap (λ (s : Option ℕ). with_work s queue) t.idle.1 ∙ (t.in_front ∙ sym (ap (λ (l : Logs). with_work l.switch left) t.is)),
-  ap told_in t.is,
+  ap content_in t.is,
   subst HasOneJob (sym t.is) t.idle.0,
 )
 
-goes_on_told : (logs : Logs) (queue : List Record) (next : Logs) (left : List Record) → GoesOn logs queue next left → HasOneJob logs → StepTells logs queue next left
-goes_on_told logs queue next left (inl same) one = same_told logs queue next left same.0 same.1 one
-goes_on_told logs queue next left (inr (inl t)) one = takes_group_told logs queue next left t
-goes_on_told logs queue next left (inr (inr t)) one = takes_switch_told logs queue next left t
+goes_on_reported : (logs : Logs) (queue : List Record) (next : Logs) (left : List Record) → GoesOn logs queue next left → HasOneJob logs → StepReports logs queue next left
+goes_on_reported logs queue next left (inl same) one = same_reported logs queue next left same.0 same.1 one
+goes_on_reported logs queue next left (inr (inl t)) one = takes_group_reported logs queue next left t
+goes_on_reported logs queue next left (inr (inr t)) one = takes_switch_reported logs queue next left t
 
-ends_switch_told : (logs : Logs) (queue : List Record) (next : Logs) (left : List Record) → EndsSwitch logs queue next left → HasOneJob logs → StepTells logs queue next left
-ends_switch_told logs queue next left e one =
+ends_switch_reported : (logs : Logs) (queue : List Record) (next : Logs) (left : List Record) → EndsSwitch logs queue next left → HasOneJob logs → StepReports logs queue next left
+ends_switch_reported logs queue next left e one =
     let none : next.switch ≡ None = ap (λ (l : Logs). l.switch) e.is in
     let nothing : logs.pending ≡ [] = subst (λ (s : Option ℕ). IfSome s (λ _. logs.pending ≡ [])) e.in_work one in
     let kept : logs.kept ++ logs.pending ≡ logs.kept = ap (λ (p : List Tick). logs.kept ++ p) nothing ∙ append-nil logs.kept in (
       records.Switch e.tick ∷ [],
       ap (λ (s : Option ℕ). with_work s queue) e.in_work ∙ ap (λ (l : List Record). records.Switch e.tick ∷ l) (same_work queue left None next.switch none e.queue_is),
-      ap told_in e.is ∙ sym (ap (λ (k : List Tick). let told : Told = record { before = OpenSegment logs.base k; base = e.tick; ticks = [] } in told) kept),
+      ap content_in e.is ∙ sym (ap (λ (k : List Tick). let reported : LogContent = record { before = OpenSegment logs.base k; base = e.tick; ticks = [] } in reported) kept),
       no_switch_one next none,
     )
 
-acknowledges_told : (logs : Logs) (queue : List Record) (next : Logs) (left : List Record) (tick : ℕ) → Acknowledges logs queue next left tick → StepTells logs queue next left
-acknowledges_told logs queue next left tick a =
+acknowledges_reported : (logs : Logs) (queue : List Record) (next : Logs) (left : List Record) (tick : ℕ) → Acknowledges logs queue next left tick → StepReports logs queue next left
+acknowledges_reported logs queue next left tick a =
     let same : next.switch ≡ logs.switch = ap (λ (l : Logs). l.switch) a.is in (
       [],
       same_work queue left logs.switch next.switch same a.queue_is,
-      ap told_in a.is ∙ ap (λ (t : List Tick). let told : Told = record { before = logs.before; base = logs.base; ticks = t } in told) (append-nil (logs.kept ++ logs.pending)),
+      ap content_in a.is ∙ ap (λ (t : List Tick). let reported : LogContent = record { before = logs.before; base = logs.base; ticks = t } in reported) (append-nil (logs.kept ++ logs.pending)),
       no_switch_one next (same ∙ a.no_switch),
     )
 
-pub step_told : (logs : Logs) (queue : List Record) (given : LogAnswer) (next : Logs) (left : List Record) → LogsStep logs queue given next left → HasOneJob logs → StepTells logs queue next left
-step_told logs queue answer.Idle next left step one = same_told logs queue next left step.2 step.3 one
-step_told logs queue answer.Working next left (inl goes) one = goes_on_told logs queue next left goes one
-step_told logs queue answer.Working next left (inr ends) one = ends_switch_told logs queue next left ends one
-step_told logs queue (answer.Acked tick) next left step one = acknowledges_told logs queue next left tick step
-step_told logs queue answer.Down next left step one = goes_on_told logs queue next left step one
+pub step_reported : (logs : Logs) (queue : List Record) (given : LogAnswer) (next : Logs) (left : List Record) → LogsStep logs queue given next left → HasOneJob logs → StepReports logs queue next left
+step_reported logs queue answer.Idle next left step one = same_reported logs queue next left step.2 step.3 one
+step_reported logs queue answer.Working next left (inl goes) one = goes_on_reported logs queue next left goes one
+step_reported logs queue answer.Working next left (inr ends) one = ends_switch_reported logs queue next left ends one
+step_reported logs queue (answer.Acked tick) next left step one = acknowledges_reported logs queue next left tick step
+step_reported logs queue answer.Down next left step one = goes_on_reported logs queue next left step one
 
 -- ---- acknowledged ticks
 
@@ -217,26 +217,26 @@ module _ {D : Type 0} (file : D → List ℕ) (leaves : D → List ℕ → Type 
       inr (tick, at, omega (arith, c.3))
 
   -- the written records with other loaded ticks, and another acknowledged tick
-  abbrev written_as : {log : Log D} {ring : List Record} {covers told : List ℕ} {acked tick : ℕ} {down : Bool} {first : Told} {all : List Record} (w : Writes file leaves log ring covers acked down first all)
-      → LeavesOut told all (w.given ++ (with_work w.logs.switch ring ++ w.lost)) → Acknowledged told tick w.logs → Writes file leaves log ring told tick down first all
-  written_as w order acknowledged = record { logs = w.logs; stands = w.stands; given = w.given; lost = w.lost; told = w.told; order = order; one_job = w.one_job; none_lost = w.none_lost; acknowledged = acknowledged }
+  abbrev written_as : {log : Log D} {ring : List Record} {covers reported : List ℕ} {acked tick : ℕ} {down : Bool} {first : LogContent} {all : List Record} (w : Writes file leaves log ring covers acked down first all)
+      → LeavesOut reported all (w.given ++ (with_work w.logs.switch ring ++ w.lost)) → Acknowledged reported tick w.logs → Writes file leaves log ring reported tick down first all
+  written_as w order acknowledged = record { logs = w.logs; stands = w.stands; given = w.given; lost = w.lost; reported = w.reported; order = order; one_job = w.one_job; none_lost = w.none_lost; acknowledged = acknowledged }
 
   -- more ticks of open images are loaded
-  abbrev written_later : (log : Log D) (ring : List Record) (covers later : List ℕ) (acked : ℕ) (down : Bool) (first : Told) (all : List Record) → Writes file leaves log ring covers acked down first all → Writes file leaves log ring (covers ++ later) acked down first all
+  abbrev written_later : (log : Log D) (ring : List Record) (covers later : List ℕ) (acked : ℕ) (down : Bool) (first : LogContent) (all : List Record) → Writes file leaves log ring covers acked down first all → Writes file leaves log ring (covers ++ later) acked down first all
   written_later log ring covers later acked down first all w = written_as w (leaves_later covers later all (w.given ++ (with_work w.logs.switch ring ++ w.lost)) w.order)
       (elim w.acknowledged [ inl has ↦ inl has | inr is ↦ inr (covered_later covers later acked is) ])
 
-  advanced : (log after : Log D) (ring left : List Record) (tick : ℕ) (covers : List ℕ) (given : LogAnswer) (acked acked' : ℕ) (down : Bool) (first : Told) (all : List Record) → QueueFollows log.keeper ring → Contains covers tick
+  advanced : (log after : Log D) (ring left : List Record) (tick : ℕ) (covers : List ℕ) (given : LogAnswer) (acked acked' : ℕ) (down : Bool) (first : LogContent) (all : List Record) → QueueFollows log.keeper ring → Contains covers tick
       → (acked' ≡ acked) ⊎ (given ≡ answer.Acked acked') → (w : Writes file leaves log ring covers acked down first all) → (next : Logs) → LogStands file leaves after next → Advances tick w.logs ring given next left
       → Writes file leaves after left covers acked' down first all
   advanced log after ring left tick covers given acked acked' down first all follows at which w next stands (inl step) =
-      let taken = step_told w.logs ring given next left step w.one_job in
+      let taken = step_reported w.logs ring given next left step w.one_job in
       record {
         logs = next;
         stands = stands;
         given = w.given ++ taken.0;
         lost = w.lost;
-        told = taken.2 ∙ (ap (λ (t : Told). after_records t taken.0) w.told ∙ sym (after_append first w.given taken.0));
+        reported = taken.2 ∙ (ap (λ (t : LogContent). after_records t taken.0) w.reported ∙ sym (after_append first w.given taken.0));
         order = step_order covers all w.given taken.0 (with_work w.logs.switch ring) (with_work next.switch left) w.lost taken.1 w.order;
         one_job = taken.3;
         none_lost = w.none_lost;
@@ -247,36 +247,36 @@ module _ {D : Type 0} (file : D → List ℕ) (leaves : D → List ℕ → Type 
     stands = stands;
     given = w.given;
     lost = w.lost;
-    told = ap told_in cover.0 ∙ w.told;
+    reported = ap content_in cover.0 ∙ w.reported;
     order = subst (λ (l : Logs). LeavesOut covers all (w.given ++ (with_work l.switch left ++ w.lost))) (sym cover.0) (cover_order covers tick all w.given w.lost w.logs ring left given cover.1 w.order at);
     one_job = subst HasOneJob (sym cover.0) w.one_job;
     none_lost = w.none_lost;
     acknowledged = covered_acked tick w.logs next ring left given covers acked acked' at cover.0 which cover.1 w.acknowledged;
   }
 
-  pub writes_on : (log after : Log D) (ring left : List Record) (tick : ℕ) (covers : List ℕ) (given : LogAnswer) (acked acked' : ℕ) (down : Bool) (first : Told) (all : List Record) → QueueFollows log.keeper ring
+  pub writes_on : (log after : Log D) (ring left : List Record) (tick : ℕ) (covers : List ℕ) (given : LogAnswer) (acked acked' : ℕ) (down : Bool) (first : LogContent) (all : List Record) → QueueFollows log.keeper ring
       → (acked' ≡ acked) ⊎ (given ≡ answer.Acked acked') → LogAdvances tick log after ring left given
       → Writes file leaves log ring covers acked down first all → Writes file leaves after left (covers ++ tick ∷ []) acked' down first all
   writes_on log after ring left tick covers given acked acked' down first all follows which advances w =
-      let told = written_later log ring covers (tick ∷ []) acked down first all w in
+      let reported = written_later log ring covers (tick ∷ []) acked down first all w in
       let on = advances w.logs w.stands in
-      advanced log after ring left tick (covers ++ tick ∷ []) given acked acked' down first all follows (Contains-push covers tick) which told on.0 on.1 on.2
+      advanced log after ring left tick (covers ++ tick ∷ []) given acked acked' down first all follows (Contains-push covers tick) which reported on.0 on.1 on.2
 
   -- if the ticks up to one are acknowledged, so are those up to an earlier one
-  pub writes_below : (log : Log D) (ring : List Record) (covers : List ℕ) (acked fewer : ℕ) (down : Bool) (first : Told) (all : List Record) → fewer ≤ acked → Writes file leaves log ring covers acked down first all → Writes file leaves log ring covers fewer down first all
+  pub writes_below : (log : Log D) (ring : List Record) (covers : List ℕ) (acked fewer : ℕ) (down : Bool) (first : LogContent) (all : List Record) → fewer ≤ acked → Writes file leaves log ring covers acked down first all → Writes file leaves log ring covers fewer down first all
   writes_below log ring covers acked fewer down first all few w = written_as w w.order (elim w.acknowledged [
     | inl logged ↦ inl (record { kept = omega (arith, few, logged.kept); switched = λ number is. let later = logged.switched number is in omega (arith, few, later) })
     | inr covered ↦ inr (covered.0, covered.1, omega (arith, few, covered.2))
   ])
 
   -- one more record is queued
-  pub writes_more : (log : Log D) (ring more : List Record) (covers : List ℕ) (acked : ℕ) (down : Bool) (first : Told) (all : List Record) → down ≡ false → Writes file leaves log ring covers acked down first all → Writes file leaves log (ring ++ more) covers acked down first (all ++ more)
+  pub writes_more : (log : Log D) (ring more : List Record) (covers : List ℕ) (acked : ℕ) (down : Bool) (first : LogContent) (all : List Record) → down ≡ false → Writes file leaves log ring covers acked down first all → Writes file leaves log (ring ++ more) covers acked down first (all ++ more)
   writes_more log ring more covers acked down first all up w = record {
     logs = w.logs;
     stands = w.stands;
     given = w.given;
     lost = [];
-    told = w.told;
+    reported = w.reported;
     order = (let work : List Record = with_work w.logs.switch ring in
         let behind : work ++ more ≡ with_work w.logs.switch (ring ++ more) = sym (work_append w.logs.switch ring more) in
         let plain : (w.given ++ (work ++ w.lost)) ++ more ≡ w.given ++ (with_work w.logs.switch (ring ++ more) ++ []) =
@@ -289,13 +289,13 @@ module _ {D : Type 0} (file : D → List ℕ) (leaves : D → List ℕ → Type 
   }
 
   -- one more record is lost
-  pub writes_lost : (log : Log D) (ring more : List Record) (covers : List ℕ) (acked : ℕ) (down : Bool) (first : Told) (all : List Record) → down ≡ true → Writes file leaves log ring covers acked down first all → Writes file leaves log ring covers acked down first (all ++ more)
+  pub writes_lost : (log : Log D) (ring more : List Record) (covers : List ℕ) (acked : ℕ) (down : Bool) (first : LogContent) (all : List Record) → down ≡ true → Writes file leaves log ring covers acked down first all → Writes file leaves log ring covers acked down first (all ++ more)
   writes_lost log ring more covers acked down first all is_down w = record {
     logs = w.logs;
     stands = w.stands;
     given = w.given;
     lost = w.lost ++ more;
-    told = w.told;
+    reported = w.reported;
     order = (let work : List Record = with_work w.logs.switch ring in
         let plain : (w.given ++ (work ++ w.lost)) ++ more ≡ w.given ++ (work ++ (w.lost ++ more)) =
         append_assoc w.given (work ++ w.lost) more ∙ ap (λ (l : List Record). w.given ++ l) (append_assoc work w.lost more) in

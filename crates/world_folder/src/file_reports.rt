@@ -2,8 +2,8 @@ ghost use Rattle.std.specs.Prelude.{◌≡◌, Err, IfOk, IfErr, Some};
 ghost use Rattle.image_files.specs.Image.{image_of};
 ghost use Rattle.image_files.specs.Reading.{IsOpenImage};
 ghost use Rattle.action_log.specs.Segment.{HasTicks};
-ghost use Rattle.world_folder.specs.Told.{IsImageTold, IsLogTold, format_number};
-ghost use Rattle.world_folder.specs.Texts.{image_told_text, log_told_text};
+ghost use Rattle.world_folder.specs.FileReports.{IsImageReport, IsLogReport, format_number};
+ghost use Rattle.world_folder.specs.Texts.{image_reported_text, log_reported_text};
 
 use crate::counted::Counted;
 use action_log::{LogState, count_groups, read_log};
@@ -15,7 +15,7 @@ use world_actions::Refusal;
 
 /// The report on an image file.
 #[derive(Clone, Copy, Debug, PartialEq, Eq)]
-pub enum ImageTold {
+pub enum ImageReport {
     Closed,
     /// It is open, and of neither format.
     Damaged,
@@ -28,7 +28,7 @@ pub enum ImageTold {
 
 /// The report on a log file.
 #[derive(Clone, Copy, Debug, PartialEq, Eq)]
-pub enum LogTold {
+pub enum LogReport {
     Closed,
     /// It is open, and of neither format.
     Damaged,
@@ -40,42 +40,42 @@ pub enum LogTold {
     },
 }
 
-/// Tells of an image file; it takes memory as `read_image` does.
-pub fn tell_image(alloc: Global, bytes: &[u8]) -> Result<ImageTold, Refusal>
-    ensures told { IfOk result (IsImageTold bytes.now) }
+/// Reports on an image file. It takes memory as `read_image` does.
+pub fn report_image(alloc: Global, bytes: &[u8]) -> Result<ImageReport, Refusal>
+    ensures reported { IfOk result (IsImageReport bytes.now) }
     ensures refused { IfErr result (λ refusal. refusal ≡ Refusal.NoMemory) }
     ensures memory { result ≡ Err Refusal.NoMemory → IsOpenImage (image_of bytes.now) }
 {
     match read_image(alloc, bytes) {
-        Ok(ImageState::Closed) => Ok(ImageTold::Closed),
-        Ok(ImageState::Open { tick, words }) => Ok(ImageTold::Open {
+        Ok(ImageState::Closed) => Ok(ImageReport::Closed),
+        Ok(ImageState::Open { tick, words }) => Ok(ImageReport::Open {
             format: format_of(bytes).unwrap(),
             cells: words.len(),
             tick,
         }),
-        Err(Refusal::BadImage) => Ok(ImageTold::Damaged),
+        Err(Refusal::BadImage) => Ok(ImageReport::Damaged),
         Err(refusal) => Err(refusal),
     }
 }
 
-/// Tells of a log file; it takes memory as `read_log` does.
-pub fn tell_log(alloc: Global, bytes: &[u8]) -> Result<LogTold, Refusal>
-    ensures told { IfOk result (IsLogTold bytes.now) }
+/// Reports on a log file. It takes memory as `read_log` does.
+pub fn report_log(alloc: Global, bytes: &[u8]) -> Result<LogReport, Refusal>
+    ensures reported { IfOk result (IsLogReport bytes.now) }
     ensures refused { IfErr result (λ refusal. refusal ≡ Refusal.NoMemory) }
     ensures memory { result ≡ Err Refusal.NoMemory → HasTicks bytes.now }
 {
     match read_log(alloc, bytes) {
-        Ok(LogState::Closed) => Ok(LogTold::Closed),
+        Ok(LogState::Closed) => Ok(LogReport::Closed),
         Ok(LogState::Open { base, ticks }) => {
             let format = format_of(bytes).unwrap();
-            Ok(LogTold::Open {
+            Ok(LogReport::Open {
                 format,
                 base,
                 groups: count_groups(bytes).unwrap(),
                 ticks: ticks.len(),
             })
         }
-        Err(Refusal::BadLog) => Ok(LogTold::Damaged),
+        Err(Refusal::BadLog) => Ok(LogReport::Damaged),
         Err(refusal) => Err(refusal),
     }
 }
@@ -90,14 +90,14 @@ fn number_of(format: Format) -> u8
     }
 }
 
-impl fmt::Display for ImageTold {
-    ghost output = { λ told. Some (image_told_text told) };
+impl fmt::Display for ImageReport {
+    ghost output = { λ reported. Some (image_reported_text reported) };
 
     fn fmt<W: fmt::Write>(&self, f: &mut fmt::Formatter<W>) -> fmt::Result {
         match self {
-            ImageTold::Closed => f.write_str("closed"),
-            ImageTold::Damaged => f.write_str("damaged"),
-            ImageTold::Open {
+            ImageReport::Closed => f.write_str("closed"),
+            ImageReport::Damaged => f.write_str("damaged"),
+            ImageReport::Open {
                 format,
                 cells,
                 tick,
@@ -113,14 +113,14 @@ impl fmt::Display for ImageTold {
     }
 }
 
-impl fmt::Display for LogTold {
-    ghost output = { λ told. Some (log_told_text told) };
+impl fmt::Display for LogReport {
+    ghost output = { λ reported. Some (log_reported_text reported) };
 
     fn fmt<W: fmt::Write>(&self, f: &mut fmt::Formatter<W>) -> fmt::Result {
         match self {
-            LogTold::Closed => f.write_str("closed"),
-            LogTold::Damaged => f.write_str("damaged"),
-            LogTold::Open {
+            LogReport::Closed => f.write_str("closed"),
+            LogReport::Damaged => f.write_str("damaged"),
+            LogReport::Open {
                 format,
                 base,
                 groups,

@@ -1,7 +1,7 @@
 use Rattle.std.proofs.Common.{◌≡◌, rules}
 use Rattle.image_files.specs.Image.{Image, image_of}
 use Rattle.world_folder.proofs.FormatLemmas.{image_format}
-use Rattle.world_folder.proofs.told.tell_image.Goals as goal
+use Rattle.world_folder.proofs.file_reports.report_image.Goals as goal
 
 pub unwrap-requires : goal.unwrap-requires
 unwrap-requires c =

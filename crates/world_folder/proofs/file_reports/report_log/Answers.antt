@@ -5,7 +5,7 @@ use Rattle.action_log.specs.declared.reader.LogState.{LogState}
 use Rattle.action_log.specs.Segment.{MalformedSegment, IsSegment, IsOpenSegment}
 use Rattle.action_log.specs.LogState.{segment_in}
 use Rattle.world_folder.proofs.FormatLemmas.{segment_format}
-use Rattle.world_folder.proofs.told.tell_log.Goals as goal
+use Rattle.world_folder.proofs.file_reports.report_log.Goals as goal
 
 -- a refusal of BadLog isn't for want of memory
 malformed : (bytes : List ℕ) (refusal : Refusal) → refusal ≡ BadLog
@@ -27,8 +27,8 @@ unwrap-requires c =
     let found = c.count_groups.ensures.each c.in-Ok-Open.base c.in-Ok-Open.ticks segment in
     search rules
 
-pub returns-in-Ok-Open-clause-told : goal.returns-in-Ok-Open-clause-told
-returns-in-Ok-Open-clause-told c =
+pub returns-in-Ok-Open-clause-reported : goal.returns-in-Ok-Open-clause-reported
+returns-in-Ok-Open-clause-reported c =
     let listed = c.in-Ok-Open.ticks in
     let segment : IsOpenSegment c.args.bytes.now c.in-Ok-Open.base listed =
     subst (λ (state : LogState). IsSegment c.args.bytes.now (segment_in state)) c.in-Ok-Open.field-0-is c.in-Ok-Open.ensures.reads in
@@ -39,5 +39,5 @@ returns-in-Ok-Open-clause-told c =
     let ticks : c.len.result ≡ length listed = search rules in
     (listed, segment, format, groups, ticks)
 
-pub returns-in-Err-BadLog-clause-told : goal.returns-in-Err-BadLog-clause-told
-returns-in-Err-BadLog-clause-told c = malformed c.args.bytes.now c.in-Err-BadLog.field-0 c.in-Err-BadLog.field-0-is c.in-Err-BadLog.ensures.refuses
+pub returns-in-Err-BadLog-clause-reported : goal.returns-in-Err-BadLog-clause-reported
+returns-in-Err-BadLog-clause-reported c = malformed c.args.bytes.now c.in-Err-BadLog.field-0 c.in-Err-BadLog.field-0-is c.in-Err-BadLog.ensures.refuses
