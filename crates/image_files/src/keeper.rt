@@ -170,7 +170,7 @@ impl ImageKeeper {
 
     /// Makes the next step: one take, or at most one device call. The two files are the keeper's own, and nothing else
     /// may change them. The round writes one of them. The other holds the newest image, once there is one.
-    pub fn step_files<T: Taker, D: Disk>(
+    pub fn step<T: Taker, D: Disk>(
         &mut self,
         from: &mut T,
         image_a: &mut D,

@@ -90,7 +90,7 @@ impl<C: Capture> Rounds<C> {
         ensures { self.new ≡ self.old }
     {
         self.keeper
-            .step_files(&mut self.store, &mut self.image_a, &mut self.image_b)
+            .step(&mut self.store, &mut self.image_a, &mut self.image_b)
     }
 
     /// Returns the calls on both files since it was last asked.

@@ -9,4 +9,4 @@ pub mod Fronts
 pub mod Backs
 pub mod Whole
 pub mod Played
-pub mod CoverWord
+pub mod SignalWord

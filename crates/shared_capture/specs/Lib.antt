@@ -6,7 +6,7 @@ pub mod Steps
 pub mod Seats
 pub mod States
 pub mod Joined
-pub mod CoverWord
+pub mod SignalWord
 -- inside: for private functions alone
 pub mod Rule
 pub mod Meeting

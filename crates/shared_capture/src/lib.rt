@@ -13,20 +13,20 @@
 #![tactic(auto)]
 
 mod back;
-mod cover;
 mod front;
 mod joined;
 mod method;
 mod pair;
-mod plays;
+mod signal;
 mod steps;
 mod table;
+mod table_rule;
 mod view;
 
 pub use back::Back;
-pub use cover::{CoverIn, CoverOut, cover_pair, meet_cover};
 pub use front::{Front, accesses_keep};
 pub use joined::Joined;
 pub use method::{Kind, Method, Pong, Zig};
 pub use pair::{meet, ping_pong_pair, zigzag_pair};
+pub use signal::{SignalIn, SignalOut, meet_signal, signal_pair};
 pub use view::{Round, Snapshot};

@@ -13,11 +13,11 @@ ghost use Rattle.shared_capture.specs.Meeting.{Met, after_meet, front_met};
 ghost use Rattle.shared_capture.specs.Seats.{FitsCells, IsFront, IsBack, IsPair, IsReady, IsSame, IsFetched};
 
 use crate::method::{Kind, Method};
-use crate::plays::{
-    FetchMark, Finish, LoadPhase, LoadValue, Look, Meet, Move, Part, StoreMark, StorePhase,
-    StoreValue, Unite,
-};
 use crate::table::{SharedTable, TableSeat, cell, mark_word, row_of};
+use crate::table_rule::{
+    FetchMark, Finish, LoadPhase, LoadValue, Look, Meet, Move, Part, Rejoin, StoreMark, StorePhase,
+    StoreValue,
+};
 use capture_core::Taken;
 use packed_marks::has_bit;
 
@@ -221,7 +221,7 @@ pub(crate) fn meet<M: Method>(
         (after_meet result (back_of back.old.me.0)) }
 {
     let moved = table.split_seat::<Move>(back);
-    table.join_seat::<Unite>(front, moved);
+    table.join_seat::<Rejoin>(front, moved);
     let found = table.load::<Meet<M>>(front, 0);
     *back = part(table, front);
     found

@@ -5,7 +5,7 @@ ghost use Rattle.shared_capture.specs.Methods.{row};
 ghost use Rattle.shared_capture.specs.Table.{cell_place, mark_place};
 
 use crate::method::{Kind, Method};
-use crate::plays::Rule;
+use crate::table_rule::Rule;
 use crate::view::View;
 use atomic_table::{Seat, Shared, Table};
 use packed_marks::chunks_of;

@@ -2,6 +2,7 @@
 use crate::running::{begin, end, only_session};
 use crate::same::same;
 use crate::worlds::{new_files, stands_in};
+use client_service::serve_batches;
 use crossbeam_channel::unbounded;
 use disk_model::ModelFile;
 use shared_capture::{Pong, Zig};
@@ -10,7 +11,6 @@ use std::io::{self, ErrorKind, Write};
 use std::process::Abort;
 use std::sync::Wait;
 use std::thread::Threads;
-use tcp_service::serve_batches;
 use worker_steps::Gates;
 use worker_threads::{Seats, StoppedWorkers};
 use workers::{AskChannel, Open};

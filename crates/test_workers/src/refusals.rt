@@ -8,7 +8,7 @@ use crate::worlds::{new_files, open_files};
 use action_log::SEGMENT_TICKS;
 use crossbeam_channel::bounded;
 use disk_model::ModelFile;
-use shared_capture::{Method, Pong, Zig, cover_pair};
+use shared_capture::{Method, Pong, Zig, signal_pair};
 use std::alloc::Global;
 use std::process::Abort;
 use std::sync::Wait;
@@ -29,7 +29,7 @@ fn mutator_at<M: Seats>(
     let opened = open_files::<M, ModelFile>(rt, alloc, new_files(rt, alloc, 2));
     let (to, from) = open(rt, alloc, ended).expect(rt, "a channel");
     let (bell, _rung) = bounded(alloc, 1).expect(rt, "a channel");
-    let (_reported_down, heard) = cover_pair(alloc).expect(rt, "a word");
+    let (_reported_down, heard) = signal_pair(alloc).expect(rt, "a word");
     let mutator = Mutator::new(
         Open,
         alloc,

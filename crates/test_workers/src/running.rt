@@ -1,6 +1,7 @@
 //! Workers in threads, and sessions on them.
 use crate::same::same;
 use crate::worlds::{Report, Reporter, open_files};
+use client_service::{Remote, serve_batches};
 use crossbeam_channel::Sender;
 use disk_model::{Disk, FourFiles};
 use shared_capture::Method;
@@ -8,7 +9,6 @@ use std::alloc::Global;
 use std::process::Abort;
 use std::sync::Wait;
 use std::thread::Threads;
-use tcp_service::{Remote, serve_batches};
 use worker_steps::Gates;
 use worker_threads::{Seats, StoppedWorkers, Workers, meet_stopped, start, stop};
 use workers::{AskChannel, Gate, Looks};

@@ -12,7 +12,7 @@ use crate::worlds::{new_files, open_files, stands_in};
 use batches::{Batch, Request};
 use crossbeam_channel::{Receiver, Sender, bounded};
 use disk_model::{Disk, ModelFile};
-use shared_capture::{CoverIn, CoverOut, Method, Pong, Zig, cover_pair};
+use shared_capture::{Method, Pong, SignalIn, SignalOut, Zig, signal_pair};
 use std::alloc::Global;
 use std::process::Abort;
 use std::sync::atomic::{AtomicU64, Ordering};
@@ -38,15 +38,15 @@ pub struct Serial<M: Method, D: Disk + Drop> {
 struct Signals {
     bell: Sender<()>,
     rung: Receiver<()>,
-    reported_down: CoverOut,
-    heard: CoverIn,
+    reported_down: SignalOut,
+    heard: SignalIn,
 }
 
 fn new_signals(rt: &impl Abort, alloc: Global) -> Signals
     ensures { result.reported_down.ticks ≡ [] }
 {
     let (bell, rung) = bounded(alloc, 1).expect(rt, "a channel");
-    let (reported_down, heard) = cover_pair(alloc).expect(rt, "a word");
+    let (reported_down, heard) = signal_pair(alloc).expect(rt, "a word");
     Signals {
         bell,
         rung,
@@ -60,8 +60,8 @@ fn new_signals(rt: &impl Abort, alloc: Global) -> Signals
 struct Channel {
     to: ItemSender,
     from: ItemReceiver,
-    out: CoverOut,
-    reported: CoverIn,
+    out: SignalOut,
+    reported: SignalIn,
 }
 
 fn new_channel(rt: &(impl Wait + Abort), alloc: Global, ended: u64) -> Channel
@@ -71,7 +71,7 @@ fn new_channel(rt: &(impl Wait + Abort), alloc: Global, ended: u64) -> Channel
     ensures from { result.from.items ≡ Start ended ∷ [] }
     ensures out { result.out.ticks ≡ [] }
 {
-    let (out, reported) = cover_pair(alloc).expect(rt, "a word");
+    let (out, reported) = signal_pair(alloc).expect(rt, "a word");
     let (to, from) = open(rt, alloc, ended).expect(rt, "a channel");
     Channel {
         to,

@@ -1,6 +1,7 @@
 use crate::running::{is_page, play};
 use crate::same::same;
 use batches::Request;
+use client_service::{Accepted, Admission, Closed, Door, Unserved, accept_sessions};
 use std::alloc::Global;
 use std::io::{self, Read, Write};
 use std::net::{Net, Shutdown, SocketAddr, TcpListener, TcpStream};
@@ -8,7 +9,6 @@ use std::process::Abort;
 use std::sync::Wait;
 use std::thread::{self, JoinHandle, Threads};
 use std::time::Clock;
-use tcp_service::{Accepted, Admission, Closed, Door, Unserved, accept_sessions};
 use transports::Listener;
 use workers::{Ask, AskChannel, AskReceiver, Looks};
 use world_actions::Refusal;

@@ -3,6 +3,7 @@ ghost use Rattle.world_actions.specs.declared.world.TheConstants.{CELLS};
 ghost use Rattle.worker_steps.specs.Begun.{IsWhole};
 
 use capture_core::PlainCopy;
+use client_service::{Door, Unserved};
 use crossbeam_channel::Sender;
 use disk_model::{Disk, FourFiles, Fused, ModelFile};
 use recovery::recover;
@@ -10,7 +11,6 @@ use std::alloc::{AllocError, Global};
 use std::io;
 use std::process::Abort;
 use std::sync::Wait;
-use tcp_service::{Door, Unserved};
 use worker_steps::Opened;
 use worker_threads::{Seats, TickWatch, Watch, start_world};
 use workers::{ImageWriter, Log};

@@ -146,7 +146,7 @@ impl<C: Capture> ImageTrial<C> {
     fn step(&mut self) -> ImageAnswer {
         let answer = self
             .keeper
-            .step_files(&mut self.store, &mut self.image_a, &mut self.image_b);
+            .step(&mut self.store, &mut self.image_a, &mut self.image_b);
         if let ImageAnswer::Opened(_) = answer {
             self.in_round = false;
             self.before = self.newest.take();

@@ -1,7 +1,7 @@
 use crate::case::{Case, digest};
 use action_log::LogKeeper;
 use image_files::ImageKeeper;
-use shared_capture::{cover_pair, ping_pong_pair, zigzag_pair};
+use shared_capture::{ping_pong_pair, signal_pair, zigzag_pair};
 use std::alloc::Global;
 use world_actions::Refusal;
 use world_ticks::Cells;
@@ -130,13 +130,13 @@ impl Case for PingPongPair {
 
 /// A case that makes the two ends of a cover.
 #[derive(Drop)]
-pub struct CoverPair {
+pub struct SignalPair {
     alloc: Global,
 }
 
-impl Case for CoverPair {
+impl Case for SignalPair {
     fn name() -> &'static str {
-        "cover_pair"
+        "signal_pair"
     }
 
     fn refusal() -> Refusal {
@@ -144,11 +144,11 @@ impl Case for CoverPair {
     }
 
     fn set_up(alloc: Global) -> Result<Self, Refusal> {
-        Ok(CoverPair { alloc })
+        Ok(SignalPair { alloc })
     }
 
     fn call(&mut self) -> Result<u64, Refusal> {
-        let (_, mut latest) = cover_pair(self.alloc)?;
+        let (_, mut latest) = signal_pair(self.alloc)?;
         Ok(latest.latest())
     }
 

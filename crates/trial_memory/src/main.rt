@@ -19,7 +19,7 @@ use case::{Case, Outcome, try_case};
 use cores::{Crash, Fresh, Run};
 use files::{GrowFile, NewFile, ReadImage, ReadLog, Recover, ReserveFile};
 use free::try_free_calls;
-use keepers::{CoverPair, Images, Log, PingPongPair, ZigzagPair};
+use keepers::{Images, Log, PingPongPair, SignalPair, ZigzagPair};
 use ping_pong::PingPong;
 use plays::{Act, AnswerEach, CopyBatch, NewReader, Play, ReserveTick};
 use shared_capture::{Joined, Pong, Zig};
@@ -85,7 +85,7 @@ fn try_keepers<R: Print + AllocGlobal>(rt: &R) -> io::Result<bool> {
     Ok(
         report::<R, ZigzagPair>(rt)?
             & report::<R, PingPongPair>(rt)?
-            & report::<R, CoverPair>(rt)?
+            & report::<R, SignalPair>(rt)?
             & report::<R, Images>(rt)?
             & report::<R, Log>(rt)?,
     )

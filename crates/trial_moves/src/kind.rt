@@ -1,4 +1,4 @@
-use core_rows::{Asked, PlainAnswer};
+use plain_moves::{Asked, PlainAnswer};
 use world_actions::Refusal;
 
 /// The kinds of answers that can come. NoMemory would need a refused allocation, and TicksEnded more ticks than can be

@@ -1,5 +1,5 @@
 use crate::wrong::{Rule, Wrong, expect, hold};
-use core_rows::PlainAnswer;
+use plain_moves::PlainAnswer;
 use std::alloc::Global;
 use std::collections::VecDeque;
 use world_core::Fate;

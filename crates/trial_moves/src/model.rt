@@ -2,7 +2,7 @@ use crate::image_model::ImageModel;
 use crate::log_model::LogModel;
 use crate::words::Words;
 use crate::wrong::{Rule, Wrong, expect, hold};
-use core_rows::{Asked, PlainAnswer};
+use plain_moves::{Asked, PlainAnswer};
 use std::alloc::Global;
 use world_actions::Refusal;
 use world_core::Fate;

@@ -1,6 +1,6 @@
 use crate::model::PlainModel;
 use crate::weights::Weights;
-use core_rows::Asked;
+use plain_moves::Asked;
 use trial_kit::Random;
 use world_actions::{Action, LIMIT};
 use world_core::Fate;

@@ -4,7 +4,7 @@ ghost use Rattle.world_actions.specs.declared.world.TheConstants.{CELLS};
 use crate::tally::Tally;
 use crate::trial::{Stop, Trial};
 use capture_core::Capture;
-use core_rows::{Asked, PlainAnswer};
+use plain_moves::{Asked, PlainAnswer};
 use std::alloc::Global;
 use trial_kit::Random;
 use world_actions::Action;

@@ -1,5 +1,5 @@
 use crate::kind::{KINDS, kind_of};
-use core_rows::{Asked, PlainAnswer};
+use plain_moves::{Asked, PlainAnswer};
 use trial_kit::Counts;
 
 /// How many moves were made, and how often each kind of answer came.

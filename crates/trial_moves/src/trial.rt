@@ -6,7 +6,7 @@ use crate::spoiling::spoil;
 use crate::tally::Tally;
 use crate::wrong::Wrong;
 use capture_core::Capture;
-use core_rows::{Asked, PlainAnswer};
+use plain_moves::{Asked, PlainAnswer};
 use std::alloc::Global;
 use trial_kit::{Random, left_by};
 use world_actions::Refusal;

@@ -1,4 +1,4 @@
-use core_rows::PlainAnswer;
+use plain_moves::PlainAnswer;
 use std::alloc::{AllocError, AllocFailed};
 use world_actions::Refusal;
 

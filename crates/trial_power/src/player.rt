@@ -1,10 +1,10 @@
 use crate::recorded::Clock;
 use batches::{Batch, Request};
+use client_service::Remote;
 use sessions::World;
 use std::alloc::Global;
 use std::sync::Wait;
 use std::sync::atomic::Ordering;
-use tcp_service::Remote;
 use workers::Asker;
 use world_actions::{Action, Refusal};
 

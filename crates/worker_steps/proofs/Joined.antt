@@ -14,7 +14,7 @@ use Rattle.action_log.specs.declared.record.Record.{Record}
 use Rattle.recovery.specs.Events.{ticks_in, with_work}
 use Rattle.recovery.proofs.Law.{Reached}
 use Rattle.recovery.proofs.Events.{reached_max}
-use Rattle.shared_capture.specs.CoverWord.{AreStored}
+use Rattle.shared_capture.specs.SignalWord.{AreStored}
 use Rattle.shared_capture.specs.declared.view.Round.{Round}
 use Rattle.shared_capture.specs.declared.view.Snapshot.{Snapshot}
 use Rattle.shared_capture.specs.Rounds.{Agree, snapshots_as}

@@ -2,7 +2,7 @@
 ghost use Rattle.std.specs.Prelude.{◌≡◌, [], IfOk};
 
 use crossbeam_channel::{Receiver, Sender, bounded};
-use shared_capture::{CoverIn, CoverOut, cover_pair};
+use shared_capture::{SignalIn, SignalOut, signal_pair};
 use std::alloc::{AllocError, Global};
 
 /// The two ends of each signal: the bell that wakes the checkpointer, the word of the newest open image, and the word that
@@ -10,8 +10,8 @@ use std::alloc::{AllocError, Global};
 #[derive(Drop)]
 pub struct Signals {
     pub bell: (Sender<()>, Receiver<()>),
-    pub images: (CoverOut, CoverIn),
-    pub down: (CoverOut, CoverIn),
+    pub images: (SignalOut, SignalIn),
+    pub down: (SignalOut, SignalIn),
 }
 
 impl Signals {
@@ -30,10 +30,10 @@ impl Signals {
 }
 
 // The two seats of a word.
-fn word(alloc: Global) -> Result<(CoverOut, CoverIn), AllocError>
+fn word(alloc: Global) -> Result<(SignalOut, SignalIn), AllocError>
     ensures { IfOk result (λ pair. (pair.0.pair ≡ pair.1.pair) × (pair.0.ticks ≡ []) × (pair.1.ticks ≡ [])) }
 {
-    match cover_pair(alloc) {
+    match signal_pair(alloc) {
         Ok(pair) => Ok(pair),
         Err(_) => Err(AllocError),
     }

@@ -1,6 +1,6 @@
 -- The reports of the log that the mutator heard are true.
 use Rattle.std.proofs.Common.{arith, ◌≡◌, inl, inr, ℕ, Bool, true, false, List, Some, None, slice_get, refl, sym, ap, ◌∙◌}
-use Rattle.shared_capture.specs.CoverWord.{AreStored}
+use Rattle.shared_capture.specs.SignalWord.{AreStored}
 use Rattle.workers.specs.Logging.{ReportsDown}
 use Rattle.workers.specs.Meeting.{HeardOnlyOfDown}
 

@@ -6,8 +6,8 @@ use denote.Param.Send.{IsSend, view_send, recorded_send, struct_send, sendable}
 use Rattle.std.proofs.Crossing.{crosses}
 use Rattle.shared_capture.specs.contracts.back.Back as Back
 use Rattle.shared_capture.specs.contracts.front.Front as Front
-use Rattle.shared_capture.specs.contracts.cover.CoverOut as CoverOut
-use Rattle.shared_capture.specs.contracts.cover.CoverIn as CoverIn
+use Rattle.shared_capture.specs.contracts.cover.SignalOut as SignalOut
+use Rattle.shared_capture.specs.contracts.cover.SignalIn as SignalIn
 use Rattle.shared_capture.specs.declared.method.Method as method
 use Rattle.disk_model.specs.declared.disk.Disk as disk
 use Rattle.workers.specs.declared.gate.Gate as gate
@@ -27,20 +27,20 @@ use Rattle.std.specs.contracts.alloc.Global as Heap
 use Rattle.std.specs.contracts.impls.GlobalAllocator.TheImpl.{ghosts}
 
 pub mutator_sends : (M G : RattleType) (m : method.Ghosts M.Denot) (h : gate.Ghosts G.Denot)
-    → IsSend G → IsSend AskReceiver.the_row → IsSend (Front.the_row M m) → IsSend ItemSender.the_row → IsSend CoverIn.the_row → IsSend Tick.the_row → IsSend Waiting.the_row → IsSend (Mutator.the_row M G m h)
+    → IsSend G → IsSend AskReceiver.the_row → IsSend (Front.the_row M m) → IsSend ItemSender.the_row → IsSend SignalIn.the_row → IsSend Tick.the_row → IsSend Waiting.the_row → IsSend (Mutator.the_row M G m h)
 mutator_sends M G m h gates asks front to heard tick waiting =
     let T = Mutator.TheInside.the_type M G m h in
     view_send (Mutator.TheInside.the_row M G m h) _ _ _ _ (recorded_send (Struct (shape T)) T.D T.to T.to_one (struct_send (shape T)
     (gates, (search (sendable, crosses) depth 60 fits 20000, (asks, (front, (to, (search (sendable, crosses) depth 60 fits 20000, (search (sendable, crosses) depth 60 fits 20000, (heard, (search (sendable, crosses) depth 60 fits 20000, (search (sendable, crosses) depth 60 fits 20000, (search (sendable, crosses) depth 60 fits 20000, (search (sendable, crosses) depth 60 fits 20000, (search (sendable, crosses) depth 60 fits 20000, tt)))))))))))))))
 
-publisher_sends : IsSend CoverOut.the_row → IsSend Publisher.the_row
+publisher_sends : IsSend SignalOut.the_row → IsSend Publisher.the_row
 publisher_sends covers =
     let T = Publisher.TheInside.the_type in
     view_send Publisher.TheInside.the_row _ _ _ _ (recorded_send (Struct (shape T)) T.D T.to T.to_one (struct_send (shape T)
     (covers, tt)))
 
 pub checkpointer_sends : (M D G : RattleType) (m : method.Ghosts M.Denot) (d : disk.Ghosts D.Denot) (h : gate.Ghosts G.Denot)
-    → IsSend D → IsSend G → IsSend (Back.the_row M m) → IsSend CoverOut.the_row → IsSend (Checkpointer.the_row M D G m d h)
+    → IsSend D → IsSend G → IsSend (Back.the_row M m) → IsSend SignalOut.the_row → IsSend (Checkpointer.the_row M D G m d h)
 checkpointer_sends M D G m d h disks gates back covers =
     let T = Checkpointer.TheInside.the_type M D G m d h in
     view_send (Checkpointer.TheInside.the_row M D G m d h) _ _ _ _ (recorded_send (Struct (shape T)) T.D T.to T.to_one (struct_send (shape T)
@@ -53,8 +53,8 @@ answers_send waiting =
     (waiting, (search (sendable, crosses) depth 60 fits 20000, tt))))
 
 pub log_writer_sends : (D G : RattleType) (d : disk.Ghosts D.Denot) (h : gate.Ghosts G.Denot)
-    → IsSend D → IsSend G → IsSend ItemReceiver.the_row → IsSend CoverIn.the_row → IsSend (Ring.the_row Record.the_row Heap.the_row ghosts) → IsSend (Ring.the_row Waiting.the_row Heap.the_row ghosts)
-    → IsSend CoverOut.the_row → IsSend (LogWriter.the_row D G d h)
+    → IsSend D → IsSend G → IsSend ItemReceiver.the_row → IsSend SignalIn.the_row → IsSend (Ring.the_row Record.the_row Heap.the_row ghosts) → IsSend (Ring.the_row Waiting.the_row Heap.the_row ghosts)
+    → IsSend SignalOut.the_row → IsSend (LogWriter.the_row D G d h)
 log_writer_sends D G d h disks gates from covers ring waiting reported =
     let T = LogWriter.TheInside.the_type D G d h in
     let answers = answers_send waiting in

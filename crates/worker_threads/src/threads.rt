@@ -13,7 +13,7 @@ use crate::work::spawn;
 use action_log::Record;
 use circular_buffer::HeapCircularBuffer;
 use disk_model::Disk;
-use shared_capture::{Back, CoverIn, CoverOut, Front, Method};
+use shared_capture::{Back, Front, Method, SignalIn, SignalOut};
 use std::alloc::{AllocError, Global};
 use std::marker::Model;
 use std::snapshot::Snapshot;
@@ -232,7 +232,7 @@ fn start_mutator<
     crosses::<AskReceiver>();
     crosses::<Front<M>>();
     crosses::<ItemSender>();
-    crosses::<CoverIn>();
+    crosses::<SignalIn>();
     crosses::<Tick>();
     crosses::<Waiting>();
     let same = SameMutator(Snapshot::of(&mutator));
@@ -254,7 +254,7 @@ fn start_checkpointer<
     ensures { IfOk result (λ handle. handle.promise.0.value ≡ checkpointer) }
 {
     crosses::<Back<M>>();
-    crosses::<CoverOut>();
+    crosses::<SignalOut>();
     let same = SameCheckpointer(Snapshot::of(&checkpointer));
     spawn(rt, same, watch, checkpointer)
 }
@@ -273,10 +273,10 @@ fn start_log_writer<
     ensures { IfOk result (λ handle. handle.promise.0.value ≡ log_writer) }
 {
     crosses::<ItemReceiver>();
-    crosses::<CoverIn>();
+    crosses::<SignalIn>();
     crosses::<HeapCircularBuffer<Record>>();
     crosses::<HeapCircularBuffer<Waiting>>();
-    crosses::<CoverOut>();
+    crosses::<SignalOut>();
     let same = SameLogWriter(Snapshot::of(&log_writer));
     spawn(rt, same, watch, log_writer)
 }

@@ -8,7 +8,7 @@ use Rattle.action_log.specs.Queue.{QueueEnd}
 use Rattle.batches.specs.declared.batch.Request.{Request}
 use Rattle.batches.specs.Answer.{answer, accepted_of, words_after}
 use Rattle.shared_capture.specs.declared.view.Round.{Round}
-use Rattle.shared_capture.specs.CoverWord.{CoverState}
+use Rattle.shared_capture.specs.SignalWord.{SignalState}
 use Rattle.shared_capture.specs.Rounds.{round}
 use Rattle.shared_capture.specs.States.{FrontState, HasFlags, KeepsUntouched, SameRounds, marked_rounds}
 use Rattle.workers.specs.declared.item.Item.{Item}
@@ -80,7 +80,7 @@ UpTo base rounds = All (λ (r : Round). r.tick ≤ base) rounds
 up_to_more : (base most : ℕ) (rounds : List Round) (r : Round) → base ≤ most → UpTo base rounds → r.tick ≤ most → UpTo most (rounds ++ r ∷ [])
 up_to_more base most rounds r le known this = All-push (λ (s : Round). s.tick ≤ most) rounds r (All-weaker (λ (s : Round). s.tick ≤ base) (λ (s : Round). s.tick ≤ most) (λ s l. omega (arith, l, le)) rounds known) this
 
-module _ (m : Playing) (front : FrontState) (heard : CoverState) (is : IsMutator m) (up : m.down ≡ false) where
+module _ (m : Playing) (front : FrontState) (heard : SignalState) (is : IsMutator m) (up : m.down ≡ false) where
   -- a batch was run, whose tick is owed
   pub owes_tick : (ended : Ended) (asked : AskedBatch) (requests : List Request) → ended.answer.asked ≡ asked → IsTaken m asked → SameRounds m.front front → ended.tick.list ≡ accepted_of requests m.front.live
       → ended.answer.text ≡ answer requests m.front.live ended.answer.number → ended.answer.number ≡ m.ended + 1 → front.live ≡ words_after requests m.front.live
@@ -225,7 +225,7 @@ last_owed w [] number v lead = (w.rounds, round number w.words lead.1.1.0, ap (�
 last_owed w (x ∷ items) number v lead = last_owed lead.0 items number v lead.2
 
 -- a mutator of a world whose start has ended
-pub begins : (asks : Taking) (front : FrontState) (to : Pushing) (heard : CoverState) (opening : List ℕ) (tick every : ℕ) → front.rounds ≡ [] → to.items ≡ Start tick ∷ [] → opening ≡ front.live → tick ≤ TICK_MAX → HasFlags front → AreNumbered asks.taken
+pub begins : (asks : Taking) (front : FrontState) (to : Pushing) (heard : SignalState) (opening : List ℕ) (tick every : ℕ) → front.rounds ≡ [] → to.items ≡ Start tick ∷ [] → opening ≡ front.live → tick ≤ TICK_MAX → HasFlags front → AreNumbered asks.taken
     → IsMutator (record { asks = asks; front = front; to = to; heard = heard; opening = opening; ended = tick; since = 0; every = every; down = false; owed = None })
 begins asks front to heard opening tick every none start words most flags numbered = record {
   history = record {

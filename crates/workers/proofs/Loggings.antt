@@ -13,7 +13,7 @@ use Rattle.action_log.specs.Progress.{QueueFollows, QueueFollowsIn, end_of, end_
 use Rattle.action_log.specs.Logs.{Logs}
 use Rattle.action_log.specs.Files.{FitsFiles}
 use Rattle.recovery.specs.Events.{with_work}
-use Rattle.shared_capture.specs.CoverWord.{CoverState}
+use Rattle.shared_capture.specs.SignalWord.{SignalState}
 use Rattle.workers.specs.declared.item.Item.{Item}
 use Rattle.workers.specs.declared.item.Item.TheVariants.{Start, Tick, Switch, Stop}
 use Rattle.workers.specs.Posts.{Unposted}
@@ -83,14 +83,14 @@ module _ {D : Type 0} (file : D → List ℕ) (leaves : D → List ℕ → Type 
   }
 
   -- the content of the files after a step with this answer
-  pub reported_on : (covers : CoverState) (tick : ℕ) (log : Log D) (ring : Buffer Record) (given : LogAnswer) (acked : ℕ) → (acked ≡ w.acked) ⊎ (given ≡ answer.Acked acked)
+  pub reported_on : (covers : SignalState) (tick : ℕ) (log : Log D) (ring : Buffer Record) (given : LogAnswer) (acked : ℕ) → (acked ≡ w.acked) ⊎ (given ≡ answer.Acked acked)
       → covers ≡ loaded w.covers tick → (IsTrue honest → LogAdvances file leaves tick w.log log w.ring.items ring.items given)
       → IsTrue honest → (logs : Logs) → LogStands file leaves w.opening logs → Writes file leaves log ring.items covers.ticks acked w.down (content_in logs) (records_of w.from.items)
   reported_on covers tick log ring given acked which reported advances = λ h logs stands.
-      subst (λ (c : CoverState). Writes file leaves log ring.items c.ticks acked w.down (content_in logs) (records_of w.from.items)) (sym reported)
+      subst (λ (c : SignalState). Writes file leaves log ring.items c.ticks acked w.down (content_in logs) (records_of w.from.items)) (sym reported)
       (writes_on file leaves w.log log w.ring.items ring.items tick w.covers.ticks given w.acked acked w.down (content_in logs) (records_of w.from.items) is.follows which (advances h) (is.writes h logs stands))
 
-  pub advanced : (covers : CoverState) (tick : ℕ) (log : Log D) (ring : Buffer Record) (answers : Answering) (given : LogAnswer) (acked : ℕ) → log.keeper.starting ≡ false → (IsTrue honest → FitsFiles log.keeper (file log.a) (file log.b))
+  pub advanced : (covers : SignalState) (tick : ℕ) (log : Log D) (ring : Buffer Record) (answers : Answering) (given : LogAnswer) (acked : ℕ) → log.keeper.starting ≡ false → (IsTrue honest → FitsFiles log.keeper (file log.a) (file log.b))
       → QueueFollows log.keeper ring.items → end_of log.keeper ring.items ≡ end_of w.log.keeper w.ring.items → ring.capacity ≡ w.ring.capacity
       → answers.room ≡ w.answers.room → answers.answered + length answers.waiting ≡ w.answers.answered + length w.answers.waiting → (w.answers.posted ≡ w.answers.answered → answers.posted ≡ answers.answered) → answers.posted ≤ acked
       → (acked ≡ w.acked) ⊎ (given ≡ answer.Acked acked)
@@ -224,7 +224,7 @@ module _ {D : Type 0} (file : D → List ℕ) (leaves : D → List ℕ → Type 
     switched = λ number is. absurd (let none = ready_switch log tick logs ready stands in cc);
   }
 
-  begins : (from : Popping) (covers reported_down : CoverState) (log : Log D) (tick : ℕ) → from.items ≡ Start tick ∷ [] → reported_down.ticks ≡ [] → tick ≤ TICK_MAX → IsReady log.keeper tick → (IsTrue honest → FitsFiles log.keeper (file log.a) (file log.b))
+  begins : (from : Popping) (covers reported_down : SignalState) (log : Log D) (tick : ℕ) → from.items ≡ Start tick ∷ [] → reported_down.ticks ≡ [] → tick ≤ TICK_MAX → IsReady log.keeper tick → (IsTrue honest → FitsFiles log.keeper (file log.a) (file log.b))
       → IsLogging file leaves honest (writer_at from covers reported_down log tick)
   begins from covers reported_down log tick opened unreported most ready fits =
       let k = log.keeper in
@@ -253,7 +253,7 @@ module _ {D : Type 0} (file : D → List ℕ) (leaves : D → List ℕ → Type 
         };
       }
 
-  pub begins_of : (from : Popping) (covers reported_down : CoverState) (log opening : Log D) (ring : Buffer Record) (answers : Answering) (tick : ℕ) → from.items ≡ Start tick ∷ [] → reported_down.ticks ≡ [] → tick ≤ TICK_MAX → IsReady log.keeper tick → (IsTrue honest → FitsFiles log.keeper (file log.a) (file log.b))
+  pub begins_of : (from : Popping) (covers reported_down : SignalState) (log opening : Log D) (ring : Buffer Record) (answers : Answering) (tick : ℕ) → from.items ≡ Start tick ∷ [] → reported_down.ticks ≡ [] → tick ≤ TICK_MAX → IsReady log.keeper tick → (IsTrue honest → FitsFiles log.keeper (file log.a) (file log.b))
       → ring ≡ (writer_at from covers reported_down log tick).ring → answers ≡ (writer_at from covers reported_down log tick).answers → opening ≡ log → IsLogging file leaves honest (record (writer_at from covers reported_down log tick) { ring = ring; answers = answers; opening = opening })
   begins_of from covers reported_down log opening ring answers tick opened unreported most ready fits ring_is answers_is opening_is =
       subst (λ (x : Buffer Record × Answering × Log D). IsLogging file leaves honest (record (writer_at from covers reported_down log tick) { ring = x.0; answers = x.1; opening = x.2 }))

@@ -7,7 +7,7 @@ use Rattle.file_format.specs.declared.slot.Slot.{Slot}
 use Rattle.image_files.specs.declared.phase.Phase.TheVariants.{Idle}
 use Rattle.image_files.specs.Progress.{Progress, newest_tick}
 use Rattle.shared_capture.specs.declared.view.Snapshot.{Snapshot}
-use Rattle.shared_capture.specs.CoverWord.{CoverState}
+use Rattle.shared_capture.specs.SignalWord.{SignalState}
 use Rattle.shared_capture.specs.States.{BackState}
 use Rattle.workers.specs.declared.checkpointer.round.ImageWriter.{ImageWriter}
 use Rattle.workers.specs.Imaging.{newest_after, HasRound, RoundRuns, Publishes, AreInStep, FollowsRounds, WriterFits, Imaging, IsCheckpointer}
@@ -15,17 +15,17 @@ use Rattle.workers.specs.Publishing.{reported, ArePublished}
 use Rattle.workers.proofs.Imagings.{newest_more, is_idle, checkpointer_goes_on}
 
 -- the same rounds are done
-published_same : (newest : Option (Slot × ℕ)) (done done' : List Snapshot) (covers : CoverState) → done' ≡ done → ArePublished newest done covers → ArePublished newest done' covers
+published_same : (newest : Option (Slot × ℕ)) (done done' : List Snapshot) (covers : SignalState) → done' ≡ done → ArePublished newest done covers → ArePublished newest done' covers
 published_same newest done done' covers same p = subst (λ (d : List Snapshot). ArePublished newest d covers) (sym same) p
 
 -- nothing is published in a round
-pub publishes_none : (tick : ℕ) (keeper : Progress) (covers : CoverState) → HasRound keeper → Publishes tick keeper covers covers
+pub publishes_none : (tick : ℕ) (keeper : Progress) (covers : SignalState) → HasRound keeper → Publishes tick keeper covers covers
 publishes_none tick keeper covers busy = record { in_work = λ _. refl; done = λ over. absurd (busy over) }
 
-done_next : (tick : ℕ) (newest opened newest' : Option (Slot × ℕ)) (done done' : List Snapshot) (covers covers' : CoverState) → ArePublished newest done covers → newest_tick newest < tick
+done_next : (tick : ℕ) (newest opened newest' : Option (Slot × ℕ)) (done done' : List Snapshot) (covers covers' : SignalState) → ArePublished newest done covers → newest_tick newest < tick
     → newest' ≡ newest_after opened done' → (s : Snapshot) → s.tick ≡ tick → done' ≡ done ++ s ∷ [] → covers' ≡ reported covers tick → ArePublished newest' done' covers'
 done_next tick newest opened newest' done done' covers covers' p newer last s of_it more is =
-    let ticks : covers'.ticks ≡ covers.ticks ++ tick ∷ [] = ap (λ (c : CoverState). c.ticks) is in
+    let ticks : covers'.ticks ≡ covers.ticks ++ tick ∷ [] = ap (λ (c : SignalState). c.ticks) is in
     let newest_is : newest_tick newest' ≡ tick = ap newest_tick (last ∙ (ap (newest_after opened) more ∙ newest_more opened done s)) ∙ of_it in
     let few : All (λ (t : ℕ). t ≤ newest_tick newest') covers.ticks =
     All-weaker (λ (t : ℕ). t ≤ newest_tick newest) (λ (t : ℕ). t ≤ newest_tick newest') (λ t h. omega (arith, h, newer, newest_is)) covers.ticks p.older in
@@ -36,7 +36,7 @@ done_next tick newest opened newest' done done' covers covers' p newer last s of
     }
 
 -- after a round the ticks of all rounds that are done are published, and no other
-pub published_on : (over : Bool) (tick : ℕ) (newest opened : Option (Slot × ℕ)) (keeper : Progress) (old found new : BackState) (covers covers' : CoverState) → ArePublished newest old.done covers → newest_tick newest < tick
+pub published_on : (over : Bool) (tick : ℕ) (newest opened : Option (Slot × ℕ)) (keeper : Progress) (old found new : BackState) (covers covers' : SignalState) → ArePublished newest old.done covers → newest_tick newest < tick
     → newest ≡ newest_after opened old.done → keeper.newest ≡ newest_after opened new.done → found.done ≡ old.done → found.now.tick ≡ tick → RoundRuns found keeper new → Publishes tick keeper covers covers'
     → (over ≡ false → keeper.phase ≡ Idle) → (over ≡ true → HasRound keeper) → ArePublished keeper.newest new.done covers'
 published_on false tick newest opened keeper old found new covers covers' p newer was is same at runs publishes rests busy =
@@ -48,7 +48,7 @@ published_on true tick newest opened keeper old found new covers covers' p newer
     let done : new.done ≡ old.done = (runs.in_work on).2 ∙ same in
     let kept : keeper.newest ≡ newest = is ∙ (ap (newest_after opened) done ∙ sym was) in
     subst (λ (n : Option (Slot × ℕ)). ArePublished n new.done covers') (sym kept)
-    (subst (λ (c : CoverState). ArePublished newest new.done c) (sym (publishes.in_work on)) (published_same newest old.done new.done covers done p))
+    (subst (λ (c : SignalState). ArePublished newest new.done c) (sym (publishes.in_work on)) (published_same newest old.done new.done covers done p))
 
 -- ---- a step of the round in work
 

@@ -6,7 +6,7 @@ use Rattle.action_log.specs.declared.answer.LogAnswer.TheVariants as answer
 use Rattle.action_log.specs.declared.phase.Phase.{Phase}
 use Rattle.action_log.specs.declared.phase.Phase.TheVariants as phase
 use Rattle.action_log.specs.declared.record.Record.{Record}
-use Rattle.shared_capture.specs.CoverWord.{CoverState}
+use Rattle.shared_capture.specs.SignalWord.{SignalState}
 use Rattle.workers.specs.declared.log_writer.Log.{Log}
 use Rattle.workers.specs.Answering.{Answering}
 use Rattle.workers.specs.Covering.{loaded}
@@ -45,7 +45,7 @@ cover_receipt answer.Working p last some = refl
 cover_receipt answer.Down p last some = refl
 
 -- A step of the log with this receipt acknowledges what it posts.
-pub acknowledged : {D : Type 0} (seen w : Logging D) → w ≡ seen → (covers : CoverState) (tick : ℕ) (log : Log D) (ring : Buffer Record) (answers : Answering) (acked : ℕ) → covers ≡ loaded w.covers tick
+pub acknowledged : {D : Type 0} (seen w : Logging D) → w ≡ seen → (covers : SignalState) (tick : ℕ) (log : Log D) (ring : Buffer Record) (answers : Answering) (acked : ℕ) → covers ≡ loaded w.covers tick
     → (receipt : Option ℕ) → receipt ≡ receipt_of w.log.keeper tick w.ring.items log.keeper → Acknowledges receipt w (record w { covers = covers; log = log; ring = ring; answers = answers; acked = acked })
     → (cover : ℕ) × (covers ≡ loaded seen.covers cover) × Acknowledges (receipt_of seen.log.keeper cover seen.ring.items log.keeper) seen (record w { covers = covers; log = log; ring = ring; answers = answers; acked = acked })
 acknowledged {D} seen w same covers tick log ring answers acked reported receipt is acks =

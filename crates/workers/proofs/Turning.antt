@@ -1,6 +1,6 @@
 -- The acts of the mutator, stated for the mutator as it was before.
 use Rattle.std.proofs.Common.{◌≡◌, ◌+◌, true, List, Some, None, ap, subst}
-use Rattle.shared_capture.specs.CoverWord.{CoverState}
+use Rattle.shared_capture.specs.SignalWord.{SignalState}
 use Rattle.shared_capture.specs.States.{FrontState, KeepsUntouched}
 use Rattle.workers.specs.declared.item.Ended.{Ended}
 use Rattle.workers.specs.declared.item.Item.TheVariants.{Tick}
@@ -22,8 +22,8 @@ runs_of m ended front asked requests same number answers pair ran untouched = re
 }
 
 -- the batch was run, and its tick is owed
-pub ran_tick : (m old : Playing) → m ≡ old → (front : FrontState) (heard : CoverState) (asked : AskedBatch) (ended : Ended) → Runs m asked ended front → m.owed ≡ None → heard ≡ loaded m.heard 0
+pub ran_tick : (m old : Playing) → m ≡ old → (front : FrontState) (heard : SignalState) (asked : AskedBatch) (ended : Ended) → Runs m asked ended front → m.owed ≡ None → heard ≡ loaded m.heard 0
     → OwesTick old asked (record m { front = front; heard = heard; down = true; owed = Some (Tick ended) })
 ran_tick m old is front heard asked ended runs none up = let new : Playing = record m { front = front; heard = heard; down = true; owed = Some (Tick ended) } in
     subst (λ (p : Playing). OwesTick p asked new) is
-    (none, (ended, runs, ap (λ (h : CoverState). let p : Playing = record m { front = front; heard = h; down = true; owed = Some (Tick ended) } in p) up))
+    (none, (ended, runs, ap (λ (h : SignalState). let p : Playing = record m { front = front; heard = h; down = true; owed = Some (Tick ended) } in p) up))

@@ -6,7 +6,7 @@ use Rattle.action_log.specs.declared.answer.LogAnswer.{LogAnswer}
 use Rattle.action_log.specs.Logs.{Logs}
 use Rattle.action_log.specs.LogSteps.{LogsStep}
 use Rattle.action_log.specs.Cover.{CoverStep}
-use Rattle.shared_capture.specs.CoverWord.{CoverState}
+use Rattle.shared_capture.specs.SignalWord.{SignalState}
 
 -- a switch at one of these ticks comes first
 abbrev pub BeginsAt : List ℕ → List Record → Type 0
@@ -30,9 +30,9 @@ abbrev pub Advances : ℕ → Logs → List Record → LogAnswer → Logs → Li
 Advances tick logs queue given next left = LogsStep logs queue given next left ⊎ ((next ≡ logs) × CoverStep logs queue tick given left)
 
 -- the word of open images was loaded, and held this tick
-abbrev pub loaded : CoverState → ℕ → CoverState
+abbrev pub loaded : SignalState → ℕ → SignalState
 loaded covers tick = record covers { ticks = covers.ticks ++ tick ∷ [] }
 
 -- it was loaded any number of times more
-abbrev pub LoadsOn : CoverState → CoverState → Type 0
+abbrev pub LoadsOn : SignalState → SignalState → Type 0
 LoadsOn old new = (more : List ℕ) × (new ≡ record old { ticks = old.ticks ++ more })

@@ -11,7 +11,7 @@ use Rattle.image_files.specs.Taken.{filled_words}
 use Rattle.restart.specs.Rounds.{words_of}
 use Rattle.shared_capture.specs.declared.view.Snapshot.{Snapshot}
 use Rattle.shared_capture.specs.States.{BackState, SameDone, FoundNone, FoundRound}
-use Rattle.shared_capture.specs.CoverWord.{CoverState}
+use Rattle.shared_capture.specs.SignalWord.{SignalState}
 use Rattle.workers.specs.declared.gate.Place.{Place}
 use Rattle.workers.specs.declared.gate.Place.TheVariants.{Take, Device}
 use Rattle.workers.specs.declared.checkpointer.round.ImageWriter.{ImageWriter}
@@ -65,7 +65,7 @@ abbrev pub IsInWork : BackState → (tick : ℕ) → BackState → Type 0
 IsInWork old tick new = (new.working ≡ true) × (new.now.tick ≡ tick) × (new.done ≡ old.done)
 
 -- a round's tick is published once the keeper has no round any more, and not before
-pub record Publishes (tick : ℕ) (keeper : Progress) (old new : CoverState) : Type 0 where
+pub record Publishes (tick : ℕ) (keeper : Progress) (old new : SignalState) : Type 0 where
   pub in_work : HasRound keeper → new ≡ old
   pub done : keeper.phase ≡ Idle → new ≡ reported old tick
 
@@ -110,7 +110,7 @@ pub record ReportsFaults {D : Type 0} (faults : D → ℕ) (old new : ImageWrite
 -- that it does no more.
 pub record Imaging (D : Type 0) : Type 0 where
   pub back : BackState
-  pub covers : CoverState
+  pub covers : SignalState
   pub images : ImageWriter D
   pub opening : ImageWriter D
   pub over : Bool

@@ -17,7 +17,7 @@ use Rattle.action_log.specs.Logs.{Logs, Writing}
 use Rattle.action_log.specs.Files.{FitsFiles}
 use Rattle.action_log.specs.Stands.{Stands}
 use Rattle.recovery.specs.Events.{with_work}
-use Rattle.shared_capture.specs.CoverWord.{CoverState}
+use Rattle.shared_capture.specs.SignalWord.{SignalState}
 use Rattle.workers.specs.declared.item.Item.{Item}
 use Rattle.workers.specs.declared.item.Item.TheVariants as items
 use Rattle.workers.specs.declared.log_writer.Log.{Log}
@@ -78,8 +78,8 @@ pub record HasAcked (acked : ℕ) (logs : Logs) : Type 0 where
 -- the items that it popped, the word that it loads, the word by which it reports that the log is down, and the rest
 pub record Logging (D : Type 0) : Type 0 where
   pub from : Popping
-  pub covers : CoverState
-  pub reported_down : CoverState
+  pub covers : SignalState
+  pub reported_down : SignalState
   pub log : Log D
   pub ring : Buffer Record
   pub answers : Answering
@@ -96,7 +96,7 @@ pub record IsReady (keeper : Progress) (tick : ℕ) : Type 0 where
   pub count : keeper.count ≡ 0
 
 -- the log writer as it begins
-abbrev pub writer_at : {D : Type 0} → Popping → (covers reported_down : CoverState) → Log D → (tick : ℕ) → Logging D
+abbrev pub writer_at : {D : Type 0} → Popping → (covers reported_down : SignalState) → Log D → (tick : ℕ) → Logging D
 writer_at from covers reported_down log tick = record {
   from = from;
   covers = covers;
@@ -176,7 +176,7 @@ module _ {D : Type 0} (file : D → List ℕ) (leaves : D → List ℕ → Type 
 pub record Holding (D : Type 0) : Type 0 where
   pub opening : Log D
   pub from : Popping
-  pub covers : CoverState
+  pub covers : SignalState
   pub log : Log D
   pub ring : Buffer Record
 

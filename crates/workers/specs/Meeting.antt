@@ -1,6 +1,6 @@
 -- The workers of a world once their ends have met.
 use Rattle.std.specs.Prelude.{◌≡◌, ◌≤◌, ℕ, Bool, true, List, ◌++◌, Some, slice_get}
-use Rattle.shared_capture.specs.CoverWord.{AreStored}
+use Rattle.shared_capture.specs.SignalWord.{AreStored}
 use Rattle.shared_capture.specs.Rounds.{Agree}
 use Rattle.shared_capture.specs.States.{snapshots, KnowsOpen}
 use Rattle.workers.specs.declared.item.Item.{Item}

@@ -4,7 +4,7 @@ use Rattle.world_actions.specs.declared.refusal.Refusal.{Refusal}
 use Rattle.world_actions.specs.declared.refusal.Refusal.TheVariants.{LogDown, Busy}
 use Rattle.world_ticks.specs.declared.tick.TheConstants.{TICK_MAX}
 use Rattle.shared_capture.specs.declared.view.Round.{Round}
-use Rattle.shared_capture.specs.CoverWord.{CoverState}
+use Rattle.shared_capture.specs.SignalWord.{SignalState}
 use Rattle.shared_capture.specs.States.{FrontState, HasFlags, KeepsUntouched, SameWords, marked_rounds, IsRefused}
 use Rattle.workers.specs.declared.item.Ended.{Ended}
 use Rattle.workers.specs.declared.item.Item.{Item}
@@ -24,7 +24,7 @@ pub record Playing : Type 0 where
   pub asks : Taking
   pub front : FrontState
   pub to : Pushing
-  pub heard : CoverState
+  pub heard : SignalState
   pub opening : List ℕ
   pub ended : ℕ
   pub since : ℕ

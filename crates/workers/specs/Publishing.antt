@@ -3,7 +3,7 @@ use Rattle.std.specs.Prelude.{◌≡◌, ◌⊎◌, ℕ, ◌<◌, ◌≤◌, All
 use Rattle.world_ticks.specs.declared.tick.TheConstants.{TICK_MAX}
 use Rattle.file_format.specs.declared.slot.Slot.{Slot}
 use Rattle.image_files.specs.Progress.{newest_tick}
-use Rattle.shared_capture.specs.CoverWord.{CoverState}
+use Rattle.shared_capture.specs.SignalWord.{SignalState}
 use Rattle.shared_capture.specs.declared.view.Snapshot.{Snapshot}
 
 -- no image is made of this tick: there is no such tick, or the newest image isn't older
@@ -11,16 +11,16 @@ abbrev pub IsNoneDue : Option (Slot × ℕ) → ℕ → Type 0
 IsNoneDue newest tick = (TICK_MAX < tick) ⊎ (tick ≤ newest_tick newest)
 
 -- the tick may be published: it is that of a round, and newer than those before it
-pub record IsNext (covers : CoverState) (tick : ℕ) : Type 0 where
+pub record IsNext (covers : SignalState) (tick : ℕ) : Type 0 where
   pub some : 1 ≤ tick
   pub newer : (i earlier : ℕ) → slice_get covers.ticks i ≡ Some earlier → earlier < tick
 
 -- the tick was published
-abbrev pub reported : CoverState → ℕ → CoverState
+abbrev pub reported : SignalState → ℕ → SignalState
 reported covers tick = record covers { ticks = covers.ticks ++ tick ∷ [] }
 
 -- the ticks of the rounds that are done were published, each once and in order, and no other; none is newer than the
 -- newest image
-pub record ArePublished (newest : Option (Slot × ℕ)) (done : List Snapshot) (covers : CoverState) : Type 0 where
+pub record ArePublished (newest : Option (Slot × ℕ)) (done : List Snapshot) (covers : SignalState) : Type 0 where
   pub are : covers.ticks ≡ map (λ (s : Snapshot). s.tick) done
   pub older : All (λ (tick : ℕ). tick ≤ newest_tick newest) covers.ticks

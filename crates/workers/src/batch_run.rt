@@ -14,14 +14,13 @@ use world_actions::Refusal;
 use world_ticks::Tick;
 
 /// Runs a batch on the front as the next tick. Returns its accepted actions, and the line that answers it, which is in the
-/// memory of `buffer` if that suffices. `down` says if the log is down, `ended` how many ticks ended, and `since` how many
-/// of them since the last mark or start.
+/// memory of `buffer` if that suffices. `ended` says how many ticks ended, and `since` how many of them since the last mark or
+/// start.
 pub fn play<M: Method>(
     alloc: Global,
     buffer: Vec<u8>,
     front: &mut Front<M>,
     b: &Batch,
-    down: bool,
     ended: u64,
     since: u64,
 ) -> Result<(Tick, Vec<u8>), Refusal>
@@ -30,12 +29,12 @@ pub fn play<M: Method>(
     ensures words { OnOk result (front.new.live ≡ words_after b.now.list front.old.live) }
     ensures rounds { SameRounds front.old front.new }
     ensures untouched { HasFlags front.old → KeepsUntouched front.old front.new }
-    ensures room { OnOk result ((down ≡ false) × (ended < TICK_MAX) × (since < SEGMENT_TICKS)) }
-    ensures refused { IfErr result (IsRefusedTick down ended since) }
+    ensures room { OnOk result ((ended < TICK_MAX) × (since < SEGMENT_TICKS)) }
+    ensures refused { IfErr result (IsRefusedTick false ended since) }
     ensures unchanged { OnErr result (front.new ≡ front.old) }
 {
     accesses_keep();
-    if let Some(reason) = tick_refusal(down, ended, since) {
+    if let Some(reason) = tick_refusal(false, ended, since) {
         return Err(reason);
     }
     let mut tick = Tick::new(alloc);

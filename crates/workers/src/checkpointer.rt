@@ -16,7 +16,7 @@ use crate::gate::{Gate, Place, passes};
 use crossbeam_channel::Receiver;
 use disk_model::Disk;
 use image_files::{ImageKeeper, images_stay};
-use shared_capture::{Back, CoverOut, Method};
+use shared_capture::{Back, Method, SignalOut};
 use std::marker::Model;
 use std::snapshot::Snapshot;
 use std::sync::Wait;
@@ -56,7 +56,7 @@ impl<M: Method, D: Disk + Drop, G: Gate + Drop> Checkpointer<M, D, G> {
     pub fn new(
         gate: G,
         back: Back<M>,
-        covers: CoverOut,
+        covers: SignalOut,
         images: ImageWriter<D>,
         bell: Receiver<()>,
     ) -> Self

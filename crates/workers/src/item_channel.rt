@@ -9,8 +9,8 @@ ghost use Rattle.workers.specs.Items.{AreNumbered, Goes, items_end};
 ghost use Rattle.workers.specs.Order.{pushed_of, popped_of};
 ghost use Rattle.workers.specs.Channel.{IsBegun, AreOneChannel, with_item, with_refusal};
 
-use crate::channel_rule::{All, InOrder, Move, Part, Pop, Push, Whole};
 use crate::item::{Item, View};
+use crate::item_rule::{All, InOrder, Move, Part, Pop, Push, Whole};
 use crate::looks::Looks;
 use crossbeam_channel::{Pass, RecvError, RuledReceiver, RuledSender, TryRecvError, bounded_with};
 use restart::QUEUE_RECORDS;

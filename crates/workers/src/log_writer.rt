@@ -31,7 +31,7 @@ use disk_model::Disk;
 pub(crate) use holding::Holding;
 use keep::{keep, lose};
 use restart::QUEUE_RECORDS;
-use shared_capture::{CoverIn, CoverOut};
+use shared_capture::{SignalIn, SignalOut};
 use std::alloc::{AllocError, Global};
 use std::marker::Model;
 use std::snapshot::Snapshot;
@@ -52,9 +52,9 @@ pub struct LogWriter<D: Disk + Drop, G: Gate + Drop> {
     gate: G,
     pub(crate) from: ItemReceiver,
     /// Holds the tick of the newest open image.
-    pub(crate) covers: CoverIn,
+    pub(crate) covers: SignalIn,
     /// Gets a 1 once the log is down.
-    pub(crate) reported_down: CoverOut,
+    pub(crate) reported_down: SignalOut,
     log: Log<D>,
     ring: HeapCircularBuffer<Record>,
     answers: Answers,
@@ -83,9 +83,9 @@ impl<D: Disk + Drop, G: Gate + Drop> LogWriter<D, G> {
         alloc: Global,
         gate: G,
         from: ItemReceiver,
-        covers: CoverIn,
+        covers: SignalIn,
         log: Log<D>,
-        reported_down: CoverOut,
+        reported_down: SignalOut,
         tick: u64,
     ) -> Result<Self, AllocError>
         requires opened { from.items ≡ Start tick ∷ [] }

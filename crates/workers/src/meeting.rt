@@ -13,7 +13,7 @@ use crate::item_channel::compare;
 use crate::log_writer::LogWriter;
 use crate::mutator::Mutator;
 use disk_model::Disk;
-use shared_capture::{Method, meet, meet_cover};
+use shared_capture::{Method, meet, meet_signal};
 
 /// Lets the ends of a world's workers meet: their seats, their channel and their two words. It also states the invariant of
 /// each worker, for callers that see a worker only as a value.
@@ -38,5 +38,5 @@ pub fn meet_workers<M: Method, D: Disk + Drop, A: Gate + Drop, B: Gate + Drop, C
     meet(&mut mutator.front, &mut checkpointer.back);
     compare(&mut mutator.to, &mut log_writer.from);
     checkpointer.covers.meet(&mut log_writer.covers);
-    meet_cover(&mut log_writer.reported_down, &mut mutator.heard);
+    meet_signal(&mut log_writer.reported_down, &mut mutator.heard);
 }

@@ -17,7 +17,7 @@ use crate::item::{Ended, Item};
 use crate::item_channel::ItemSender;
 use crate::post::{Ask, Refused};
 use crossbeam_channel::Sender;
-use shared_capture::{CoverIn, Front, Method};
+use shared_capture::{Front, Method, SignalIn};
 use std::alloc::Global;
 use std::marker::Model;
 use std::snapshot::Snapshot;
@@ -39,7 +39,7 @@ pub struct Mutator<M: Method, G: Gate + Drop> {
     /// Rung after each switch.
     bell: Option<Sender<()>>,
     /// Holds 1 once the log is down.
-    pub(crate) heard: CoverIn,
+    pub(crate) heard: SignalIn,
     ended: u64,
     since: u64,
     every: u64,
@@ -70,7 +70,7 @@ impl<M: Method, G: Gate + Drop> Mutator<M, G> {
         tick: u64,
         every: u32,
         bell: Sender<()>,
-        heard: CoverIn,
+        heard: SignalIn,
     ) -> Self
         requires none { front.rounds ≡ [] }
         requires flags { HasFlags front }
@@ -189,7 +189,6 @@ impl<M: Method, G: Gate + Drop> Mutator<M, G> {
             buffer,
             &mut self.front,
             ask.batch(),
-            false,
             number,
             self.since,
         );
@@ -251,7 +250,7 @@ fn ring<R: Wait, M: Method>(rt: &R, bell: &Option<Sender<()>>, _front: &Front<M>
 }
 
 // True if the log writer has reported that the log is down.
-fn hears_down(heard: &mut CoverIn) -> bool
+fn hears_down(heard: &mut SignalIn) -> bool
     ensures up { result ≡ false → heard.new ≡ loaded heard.old 0 }
     ensures down { result ≡ true → (flag : ℕ) × (1 ≤ flag) × (heard.new ≡ loaded heard.old flag) }
 {

@@ -2,7 +2,7 @@
 use Rattle.std.specs.Prelude.{ℕ, List, [], ◌++◌, codes, decimal, Option, Some, None}
 use Rattle.std.specs.Net.Socket.{socket_port}
 use Rattle.std.specs.Path.{path_buf_bytes}
-use Rattle.tcp_service.specs.declared.door.Unserved.TheVariants.{NoMemory, NoThread}
+use Rattle.client_service.specs.declared.door.Unserved.TheVariants.{NoMemory, NoThread}
 use Rattle.world_folder.specs.Texts.{doubtful_text, world_text}
 use Rattle.world_server.specs.declared.line.Line.{Line}
 use Rattle.world_server.specs.declared.line.Line.TheVariants as line

@@ -3,8 +3,8 @@ use Rattle.std.specs.Prelude.{◌≡◌, ◌≢◌, Bool, true, false, if◌then
 use Rattle.world_actions.specs.declared.refusal.Refusal.TheVariants.{NoMemory}
 use Rattle.image_files.specs.declared.phase.Phase.{Phase}
 use Rattle.image_files.specs.declared.phase.Phase.TheVariants.{Down}
-use Rattle.tcp_service.specs.declared.accept.Closed.{Closed}
-use Rattle.tcp_service.specs.declared.accept.Closed.TheVariants as closed
+use Rattle.client_service.specs.declared.accept.Closed.{Closed}
+use Rattle.client_service.specs.declared.accept.Closed.TheVariants as closed
 use Rattle.world_folder.specs.declared.ending.Ending.{Ending}
 use Rattle.world_folder.specs.declared.ending.Ending.TheVariants.{Ran, HelpPrinted, Mistaken, Fault, Server}
 use Rattle.world_folder.specs.declared.ending.ServerEnding.TheVariants.{ListenerFailed, ImagesDown, LogDown}

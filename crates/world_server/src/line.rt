@@ -4,10 +4,10 @@ ghost use Rattle.world_server.specs.Lines.{line_text};
 ghost use Rattle.world_server.specs.Paths.{path_at};
 
 use crate::reporter::Report;
+use client_service::Unserved;
 use disk_model::FourFiles;
 use std::path::PathBuf;
 use std::{fmt, io};
-use tcp_service::Unserved;
 use world_folder::{Doubtful, Reason, WorldFile};
 
 /// A file whose call failed, and why.

@@ -4,13 +4,13 @@ ghost use Rattle.world_server.specs.Lines.{report_text};
 
 use crate::line::Line;
 use crate::printer::Printer;
+use client_service::{Counts, Pulse};
 use crossbeam_channel::{Sender, bounded};
 use std::alloc::Global;
 use std::fmt;
 use std::sync::{Arc, Wait};
 use std::thread::{self, Threads};
 use std::time::{Clock, Duration};
-use tcp_service::{Counts, Pulse};
 use worker_threads::NotStarted;
 
 /// The figures of a server.

@@ -16,13 +16,13 @@ use crate::line::Line;
 use crate::service::Every;
 use crate::standing::{Losses, ending_of_left};
 use capture_core::PlainCopy;
+use client_service::{Admission, Closed, Door, NotServed, Stopped, serve_clients};
 use disk_model::{Disk, FourFiles};
 use shared_capture::Method;
 use std::alloc::Global;
 use std::sync::Wait;
 use std::thread::Threads;
 use std::time::Clock;
-use tcp_service::{Admission, Closed, Door, NotServed, Stopped, serve_tcp};
 use worker_steps::{Gates, Opened};
 use worker_threads::{Seats, Watch, start_world};
 use workers::{ImageWriter, Log, Open};
@@ -200,7 +200,7 @@ fn serve_opened<
         log_writer: Open,
     };
     match front.open(&opened) {
-        Ok((listener, watch)) => match serve_tcp(
+        Ok((listener, watch)) => match serve_clients(
             rt, alloc, gates, watch, opened, every.0, listener, admission,
         ) {
             Ok(stopped) => {

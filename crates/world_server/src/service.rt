@@ -1,8 +1,8 @@
 ghost use Rattle.std.specs.Prelude.{◌≡◌};
 
 use crate::socket::SocketMode;
+use client_service::Admission;
 use shared_capture::Kind;
-use tcp_service::Admission;
 
 /// After how many ticks a round is due.
 #[derive(Clone, Copy, Debug, PartialEq, Eq)]

@@ -32,6 +32,6 @@ pub fn run_round<C: Capture, D: Disk>(
 {
     worlds_go_on();
     while keeper.left() > 0 {
-        keeper.step_files(store, image_a, image_b);
+        keeper.step(store, image_a, image_b);
     }
 }

@@ -1,6 +1,6 @@
 use capture_core::{Capture, PlainCopy};
-use core_rows::{Asked, PlainAnswer};
 use ping_pong::PingPong;
+use plain_moves::{Asked, PlainAnswer};
 use std::alloc::Global;
 use std::process::Abort;
 use std::test::Fail;

@@ -51,7 +51,7 @@ fn run<T: Taker, D: Disk>(
 {
     keeper.begin(tick);
     for working in 0..MOST_STEPS {
-        match keeper.step_files(from, image_a, image_b) {
+        match keeper.step(from, image_a, image_b) {
             ImageAnswer::Working => {}
             answer => return (working, answer),
         }
@@ -259,7 +259,7 @@ fn stays_down(
 {
     image_a.arm(1);
     let was_down = keeper.is_down();
-    let again = keeper.step_files(store, image_a, image_b);
+    let again = keeper.step(store, image_a, image_b);
     was_down && again == ImageAnswer::Down && image_a.len() == Err(Refusal::Device)
 }
 

@@ -2,7 +2,7 @@ use crate::image_model::ImageModel;
 use crate::log_model::LogModel;
 use crate::model::PlainModel;
 use crate::wrong::{Rule, Wrong, hold};
-use core_rows::PlainAnswer;
+use plain_moves::PlainAnswer;
 
 impl PlainModel {
     pub fn follow_crash(&mut self, given: PlainAnswer) -> Result<(), Wrong> {

@@ -1,6 +1,6 @@
 use crate::model::PlainModel;
 use crate::wrong::{Wrong, expect};
-use core_rows::PlainAnswer;
+use plain_moves::PlainAnswer;
 use world_actions::{Action, Refusal};
 
 /// The most actions of a tick.

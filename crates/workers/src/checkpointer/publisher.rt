@@ -1,26 +1,26 @@
 //! The publisher, which reports the ticks of open images to the log writer.
 ghost use Rattle.std.specs.Prelude.{◌≡◌, true};
-ghost use Rattle.shared_capture.specs.CoverWord.{CoverState, AreStored};
+ghost use Rattle.shared_capture.specs.SignalWord.{SignalState, AreStored};
 ghost use Rattle.workers.specs.Publishing.{IsNext, reported};
 
-use shared_capture::{Back, CoverIn, CoverOut, Method, meet_cover};
+use shared_capture::{Back, Method, SignalIn, SignalOut, meet_signal};
 use std::marker::Model;
 
 /// Publishes the tick of a round's image while the back still has the round. Contracts see the ticks.
 #[derive(Drop)]
 pub struct Publisher {
-    covers: CoverOut,
+    covers: SignalOut,
 }
 
 impl Model for Publisher {
-    ghost Value = { CoverState };
+    ghost Value = { SignalState };
 
     ghost view = { λ publisher. publisher.covers };
 }
 
 impl Publisher {
     /// A publisher that stores ticks in this word.
-    pub(crate) fn new(covers: CoverOut) -> Self
+    pub(crate) fn new(covers: SignalOut) -> Self
         ensures { result ≡ covers }
     {
         Publisher { covers }
@@ -37,11 +37,11 @@ impl Publisher {
     }
 
     /// Meets the seat that loads the ticks.
-    pub(crate) fn meet(&mut self, from: &mut CoverIn)
+    pub(crate) fn meet(&mut self, from: &mut SignalIn)
         requires { self.old.pair ≡ from.old.pair }
         ensures same { (self.new ≡ self.old) × (from.new ≡ from.old) }
         ensures stored { AreStored self.new.ticks from.new.ticks }
     {
-        meet_cover(&mut self.covers, from);
+        meet_signal(&mut self.covers, from);
     }
 }

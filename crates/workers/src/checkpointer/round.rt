@@ -45,7 +45,7 @@ pub(crate) fn step<M: Method, D: Disk>(
 {
     let ImageAnswer::Opened(_) = images
         .keeper
-        .step_files(back, &mut images.image_a, &mut images.image_b)
+        .step(back, &mut images.image_a, &mut images.image_b)
     else {
         return;
     };

@@ -4,7 +4,7 @@ use crate::item_channel::ItemReceiver;
 use action_log::Record;
 use circular_buffer::HeapCircularBuffer;
 use disk_model::Disk;
-use shared_capture::CoverIn;
+use shared_capture::SignalIn;
 use std::marker::Model;
 use std::snapshot::Snapshot;
 
@@ -13,7 +13,7 @@ use std::snapshot::Snapshot;
 pub struct Holding<'a, D: Disk + Drop> {
     pub(crate) opening: &'a Snapshot<Log<D>>,
     pub(crate) from: &'a ItemReceiver,
-    pub(crate) covers: &'a CoverIn,
+    pub(crate) covers: &'a SignalIn,
     pub(crate) log: &'a Log<D>,
     pub(crate) ring: &'a HeapCircularBuffer<Record>,
 }

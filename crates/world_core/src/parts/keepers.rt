@@ -23,7 +23,7 @@ impl<C: Capture> Parts<C> {
         arm(&mut self.image_b, fate);
         let answer = self
             .images
-            .step_files(&mut self.store, &mut self.image_a, &mut self.image_b);
+            .step(&mut self.store, &mut self.image_a, &mut self.image_b);
         self.image_a.disarm();
         self.image_b.disarm();
         answer

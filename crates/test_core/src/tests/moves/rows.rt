@@ -1,8 +1,8 @@
 use super::{IMAGE, IMAGE_FAILS, LOG, LOG_FAILS, Line, SET, ones, reported_by};
 use capture_core::{Capture, PlainCopy};
-use core_rows::{Asked, PlainAnswer};
 use disk_model::Leaving;
 use ping_pong::PingPong;
+use plain_moves::{Asked, PlainAnswer};
 use shared_capture::{Joined, Pong, Zig};
 use std::alloc::Global;
 use std::process::Abort;

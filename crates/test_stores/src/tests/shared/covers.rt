@@ -1,9 +1,9 @@
 // The tick of the newest open image, passed from one thread to another.
 ghost use Rattle.std.specs.Prelude.{◌≡◌, []};
-ghost use Rattle.shared_capture.specs.CoverWord.{AreStored};
+ghost use Rattle.shared_capture.specs.SignalWord.{AreStored};
 
 use super::super::same::same;
-use shared_capture::{CoverIn, CoverOut, cover_pair, meet_cover};
+use shared_capture::{SignalIn, SignalOut, meet_signal, signal_pair};
 use std::process::Abort;
 use std::thread::{Threads, join, yield_now};
 
@@ -12,7 +12,7 @@ const TICKS: u64 = 1000;
 const TRIES: u64 = 1_000_000_000;
 
 // Publishes the first ticks, one after the other.
-fn publish_all(mut out: CoverOut) -> CoverOut
+fn publish_all(mut out: SignalOut) -> SignalOut
     requires { out.ticks ≡ [] }
     ensures { result.pair ≡ out.pair }
 {
@@ -23,7 +23,7 @@ fn publish_all(mut out: CoverOut) -> CoverOut
 }
 
 // Loads until the last tick comes. Returns true if no tick was below the one before.
-fn load_all(mut from: CoverIn) -> (CoverIn, bool)
+fn load_all(mut from: SignalIn) -> (SignalIn, bool)
     ensures { result.0.pair ≡ from.pair }
 {
     let mut last = 0;
@@ -39,28 +39,32 @@ fn load_all(mut from: CoverIn) -> (CoverIn, bool)
 }
 
 // Runs both threads. Each tick that one loaded was stored by the other.
-fn run_both<R: Threads + Sync>(rt: &R, out: CoverOut, from: CoverIn) -> (CoverOut, CoverIn, bool)
+fn run_both<R: Threads + Sync>(
+    rt: &R,
+    out: SignalOut,
+    from: SignalIn,
+) -> (SignalOut, SignalIn, bool)
     requires pair { out.pair ≡ from.pair }
     requires fresh { out.ticks ≡ [] }
     ensures { AreStored result.0.ticks result.1.ticks }
 {
     let (mut out, loaded) = join(
         rt,
-        move || -> CoverOut
+        move || -> SignalOut
             requires { out.ticks ≡ [] }
             ensures { result.pair ≡ out.pair }
         { publish_all(out) },
-        move || -> (CoverIn, bool)
+        move || -> (SignalIn, bool)
             ensures { result.0.pair ≡ from.pair }
         { load_all(from) },
     );
     let (mut from, rises) = loaded;
-    meet_cover(&mut out, &mut from);
+    meet_signal(&mut out, &mut from);
     (out, from, rises)
 }
 
 // Publishes a tick, and looks for it before and after a meeting.
-fn check_newest(rt: &impl Abort, out: &mut CoverOut, from: &mut CoverIn)
+fn check_newest(rt: &impl Abort, out: &mut SignalOut, from: &mut SignalIn)
     requires pair { out.old.pair ≡ from.old.pair }
     requires fresh { out.old.ticks ≡ [] }
 {
@@ -68,19 +72,19 @@ fn check_newest(rt: &impl Abort, out: &mut CoverOut, from: &mut CoverIn)
     out.publish(3);
     same(rt, from.latest(), 3);
     same(rt, from.latest(), 3);
-    meet_cover(out, from);
+    meet_signal(out, from);
     same(rt, from.latest(), 3);
 }
 
 #[test]
 fn the_newest_image_is_reported(rt: HostRuntime) {
-    let (mut out, mut from) = cover_pair(rt.alloc()).expect(&rt, "memory");
+    let (mut out, mut from) = signal_pair(rt.alloc()).expect(&rt, "memory");
     check_newest(&rt, &mut out, &mut from);
 }
 
 #[test]
 fn ticks_rise_between_threads(rt: HostRuntime) {
-    let (out, from) = cover_pair(rt.alloc()).expect(&rt, "memory");
+    let (out, from) = signal_pair(rt.alloc()).expect(&rt, "memory");
     let (_out, mut from, rises) = run_both(&rt, out, from);
     same(&rt, (rises, from.latest()), (true, TICKS));
 }

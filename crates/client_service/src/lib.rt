@@ -1,0 +1,24 @@
+//! The clients of a world that workers run: a thread for each connection.
+//!
+//! `serve_clients` starts the workers of an open world, serves so many connections, and stops them. A session reads batches and
+//! sends each to the mutator. It writes the log writer's post of a batch, which comes only after the batch's tick is durable.
+//! A client that fails or leaves ends its own session alone. A session that has ended is joined before the next connection
+//! is accepted.
+#![tactic(auto)]
+
+mod accept;
+mod door;
+mod failure;
+mod incoming;
+mod pulse;
+mod remote;
+mod server;
+mod session;
+mod session_threads;
+
+pub use accept::{Accepted, Admission, Closed, accept_sessions};
+pub use door::{Door, Unserved};
+pub use pulse::{Counts, Pulse};
+pub use remote::Remote;
+pub use server::{NotServed, Stopped, serve_clients};
+pub use session::{Joined, Over, serve_batches, serve_session};

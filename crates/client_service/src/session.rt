@@ -1,0 +1,109 @@
+ghost use Rattle.std.specs.Prelude.{◌≡◌, ◌⊎◌, ◌+◌, ◌<◌, ℕ, List, true, false, OnOk, IfErr, Err};
+ghost use Rattle.std.specs.Io.KnownBytes.{Appends, Consumes, IsAtEnd};
+ghost use Rattle.sessions.specs.Session.{IsSession, IsCutOff};
+ghost use Rattle.client_service.specs.Remote.{IsPosted};
+
+use crate::door::{Door, Unserved};
+use crate::remote::Remote;
+use sessions::serve_lines;
+use std::alloc::Global;
+use std::io::{Read, Write};
+use std::sync::Wait;
+use std::time::Duration;
+use transports::Stream;
+use workers::{Asker, Looks};
+use world_actions::Refusal;
+
+/// Shows that a session has ended: only `serve_session` makes one.
+#[derive(Drop)]
+pub struct Over(());
+
+/// Answers the batches that the reader gives, one line each, as the session of this world. Each line that isn't a fault
+/// is the text of a new post of that very batch. It ends as `serve_lines` does.
+pub fn serve_batches<R: Wait + Copy, B: Read, W: Write>(
+    alloc: Global,
+    r: &mut B,
+    w: &mut W,
+    world: &mut Remote<R>,
+) -> Result<(), Refusal>
+    ensures whole { OnOk result (IsAtEnd (B.remaining r.new)
+        × (input : List ℕ) × Consumes (B.remaining r.old) (B.remaining r.new) input
+        × (text : List ℕ) × Appends (W.contents w.old) (W.contents w.new) text
+        × IsSession IsPosted world.old input text world.new false) }
+    ensures too_long { result ≡ Err Refusal.BadLine
+        → (input : List ℕ) × Consumes (B.remaining r.old) (B.remaining r.new) input
+        × (text : List ℕ) × Appends (W.contents w.old) (W.contents w.new) text
+        × IsSession IsPosted world.old input text world.new true }
+    ensures cut_off { result ≡ Err Refusal.Device
+        → (input : List ℕ) × Consumes (B.remaining r.old) (B.remaining r.new) input
+        × (written : List ℕ) × Appends (W.contents w.old) (W.contents w.new) written
+        × IsCutOff IsPosted world.old input written world.new }
+    ensures memory { result ≡ Err Refusal.NoMemory → (r.new ≡ r.old) × (w.new ≡ w.old) × (world.new ≡ world.old) }
+    ensures fault { IfErr result (λ refusal. (refusal ≡ Refusal.NoMemory)
+        ⊎ ((refusal ≡ Refusal.BadLine) ⊎ (refusal ≡ Refusal.Device))) }
+{
+    serve_lines(alloc, r, w, world)
+}
+
+/// Serves a connection as the session of this asker, until its client leaves. It also ends if the client neither sends
+/// nor takes a byte for so many seconds, or by a fault, which ends no other session. The bytes behind a batch that is too
+/// long are read and dropped, so that its answer arrives. The door hears of a session that has no memory.
+pub fn serve_session<R: Wait + Copy, W: Door + Drop>(
+    rt: &R,
+    alloc: Global,
+    stream: Stream,
+    idle: Option<u32>,
+    asker: Asker,
+    looks: Looks,
+    door: W,
+) -> Over {
+    let mut door = door;
+    let silence = idle.map(|seconds| Duration::from_secs(u64::from(seconds)));
+    let _ = stream.set_up(silence);
+    let pulse = door.pulse();
+    if let Some(pulse) = &pulse {
+        pulse.session_began();
+    }
+    let mut world = Remote::new(*rt, alloc, asker).looking(looks);
+    world.count_for(pulse);
+    let served = serve_batches(alloc, &mut &stream, &mut &stream, &mut world);
+    match served {
+        Err(Refusal::NoMemory) => door.session_refused(Unserved::NoMemory),
+        Err(Refusal::BadLine) => {
+            let _ = stream.drain();
+        }
+        _ => {}
+    }
+    if let Some(pulse) = door.pulse() {
+        pulse.session_ended();
+    }
+    Over(())
+}
+
+/// How many sessions have ended and been joined. Each is counted by what its thread returned.
+#[derive(Clone, Copy, Debug, PartialEq, Eq)]
+pub struct Joined {
+    count: u32,
+}
+
+impl Joined {
+    pub fn none() -> Self
+        ensures { result.count ≡ 0 }
+    {
+        Joined { count: 0 }
+    }
+
+    /// Counts a session that is over, of so many that were started.
+    pub fn add(&mut self, _over: Over, _started: u32)
+        requires { self.old.count < _started }
+        ensures { self.new.count ≡ self.old.count + 1 }
+    {
+        self.count += 1;
+    }
+
+    pub fn count(&self) -> u32
+        ensures { result ≡ self.now.count }
+    {
+        self.count
+    }
+}

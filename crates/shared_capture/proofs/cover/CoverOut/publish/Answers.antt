@@ -1,7 +1,0 @@
-use Rattle.std.proofs.Common.{rules, ap}
-use Rattle.shared_capture.specs.CoverWord.{stored_of}
-use Rattle.shared_capture.proofs.CoverWord.{publishes}
-use Rattle.shared_capture.proofs.cover.CoverOut.publish.Goals as goal
-
-pub store-requires : goal.store-requires
-store-requires c = (search rules, search rules, publishes _ _ _ (stored_of c.self.inside.seat.me.0) c.args.tick (ap (λ z. z.0) c.self.invariant.1))

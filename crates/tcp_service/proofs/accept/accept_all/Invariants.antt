@@ -1,5 +1,0 @@
-use Rattle.std.proofs.Common.{◌≤◌}
-use Rattle.tcp_service.proofs.accept.accept_all.Given as goal
-
-abbrev pub invariant-loop : goal.invariant-loop
-invariant-loop g l = (l.sessions.started ≤ l.incoming.came) × (l.incoming.came ≤ l.clients)
