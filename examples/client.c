@@ -4,8 +4,8 @@
  *   ./client 7070 1 1 'add 0 5' 'get 0'
  *   ./client /run/worldd/socket 1 1 'add 0 5' 'get 0'
  *
- * The address is a port of this machine, or the path of a socket. The cell behind it is the client's own, and holds the number
- * behind that once the batch was played. Each batch has a greater number than the one before. If the connection breaks, the
+ * The address is a port of this machine, or the path of a socket. The cell after it is the client's own, and holds the number
+ * after that once the batch was played. Each batch has a greater number than the one before. If the connection breaks, the
  * client connects again for half a minute. It gives up with status 3 if nobody knows whether the batch was played. Once the
  * server was started again, the same command plays the batch, or prints that it was played.
  */

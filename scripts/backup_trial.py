@@ -109,7 +109,7 @@ class Trial:
     def figures(self, world: pathlib.Path, floor: int) -> None:
         """What `status` reports of a world that is served: no tick is missing that was answered."""
         told, _ = self.ask("status", world)
-        form = r"recovered (\d+) from (\d+) in image\.[ab]\nlog: (\d+) ticks? behind the image, (.*)\nbytes: .*, together (\d+)\nserver: running, log up, images up\n"
+        form = r"recovered (\d+) from (\d+) in image\.[ab]\nlog: (\d+) ticks? after the image, (.*)\nbytes: .*, together (\d+)\nserver: running, log up, images up\n"
         match = re.fullmatch(form, told)
         if not match or int(match[1]) - int(match[2]) != int(match[3]):
             raise Wrong(f"status prints {told!r}")

@@ -42,7 +42,7 @@ NOT_OF_CRATES |= {"fs::read", "postgresql", "UpToDate", "StandAlone"}
 # Files beside the crates whose words pages name, and files of which they name words in quotes: commands, arguments and lines.
 WORDED = ("clients/**/*.py", "clients/**/*.h", "clients/**/*.rs", "examples/*.*", "worldd.service")
 QUOTED = ("scripts/*.py", "crates/*/src/**/*.rt")
-# What may be counted before or behind these words. A number behind "at most" is a bound.
+# What may be counted before or after these words. A number after "at most" is a bound.
 COUNTED = (
     (r"{} of the (?:\d+) crates", ("crates of worldd", "other crates")),
     (r"(?:other {} (?:crates|test)|{} other crates)", ("crates of worldd", "other crates")),
@@ -136,7 +136,7 @@ def block_at(lines: list[str], at: int) -> tuple[int, str, list[str]]:
 
 
 def is_gap(lines: list[str]) -> bool:
-    """Whether an empty line has a line of an indented block behind it."""
+    """Whether an empty line has a line of an indented block after it."""
     return len(lines) == 2 and not lines[0] and lines[1].startswith("    ")
 
 

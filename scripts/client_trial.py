@@ -104,7 +104,7 @@ class Trial:
     def expect(self, got: str, wanted: str) -> None:
         """Counts an answer, and refuses one that differs."""
         if self.note(got) != wanted:
-            raise Wrong(f"{type(self.player).__name__} answers `{got}` in the place of `{wanted}`")
+            raise Wrong(f"{type(self.player).__name__} answers `{got}` in place of `{wanted}`")
 
     def play(self, *batch: Action) -> str:
         """What came of a batch."""
@@ -192,7 +192,7 @@ def try_limits(trial: Trial) -> None:
 
 
 def try_pipeline(trial: Trial) -> None:
-    """Batches that are sent one behind the other are answered in order."""
+    """Batches that are sent one after the other are answered in order."""
     trial.open()
     for _ in range(20):
         trial.expect(trial.player.send([Add(3, -1), Get(3)]), "ok")
@@ -526,11 +526,11 @@ def try_prompt(trial: Trial) -> None:
     os.close(end)
 
     def read_to(*wanted: str) -> None:
-        """Reads until each text has come behind the one before."""
+        """Reads until each text has come after the one before."""
         got, deadline = "", time.monotonic() + SECONDS
         while not re.search(".*".join(map(re.escape, wanted)), got, re.DOTALL):
             if time.monotonic() > deadline or not select.select([terminal], [], [], SECONDS)[0]:
-                raise Wrong(f"the prompt prints {got!r} in the place of {wanted}")
+                raise Wrong(f"the prompt prints {got!r} in place of {wanted}")
             got += os.read(terminal, 4096).decode("ascii", "replace")
 
     try:
@@ -675,7 +675,7 @@ def try_doubt(seconds: float) -> None:
 
 
 def try_doubt_behind_answers(seconds: float) -> None:
-    """The client in Python doubts the batches behind answers that it keeps, and no others."""
+    """The client in Python doubts the batches after answers that it keeps, and no others."""
     get = Step("get 1", "tick 1: =4")
     script = Script([get, get, Step("add 1 1", "fault 12")], [READY, Step("get 1", None)], [READY])
     world = cektaulis.World(script.address, seconds)
@@ -877,7 +877,7 @@ def try_turns_of_two_batches(trial: Trial) -> int:
         if (words := world.read((BEGUN, COMPLETE, *FIRST, *SECOND))) != [number] * 6:
             raise Wrong(f"a turn over two batches leaves {words}")
     if halves != 3:
-        raise Wrong(f"{halves} turns were found half played, in the place of 3")
+        raise Wrong(f"{halves} turns were found half played, in place of 3")
     return halves
 
 

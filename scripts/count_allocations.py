@@ -3,7 +3,7 @@
 
     scripts/count_allocations.py crates/measures/out/measures crates/worldd/out/worldd
 
-`measures allocations` makes each of its calls in a stretch of its own, and prints its name with the most allocations that
+`measures allocations` makes each of its calls in its own stretch, and prints its name with the most allocations that
 it is to make. A library that is loaded before the program counts those that it makes. A call that makes more fails the
 script. A serving worldd has all its allocations counted: those of many batches, once a few were served. It needs a C
 compiler, as cc.

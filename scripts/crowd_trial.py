@@ -65,7 +65,7 @@ class Server:
         """The next line must be this one."""
         told = self.line()
         if told != line:
-            raise Wrong(f"worldd printed `{told}` in the place of `{line}`")
+            raise Wrong(f"worldd printed `{told}` in place of `{line}`")
 
     def connect(self) -> socket.socket:
         """A client's connection."""

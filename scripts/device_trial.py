@@ -35,7 +35,7 @@ FAILURES_OF_A_MACHINE, PATIENCE_SECONDS, WRITE_SECONDS, EVERY = 60, 600, 0.0005,
 SEARCHED, PLAYED_ON, PLAYED = 40, 5, 6
 # How many starts are tried for a call that is to fail, and how likely each of the writes of a sync is refused.
 STARTS, LIKELY = 3, 0.7
-# How likely the power is cut right after a failure, and in the start behind it. It is cut in the play behind that, too.
+# How likely the power is cut right after a failure, and in the start after it. It is cut in the play after that, too.
 CUTS = {"after a failure": 0.3, "in a start": 0.5}
 # A write of a journal begins so. One that fails stops the whole file system, until it is mounted again.
 JOURNALS = b"\xc0\x3b\x39\x98", b"\xfe\xed\xba\xbe"
@@ -227,7 +227,7 @@ class Trial(Rig):
         self.look_at_fall()
 
     def look_at_fall(self) -> None:
-        """Nothing is down if no call failed. What came of the call may arrive behind the line that something is down."""
+        """Nothing is down if no call failed. What came of the call may arrive after the line that something is down."""
         if self.down and not self.failed_now:
             self.until(lambda: not self.is_asked, "a call goes on")
             if not self.failed_now and self.strayed and IO_ERROR in self.told_by_server:

@@ -127,7 +127,7 @@ class Script:
                     for step in steps:
                         batch = ", ".join(line[:-1] for line in iter(lines.readline, "end\n") if line)
                         if batch != step.batch:
-                            self.wrong = f"`{batch}` comes in the place of `{step.batch}`"
+                            self.wrong = f"`{batch}` comes in place of `{step.batch}`"
                             return
                         time.sleep(step.seconds)
                         self.served += 1

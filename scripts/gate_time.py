@@ -26,7 +26,7 @@ KINDS = ("proof", "tests", "wrong bodies", "programs")
 
 
 def fields_of(pid: int) -> list[str]:
-    """The fields of /proc/PID/stat behind the command's name."""
+    """The fields of /proc/PID/stat after the command's name."""
     return pathlib.Path(f"/proc/{pid}/stat").read_text().rpartition(")")[2].split()
 
 

@@ -1,4 +1,4 @@
-"""This machine in the place of one of QEMU's, for device_trial.py: much faster, and for root alone. The disk is a file that is
+"""This machine in place of one of QEMU's, for device_trial.py: much faster, and for root alone. The disk is a file that is
 served from here by the protocol of FUSE, with a loop device over it. A power cut is a copy of what that disk holds then."""
 import contextlib
 import ctypes
@@ -104,7 +104,7 @@ class Served(Disk):
 
 
 class Stream:
-    """A terminal in the place of a machine's port."""
+    """A terminal in place of a machine's port."""
 
     def __init__(self, path: pathlib.Path) -> None:
         self.file, self.other = pty.openpty()

@@ -355,7 +355,7 @@ class Server:
         line = self.line()
         match = re.fullmatch(r"listening (.+)", line)
         if not match:
-            raise Wrong(f"serve told `{line}` in the place of where it listens{self.complaint()}")
+            raise Wrong(f"serve told `{line}` in place of where it listens{self.complaint()}")
         return match[1]
 
     def kill(self) -> str:

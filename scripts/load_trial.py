@@ -36,7 +36,7 @@ def counted(count: int, noun: str) -> str:
 
 
 class Server:
-    """A stand-in for worldd on a port or on a socket, in a thread of its own."""
+    """A stand-in for worldd on a port or on a socket, in its own thread."""
 
     def __init__(self, answers, lines: int, path: pathlib.Path | None):
         if path is None:

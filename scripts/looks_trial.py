@@ -28,7 +28,7 @@ from kill_trial import METHODS, TRANSPORTS, Batch, Client, Server, Wrong, flags_
 
 CLIENTS, PATIENCE_SECONDS, QUIET = kill_trial.CLIENTS, 60, subprocess.DEVNULL
 # The worlds: how many cells they have, and after how many ticks an image is written. With images so rare looks are slowed:
-# else none would end between two images. A slow look waits so long at most behind each read.
+# else none would end between two images. A slow look waits so long at most after each read.
 RARE, SLOWED_MICROSECONDS = 20_000, 20_000
 WORLDS = (200_000, 1), (kill_trial.CELLS, 1), (200_000, 64), (kill_trial.CELLS, 8), (kill_trial.CELLS, RARE)
 # The line of each command that reports the tick.

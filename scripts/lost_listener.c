@@ -1,4 +1,4 @@
-/* Loaded before the C library, it makes each accept of a process fail behind the first ACCEPTS, as one of a broken listener. */
+/* Loaded before the C library, it makes each accept of a process fail after the first ACCEPTS, as one of a broken listener. */
 #define _GNU_SOURCE
 #include <errno.h>
 #include <stdatomic.h>

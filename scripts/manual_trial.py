@@ -41,7 +41,7 @@ class Flag:
 
 @dataclasses.dataclass(frozen=True)
 class Help:
-    """What a program prints for --help, alone or behind a command: its usage, its flags, and the commands with their texts."""
+    """What a program prints for --help, alone or after a command: its usage, its flags, and the commands with their texts."""
 
     about: str
     usage: str
@@ -53,7 +53,7 @@ class Help:
 def compare(what: str, got, want) -> None:
     """Refuses a difference."""
     if got != want:
-        raise Wrong(f"{what} has\n  {got}\nin the place of\n  {want}")
+        raise Wrong(f"{what} has\n  {got}\nin place of\n  {want}")
 
 
 def flag_of(line: str) -> Flag:
@@ -83,7 +83,7 @@ def help_of(program: pathlib.Path, name: str, *command: str) -> Help:
 
 
 def helps_of(program: pathlib.Path, name: str) -> dict[str, Help]:
-    """What a program prints for --help, behind each command and alone."""
+    """What a program prints for --help, after each command and alone."""
     top = help_of(program, name)
     return {"": top} | {command: help_of(program, name, command) for command in top.commands if command != "help"}
 
@@ -132,7 +132,7 @@ ask() { local file=$1; shift; local -a words=("$@"); local CURRENT=$#; source $f
 
 
 class Shell:
-    """A shell: what it offers behind some words, the last of which is being written."""
+    """A shell: what it offers after some words, the last of which is being written."""
 
     def __init__(self, name: str, program: str) -> None:
         self.name, self.program = name, program
@@ -154,7 +154,7 @@ class Shell:
         return {it for it in offered if it.startswith("-") or not words[-1]}
 
     def values(self, command: str, flag: str) -> set[str]:
-        """What it offers behind a flag."""
+        """What it offers after a flag."""
         words = (*([command] if command else []), flag, "")
         if self.name != "zsh":
             return self.offers(*words)

@@ -92,7 +92,7 @@ CALLS = TOP / "crates" / "trial_memory" / "out" / "trial_memory"
 CALL_REFUSED = re.compile(r"refused with (\d+), and answered then")
 CALL_ANSWERED, CALLS_MADE = "answered", "made"
 NO_MEMORY = "17"
-# What the calls answer that make files in memory grow, where a growth is refused: want of memory, or a device that failed.
+# What the calls answer that make files in memory grow, where a growth is refused: lack of memory, or a device that failed.
 GROWING = {
     "ModelFile::write_at": ("18",),
     "fresh_files of files that grow": (NO_MEMORY, "18"),
@@ -160,7 +160,7 @@ def was_told(reader: int) -> bool:
 
 
 def is_fault(run: Run) -> bool:
-    """Whether want of memory ended the run, and was told so."""
+    """Whether lack of memory ended the run, and was told so."""
     return run.status == 13 and run.told.partition("\n")[0] == FAULT
 
 
@@ -297,7 +297,7 @@ class World:
         self.unanswered = None
         wanted = self.run(batch)
         if line != wanted:
-            raise Wrong(f"a batch was answered `{line}` in the place of `{wanted}`")
+            raise Wrong(f"a batch was answered `{line}` in place of `{wanted}`")
 
     def judge(self, told: list[str]) -> None:
         """Holds what stands in the files to the model."""

@@ -63,7 +63,7 @@ def lacking(root: pathlib.Path) -> list[str]:
 
 
 def modules(root: pathlib.Path, names: list[str]) -> list[pathlib.Path]:
-    """The kernel's modules of these names, each behind those that it needs."""
+    """The kernel's modules of these names, each after those that it needs."""
     files = {path.stem.replace("-", "_"): path for path in root.rglob("*.ko")}
     for name in names:
         needs = re.search(rb"\0depends=([^\0]*)\0", files[name].read_bytes()) if name in files else None

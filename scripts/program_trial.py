@@ -50,7 +50,7 @@ BAD_LOG = b"\1" + struct.pack("<QB", 0, 1)
 LOG_OF_3 = b"\1" + struct.pack("<QBHHBIqB", 2, 1, 1, 1, 2, 1, -2, 0)
 LOG_OF_4 = b"\1" + struct.pack("<QBHHBIIQB", 3 + (0x20 << 56), 1, 1, 1, 3, 0, 1, 2, 0)
 TAKING_LOG = b"\1" + struct.pack("<QBHHBIqB", 0, 1, 1, 1, 2, 0, -1, 0)
-# A group of tick 1, one of ticks 2 and 3, with no actions, and a closed group behind them.
+# A group of tick 1, one of ticks 2 and 3, with no actions, and a closed group after them.
 LOG_OF_GROUPS = b"\1" + struct.pack("<QBHHBHHHB", 0, 1, 1, 0, 1, 2, 0, 0, 0)
 # An open gate, and no header that it could have.
 GARBAGE = b"\1" * 20
@@ -369,22 +369,22 @@ def try_figures(trial: Trial) -> None:
     for files, lines in (
         (
             (IMAGE_OF_3, IMAGE_OF_2, LOG_OF_3, LOG_OF_4),
-            "recovered 4 from 3 in image.a\nlog: 1 tick behind the image, log.b has 1 of 65536\n"
+            "recovered 4 from 3 in image.a\nlog: 1 tick after the image, log.b has 1 of 65536\n"
             "bytes: image.a 33, image.b 33, log.a 28, log.b 32, together 126\n",
         ),
         (
             (b"", NEW_IMAGE, b"", b"\0"),
-            "recovered 0 from 0 in image.b\nlog: 0 ticks behind the image, no segment is open\n"
+            "recovered 0 from 0 in image.b\nlog: 0 ticks after the image, no segment is open\n"
             "bytes: image.a 0, image.b 33, log.a 0, log.b 1, together 34\n",
         ),
         (
             (NEW_IMAGE, b"", LOG_OF_GROUPS, NEW_LOG_OF_3),
-            "recovered 3 from 0 in image.a\nlog: 3 ticks behind the image, log.b has 0 of 65536\n"
+            "recovered 3 from 0 in image.a\nlog: 3 ticks after the image, log.b has 0 of 65536\n"
             "bytes: image.a 33, image.b 0, log.a 22, log.b 10, together 65\n",
         ),
         (
             (NEW_IMAGE, GARBAGE[:16], LOG_OF_GROUPS, b"\0"),
-            "recovered 3 from 0 in image.a\nlog: 3 ticks behind the image, log.a has 3 of 65536\n"
+            "recovered 3 from 0 in image.a\nlog: 3 ticks after the image, log.a has 3 of 65536\n"
             "bytes: image.a 33, image.b 16, log.a 22, log.b 1, together 72\n",
         ),
     ):
@@ -449,7 +449,7 @@ def check_found(trial: Trial, what: str, folder: pathlib.Path, recovered: str, l
 
 
 def check_fault(trial: Trial, what: str, folder: pathlib.Path, fault: str, lines: str) -> None:
-    """Both end with this fault, inspect behind these lines."""
+    """Both end with this fault, inspect after these lines."""
     trial.check(what, both(trial, folder), (Outcome("", fault, 1), Outcome(lines, fault, 1)))
 
 

@@ -60,10 +60,10 @@ CASES = (
 
 
 def recipe(name: str) -> str:
-    """The commands of the manual behind these words."""
+    """The commands of the manual after these words."""
     lines = MANUAL.partition(name)[2].splitlines()
     begin = next((number for number, line in enumerate(lines) if line.startswith("    ")), None)
-    want(begin is not None, f"the manual has no recipe behind `{name}`")
+    want(begin is not None, f"the manual has no recipe after `{name}`")
     end = next(number for number, line in enumerate(lines) if number > begin and not line.startswith("    "))
     return "\n".join(line[4:] for line in lines[begin:end])
 
@@ -73,11 +73,11 @@ def follow(name: str, room: pathlib.Path | None = None, **words: object) -> str:
     what they print."""
     text = recipe(name)
     for word, given in words.items():
-        want(word in text, f"the recipe behind `{name}` has no {word}")
+        want(word in text, f"the recipe after `{name}` has no {word}")
         text = re.sub(rf"\b{word}\b", str(given), text)
     who = AS_USER | {"cwd": room} if room else {}
     run = subprocess.run(["sh", "-e", "-u", "-c", text], capture_output=True, text=True, timeout=SECONDS, **who)
-    want(run.returncode == 0, f"the recipe behind `{name}` ends with {run.returncode}: {run.stdout}{run.stderr}")
+    want(run.returncode == 0, f"the recipe after `{name}` ends with {run.returncode}: {run.stdout}{run.stderr}")
     return run.stdout
 
 

@@ -121,7 +121,7 @@ def zeroed(chance: random.Random, files: Files, name: str) -> None:
 
 
 def tailed(chance: random.Random, files: Files, name: str) -> None:
-    """Leaves bytes of something else behind a file."""
+    """Leaves bytes of something else after a file."""
     files[name] += chance.randbytes(chance.randrange(1, 2 * SECTOR))
 
 
@@ -132,7 +132,7 @@ WAYS = {
     "file lost": lost,
     "file emptied": emptied,
     "sector zeroed": zeroed,
-    "bytes behind": tailed,
+    "bytes after": tailed,
 }
 
 

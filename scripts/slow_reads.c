@@ -1,4 +1,4 @@
-/* Loaded before the C library, it waits a random while, up to READS_SLOWED microseconds, behind each read of a file and each
+/* Loaded before the C library, it waits a random while, up to READS_SLOWED microseconds, after each read of a file and each
  * query of its length. So a server writes more in between. */
 #define _GNU_SOURCE
 #include <stdlib.h>

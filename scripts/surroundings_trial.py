@@ -50,7 +50,7 @@ ENDED_SESSIONS, STACK_BYTES, OVERLAP = 500, 256 << 10, 10
 LESS_THAN_A_STACK = 200 << 10
 SMALL_PIPE = 4096
 LINES_WAITING = 256
-# How many clients send batches that are too long, and lines behind them.
+# How many clients send batches that are too long, and lines after them.
 LONG_BATCHES, SENT_BEHIND = 45, 100_000
 # A limit on a file's size that no write ends at.
 FILE_LIMIT = 20_011
@@ -320,7 +320,7 @@ class Trial:
         server.holds(CROWD - closed + 3)
 
     def lost_listener(self) -> None:
-        """The listener fails behind two clients: a line says so, they play on, and the server ends once they have left."""
+        """The listener fails after two clients: a line says so, they play on, and the server ends once they have left."""
         library = self.scratch / "lost_listener.so"
         source = pathlib.Path(__file__).with_name("lost_listener.c")
         subprocess.run(["cc", "-shared", "-fPIC", "-o", library, source], check=True)
@@ -329,7 +329,7 @@ class Trial:
             first, second = server.client(), server.client()
             want(first.play().startswith(b"tick") and second.play().startswith(b"tick"), "no answer of two clients")
             server.wait_until_closed()
-            want(first.play().startswith(b"tick"), "no answer behind a listener that failed")
+            want(first.play().startswith(b"tick"), "no answer after a listener that failed")
             for client in (first, second):
                 client.leave()
             status, output, errors = server.end()
@@ -395,7 +395,7 @@ class Trial:
             begun = time.monotonic()
             server.client()
             if seconds:
-                want(first.play() == b"tick 2: +\n", "no answer behind a closed door")
+                want(first.play() == b"tick 2: +\n", "no answer after a closed door")
                 self.met["left when closed"] += 1
             else:
                 self.met["left at once when closed"] += 1
@@ -574,7 +574,7 @@ class Trial:
         want(line.startswith(b"listening"), f"a server ended beside looks: {errors}")
 
     def no_null(self) -> None:
-        """There is no /dev/null: it is wanted only in the place of a stream that is closed."""
+        """There is no /dev/null: it is wanted only in place of a stream that is closed."""
         room = self.folder()
         room.mkdir()
         worldd = shutil.copy(self.worldd, room / "worldd")
@@ -739,7 +739,7 @@ class Trial:
             self.met["socket's place taken"] += 1
         want(file.read_bytes() == b"kept" and not (room / "nothing").exists(), "a file was written by its socket's server")
         (room / "blocked.new").write_bytes(b"kept")
-        self.refused(blocked, "a folder is to be made there, with `.new` behind this name\n")
+        self.refused(blocked, "this name with `.new` after it already exists\n")
         self.refused(room / ("x" * (102 - len(f"{room}/"))), "a socket's path has at most 101 bytes\n")
         self.refused(room / "missing" / "socket", "No such file or directory (os error 2)\n")
         self.refused(file / "socket", "Not a directory (os error 20)\n")
@@ -781,7 +781,7 @@ class Trial:
         self.met["next server's socket kept"] += 1
 
     def too_long(self, transport: str) -> None:
-        """Clients that send on behind a batch that is too long read why it is refused. No connection is reset."""
+        """Clients that send on after a batch that is too long read why it is refused. No connection is reset."""
         server = self.server(transport=transport, clients=LONG_BATCHES)
         for number in range(LONG_BATCHES):
             client = server.client()

@@ -27,7 +27,7 @@ IMPORT = re.compile(r"use Rattle\.(\w+)\.specs\.(\w+)((?:\.\w+)*)\.\{([^}]*)\}")
 # All variants of a type of the code, under one name; and the types that a file of the code imports.
 VARIANTS = re.compile(r"use Rattle\.(\w+)\.specs\.declared\.(?:\w+\.)*(\w+)\.TheVariants as (\w+)")
 TYPES_USED = re.compile(r"^use (\w+)(?:::\w+)*::(?:\{([^}]*)\}|(\w+));", re.MULTILINE)
-# A type or a constant of the code. The specs know it by this word in the place of a file.
+# A type or a constant of the code. The specs know it by this word in place of a file.
 TYPE = re.compile(r"pub (?:struct|enum|const) (\w+)")
 DECLARED = "declared"
 EXPORT = re.compile(r"^pub use ([\w:]+)::(?:\{([^}]*)\}|(\w+));", re.MULTILINE)

@@ -562,7 +562,7 @@ static inline int cektaulis_byte(struct cektaulis *world) {
     return come->at == come->filled ? -1 : (unsigned char)come->bytes[come->at++];
 }
 
-/* Reads a number of at most 19 digits, and returns the byte behind it. Below 0: there is none. */
+/* Reads a number of at most 19 digits, and returns the byte after it. Below 0: there is none. */
 static inline int cektaulis_number(struct cektaulis *world, uint64_t *number) {
     int digits = 0, byte;
     *number = 0;
@@ -577,7 +577,7 @@ static inline bool cektaulis_reads(struct cektaulis *world, const char *text) {
     return true;
 }
 
-/* Reads a word of an answer, and returns the byte behind it. Below 0: there is none. */
+/* Reads a word of an answer, and returns the byte after it. Below 0: there is none. */
 static inline int cektaulis_word(struct cektaulis *world, struct cektaulis_answer *answer) {
     uint64_t code;
     int byte = cektaulis_byte(world);

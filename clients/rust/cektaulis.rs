@@ -376,7 +376,7 @@ impl Stream {
         }
     }
 
-    /// Puts what the server sent behind other bytes. False: it has sent nothing, within a time to be waited.
+    /// Puts what the server sent after other bytes. False: it has sent nothing, within a time to be waited.
     fn take(&mut self, rest: &mut Vec<u8>, wait: Option<Option<Duration>>) -> io::Result<bool> {
         let mut piece = [0; ANSWER_BYTES];
         let read = match wait {

@@ -176,7 +176,7 @@ def changes_cell(action: Action, cell: int) -> bool:
 
 
 def batches(actions: Iterable[Action]) -> Iterator[tuple[Action, ...]]:
-    """Cuts actions into batches that are as long as they may be. Each batch is a tick of its own."""
+    """Cuts actions into batches that are as long as they may be. Each batch is its own tick."""
     batch: list[Action] = []
     changes = 0
     for action in actions:

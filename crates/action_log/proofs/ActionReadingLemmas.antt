@@ -1,4 +1,4 @@
--- The readers of an action, of a tick and of a group behind its gate take their spellings, and read them again.
+-- The readers of an action, of a tick and of a group after its gate take their spellings, and read them again.
 use Rattle.std.proofs.Common.{◌≡◌, ℕ, ◌^◌, ◌<◌, ◌≤◌, inl, inr, true, false, cond, ◌||◌, ltb, eqb, List, [], ◌∷◌, ◌++◌, length, take, drop, Some, None, refl, sym, ap, subst, ◌∙◌, append_assoc, arith}
 use Rattle.std.specs.List.{flat_map, AllByRecursion}
 use Rattle.std.specs.Int.{w64, cast_unsigned, cast_signed}
@@ -205,7 +205,7 @@ tick_reads format = record {
   again = λ x rest f. counted_again (action_at format) (IsAction format) action_bytes (action_reads format) 0 TICK_ACTIONS (omega arith) x rest (omega arith, f.0, f.1);
 }
 
--- a group behind its gate
+-- a group after its gate
 pub group_reads : (format : Format) → Reads (group_at format) (IsGroup format) (counted_bytes tick_bytes)
 group_reads format = record {
   takes = λ bytes x rest fits e. counted_takes (tick_at format) (IsTick format) tick_bytes (tick_reads format) 1 GROUP_TICKS bytes x rest fits e;

@@ -112,7 +112,7 @@ by_place tick queue (Some n) is = let at = place_is tick queue n is in omega (ar
 pub before_switch_most : (tick : ℕ) (queue : List Record) → before_switch tick queue ≤ length queue
 before_switch_most tick queue = by_place tick queue (switch_place tick queue) refl
 
--- if there are some, the switch is behind them
+-- if there are some, the switch is after them
 abbrev pub IsBeforeSwitch : ℕ → List Record → ℕ → Type 0
 IsBeforeSwitch tick queue n = (n ≡ 0) ⊎ ((behind : List Record) × (drop n queue ≡ records.Switch tick ∷ behind))
 
@@ -133,7 +133,7 @@ pub answer_working : (tick : ℕ) (taken : List Record) → has_tick taken ≡ f
 answer_working tick [] is some = absurd (omega (arith, some))
 answer_working tick (first ∷ taken) is some = ap (λ b. if b then answer.Acked tick else answer.Working) is
 
--- ---- the records behind the keeper
+-- ---- the records after the keeper
 
 -- the switch is in front of the records that are left, and the queue ends as before
 pub fits_from : (base count : ℕ) (queue : List Record) (n tick : ℕ) (behind : List Record) → drop n queue ≡ records.Switch tick ∷ behind → QueueFits base count queue

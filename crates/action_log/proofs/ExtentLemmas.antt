@@ -32,7 +32,7 @@ none_at_end : (rest : List ℕ) (group : List Tick) (next : List ℕ) → EndsGr
 none_at_end [] group next ends e = cc
 none_at_end (gate ∷ rest) group next ends e = ends (no_gate gate rest (counted_bytes tick_bytes group ++ next) e)
 
--- the group behind an open gate is read
+-- the group after an open gate is read
 group_there : (format : Format) (rest behind : List ℕ) (group : List Tick) (next : List ℕ) → IsGroup format group → rest ≡ OPEN_GATE ∷ behind → rest ≡ group_bytes group ++ next → group_at format behind ≡ Some (group, next)
 group_there format rest behind group next is gate e =
     let same : behind ≡ counted_bytes tick_bytes group ++ next = ap (drop 1) (sym gate ∙ e) in
@@ -123,14 +123,14 @@ has_body : (bytes : List ℕ) (format : Format) (base : ℕ) (groups : List (Lis
 has_body bytes format base groups rest has =
     ap (drop FIRST_GROUP) has.spelled ∙ drop_at (spelled_base format base) (flat_map group_bytes groups ++ rest) BASE_BYTES (length-number_bytes BASE_BYTES (marked_of format base))
 
--- the number of ticks that a segment may have behind its base
+-- the number of ticks that a segment may have after its base
 abbrev pub ticks_most : ℕ → ℕ
 ticks_most base = min SEGMENT_TICKS (TICK_MAX - base)
 
 within_most : (base count : ℕ) → count ≤ SEGMENT_TICKS → base + count ≤ TICK_MAX → count ≤ ticks_most base
 within_most base count few numbered = omega arith
 
--- groups behind a mark that is read
+-- groups after a mark that is read
 pub has_groups : (bytes : List ℕ) (format : Format) (base : ℕ) (groups : List (List Tick)) (rest : List ℕ) → IsBytes bytes → HEADER_BYTES ≤ length bytes → get_or bytes 0 0 ≡ OPEN_GATE → marked_in bytes ≡ Some (format, base) → base ≤ TICK_MAX → AreLeading format (ticks_most base) (drop FIRST_GROUP bytes) groups rest → HasGroups bytes format base groups rest
 has_groups bytes format base groups rest fits long gate mark small leads =
     let behind = drop BASE_PLACE bytes in
@@ -184,7 +184,7 @@ front_then format base groups rest = ap (λ (l : List ℕ). OPEN_GATE ∷ l) (ap
 front_is : (bytes : List ℕ) (format : Format) (base : ℕ) (groups : List (List Tick)) (rest : List ℕ) → HasGroups bytes format base groups rest → bytes ≡ front_bytes format base groups ++ rest
 front_is bytes format base groups rest has = has.spelled ∙ sym (front_then format base groups rest)
 
--- bytes with this front and an end of the groups behind it
+-- bytes with this front and an end of the groups after it
 open_with : (bytes file : List ℕ) (format : Format) (base : ℕ) (groups : List (List Tick)) (rest behind : List ℕ) → HasGroups bytes format base groups rest → file ≡ front_bytes format base groups ++ behind → EndsGroups behind → HEADER_BYTES ≤ length file → IsOpenSegment file base (joined groups)
 open_with bytes file format base groups rest behind has is ends long = record {
   format = format;
@@ -277,7 +277,7 @@ module _ (bytes : List ℕ) (groups_end ticks : ℕ) (ended : Bool) (x : IsExten
       open_with bytes (take groups_end bytes ++ behind) x.format x.base x.groups x.rest behind x.leading (ap (λ (l : List ℕ). l ++ behind) taken) ends
       (omega (arith, long, ap length taken, place_is, length-append (take groups_end bytes) behind))
 
-  -- a gate behind the groups that isn't open
+  -- a gate after the groups that isn't open
   shut_gate : HasShutGate x.rest → (gate : ℕ) × (behind : List ℕ) × (x.rest ≡ gate ∷ behind) × (gate ≢ OPEN_GATE)
   shut_gate shut = go x.rest refl shut
     where
@@ -302,7 +302,7 @@ module _ (bytes : List ℕ) (groups_end ticks : ℕ) (ended : Bool) (x : IsExten
 pub ended_follows : (bytes file : List ℕ) (groups_end ticks : ℕ) → IsExtent bytes groups_end ticks true → take (groups_end + 1) file ≡ take (groups_end + 1) bytes → ReadsAlike bytes file
 ended_follows bytes file groups_end ticks x same = ended_reads bytes groups_end ticks true x (x.shut refl) file same
 
--- ---- bytes behind a front
+-- ---- bytes after a front
 
 -- a front that is shorter than these bytes lies within them
 record LiesWithin (bytes behind front rest : List ℕ) : Type 0 where
@@ -334,7 +334,7 @@ first_groups bytes behind format base groups rest has long within = record {
   numbered = has.numbered;
 }
 
--- an end of the groups that has a byte is an end without what is behind it
+-- an end of the groups that has a byte is an end without what is after it
 ends_first : (left behind rest : List ℕ) → rest ≡ left ++ behind → 0 < length left → EndsGroups rest → EndsGroups left × HasShutGate left
 ends_first [] behind rest e some ends = absurd (omega (arith, some))
 ends_first (gate ∷ left) behind rest e some ends =
@@ -345,7 +345,7 @@ not_both : (rest : List ℕ) → HasShutGate rest → HasNoShutGate rest → ⊥
 not_both rest shut (inl none) = omega (arith, none, shut.0)
 not_both rest shut (inr opened) = shut.1 opened
 
--- the header of bytes with more bytes behind them
+-- the header of bytes with more bytes after them
 not_closed_then : (bytes behind : List ℕ) → HEADER_BYTES ≤ length bytes → get_or bytes 0 0 ≡ OPEN_GATE → IsClosedSegment (bytes ++ behind) → ⊥
 not_closed_then bytes behind long gate (inl short) = omega (arith, long, short, length-append bytes behind)
 not_closed_then bytes behind long gate (inr shut) = shut (get_or_append_left bytes behind 0 0 (omega (arith, long)) ∙ gate)
@@ -362,7 +362,7 @@ past_malformed bytes groups_end ticks ended x not_shut far behind = (
       not_both x.rest (subst HasShutGate (sym same) first.1) not_shut),
 )
 
--- nothing behind bytes is the bytes
+-- nothing after bytes is the bytes
 with_none : (bytes : List ℕ) (segment : Segment) → IsSegment (bytes ++ []) segment → IsSegment bytes segment
 with_none bytes segment at = subst (λ (l : List ℕ). IsSegment l segment) (append-nil bytes) at
 

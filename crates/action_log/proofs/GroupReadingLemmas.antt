@@ -137,7 +137,7 @@ pub record IsReadOver (format : Format) (bytes : List ℕ) (groups ticks actions
   pub actions_are : length (actions_of (joined done)) ≡ actions
   pub so_far : IsReadTo format bytes done rest
 
--- some of the actions are read from bytes and added behind others, and these bytes are left
+-- some of the actions are read from bytes and added after others, and these bytes are left
 pub record IsTickRead (format : Format) (many counter : ℕ) (bytes rest : List ℕ) (before all : List Action) : Type 0 where
   pub tick : Tick
   pub read : AreRead (action_at format) many counter tick bytes rest

@@ -47,7 +47,7 @@ some_rest HeaderSync shut is = omega arith
 some_rest Opening shut is = omega arith
 some_rest OpeningSync shut is = absurd cc
 
--- after the start the switch in work is the same behind a call
+-- after the start the switch in work is the same after a call
 same_switch : (p : Phase) (shut failed : Bool) (next_base : ℕ) → goes_on p failed ≡ true → IsTrue (is_of_start p false) → switch_in (phase_after p shut failed) next_base ≡ switch_in p next_base
 same_switch Retiring shut failed next_base is start = absurd cc
 same_switch RetiringSync shut failed next_base is start = absurd cc

@@ -115,7 +115,7 @@ queue_end_left (suc n) base count (records.Tick tick ∷ queue) =
     let e : count + suc (length (group_of n queue)) ≡ (count + 1) + length (group_of n queue) = omega arith in
     ap (λ (m : ℕ). queue_end base m (drop (length (group_of n queue)) queue)) e ∙ queue_end_left n base (count + 1) queue
 
--- a record may be added that fits behind the queue
+-- a record may be added that fits after the queue
 pub queue_grows : (base count : ℕ) (queue : List Record) (added : Record) → QueueFits base count queue → QueueFits (queue_end base count queue).base (queue_end base count queue).count (added ∷ []) → QueueFits base count (queue ++ added ∷ [])
 queue_grows base count [] added fits at_end = at_end
 queue_grows base count (records.Tick tick ∷ queue) added fits at_end = (fits.0, fits.1, queue_grows base (count + 1) queue added fits.2 at_end)
@@ -126,7 +126,7 @@ queue_end_grows base count [] added = refl
 queue_end_grows base count (records.Tick tick ∷ queue) added = queue_end_grows base (count + 1) queue added
 queue_end_grows base count (records.Switch tick ∷ queue) added = queue_end_grows tick 0 queue added
 
--- behind a keeper's job
+-- after a keeper's job
 pub follows_more : (p : Phase) (base count next_base : ℕ) (queue : List Record) (added : Record) → QueueFollowsIn p base count next_base queue
     → QueueFits (end_in p base count next_base queue).base (end_in p base count next_base queue).count (added ∷ [])
     → QueueFollowsIn p base count next_base (queue ++ added ∷ []) × (end_in p base count next_base (queue ++ added ∷ []) ≡ queue_end (end_in p base count next_base queue).base (end_in p base count next_base queue).count (added ∷ []))

@@ -8,7 +8,7 @@ use Rattle.file_format.specs.Gate.{HasShutGate, HasNoShutGate}
 use Rattle.action_log.specs.declared.format.TheConstants.{HEADER_BYTES, SEGMENT_TICKS}
 use Rattle.action_log.specs.Segment.{Tick, joined, IsGroup, group_bytes, spelled_base, Segment, IsSegment}
 
--- an open header, whole groups within the bounds of a segment, and the bytes behind them
+-- an open header, whole groups within the bounds of a segment, and the bytes after them
 pub record HasGroups (bytes : List ℕ) (format : Format) (base : ℕ) (groups : List (List Tick)) (rest : List ℕ) : Type 0 where
   pub are_groups : AllByRecursion (IsGroup format) groups
   pub spelled : bytes ≡ OPEN_GATE ∷ (spelled_base format base ++ (flat_map group_bytes groups ++ rest))

@@ -26,7 +26,7 @@ StandBefore (actions ∷ ticks) [] left = ⊥
 StandBefore (actions ∷ ticks) (records.Tick first ∷ queue) left = (first.list ≡ actions) × StandBefore ticks queue left
 StandBefore (actions ∷ ticks) (records.Switch tick ∷ queue) left = ⊥
 
--- the number of steps that the records need: four for a tick in a group of its own, six for a switch
+-- the number of steps that the records need: four for a tick in its own group, six for a switch
 abbrev pub queue_work : List Record → ℕ
 queue_work [] = 0
 queue_work (records.Tick tick ∷ queue) = 4 + queue_work queue

@@ -27,7 +27,7 @@ pub fn segments_read_once()
     ensures each { EachReads }
 {}
 
-/// Laws: the reading of a segment by its first bytes. No byte counts behind a gate that ends the groups, or behind a
+/// Laws: the reading of a segment by its first bytes. No byte counts after a gate that ends the groups, or after a
 /// header that is malformed or closed. A segment is malformed if its groups go on past the greatest length. The groups of
 /// an open segment end where its extent does, within the greatest length. A segment that is cut there has the groups of
 /// the extent.
@@ -47,7 +47,7 @@ pub fn segment_extents()
         → IsSegment (take groups_end bytes ++ behind) (OpenSegment extent.base (joined extent.groups)) }
 {}
 
-/// Laws: the records that may be queued behind others, and the base and count after them.
+/// Laws: the records that may be queued after others, and the base and count after them.
 pub fn log_queues()
     ensures begins { (tick : ℕ) (shut_a shut_b : Bool) → QueueFollows (begun tick shut_a shut_b) []
         × (end_of (begun tick shut_a shut_b) [] ≡ record { base = tick; count = 0 }) }
@@ -64,7 +64,7 @@ pub fn log_queues()
 {}
 
 /// Laws: a keeper and its two files represent a place of the log, from the beginning of the start on. The files read as
-/// that place says, whatever a crash leaves of them. A new keeper fits its files by their contents alone. A keeper that
+/// that place says, whatever a crash leaves of them. A new keeper fits its files only by their contents. A keeper that
 /// is ready has nothing in work and nothing unsynced. After the start its segment is then open, with the ticks that it
 /// counts.
 pub fn log_outcomes<D: Disk>()

@@ -54,7 +54,7 @@ line_ends line meaning unbroken means = record {
 
 -- ---- several batches
 
--- batches, and others behind them
+-- batches, and others after them
 abbrev pub added : List (List Request) → List Request → List (List Request) → List Request → Batches
 added ended rest [] others = record { ended = ended; rest = rest ++ others }
 added ended rest (batch ∷ batches) others = record { ended = ended ++ ((rest ++ batch) ∷ batches); rest = others }
@@ -83,7 +83,7 @@ added_whole : (ended more : List (List Request)) (others : List Request) → add
 added_whole ended [] others = ap (λ (l : List (List Request)). record { ended = l; rest = others }) (sym (append-nil ended))
 added_whole ended (batch ∷ batches) others = refl
 
--- behind whole batches more of them follow
+-- after whole batches more of them follow
 pub batches_after : (meanings others : List (Option Command)) (ended : List (List Request)) → batches_of meanings ≡ record { ended = ended; rest = [] }
     → batches_of (meanings ++ others) ≡ record { ended = ended ++ (batches_of others).ended; rest = (batches_of others).rest }
 batches_after meanings others ended whole =
@@ -94,7 +94,7 @@ batches_after meanings others ended whole =
 one_line : (meaning : Option Command) → batches_of (meaning ∷ []) ≡ onto (request_of meaning) (record { ended = []; rest = [] })
 one_line meaning = refl
 
--- a request behind requests
+-- a request after requests
 pub batches_more : (meanings : List (Option Command)) (meaning : Option Command) (requests : List Request) (request : Request)
     → batches_of meanings ≡ record { ended = []; rest = requests } → request_of meaning ≡ Some request
     → batches_of (meanings ++ meaning ∷ []) ≡ record { ended = []; rest = requests ++ request ∷ [] }
@@ -103,7 +103,7 @@ batches_more meanings meaning requests request begun asks =
     ∙ (ap (λ (b : Batches). added b.ended b.rest (batches_of (meaning ∷ [])).ended (batches_of (meaning ∷ [])).rest) begun
     ∙ ap (λ (r : Option Request). added [] requests (onto r (record { ended = []; rest = [] })).ended (onto r (record { ended = []; rest = [] })).rest) asks)
 
--- an `end` behind requests
+-- an `end` after requests
 pub batches_end : (meanings : List (Option Command)) (meaning : Option Command) (requests : List Request)
     → batches_of meanings ≡ record { ended = []; rest = requests } → request_of meaning ≡ None
     → batches_of (meanings ++ meaning ∷ []) ≡ record { ended = requests ∷ []; rest = [] }

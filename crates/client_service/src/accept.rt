@@ -47,7 +47,7 @@ pub struct Accepted {
     pub closed: Closed,
 }
 
-/// Accepts so many connections, and serves each in a thread of its own. It waits out a shortage of descriptors or
+/// Accepts so many connections, and serves each in its own thread. It waits out a shortage of descriptors or
 /// memory. A client that can be given no thread or no memory is closed unanswered. After the last one, or a failure of
 /// the listener, it closes the listener and waits for the sessions. It comes back at once if the server is left.
 pub fn accept_sessions<

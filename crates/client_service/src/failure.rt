@@ -33,7 +33,7 @@ pub enum Failure {
     Listener,
 }
 
-/// The failure behind an error of `accept`.
+/// The failure that an error of `accept` means.
 pub fn failure_of(error: &io::Error) -> Failure
     ensures interrupted { raw_os_error error.now ≡ Some (pos 4) → result ≡ Failure.Interrupted }
     ensures no_memory { raw_os_error error.now ≡ Some (pos 12) → result ≡ Failure.Shortage }

@@ -1,4 +1,4 @@
-//! The sessions of a server, each in a thread of its own.
+//! The sessions of a server, each in its own thread.
 ghost use Rattle.std.specs.Prelude.{◌≡◌, ◌+◌, ◌<◌, OnOk, OnErr, IfOk, IfSome};
 ghost use Rattle.slab.specs.Slab.{slab_len};
 

@@ -22,7 +22,7 @@ impl NotRun {
     ghost use Rattle.std.specs.declared.io.Error.{Error};
     ghost use Rattle.command_line.specs.declared.not_run.NotRun.TheVariants.{HelpPrinted, Unprinted, Mistaken, NoMemory};
 
-    /// Returns the exit status. A failed output and want of memory weren't reported before, so they are printed on
+    /// Returns the exit status. A failed output and lack of memory weren't reported before, so they are printed on
     /// standard error.
     pub fn report<R: Eprint>(self, rt: &R) -> ExitCode
         ensures reported { self ≡ HelpPrinted → exit_status result ≡ 0 }

@@ -10,7 +10,7 @@ use Rattle.disk_model.specs.Disk.{Torn, overwritten}
 torn_before : (old new : List ℕ) (at n : ℕ) → Torn at n old new → (i d : ℕ) → i < at → get_or new i d ≡ get_or old i d
 torn_before old new at n torn i d low = sym (get_or-take at new i d low) ∙ ap (λ (list : List ℕ). get_or list i d) torn.before ∙ get_or-take at old i d low
 
--- a write behind the gate leaves it
+-- a write after the gate leaves it
 pub torn_behind_gate : (old new : List ℕ) (at n : ℕ) → 0 < at → Torn at n old new → HasShutGate old → HasShutGate new
 torn_behind_gate old new at n behind torn shut = (omega (arith, shut.0, torn.no_shorter), λ is_open. shut.1 (sym (torn_before old new at n torn 0 0 behind) ∙ is_open))
 

@@ -4,7 +4,7 @@ use Rattle.disk_model.specs.declared.leaving.Leaving.{Leaving}
 use Rattle.disk_model.specs.declared.leaving.Leaving.TheVariants.{Lose, Keep, Fill}
 use Rattle.disk_model.specs.FileState.{FileState}
 
--- for each place the durable byte, except that a place in an unsynced write or behind the durable bytes has this byte
+-- for each place the durable byte, except that a place in an unsynced write or after the durable bytes has this byte
 abbrev pub filled : (byte : ℕ) → (durable : List ℕ) → (unsynced : List Bool) → List ℕ
 filled byte durable [] = []
 filled byte [] (mark ∷ unsynced) = byte ∷ filled byte [] unsynced

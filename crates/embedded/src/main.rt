@@ -1,4 +1,4 @@
-//! A world in a program of its own: one thread, the four files of a folder, and a client on standard input.
+//! A world in its own program: one thread, the four files of a folder, and a client on standard input.
 //!
 //! The folder is `world`, which `worldd create` makes. Lines are those of docs/FORMATS.md, and each batch is answered once its
 //! tick is durable. The status is that of `worldd`.

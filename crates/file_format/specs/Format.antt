@@ -1,4 +1,4 @@
--- The mark of a file's format, in the number behind its gate.
+-- The mark of a file's format, in the number after its gate.
 use Rattle.std.specs.Prelude.{ℕ, ◌+◌, ◌-◌, List, length, drop, Option, Some, None, nat_lt, if◌then◌else◌}
 use Rattle.file_format.specs.declared.format.TheConstants.{MARK_PLACE, MARK_END, NUMBERS, SECOND_MARK}
 use Rattle.file_format.specs.declared.format.Format.{Format}
@@ -18,11 +18,11 @@ unmarked marked =
     if nat_lt marked (SECOND_MARK + NUMBERS) then Some (Second, marked - SECOND_MARK) else
     None
 
--- the format and the number behind the gate of a file
+-- the format and the number after the gate of a file
 abbrev pub marked_in : List ℕ → Option (Format × ℕ)
 marked_in bytes = unmarked (number_of 8 (drop MARK_PLACE bytes))
 
--- the format alone, of a file that is long enough
+-- only the format, of a file that is long enough
 abbrev pub format_in : List ℕ → Option Format
 format_in bytes = if nat_lt (length bytes) MARK_END then None else format_alone (marked_in bytes)
   where

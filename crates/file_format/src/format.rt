@@ -4,7 +4,7 @@ ghost use Rattle.file_format.specs.Format.{marked_of, marked_in, unmarked, forma
 
 use crate::number::u64_at;
 
-/// A format of image and log files. The number behind a file's gate is marked with the format. It is the number of cells
+/// A format of image and log files. The number after a file's gate is marked with the format. It is the number of cells
 /// of an image, or the base of a log segment.
 #[derive(Clone, Copy, Debug, PartialEq, Eq)]
 pub enum Format {
@@ -14,7 +14,7 @@ pub enum Format {
     Second,
 }
 
-/// The place of the marked number, behind the gate.
+/// The place of the marked number, after the gate.
 pub const MARK_PLACE: usize = 1;
 
 /// The number of bytes of the gate and the marked number.
@@ -27,7 +27,7 @@ pub const NUMBERS: u64 = 1_152_921_504_606_846_976;
 /// hexadecimal. In the first format it is from 00 to 0f.
 pub const SECOND_MARK: u64 = 2_305_843_009_213_693_952;
 
-/// Returns the format and the number behind the gate of a file, or `None` if the mark is of neither format.
+/// Returns the format and the number after the gate of a file, or `None` if the mark is of neither format.
 pub fn marked_at(bytes: &[u8]) -> Option<(Format, u64)>
     requires { MARK_END ≤ length bytes.now }
     ensures { result ≡ marked_in bytes.now }

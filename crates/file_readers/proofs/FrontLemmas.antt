@@ -18,7 +18,7 @@ on_ok (Err error) P Q f at = tt
 
 -- ---- the first bytes
 
--- bytes that are read on from behind the first ones
+-- bytes that are read on from after the first ones
 pub read_on : (file old more new : List ℕ) (start end : ℕ) → start ≤ end → old ≡ take start file → more ≡ take (end - start) (drop start file) → new ≡ old ++ more → new ≡ take end file
 read_on file old more new start end le first behind parts =
     let whole : start + (end - start) ≡ end = omega arith in
@@ -47,7 +47,7 @@ alike_then one between other first second segment = (λ at. (second segment).0 (
 alike_same : (one other : List ℕ) → one ≡ other → ReadsAlike one other
 alike_same one other same = subst (ReadsAlike one) same (λ segment. (λ at. at, λ at. at))
 
--- bytes behind some first ones
+-- bytes after some first ones
 with_rest : (file bytes : List ℕ) → bytes ≡ take (length bytes) file → file ≡ bytes ++ drop (length bytes) file
 with_rest file bytes first = sym (take-append-drop (length bytes) file) ∙ ap (λ (l : List ℕ). l ++ drop (length bytes) file) (sym first)
 
@@ -133,7 +133,7 @@ no_bytes : (rest : List ℕ) → length rest ≡ 0 → rest ≡ []
 no_bytes [] none = refl
 no_bytes (byte ∷ rest) none = absurd (omega (arith, none))
 
--- the bytes of a header and of groups, and those behind them
+-- the bytes of a header and of groups, and those after them
 spelled_front : (list sb groups rest : List ℕ) → list ≡ OPEN_GATE ∷ (sb ++ (groups ++ rest)) → list ≡ (OPEN_GATE ∷ (sb ++ groups)) ++ rest
 spelled_front list sb groups rest e = e ∙ ap (λ (l : List ℕ). OPEN_GATE ∷ l) (sym (append_assoc sb groups rest))
 
@@ -177,7 +177,7 @@ module _ (whole : Whole) (cut : Cut) (bytes : List ℕ) (groups_end ticks : ℕ)
         | inr le ↦ omega (arith, le)
       ]
 
--- ---- an open segment that was read has one byte behind its groups, or none
+-- ---- an open segment that was read has one byte after its groups, or none
 
 open_groups : (bytes : List ℕ) (base : ℕ) (ticks : List Tick) (segment : IsOpenSegment bytes base ticks) → HasGroups bytes segment.format base segment.groups segment.rest
 open_groups bytes base ticks segment = record {
@@ -206,7 +206,7 @@ exact_to_most whole bytes groups_end ticks x base list segment =
     let rest = rest_of_extent whole (take (length bytes) bytes) groups_end ticks false here base list segment in
     omega (arith, none_left segment.rest segment.ends (subst HasNoShutGate (sym rest) (here.not_shut refl)))
 
--- more bytes behind a byte that ends the groups
+-- more bytes after a byte that ends the groups
 ends_more : (rest more : List ℕ) → 0 < length rest → EndsGroups rest → EndsGroups (rest ++ more)
 ends_more [] more some ends = absurd (omega (arith, some))
 ends_more (gate ∷ rest) more some ends = ends

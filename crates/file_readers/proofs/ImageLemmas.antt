@@ -1,4 +1,4 @@
--- An image reads the same without the bytes behind its last word.
+-- An image reads the same without the bytes after its last word.
 use Rattle.std.proofs.Common.{◌≡◌, ℕ, zero, suc, ◌+◌, ◌-◌, ◌*◌, ◌≤◌, min, inl, inr, true, List, ◌∷◌, length, get_or, take, drop, Option, Some, None, refl, sym, ap, ◌∙◌, arith}
 use Rattle.std.specs.Prelude.{nat_le}
 use Rattle.std.proofs.lemmas.Bool.{cases_lt, cond-true, le-leb}
@@ -60,7 +60,7 @@ module _ (file header : List ℕ) (is : header ≡ take 17 file) (long : 17 ≤ 
       ∙ open_with header None (tick_in header) long gate none refl
       ∙ sym (open_with file None (tick_in header) inside file_gate (sym (cells_cut file 17 inside (omega arith)) ∙ ap cells_in (sym is) ∙ none) (sym (tick_cut file 17 inside (omega arith)) ∙ ap tick_in (sym is)))
 
-  -- behind the words no byte counts
+  -- after the words no byte counts
   pub image_words : (cells : ℕ) → cells_in header ≡ Some cells → image_of (take (17 + 8 * cells) file) ≡ image_of file
   image_words cells some =
       let end = 17 + 8 * cells in

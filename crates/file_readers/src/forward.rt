@@ -5,7 +5,7 @@ ghost use Rattle.disk_model.specs.FourFiles.{KeepsFile, counted_device};
 use disk_model::Disk;
 use world_actions::Refusal;
 
-/// Reads a file on from behind these bytes up to a place, by one call, or by none if the bytes already end there. It reserves
+/// Reads a file on from after these bytes up to a place, by one call, or by none if the bytes already end there. It reserves
 /// exactly the memory for them.
 pub fn read_forward<D: Disk>(disk: &mut D, bytes: &mut Vec<u8>, end: usize) -> Result<(), Refusal>
     requires further { length bytes.old.items ≤ end }

@@ -12,7 +12,7 @@ use image_files::{CELLS_MAX, FIRST_CELLS_MAX, HEADER_BYTES, WORD_BYTES};
 use std::alloc::Global;
 use world_actions::Refusal;
 
-/// The greatest number of bytes of an image that count, 8,388,625. Bytes behind its last word are ignored.
+/// The greatest number of bytes of an image that count, 8,388,625. Bytes after its last word are ignored.
 pub const IMAGE_BYTES_MAX: usize = HEADER_BYTES + WORD_BYTES * CELLS_MAX as usize;
 
 /// Reads an image file as far as its bytes count: its header, and then as many words as the header says.

@@ -23,7 +23,7 @@ use Rattle.image_files.proofs.WordLemmas.{number_written, length-words_from}
 use Rattle.image_files.proofs.SpellingLemmas.{cells_found, marked_fits, whole_reads, open_file}
 use Rattle.image_files.proofs.GateLemmas.{shut_reads_closed}
 
--- ---- files that are alike behind a place
+-- ---- files that are alike after a place
 
 drop_on : (xs ys : List ℕ) (p q : ℕ) → p ≤ q → drop p xs ≡ drop p ys → drop q xs ≡ drop q ys
 drop_on xs ys p q le same =
@@ -36,7 +36,7 @@ words_same xs ys place (suc n) same =
     ap (λ (l : List ℕ). number_of 8 l ∷ words_from xs (place + 8) n) same
     ∙ ap (λ (l : List ℕ). number_at ys place ∷ l) (words_same xs ys (place + 8) n (drop_on xs ys place (place + 8) (omega arith) same))
 
--- behind the gate they have the same words and the same body
+-- after the gate they have the same words and the same body
 module _ (xs ys : List ℕ) (same : drop 1 xs ≡ drop 1 ys) where
   number_behind : (place : ℕ) → 1 ≤ place → number_at xs place ≡ number_at ys place
   number_behind place le = ap (number_of 8) (drop_on xs ys 1 place le same)

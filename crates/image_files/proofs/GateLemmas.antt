@@ -12,7 +12,7 @@ pub shut_reads_closed : (file : List ℕ) → HasShutGate file → image_of file
 unfolding image_of
 shut_reads_closed file shut = let other = shut.1 in grind (arith, nat_tests, common_steps)
 
--- writes behind the gate leave it
+-- writes after the gate leave it
 pub follows_shut : (at n : ℕ) (old new : List ℕ → Type 0) → 0 < at → Follows (Torn at n) old new → AllShut old → AllShut new
 follows_shut at n old new behind follows shut left outcome =
     let from = follows left outcome in

@@ -25,7 +25,7 @@ abbrev pub words_from : List ℕ → ℕ → ℕ → List ℕ
 words_from bytes place zero = []
 words_from bytes place (suc n) = number_at bytes place ∷ words_from bytes (place + WORD_BYTES) n
 
--- the bytes behind the gate: the number of cells, with the mark of the format, and the tick
+-- the bytes after the gate: the number of cells, with the mark of the format, and the tick
 abbrev pub header_bytes : Format → (cells tick : ℕ) → List ℕ
 header_bytes format cells tick = number_bytes WORD_BYTES (marked_of format cells) ++ number_bytes WORD_BYTES tick
 

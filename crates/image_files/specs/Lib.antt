@@ -7,5 +7,5 @@ pub mod View
 pub mod Keeper
 pub mod Files
 pub mod Steps
--- inside: for private functions alone
+-- inside: for private functions only
 pub mod Calls

@@ -44,7 +44,7 @@ fn filled_cell(cell: Taken, bytes: &[u8], place: usize) -> Taken
     }
 }
 
-/// Writes the words of cells, and 0 for a cell without a word of its own.
+/// Writes the words of cells, and 0 for a cell without its own word.
 pub fn encode(buffer: &mut [u8], cells: &[Taken])
     requires { WORD_BYTES * length cells.now ≤ length buffer.old }
     ensures { take (WORD_BYTES * length cells.now) buffer.new

@@ -20,7 +20,7 @@ pub const FIRST_CELLS_MAX: u64 = 65_536;
 /// least is 1.
 pub const CELLS_MAX: u64 = 1_048_576;
 
-/// The place of the tick, behind the gate and the number of cells. The number of cells has the mark of the format.
+/// The place of the tick, after the gate and the number of cells. The number of cells has the mark of the format.
 pub const TICK_PLACE: usize = 9;
 
 /// The number of bytes of a word, and of each other number of an image.
@@ -69,7 +69,7 @@ pub fn cells_most(format: Format) -> u64
     }
 }
 
-/// Writes the number of cells and the tick to the front of a buffer, as the second format has them behind the gate.
+/// Writes the number of cells and the tick to the front of a buffer, as the second format has them after the gate.
 #[tactic(auto, unfolding(file_format::specs::Number::number_bytes))]
 pub fn encode_header(buffer: &mut [u8], cells: u64, tick: u64)
     requires room { 2 * WORD_BYTES ≤ length buffer.old }

@@ -5,7 +5,7 @@
 //! tick's words, or is damaged. Images are written in the second format.
 //!
 //! `ImageKeeper` writes the image of each round into one of two files while the other keeps the newest one. It closes its
-//! target, writes the words behind the closed gate, makes them durable, and opens the gate last. So whatever a crash
+//! target, writes the words after the closed gate, makes them durable, and opens the gate last. So whatever a crash
 //! leaves, the newest image is there. The target reads as before, is closed, or is the whole image of the round.
 //! `images_stay` states that as plain data. The words of a round are those that a `Taker` handed out. For a cell without
 //! a word it is the newest image's word.

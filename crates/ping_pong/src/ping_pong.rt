@@ -70,7 +70,7 @@ impl PingPong {
     }
 }
 
-// The calls, stated on the arrays alone.
+// The calls, stated only on the arrays.
 impl PingPong {
     fn put_word(&mut self, i: usize, v: u64)
         requires inside { i < length self.old.live }

@@ -25,7 +25,7 @@ use Rattle.recovery.proofs.Tails.{IsBehind, closed_behind, earlier_behind, next_
 abbrev pub IsSwitchOf : (newest : ℕ) → Logs → Option ℕ → Type 0
 IsSwitchOf newest logs switch = IfSome switch (λ tick. (logs.base < tick) × (logs.pending ≡ []) × Reaches (logs.base + length logs.kept) tick newest)
 
--- From an image of this tick the log leads on. The current segment begins there, or the log is behind it, or the other
+-- From an image of this tick the log leads on. The current segment begins there, or the log is after it, or the other
 -- segment begins there and no switch has touched it.
 abbrev LeadsOn : List (List Action) → Logs → ℕ → Type 0
 LeadsOn ticks logs tick =
@@ -95,7 +95,7 @@ current_has ticks acknowledged newest logs now f (inr e) =
     let more : logs.base + length logs.kept ≤ logs.base + length (logs.kept ++ logs.pending) = omega (arith, length-append logs.kept logs.pending) in
     record { here = logs.kept ++ logs.pending; is = e; follows = f.taken; reaches = reached_more acknowledged (logs.base + length logs.kept) (logs.base + length (logs.kept ++ logs.pending)) newest f.acknowledges more; keeps = omega (arith, length-append logs.kept logs.pending) }
 
--- to a base behind the newest image's tick the segment before leads with no tick between
+-- to a base after the newest image's tick the segment before leads with no tick between
 meets : (end base newest : ℕ) → Reaches end base newest → newest < base → end ≡ base
 meets end base newest (inl e) below = e
 meets end base newest (inr h) below = absurd (omega (arith, h.1))

@@ -141,7 +141,7 @@ pub record WholeEventsKeep : Type 0 where
   pub opened : (first : List ℕ) (ticks : List (List Action)) (acknowledged : ℕ) (images next : Images) (logs : Logs) (queue : List Record) (round : Round)
       → IsKept first ticks acknowledged images logs queue → images.round ≡ Some round → length round.taken ≡ length first → with_opened round (Newest images) ≡ Newest next
       → IsKept first ticks (max acknowledged round.tick) next logs queue
-  -- with no job in work, the tick that comes first is written in a group of its own
+  -- with no job in work, the tick that comes first is written in its own group
   pub written : (first : List ℕ) (ticks : List (List Action)) (acknowledged : ℕ) (images : Images) (logs : Logs) (tick : Actions) (queue : List Record)
       → IsKept first ticks acknowledged images logs (records.Tick tick ∷ queue) → is_idle logs
       → IsKept first ticks acknowledged images (record logs { kept = logs.kept ++ tick.list ∷ [] }) queue

@@ -101,7 +101,7 @@ pub record WorldsGoOn : Type 0 where
   pub all_acknowledged : (first : List ℕ) (ticks : List (List Action)) (acknowledged : ℕ) (content : Content) (images : ImageFiles) (logs : Logs)
       → logs.pending ≡ [] → InStep first ticks acknowledged content images (Writing logs) []
       → InStep first ticks (length ticks) content images (Writing logs) []
-  -- The store alone keeps following the images through the writes of an action, and through the end of a tick. A round
+  -- Only the store keeps following the images through the writes of an action, and through the end of a tick. A round
   -- with nothing left is whole.
   pub writes : WritesFollow
   pub ticks : TicksFollow

@@ -53,7 +53,7 @@ tail_first t p q (inr e) =
 
 -- ---- the newest image
 
--- what recovery gives on the images alone, and on them with any segments
+-- what recovery gives on only the images, and on them with any segments
 pub record OnNewest (a b : Image) (n : Recovery) : Type 0 where
   pub image : Newest
   pub tick_is : image.tick ≡ n.tick
@@ -217,7 +217,7 @@ same_answer ia ib la lb n sa sb ra rb x found e =
     (subst (λ s. recovery_of (image_of ia) (image_of ib) e.a s ≡ Ok found) (reads_once lb e.b sb e.reads_b rb) e.holds) in
     ap (from_ok found) (sym x.is ∙ here)
 
--- ---- the first segment alone
+-- ---- only the first segment
 
 module _ (ia ib bytes : List ℕ) (n : Recovery) (formed part : LogPart) (e : Recovers ia ib [] [] (Ok n)) (k : IsKept bytes formed) (replay : IsReplayed n.tick n.words bytes formed part) where
   abbrev log : Segment

@@ -1,4 +1,4 @@
--- Segments that are cut behind groups.
+-- Segments that are cut after groups.
 use Rattle.std.proofs.Common.{◌≡◌, ℕ, ◌+◌, ◌≤◌, ◌⊎◌, inl, inr, Bool, zero, suc, List, [], ◌∷◌, ◌++◌, length, take, Some, refl, sym, ap, subst, ◌∙◌, append_assoc, arith, length-append}
 use Rattle.std.proofs.lemmas.List.{append-nil, take_at, take-take, length-take-le}
 use Rattle.std.proofs.lemmas.List.Concat.{flat_map-append}
@@ -24,7 +24,7 @@ closed_nothing = inl (omega arith)
 pub kept_nothing : (bytes : List ℕ) → IsKept bytes logs.Dropped
 kept_nothing bytes = record { list = []; reads = closed_nothing; fits = tt }
 
--- the base behind the gate is that of the extent
+-- the base after the gate is that of the extent
 pub mark_of_extent : (bytes : List ℕ) (at ticks : ℕ) (ended : Bool) (x : IsExtent bytes at ticks ended) → marked_in bytes ≡ Some (x.format, x.base)
 mark_of_extent bytes at ticks ended x = ap marked_in x.leading.spelled ∙ mark_again x.format x.base (flat_map group_bytes x.groups ++ x.rest) (omega (arith, x.leading.numbered))
 

@@ -1,4 +1,4 @@
--- The parts of the files that are taken, judged by their bytes alone.
+-- The parts of the files that are taken, judged only by their bytes.
 use Rattle.std.specs.Prelude.{◌≡◌, ◌⊎◌, ℕ, ◌≤◌, Bool, false, nat_eq, List, [], length, take}
 use Rattle.image_files.specs.Image.{Closed, Bad, Open, image_of}
 use Rattle.action_log.specs.Segment.{Tick, Segment, ClosedSegment, MalformedSegment, OpenSegment, IsSegment}
@@ -48,7 +48,7 @@ pub record IsKept (bytes : List ℕ) (part : LogPart) : Type 0 where
   pub reads : IsSegment (kept_log part bytes) (segment_of part list)
   pub fits : FitsIn part bytes
 
--- A segment that isn't malformed is taken whole. A malformed one is cut behind its leading groups: no further whole group
+-- A segment that isn't malformed is taken whole. A malformed one is cut after its leading groups: no further whole group
 -- follows there. If none leads it, nothing is taken.
 abbrev pub IsFormed : List ℕ → LogPart → Type 0
 IsFormed bytes logs.Closed = IsSegment bytes ClosedSegment

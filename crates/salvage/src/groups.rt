@@ -8,7 +8,7 @@ use action_log::TickList;
 use file_format::{MARK_END, u16_at};
 use world_actions::Action;
 
-/// Groups that lead a segment: the place behind them, and the number of their ticks.
+/// Groups that lead a segment: the place after them, and the number of their ticks.
 #[derive(Clone, Copy)]
 pub struct Leading {
     pub at: usize,

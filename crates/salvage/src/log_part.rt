@@ -48,7 +48,7 @@ impl LogPart {
     }
 }
 
-/// Judges a log file by its bytes alone, before anything of it is replayed. It takes memory for the ticks of a whole
+/// Judges a log file only by its bytes, before anything of it is replayed. It takes memory for the ticks of a whole
 /// segment, and gives it back.
 pub fn formed_part(alloc: Global, bytes: &[u8]) -> Result<LogPart, Refusal>
     ensures part { IfOk result (λ part. IsFormed bytes.now part) }
@@ -66,7 +66,7 @@ pub fn formed_part(alloc: Global, bytes: &[u8]) -> Result<LogPart, Refusal>
     }
 }
 
-// Cuts a malformed segment behind its leading groups.
+// Cuts a malformed segment after its leading groups.
 fn leading_part(bytes: &[u8]) -> LogPart
     requires { IsSegment bytes.now MalformedSegment }
     ensures part { IsFormed bytes.now result }

@@ -15,7 +15,7 @@ use world_actions::Refusal;
 use world_ticks::{Words, replay};
 
 /// Replays what was kept of a segment on a world, if the segment begins at that world's tick. It cuts off the group of
-/// the first refused action, with all groups behind it. It takes memory for the ticks, and gives it back.
+/// the first refused action, with all groups after it. It takes memory for the ticks, and gives it back.
 pub fn replayed_part(
     alloc: Global,
     world: Recovered,

@@ -26,7 +26,7 @@ pub struct Salvaged {
 }
 
 /// Recovers the world in what can be read of image.a, image.b, log.a and log.b. A damaged image is left out. A segment is
-/// cut behind the last of its leading groups that is whole and accepted. Files that `recover` accepts are taken whole. It
+/// cut after the last of its leading groups that is whole and accepted. Files that `recover` accepts are taken whole. It
 /// refuses with `NoImage` exactly if no image is open and whole, else only with `NoMemory`. It holds the memory of one
 /// recovery at a time, and reads each file a few times.
 pub fn salvage(

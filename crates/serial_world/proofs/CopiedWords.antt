@@ -11,7 +11,7 @@ use Rattle.world_start.specs.Engine.{Follows}
 use Rattle.world_start.specs.Steps.{IsAtRest}
 use Rattle.world_start.proofs.Following.{image_follows}
 
--- the next word is behind those before it
+-- the next word is after those before it
 pub one_more : (words now items : List ℕ) (i word : ℕ) → i < length words → now ≡ words → items ≡ take i words → word ≡ slice_index now i
     → items ++ word ∷ [] ≡ take (i + 1) words
 one_more words now items i word below same front is =

@@ -1,4 +1,4 @@
--- Records are queued behind others.
+-- Records are queued after others.
 use Rattle.std.proofs.Common.{arith, ap, ◌≡◌, ℕ, ◌-◌, ◌≤◌, List, length, drop}
 use Rattle.circular_buffer.specs.Buffer.{keep_last}
 

@@ -1,4 +1,4 @@
 pub mod Opened
 pub mod Runs
--- inside: for private functions alone
+-- inside: for private functions only
 pub mod Steps

@@ -1,4 +1,4 @@
--- Inside: for private functions alone.
+-- Inside: for private functions only.
 -- The effects of a batch and of a mark on an engine, and the result of an open.
 use Rattle.std.specs.Prelude.{◌≡◌, ℕ, ◌+◌, List, ◌∷◌, [], ◌++◌, length, take}
 use Rattle.action_log.specs.declared.record.Record.TheVariants as records

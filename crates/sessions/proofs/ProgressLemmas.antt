@@ -102,7 +102,7 @@ module _ (some : (line : List ℕ) → (meaning : Option Command) × Means line 
   all_mean [] = ([], tt)
   all_mean (line ∷ lines) = (let first = some line in let rest = all_mean lines in (first.0 ∷ rest.0, (first.1, rest.1)))
 
--- too many requests end the session early, whatever is behind them
+-- too many requests end the session early, whatever is after them
 late : (requests : List Request) (ended : List (List Request)) (rest : List Request) → 1024 < length requests
     → (answered_in (added [] requests ended rest).ended ≡ []) × (ends_early (added [] requests ended rest).ended (added [] requests ended rest).rest ≡ true)
 late requests [] rest many = (refl, long_test (requests ++ rest) (simp length-append (omega arith)))

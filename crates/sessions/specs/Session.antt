@@ -1,4 +1,4 @@
--- The text of a client's session over a world that answers batches by a relation of its own.
+-- The text of a client's session over a world that answers batches by its own relation.
 use Rattle.std.specs.Prelude.{◌≡◌, ℕ, Bool, true, false, List, [], ◌∷◌, ◌++◌, length, nat_lt, if◌then◌else◌, Option, Result, Ok, Err}
 use Rattle.line_grammar.specs.declared.command.Command.{Command}
 use Rattle.world_actions.specs.declared.refusal.Refusal.{Refusal}

@@ -7,6 +7,6 @@ pub mod Seats
 pub mod States
 pub mod Joined
 pub mod SignalWord
--- inside: for private functions alone
+-- inside: for private functions only
 pub mod Rule
 pub mod Meeting

@@ -66,7 +66,7 @@ leads_answered old new b meaning said newline means leads empty = record {
       };
 }
 
--- a front behind what was written before
+-- a front after what was written before
 front_behind : (prior front said : List ℕ) → IsFront front said → IsFront (prior ++ front) (prior ++ said)
 front_behind prior front said is = (is.0, ap (λ l. prior ++ l) is.1 ∙ sym (append_assoc prior front is.0))
 
@@ -120,7 +120,7 @@ completes_answered script new meaning said some means leads = record {
 pub breaks_between : (script : ScriptState) (left : List ℕ) (refusal : Refusal) → BreaksOff script left [] refusal
 breaks_between script left refusal = record { on = λ input prior stands. rw (append-nil) (cut_between input left prior script refusal stands) }
 
--- a fault behind what was written for the input so far
+-- a fault after what was written for the input so far
 pub cut_behind : (known left before middle after : Option (List ℕ)) (script : ScriptState) (front : List ℕ) (refusal : Refusal)
     → ((input : List ℕ) → known ≡ Some input → (rest : List ℕ) × (left ≡ Some rest) × ((written : List ℕ) × Appends before middle written × Stands input script rest written)) → Appends middle after front
     → ((rest : List ℕ) → left ≡ Some rest → (bytes : List ℕ) × (rest ≡ bytes) × BreaksOff script bytes front refusal) → IfSome known (λ input. (written : List ℕ) × IsCutOff input written refusal × Appends before after written)
@@ -152,7 +152,7 @@ breaks_end {script} {said} {front} completes is = record {
 rest_of_piece : (piece left : List ℕ) (i : ℕ) → take i piece ++ (drop i piece ++ left) ≡ piece ++ left
 rest_of_piece piece left i = sym (append_assoc (take i piece) (drop i piece) left) ∙ ap (λ bytes. bytes ++ left) (take-append-drop i piece)
 
--- the answers that wait behind the written ones, and the next text
+-- the answers that wait after the written ones, and the next text
 pub leads_more : {old middle new : ScriptState} {bytes more : List ℕ} (written text said all : List ℕ) → LeadsOn old bytes middle (written ++ text) → LeadsOn middle more new said
     → all ≡ text ++ said → LeadsOn old (bytes ++ more) new (written ++ all)
 leads_more {old} {middle} {new} {bytes} {more} written text said all one two is =

@@ -84,7 +84,7 @@ fn read_open(words: &[u8]) -> Option<Line>
     }
 }
 
-// Reads the method at the front. Returns it with the bytes behind the space after it.
+// Reads the method at the front. Returns it with the bytes after the space after it.
 fn read_method(words: &[u8]) -> Option<(Method, &[u8])>
     ensures found { IfSome result (λ found. words.now ≡ method_word found.0 ++ (32 ∷ found.1.now)) }
     ensures none { IfNone result ((method : Method) (rest : List ℕ) → words.now ≢ method_word method ++ (32 ∷ rest)) }

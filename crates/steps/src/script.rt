@@ -85,7 +85,7 @@ impl Script {
         })
     }
 
-    // Goes through the next bytes of the input, and answers each line that ends in them. No answer waits behind them.
+    // Goes through the next bytes of the input, and answers each line that ends in them. No answer waits after them.
     fn take_piece<W: Write>(
         &mut self,
         piece: &[u8],
@@ -220,7 +220,7 @@ fn push_reply(
     }
 }
 
-// Puts the core in the place of the one that was open.
+// Puts the core in place of the one that was open.
 fn put(core: &mut Option<OpenCore>, opened: OpenCore)
     ensures { core.new ≡ Some opened }
 {

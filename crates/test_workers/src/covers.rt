@@ -1,4 +1,4 @@
-//! A log that has fallen behind leaves out the ticks that an image has.
+//! A log that has fallen after leaves out the ticks that an image has.
 ghost use Rattle.std.specs.Prelude.{◌≡◌, ◌≤◌, false};
 ghost use Rattle.workers.specs.Logging.{IsAtRest};
 ghost use Rattle.worker_threads.specs.Kept.{MayTake};
@@ -19,7 +19,7 @@ use world_actions::Refusal;
 
 type File = Fused<ModelFile>;
 
-/// How many calls are made on the second segment's file: four for the switch, and four for the tick behind it.
+/// How many calls are made on the second segment's file: four for the switch, and four for the tick after it.
 const CALLS: u64 = 8;
 
 // Writes the image of the open round, which is of this tick, and opens it.

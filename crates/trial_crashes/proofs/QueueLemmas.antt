@@ -21,7 +21,7 @@ one_more [] tick h = tt
 one_more (records.Tick first ∷ queue) tick h = one_more queue tick h
 one_more (records.Switch tick ∷ queue) actions h = absurd h
 
--- records that fit behind some ticks fit with them in front
+-- records that fit after some ticks fit with them in front
 pub fits_behind : (queue rest : List Record) (count : ℕ) → AreTicks queue → count + length queue ≤ 1000 → QueueFits 0 (count + length queue) rest → QueueFits 0 count (queue ++ rest)
 fits_behind [] rest count h few fits = subst (λ n. QueueFits 0 n rest) (let e : count + 0 ≡ count = omega arith in e) fits
 fits_behind (records.Tick tick ∷ queue) rest count h few fits =

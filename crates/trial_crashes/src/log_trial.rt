@@ -18,7 +18,7 @@ use world_ticks::Tick;
 /// The ticks before the switch: a group of 32, and one of 1.
 const FIRST_TICKS: u64 = 33;
 
-/// The ticks in all: one behind the switch.
+/// The ticks in all: one after the switch.
 const TICKS: u64 = 34;
 
 /// More steps than the trial has.
@@ -177,7 +177,7 @@ fn outcome_of(found: &Recovered, acked: u64) -> Outcome
     }
 }
 
-// The ticks before the switch, the switch, and the tick behind it: tick k adds k to the only cell.
+// The ticks before the switch, the switch, and the tick after it: tick k adds k to the only cell.
 fn records(alloc: Global) -> Result<HeapCircularBuffer<Record>, Refusal>
     ensures { IfOk result (λ queue. QueueFits 0 0 queue.items) }
 {

@@ -89,11 +89,11 @@ const OPEN: u8 = 1;
 /// The byte of a gate that is closed.
 const CLOSED: u8 = 0;
 
-/// The mark of the second format, in the highest byte of the number behind a gate.
+/// The mark of the second format, in the highest byte of the number after a gate.
 const SECOND_MARK: u64 = 0x20 << 56;
 
 /// Good files in these formats, with images of ticks 3 and 1. One segment has ticks 2 and 3 in one group. The other one has
-/// ticks 4 to 6, each in a group of its own. The numbers in the files are small, so that damage often makes two alike.
+/// ticks 4 to 6, each in its own group. The numbers in the files are small, so that damage often makes two alike.
 pub fn good_files(alloc: Global, formats: Formats) -> Result<Files, AllocError> {
     let tick_2 = of_format(formats.log_a, &TICK_2, &TICK_2_WITH_CAP);
     let tick_6 = of_format(formats.log_b, &TICK_6, &TICK_6_WITH_SWAP);
@@ -113,7 +113,7 @@ fn of_format<'a>(format: Format, first: &'a [Action], second: &'a [Action]) -> &
     }
 }
 
-// The open gate, and a number with the mark of the format behind it.
+// The open gate, and a number with the mark of the format after it.
 fn front(alloc: Global, format: Format, number: u64) -> Result<Vec<u8>, AllocError> {
     let mark = match format {
         Format::First => 0,

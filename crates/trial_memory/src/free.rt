@@ -157,7 +157,7 @@ impl Free for RoomyFile {
     }
 }
 
-// Files that are refused before memory is asked for. Two are headers of images with no word behind: one of 2^30 cells, which
+// Files that are refused before memory is asked for. Two are headers of images with no word after: one of 2^30 cells, which
 // are 8 GB, and one of the most cells. The third is a segment whose group is cut off.
 #[derive(Drop)]
 struct BadFiles;

@@ -9,7 +9,7 @@ struct Round {
     steps: u64,
 }
 
-/// The state of the images, by moves and answers alone.
+/// The state of the images, only by moves and answers.
 #[derive(Clone, Copy)]
 pub struct ImageModel {
     cells: u64,

@@ -36,7 +36,7 @@ enum Job {
     Switch { left: u32 },
 }
 
-/// The state of the log, by moves and answers alone.
+/// The state of the log, only by moves and answers.
 #[derive(Drop)]
 pub struct LogModel {
     queue: VecDeque<Queued>,

@@ -10,7 +10,7 @@ use world_core::Fate;
 mod crashes;
 mod plays;
 
-/// A model of a world, by moves and answers alone. It has the words after each ended tick. It knows nothing of files, gates,
+/// A model of a world, only by moves and answers. It has the words after each ended tick. It knows nothing of files, gates,
 /// segments, or how a store keeps its words.
 #[derive(Drop)]
 pub struct PlainModel {

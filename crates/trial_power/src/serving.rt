@@ -10,7 +10,7 @@ use worker_threads::{Seats, StoppedWorkers, Workers, meet_stopped, stop};
 use workers::{AskChannel, Open};
 use world_actions::Refusal;
 
-/// How many players there are, each with a cell of its own.
+/// How many players there are, each with its own cell.
 pub const PLAYERS: u32 = 4;
 
 /// How many batches each player plays.

@@ -9,8 +9,8 @@ pub enum Wrong {
     /// There is no memory left.
     #[error("{0}")]
     Refused(Refusal),
-    /// A round is open in one of two stores alone.
-    #[error("move {0}: a round is open in one of two stores alone")]
+    /// A round is open in only one of two stores.
+    #[error("move {0}: a round is open in only one of two stores")]
     OpenInOne(usize),
     /// A take didn't hand out the word that the plain copy did.
     #[error("move {0}: {1:?} was taken, where the plain copy has {2:?}")]

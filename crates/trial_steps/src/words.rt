@@ -1,4 +1,4 @@
-//! The model that judges worlds. It does actions by code of its own, on purpose.
+//! The model that judges worlds. It does actions by its own code, on purpose.
 use std::alloc::Global;
 use world_actions::{Action, LIMIT, Refusal};
 

@@ -64,7 +64,7 @@ pub fn fixed_run<C: Capture>(alloc: Global) -> Result<(Vec<Step>, Shape), Refusa
     Ok((steps, shape))
 }
 
-/// The moves of a run whose log is left behind: two ticks, and the round between them up to its image.
+/// The moves of a run whose log is left after: two ticks, and the round between them up to its image.
 pub fn run_before_the_log<C: Capture>(alloc: Global) -> Result<Vec<Step>, Refusal> {
     let mut steps = Vec::new(alloc);
     let mut run = Run::<C>::started(alloc)?;

@@ -1,6 +1,6 @@
 //! The program `trial_stops`: stops one run after each of its moves, by crashes of five kinds. The run has two ticks, a
 //! round, a third tick and another round. It is stopped again after each move of the restart. Each call of a device in the
-//! run fails in turn. A second run, whose log is left behind, is stopped in the same way. The trial prints how often each
+//! run fails in turn. A second run, whose log is left after, is stopped in the same way. The trial prints how often each
 //! tick was recovered after a crash. It fails if another one was, if a tick never was, or if a run has other moves than
 //! expected.
 #![tactic(auto)]
@@ -32,7 +32,7 @@ const SECOND: (u32, u32) = (9, 10);
 /// How many they have in its second part, by Ping-Pong. It reads the cell that wasn't written since from the other image.
 const SECOND_BY_PING_PONG: (u32, u32) = (10, 10);
 
-/// How many moves the run has whose log is left behind: six, and those of an image.
+/// How many moves the run has whose log is left after: six, and those of an image.
 const BEFORE_THE_LOG: usize = 15;
 
 fn main(rt: HostRuntime) -> ExitCode {

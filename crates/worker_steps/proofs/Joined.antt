@@ -70,7 +70,7 @@ was_played m tick b is numbered =
       unchanged = fewer_unchanged m.opening m.front.rounds _ is.unchanged;
     }
 
--- as many ticks ended as were pushed behind the start
+-- as many ticks ended as were pushed after the start
 ticks_counted : (end : QueueEnd) (items : List Item) → GoAll end items → (end_all end items).base + (end_all end items).count ≡ end.base + end.count + length (ticks_in (records_of items))
 ticks_counted end [] go = omega arith
 ticks_counted end (Start number ∷ items) go = absurd go.0

@@ -4,7 +4,7 @@ use Rattle.workers.specs.declared.item.Item.{Item}
 use Rattle.workers.specs.Mutating.{Playing}
 use Rattle.workers.specs.Logging.{Logging}
 
--- The mutator stays at its front, its ends of both channels and its word. It keeps the items that it pushed, and pushes behind
+-- The mutator stays at its front, its ends of both channels and its word. It keeps the items that it pushed, and pushes after
 -- them. It keeps the words that it began with, and the number of ticks after which a round is due.
 pub record KeepsFront (old new : Playing) : Type 0 where
   pub pair : new.front.pair ≡ old.front.pair

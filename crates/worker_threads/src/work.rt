@@ -1,4 +1,4 @@
-//! A worker in a thread of its own.
+//! A worker in its own thread.
 ghost use Rattle.std.specs.Prelude.{◌≡◌, IfOk, IfErr};
 
 use crate::threads::NotStarted;

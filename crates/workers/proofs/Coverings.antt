@@ -1,4 +1,4 @@
--- Records that are left out stay left out, whatever comes behind them. Records that a cover takes are left out.
+-- Records that are left out stay left out, whatever comes after them. Records that a cover takes are left out.
 use Rattle.std.proofs.Common.{◌≡◌, ◌<◌, inl, inr, ℕ, Some, None, slice_get, List, [], ◌∷◌, ◌++◌, refl, sym, ap, ◌∙◌, subst}
 use Rattle.std.specs.Prelude.{Contains}
 use Rattle.std.proofs.lemmas.List.{append_assoc}
@@ -17,7 +17,7 @@ begins_more ticks [] more at = absurd at
 begins_more ticks (records.Tick tick ∷ logged) more at = absurd at
 begins_more ticks (records.Switch tick ∷ logged) more at = at
 
--- more records come behind
+-- more records come after
 pub leaves_more : (ticks : List ℕ) (all logged more : List Record) → LeavesOut ticks all logged → LeavesOut ticks (all ++ more) (logged ++ more)
 leaves_more ticks [] logged more none = subst (λ (l : List Record). LeavesOut ticks more (l ++ more)) (sym none) (leaves_none ticks more)
 leaves_more ticks (first ∷ all) logged more (inl kept) = inl (kept.0 ++ more, ap (λ (l : List Record). l ++ more) kept.1, leaves_more ticks all kept.0 more kept.2)

@@ -29,7 +29,7 @@ prefix_numbered (Tick t ∷ xs) ys all is numbered = subst AreNumbered (sym is) 
 prefix_numbered (Switch n ∷ xs) ys all is numbered = subst AreNumbered (sym is) numbered
 prefix_numbered (Stop ∷ xs) ys all is numbered = subst AreNumbered (sym is) numbered
 
--- one more item, behind a start
+-- one more item, after a start
 pub numbered_more : (items : List Item) (x : Item) → IsBegun items → AreNumbered items → Goes (items_end items) x → AreNumbered (items ++ x ∷ [])
 numbered_more items x begun numbered goes =
     let number = begun.0 in

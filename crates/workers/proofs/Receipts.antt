@@ -22,7 +22,7 @@ no_receipt answer.Idle never = refl
 no_receipt answer.Working never = refl
 no_receipt answer.Down never = refl
 
--- a step of the keeper has a receipt in one phase alone
+-- a step of the keeper has a receipt in only one phase
 pub step_receipt : (given : LogAnswer) (p : Phase) (last : ℕ) → ((tick : ℕ) → given ≡ answer.Acked tick → p ≡ phase.GateSync) → (p ≡ phase.GateSync → given ≡ answer.Acked last) → receipt_in given ≡ receipt_at p last
 step_receipt given phase.GateSync last only is = ap receipt_in (is refl)
 step_receipt given phase.Retiring last only is = no_receipt given (λ tick e. let at = only tick e in cc)

@@ -168,7 +168,7 @@ cover_takes covers tick all given lost logs queue left taken c order at =
     subst (λ (l : List Record). LeavesOut covers all (given ++ (l ++ lost))) (sym c.next)
     (cover_leaves covers tick all given taken c.behind lost at (subst (λ (l : List Record). LeavesOut covers all (given ++ (l ++ lost))) front order))
 
--- the same if a switch may be in work: the records were behind none
+-- the same if a switch may be in work: the records were after none
 cover_works : (covers : List ℕ) (tick : ℕ) (all given lost : List Record) (logs : Logs) (queue left : List Record) (taken : List Record) → Covers logs queue tick taken left
     → LeavesOut covers all (given ++ (with_work logs.switch queue ++ lost)) → Contains covers tick → LeavesOut covers all (given ++ (with_work logs.switch left ++ lost))
 cover_works covers tick all given lost logs queue left taken c order at =
@@ -183,7 +183,7 @@ cover_order covers tick all given lost logs queue left answer.Working c order at
 cover_order covers tick all given lost logs queue left (answer.Acked number) c order at = cover_works covers tick all given lost logs queue left c.0 c.1 order at
 cover_order covers tick all given lost logs queue left answer.Down same order at = subst (λ (l : List Record). LeavesOut covers all (given ++ (with_work logs.switch l ++ lost))) (sym same) order
 
--- records behind the queue are behind the switch in work too
+-- records after the queue are after the switch in work too
 work_append : (switch : Option ℕ) (queue more : List Record) → with_work switch (queue ++ more) ≡ with_work switch queue ++ more
 work_append None queue more = refl
 work_append (Some tick) queue more = refl

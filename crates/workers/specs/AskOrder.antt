@@ -12,7 +12,7 @@ use Rattle.workers.specs.Answering.{all_answers_of}
 abbrev pub asks_by : ℕ → List AskedBatch → ℕ
 asks_by session asks = count_by (λ (asked : AskedBatch). asked.session == session) asks
 
--- behind these earlier asks, each ask has the next number of its session
+-- after these earlier asks, each ask has the next number of its session
 abbrev pub EachIsNext : (earlier asks : List AskedBatch) → Type 0
 EachIsNext earlier [] = ⊤
 EachIsNext earlier (asked ∷ asks) = (asked.ask ≡ asks_by asked.session earlier + 1) × EachIsNext (earlier ++ asked ∷ []) asks

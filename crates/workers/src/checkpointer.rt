@@ -200,7 +200,7 @@ fn next_place(images: &ImageKeeper) -> Place
 }
 
 // True if an image is to be made of a round of this tick: there is such a tick, and the newest image is older. This holds
-// for each round that the front opens, but a load of the phase alone doesn't show it.
+// for each round that the front opens, but a load of only the phase doesn't show it.
 fn is_due(images: &ImageKeeper, tick: u64) -> bool
     ensures due { result ≡ true → (tick ≤ TICK_MAX) × (newest_tick images.now.newest < tick) }
     ensures not_due { result ≡ false → IsNoneDue images.now.newest tick }

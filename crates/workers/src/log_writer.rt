@@ -208,7 +208,7 @@ impl<D: Disk + Drop, G: Gate + Drop> LogWriter<D, G> {
         }
     }
 
-    // Waits for an item, and pops it with those behind it, as long as there is room.
+    // Waits for an item, and pops it with those after it, as long as there is room.
     fn fill<R: Wait>(&mut self, rt: &R)
         requires up { self.old.down ≡ false }
         requires goes_on { self.old.over ≡ false }
@@ -358,7 +358,7 @@ impl<D: Disk + Drop, G: Gate + Drop> LogWriter<D, G> {
         }
     }
 
-    /// Waits for an item, and pops it with those behind it, as long as there is room. It writes them to the log, except
+    /// Waits for an item, and pops it with those after it, as long as there is room. It writes them to the log, except
     /// those that an open image has, and answers the durable ticks. Once the log is down it pops an item and refuses it.
     pub fn turn<R: Wait>(&mut self, rt: &R)
         requires goes_on { self.old.over ≡ false }

@@ -67,7 +67,7 @@ fn are_same(xs: &[Request], ys: &[Request]) -> bool
     xs == ys
 }
 
-/// A batch of a session. It alone knows where its answer goes, and only an `Asker` makes one, as it sends it.
+/// A batch of a session. Only it knows where its answer goes, and only an `Asker` makes one, as it sends it.
 #[derive(Drop)]
 pub struct Ask {
     asked: SessionBatch,
@@ -269,7 +269,7 @@ pub enum Reply {
     Fault(Fault),
 }
 
-/// The tick of the last post, or the one that the ticks began behind: only a post raises it.
+/// The tick of the last post, or the one that the ticks began after: only a post raises it.
 #[derive(Drop)]
 pub(crate) struct LastPost {
     tick: u64,
@@ -284,7 +284,7 @@ impl LastPost {
     }
 }
 
-/// The answer of a tick that isn't durable yet. It alone knows the session that it goes to.
+/// The answer of a tick that isn't durable yet. Only it knows the session that it goes to.
 #[derive(Drop)]
 pub struct Waiting {
     number: u64,

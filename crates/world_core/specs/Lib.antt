@@ -10,5 +10,5 @@ pub mod Headline
 pub mod Written
 pub mod Plain
 pub mod Repeating
--- inside: for private functions alone
+-- inside: for private functions only
 pub mod Laws

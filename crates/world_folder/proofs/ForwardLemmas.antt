@@ -19,11 +19,11 @@ no_first x xs e = cc
 first_of : (x y : ℕ) (xs ys : List ℕ) → x ∷ xs ≡ y ∷ ys → x ≡ y
 first_of x y xs ys e = cc
 
--- a gate that isn't open ends the groups, whatever is behind it
+-- a gate that isn't open ends the groups, whatever is after it
 not_open : (gate : ℕ) (xs ys : List ℕ) → EndsGroups (gate ∷ ys) → EndsGroups (gate ∷ xs)
 not_open gate xs ys ends = ends
 
--- what lies behind the first of them
+-- what lies after the first of them
 behind_first : (x : ℕ) (xs : List ℕ) (place : ℕ) (bytes : List ℕ) → drop place bytes ≡ x ∷ xs → drop (suc place) bytes ≡ xs
 behind_first x xs place bytes e =
     let next : suc place ≡ place + 1 = omega arith in
@@ -32,7 +32,7 @@ behind_first x xs place bytes e =
 -- ---- the bytes of a copy
 
 module _ (file : ℕ → List ℕ) where
-  -- a copy from a place on begins with these bytes, and continues behind them
+  -- a copy from a place on begins with these bytes, and continues after them
   record Begins (xs : List ℕ) (place moment : ℕ) (copy : List ℕ) : Type 0 where
     pub rest : List ℕ
     pub later : ℕ
@@ -81,7 +81,7 @@ module _ (file : ℕ → List ℕ) (base : ℕ) (ticks : ℕ → List Tick) (gro
   abbrev rest_at : ℕ → List ℕ
   rest_at m = (grows.reads m).rest
 
-  -- its bytes up to the gate behind these groups
+  -- its bytes up to the gate after these groups
   front : List (List Tick) → List ℕ
   front groups = OPEN_GATE ∷ (spelled_base format base ++ flat_map group_bytes groups)
 
@@ -102,13 +102,13 @@ module _ (file : ℕ → List ℕ) (base : ℕ) (ticks : ℕ → List Tick) (gro
       ∙ ap (λ (f : Format). OPEN_GATE ∷ (spelled_base f base ++ (flat_map group_bytes (groups_at m) ++ rest_at m))) (grows.format m)
       ∙ ap (λ (l : List ℕ). OPEN_GATE ∷ l) (sym (append_assoc (spelled_base format base) (flat_map group_bytes (groups_at m)) (rest_at m)))
 
-  -- behind some of its groups it has the others
+  -- after some of its groups it has the others
   behind_groups : (m : ℕ) (groups more : List (List Tick)) → groups_at m ≡ groups ++ more → drop (length (front groups)) (file m) ≡ flat_map group_bytes more ++ rest_at m
   behind_groups m groups more is =
       ap (drop (length (front groups))) (file_is m ∙ ap (λ (l : List (List Tick)). front l ++ rest_at m) is ∙ ap (λ (l : List ℕ). l ++ rest_at m) (front_more groups more) ∙ append_assoc (front groups) (flat_map group_bytes more) (rest_at m))
       ∙ drop_at (front groups) (flat_map group_bytes more ++ rest_at m) (length (front groups)) refl
 
-  -- a copy from the gate behind some groups reads as the segment at a moment
+  -- a copy from the gate after some groups reads as the segment at a moment
   record Found (groups : List (List Tick)) (moment : ℕ) (copy : List ℕ) : Type 0 where
     pub at : ℕ
     pub after : moment ≤ at
@@ -142,7 +142,7 @@ module _ (file : ℕ → List ℕ) (base : ℕ) (ticks : ℕ → List Tick) (gro
   abbrev FindsUpTo : ℕ → Type 0
   FindsUpTo most = (groups : List (List Tick)) (moment : ℕ) (copy : List ℕ) → length copy ≤ most → HasFrom groups moment → IsCopied file (length (front groups)) moment copy → Found groups moment copy
 
-  -- a gate was read, and these groups lie behind the front then
+  -- a gate was read, and these groups lie after the front then
   at_gate : (most : ℕ) → FindsUpTo most → (groups : List (List Tick)) (moment byte : ℕ) (copy : List ℕ) → length copy ≤ most → (copied : IsCopied file (length (front groups)) moment (byte ∷ copy)) → (more : List (List Tick)) → groups_at copied.0 ≡ groups ++ more → Found groups moment (byte ∷ copy)
   at_gate most finds groups moment byte copy few copied [] all = record {
     at = copied.0;

@@ -14,7 +14,7 @@ use Rattle.image_files.proofs.GateLemmas.{shut_reads_closed}
 use Rattle.image_files.proofs.SpellingLemmas.{image_read}
 use Rattle.world_folder.specs.WordsImage.{LeavesNone}
 
--- a write behind a shut gate leaves no image
+-- a write after a shut gate leaves no image
 pub none_behind : (n : ℕ) (file : List ℕ) (old new : List ℕ → Type 0) → HasShutGate file → Only file old → Follows (Torn 1 n) old new → LeavesNone new
 none_behind n file old new shut only follows left outcome =
     let from = follows left outcome in
@@ -34,7 +34,7 @@ length_words [] = refl
 length_words (word ∷ words) =
     omega (arith, length-append (number_bytes 8 word) (flat_map (number_bytes 8) words), length-number_bytes 8 word, length_words words)
 
--- a body that was written behind a shut gate is an image once the gate is open
+-- a body that was written after a shut gate is an image once the gate is open
 pub whole_image : (file body words : List ℕ) → HasShutGate file → body ≡ header_bytes Second (length words) 0 ++ flat_map (number_bytes 8) words → IsWorld words
     → image_of (overwritten (overwritten file 1 body) 0 (OPEN_GATE ∷ [])) ≡ Open 0 words
 whole_image [] body words shut is world = absurd (omega (arith, shut.0))

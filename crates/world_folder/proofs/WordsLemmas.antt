@@ -17,7 +17,7 @@ each_more (first ∷ words) front word separator is listed =
       each_more words listed.1 word separator is listed.4,
     )
 
--- the last word, with nothing behind it
+-- the last word, with nothing after it
 pub last_listed : (words front rest text : List ℕ) (word : ℕ) → text ≡ front ++ rest → take (length rest) rest ≡ decimal word
     → ListsEach words front → Lists (words ++ word ∷ []) text
 last_listed words front rest text word is part listed =
@@ -52,7 +52,7 @@ no_separator_at bytes i inside other none =
 separator_first : (left : List ℕ) (byte : ℕ) (more : List ℕ) → left ≡ byte ∷ more → EndsPart left → IsSeparator byte
 separator_first left byte more is ends = subst EndsPart is ends
 
--- a text continues behind a word and its separator
+-- a text continues after a word and its separator
 pub record GoesOn (words front rest text : List ℕ) (word end : ℕ) (more : List ℕ) : Type 0 where
   pub is_text : text ≡ more ++ drop (end + 1) rest
   pub listed : ListsEach (words ++ word ∷ []) more

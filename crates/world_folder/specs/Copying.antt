@@ -20,7 +20,7 @@ use Rattle.world_folder.specs.History.{Act, Read}
 use Rattle.world_folder.specs.Look.{look_of}
 use Rattle.world_folder.specs.ReadIn.{IsFileRead}
 
--- the files of which all bytes are copied that their formats read, and not the head alone: an older image may be left out
+-- the files of which all bytes are copied that their formats read, not only the head: an older image may be left out
 abbrev pub whole_files : Images → (newest : Slot) → FourFiles Bool
 whole_files Both newest = record { image_a = true; image_b = true; log_a = true; log_b = true }
 whole_files Newest A = record { image_a = true; image_b = false; log_a = true; log_b = true }
@@ -33,7 +33,7 @@ head_of ImageB = IMAGE_HEAD
 head_of LogA = SEGMENT_HEAD
 head_of LogB = SEGMENT_HEAD
 
--- a closed gate in the place of an older image; an empty file stays one
+-- a closed gate in place of an older image; an empty file stays one
 abbrev pub shut_older : List ℕ → List ℕ
 shut_older [] = []
 shut_older (gate ∷ rest) = CLOSED_GATE ∷ []
@@ -84,7 +84,7 @@ reads image_a image_b log_a log_b acts = Read LogB log_b ∷ Read LogA log_a ∷
 abbrev pub IsNewestIn : (image_a image_b log_a log_b : List ℕ) → Slot → Type 0
 IsNewestIn image_a image_b log_a log_b newest = (tick : ℕ) × ((look_of image_a image_b log_a log_b).newest ≡ Some (newest, tick))
 
--- A copy of four files with these bytes: the images, both or the newest alone, and the whole log.
+-- A copy of four files with these bytes: the images, both or only the newest, and the whole log.
 pub record IsCopyOfBytes (images : Images) (image_a image_b log_a log_b : List ℕ) (copied : Files) (lengths : FourFiles ℕ) : Type 0 where
   pub newest : Slot
   pub found : IsNewestIn (take IMAGE_HEAD image_a) (take IMAGE_HEAD image_b) (take SEGMENT_HEAD log_a) (take SEGMENT_HEAD log_b) newest

@@ -10,7 +10,7 @@ IsCopied file place moment (byte ∷ more) =
     (read : ℕ) × (moment ≤ read) × ((behind : List ℕ) × (drop place (file read) ≡ byte ∷ behind)) × IsCopied file (suc place) read more
 
 -- The file is an open segment at each moment, with these ticks. It keeps its base, its format and its groups, and gets more
--- groups behind them.
+-- groups after them.
 pub record IsGrowing (file : (moment : ℕ) → List ℕ) (base : ℕ) (ticks : (moment : ℕ) → List Tick) : Type 0 where
   pub reads : (moment : ℕ) → IsOpenSegment (file moment) base (ticks moment)
   pub format : (moment : ℕ) → (reads moment).format ≡ (reads 0).format

@@ -27,6 +27,6 @@ pub mod Inspection
 pub mod Verified
 pub mod Unrecovered
 pub mod ModelFolder
--- inside: for private functions alone
+-- inside: for private functions only
 pub mod Looks
 pub mod Tried

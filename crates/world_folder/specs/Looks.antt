@@ -1,4 +1,4 @@
--- Inside, for private functions alone: three looks at a world's files.
+-- Inside, for private functions only: three looks at a world's files.
 use Rattle.std.specs.Prelude.{◌≡◌}
 use Rattle.file_format.specs.declared.slot.Slot.{Slot}
 use Rattle.world_folder.specs.Copying.{IsReadWhole, IsNewestIn}

@@ -45,7 +45,7 @@ module _ {D : Type 0} (file : D → List ℕ) (leaves : D → List ℕ → Type 
     pub kept : ending ≢ Fault Device → EachFile files left (KeepsFile file leaves)
     pub safe : AreSynced file leaves files → FilesAreClosed file files → AreFreshOrSound file leaves left (replicate cells 0)
 
--- the files beside image.a are asked for no byte behind the greatest length of their format, and for nothing else
+-- the files beside image.a are asked for no byte after the greatest length of their format, and for nothing else
 pub record OthersOnlyAsked {D : Type 0} (called : D → Call → Bool → D → Type 0) (files left : FourFiles D) : Type 0 where
   pub image_b : OnlyAsked called IMAGE_BYTES_MAX files.image_b left.image_b
   pub log_a : OnlyAsked called SEGMENT_BYTES_MAX files.log_a left.log_a

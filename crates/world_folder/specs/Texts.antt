@@ -121,7 +121,7 @@ segment_text None = codes "no segment is open"
 
 abbrev pub figures_text : FiguresValue → List ℕ
 figures_text figures = recovered_text figures.tick figures.image figures.slot
-    ++ codes "\nlog: " ++ counted_text (figures.tick - figures.image) (codes "tick") ++ codes " behind the image, " ++ segment_text figures.segment
+    ++ codes "\nlog: " ++ counted_text (figures.tick - figures.image) (codes "tick") ++ codes " after the image, " ++ segment_text figures.segment
 
 -- how many bytes four files have together, as far as a number of 64 bits goes
 abbrev pub total_of : FourFiles ℕ → ℕ

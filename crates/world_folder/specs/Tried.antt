@@ -1,4 +1,4 @@
--- Inside, for private functions alone: the result of a try to copy files.
+-- Inside, for private functions only: the result of a try to copy files.
 use Rattle.std.specs.Prelude.{List, ℕ}
 use Rattle.disk_model.specs.declared.four_files.FourFiles.{FourFiles}
 use Rattle.world_folder.specs.Copying.{IsCopyOf}

@@ -7,13 +7,13 @@ use Rattle.world_actions.specs.World.{IsWord}
 abbrev pub IsSeparator : ℕ → Type 0
 IsSeparator byte = (byte ≡ 32) ⊎ (byte ≡ 10)
 
--- each word in decimal, with a separator behind it
+-- each word in decimal, with a separator after it
 abbrev pub ListsEach : (words text : List ℕ) → Type 0
 ListsEach [] text = text ≡ []
 ListsEach (word ∷ words) text =
     (separator : ℕ) × (rest : List ℕ) × IsSeparator separator × (text ≡ decimal word ++ separator ∷ rest) × ListsEach words rest
 
--- the same, or with nothing behind the last word
+-- the same, or with nothing after the last word
 abbrev pub Lists : (words text : List ℕ) → Type 0
 Lists words text = ListsEach words text ⊎ ListsEach words (text ++ 10 ∷ [])
 

@@ -168,7 +168,7 @@ fn there_or_made<F: Folder>(
     }
 }
 
-// Makes a file that its owner alone may read and write, and locks it if it is image.a. It is a closed gate: an empty file of a
+// Makes a file that only its owner may read and write, and locks it if it is image.a. It is a closed gate: an empty file of a
 // world that was made is one that was lost.
 fn make_closed<F: Folder>(
     alloc: Global,

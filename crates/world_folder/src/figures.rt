@@ -140,12 +140,12 @@ impl fmt::Display for Figures {
             },
             slot: self.slot,
         };
-        let behind = Counted {
+        let replayed = Counted {
             count: self.tick.saturating_sub(self.image) as usize,
             noun: "tick",
         };
         let segment = SegmentReport(self.segment);
-        write!(f, "{found}\nlog: {behind} behind the image, {segment}")
+        write!(f, "{found}\nlog: {replayed} after the image, {segment}")
     }
 }
 

@@ -55,7 +55,7 @@ pub trait Folder {
     /// The calls that succeeded, and the lines that were printed, the latest one first.
     ghost history: { Self → List Act };
 
-    /// The file behind a handle.
+    /// The file after a handle.
     ghost entry_of: { Self.Handle → FileEntry };
 
     /// Its bytes.
@@ -73,12 +73,12 @@ pub trait Folder {
     fn open(&mut self, file: WorldFile) -> io::Result<Self::Handle>
         ensures opened { IsTrue honest → IfOk result (λ handle. history self.new ≡ Opened file (entry_of handle) ∷ history self.old) };
 
-    /// Makes a file that its owner alone may read and write. One that is there is an error.
+    /// Makes a file that only its owner may read and write. One that is there is an error.
     fn make(&mut self, file: WorldFile) -> io::Result<Self::Handle>
         ensures made { IsTrue honest → IfOk result (λ handle. history self.new ≡ Made file (entry_of handle) ∷ history self.old) }
         ensures empty { IsTrue honest → IfOk result (λ handle. content_of handle ≡ []) };
 
-    /// Opens the file to which a name leads, to read it alone.
+    /// Opens the file to which a name leads, only to read it.
     fn open_to_read(&mut self, file: WorldFile, how: Reading) -> io::Result<Self::File>
         ensures read { IsTrue honest → IfOk result (λ disk. history self.new ≡ Read file (Self.File.content disk) ∷ history self.old) }
         ensures failed { IsTrue honest → OnErr result (history self.new ≡ history self.old) };

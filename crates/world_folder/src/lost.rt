@@ -12,7 +12,7 @@ use std::alloc::Global;
 use std::fmt;
 use world_actions::Refusal;
 
-/// A finding on four files that no crash leaves behind: one of them was lost, emptied or replaced.
+/// A finding on four files that no crash leaves after: one of them was lost, emptied or replaced.
 #[derive(Clone, Copy, Debug, PartialEq, Eq)]
 pub enum Lost {
     /// This image is empty, beside one of a tick above 0. By then both were written once.

@@ -1,4 +1,4 @@
-//! The files of a folder as readers see them: opened to be read alone, and read as far as their formats go.
+//! The files of a folder as readers see them: opened only to be read, and read as far as their formats go.
 ghost use Rattle.std.specs.Prelude.{◌≡◌, Ok, IsTrue, IfOk, IfErr, OnErr, IfSome, IsErr, IsErrAnd};
 ghost use Rattle.world_folder.specs.Fault.{AreRead};
 ghost use Rattle.world_folder.specs.Ending.{IsFault, ReportsOfFirst};
@@ -16,7 +16,7 @@ use std::alloc::Global;
 use std::io;
 use world_actions::Refusal;
 
-/// The bytes of each file of a folder that its format reads, or why it can't be read. Each is opened for reading alone, and
+/// The bytes of each file of a folder that its format reads, or why it can't be read. Each is opened for reading only, and
 /// nothing is locked.
 pub fn read_folder<F: Folder>(
     alloc: Global,

@@ -24,7 +24,7 @@ impl fmt::Display for Reason {
     }
 }
 
-/// The refusal for an error of the system: want of memory, or a fault of its device.
+/// The refusal for an error of the system: lack of memory, or a fault of its device.
 pub fn refusal_of(error: &io::Error) -> Refusal
     ensures memory { error_kind error.now ≡ ErrorKind.OutOfMemory → result ≡ Refusal.NoMemory }
     ensures device { error_kind error.now ≢ ErrorKind.OutOfMemory → result ≡ Refusal.Device }

@@ -41,7 +41,7 @@ impl<'a, R: Files<File = File> + AllocGlobal> SystemFolder<'a, R> {
         Path::new(self.path).join(self.rt.alloc(), file.name())
     }
 
-    // Opens a file to read it alone. A file of another kind isn't opened: to open a pipe waits for its writer.
+    // Opens a file only to read it. A file of another kind isn't opened: to open a pipe waits for its writer.
     fn open_plain(&self, file: WorldFile) -> io::Result<File> {
         let path = self.path_of(file)?;
         if !fs::metadata(self.rt, path.as_path())?.is_file() {

@@ -68,7 +68,7 @@ fn shut_gate<D: Disk>(already_shut: bool, image: &mut D) -> Result<(), Refusal>
     image.sync()
 }
 
-// Writes the bytes behind a shut gate, and makes them durable.
+// Writes the bytes after a shut gate, and makes them durable.
 fn write_body<D: Disk>(body: &[u8], image: &mut D) -> Result<(), Refusal>
     requires { IsTrue D.honest → HasShutGate (D.content image.old) }
     ensures written { IsTrue D.honest
@@ -99,7 +99,7 @@ fn open_gate<D: Disk>(image: &mut D) -> Result<(), Refusal>
     image.sync()
 }
 
-/// The bytes behind the gate of an image of these words after a tick.
+/// The bytes after the gate of an image of these words after a tick.
 pub fn image_body(alloc: Global, tick: u64, words: &[u64]) -> Result<Vec<u8>, AllocError>
     requires { length words.now ≤ CELLS }
     ensures { IfOk result (λ body. body.items

@@ -9,7 +9,7 @@ use std::alloc::Global;
 use std::fmt;
 use world_actions::{CELLS, LIMIT, Refusal};
 
-/// More bytes than the longest text of a world has: a word has 18 digits at most, and a separator behind them.
+/// More bytes than the longest text of a world has: a word has 18 digits at most, and a separator after them.
 pub const TEXT_BYTES: usize = 20 * CELLS as usize;
 
 /// Why a text doesn't list the words of a world.
@@ -157,7 +157,7 @@ fn newlines_at(text: &[u8], at: usize) -> u64
     if text[at] == b'\n' { 1 } else { 0 }
 }
 
-// The bytes behind a place.
+// The bytes after a place.
 fn behind(text: &[u8], at: usize) -> &[u8]
     requires { at < length text.now }
     ensures { result.now ≡ drop (at + 1) text.now }

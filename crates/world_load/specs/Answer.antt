@@ -11,7 +11,7 @@ abbrev pub pluses : ℕ → List ℕ
 pluses zero = 10 ∷ []
 pluses (suc lines) = codes " +" ++ pluses lines
 
--- the text behind the number if so many lines were accepted
+-- the text after the number if so many lines were accepted
 abbrev pub all_accepted : ℕ → List ℕ
 all_accepted lines = 58 ∷ pluses lines
 

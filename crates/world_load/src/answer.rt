@@ -7,7 +7,7 @@ use line_grammar::{after, read_number};
 use std::alloc::{AllocError, Global};
 use world_actions::Refusal;
 
-/// The text behind the number in an answer to so many lines, all of which were accepted.
+/// The text after the number in an answer to so many lines, all of which were accepted.
 pub fn accepted(alloc: Global, lines: u32) -> Result<Vec<u8>, AllocError>
     ensures { IfOk result (λ text. text.items ≡ all_accepted lines) }
 {
@@ -40,7 +40,7 @@ pub fn refusal_of(answer: &[u8]) -> Option<Refusal>
     }
 }
 
-// The number in a text, between what is before it and what is behind it.
+// The number in a text, between what is before it and what is after it.
 fn number_between(text: &[u8], front: &[u8], end: &[u8]) -> Option<u64>
     ensures { IsReading (λ number. front.now ++ (decimal number ++ end.now)) (λ number. number < 2 ^ 64) text.now result }
 {

@@ -35,7 +35,7 @@ worldd that serves as many clients ends then too:
   worldd create --dir D --cells 1000
   worldd serve --dir D --method zigzag --every 4096 --port 7070 --clients 50 &
   world_load --port 7070 --connections 50 --cells 1000
-A worldd that listens on a socket is loaded by --socket PATH in the place of --port P.
+A worldd that listens on a socket is loaded by --socket PATH in place of --port P.
 Each second it prints on standard error how many ticks were answered. Its status is 0 if
 each answer was right; 1 after a fault or a wrong answer, with a line that names it; 2
 for a wrong command line.";
@@ -73,7 +73,7 @@ fn socket_argument<'a>(alloc: Global) -> Arg<'a> {
         .long(SOCKET)
         .value_name("PATH")
         .action(ArgAction::Set)
-        .help("The path of the socket that worldd listens on, in the place of a port")
+        .help("The path of the socket that worldd listens on, in place of a port")
 }
 
 // Exactly one of the port and the socket is wanted.
@@ -114,7 +114,7 @@ fn batches_argument<'a>(alloc: Global) -> Arg<'a> {
         .long(BATCHES)
         .value_name("B")
         .value_parser(value_parser!(u32).range(1..))
-        .help("After how many batches a connection ends; without it, after the seconds alone")
+        .help("After how many batches a connection ends; without it, only after the seconds")
 }
 
 fn seconds_argument<'a>(alloc: Global) -> Arg<'a> {

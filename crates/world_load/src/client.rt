@@ -130,7 +130,7 @@ fn is_over<R: Clock>(rt: &R, begin: Instant, load: &Load) -> io::Result<bool> {
     Ok(begin.elapsed(rt)?.as_secs() >= u64::from(load.seconds))
 }
 
-// Makes the next batch in the place of the last one.
+// Makes the next batch in place of the last one.
 fn put_batch(batch: &mut Vec<u8>, load: &Load, random: &mut Random) -> Result<(), Failure> {
     batch.clear();
     for _ in 0..load.lines {

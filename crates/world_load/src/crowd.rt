@@ -28,7 +28,7 @@ pub struct Seen {
 
 type Handle = JoinHandle<Result<Vec<u64>, Failure>>;
 
-/// Lets the clients of a load play against the server at an address, each in a thread of its own. Meanwhile it prints on
+/// Lets the clients of a load play against the server at an address, each in its own thread. Meanwhile it prints on
 /// standard error, each second, how far they are.
 pub fn run_crowd<
     R: Net<Stream = TcpStream> + Threads + Wait + Clock + Eprint + Copy + Send + 'static,

@@ -1,7 +1,7 @@
 /// The requests of clients to a server.
 #[derive(Clone, Copy, Debug, PartialEq, Eq)]
 pub struct Load {
-    /// How many connections there are at once, each with a thread of its own.
+    /// How many connections there are at once, each with its own thread.
     pub connections: u32,
     /// How many sets a batch has.
     pub lines: u32,

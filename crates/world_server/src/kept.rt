@@ -13,7 +13,7 @@ use std::time::Clock;
 use workers::{ImageWriter, Log};
 use world_folder::{Ending, WorldFile, lock, opened};
 
-/// A file that a server has open, by a descriptor of its own.
+/// A file that a server has open, by its own descriptor.
 #[derive(Drop)]
 pub struct KeptFile {
     file: File,

@@ -105,7 +105,7 @@ fn clear<R: Files + Net>(rt: &R, path: &str) -> io::Result<()> {
     fs::remove_file(rt, path)
 }
 
-// Why a file in the place of a socket is refused.
+// Why a file in place of a socket is refused.
 fn obstacle(there: &Metadata) -> Option<&'static str>
     ensures link { IsSymlink (file_type there.now) → IsSome result }
     ensures folder { IsDir (file_type there.now) → IsSome result }
@@ -153,11 +153,11 @@ fn make_in<R: Files + Net>(
     made
 }
 
-// Makes the folder, which its owner alone may enter.
+// Makes the folder, which only its owner may enter.
 fn make_room<R: Files>(rt: &R, room: &str) -> io::Result<()> {
     match DirBuilder::new().mode(OWNER_ALONE).create(rt, room) {
         Err(error) if error.kind() == ErrorKind::AlreadyExists => Err(io::Error::other(
-            "a folder is to be made there, with `.new` behind this name",
+            "this name with `.new` after it already exists",
         )),
         answer => answer,
     }

@@ -35,7 +35,7 @@ needed_number_rule name least most = record (number_rule name least most []) { r
 abbrev pub flag_rule : (name : List ℕ) → Rule
 flag_rule name = record (new_rule name) { long = Some name; action = Some SetTrue }
 
--- an argument of this rule, of its own command alone
+-- an argument of this rule, of only its own command
 abbrev pub IsArgument : Rule → Arg → Type 0
 IsArgument rule arg = (rule_of arg ≡ rule) × (arg.global ≡ false)
 

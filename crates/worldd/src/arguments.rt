@@ -161,7 +161,7 @@ fn cells_argument<'a>(alloc: Global) -> Arg<'a>
 fn list_argument<'a>(alloc: Global) -> Arg<'a>
     ensures { IsArgument (value_rule (codes "words")) result }
 {
-    let help = "A file with the words of the cells, in the place of their number";
+    let help = "A file with the words of the cells, in place of their number";
     value_argument(alloc, WORDS, "FILE", help)
 }
 

@@ -39,7 +39,7 @@ A line that is refused gets `- CODE`, and changes nothing:
 pub const CREATE_HELP: &str = "\
 It creates the missing ones of image.a, image.b, log.a and log.b, writes a world of N
 cells, all 0, into them, and prints `created N`. A file that is closed, by its first
-byte, is overwritten: use a folder for this world alone. With --words the cells have the
+byte, is overwritten: use a folder for this world only. With --words the cells have the
 words that FILE lists: numbers from 0 to 999999999999999999, with a space or a newline
 between them, as `inspect --words` prints them. After a fault the status is 1, or 13 if
 memory or room is wanting, and the first line on standard error is `fault CODE`:
@@ -76,7 +76,7 @@ pub const STATUS_HELP: &str = "\
 It reads image.a, image.b, log.a and log.b, and writes nothing. It asks for the locks by
 which a server is known, and gives back at once what it gets. It prints four lines:
   recovered N from T in NAME         as `inspect`
-  log: 9 ticks behind the image, log.a has 9 of 65536
+  log: 9 ticks after the image, log.a has 9 of 65536
   bytes: image.a 33, image.b 33, log.a 145, log.b 10, together 221
   server: running, log up, images up
 At 65536 ticks in a segment batches are refused with 6: its server writes no images. The
@@ -99,7 +99,7 @@ that was answered before it began. It makes no folder. After a fault the status 
 /// The end of `worldd salvage --help`.
 pub const SALVAGE_HELP: &str = "\
 It makes a world in an empty folder of what can be read of files that `recover` refuses,
-and writes nothing into theirs. A bad image is left out, a log is cut behind its last
+and writes nothing into theirs. A bad image is left out, a log is cut after its last
 whole group whose actions can be played again, and a lost file counts as closed. It
 prints what it took of each file, and `salvaged N from T`: the new files hold the world
 after tick N. Later ticks are lost. After a fault the status is 1, or 13 if memory or

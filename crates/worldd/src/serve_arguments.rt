@@ -95,7 +95,7 @@ fn port_argument<'a>(alloc: Global) -> Arg<'a>
 fn socket_argument<'a>(alloc: Global) -> Arg<'a>
     ensures { IsArgument (value_rule (codes "socket")) result }
 {
-    let help = "The path of a socket, in the place of a port";
+    let help = "The path of a socket, in place of a port";
     value_argument(alloc, SOCKET, "PATH", help)
 }
 

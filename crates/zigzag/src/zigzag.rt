@@ -61,7 +61,7 @@ impl Zigzag {
     }
 }
 
-// The calls, stated on the arrays alone.
+// The calls, stated only on the arrays.
 impl Zigzag {
     fn entries(&self, i: usize) -> (u64, u64)
         requires { i < length self.now.array_zero }

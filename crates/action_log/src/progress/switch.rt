@@ -87,7 +87,7 @@ impl Progress {
         Ok(())
     }
 
-    // Writes the base, and a closed gate in the place of the first group.
+    // Writes the base, and a closed gate in place of the first group.
     pub(super) fn write_header<D: Disk>(
         &mut self,
         buffer: &mut Vec<u8>,

@@ -12,7 +12,7 @@ use world_ticks::TICK_MAX;
 /// How far the groups go that lead the bytes of a segment.
 #[derive(Clone, Copy, Debug)]
 pub struct Extent {
-    /// The place behind the last leading group that is whole and within the bounds of a segment.
+    /// The place after the last leading group that is whole and within the bounds of a segment.
     pub groups_end: usize,
     /// The number of ticks of these groups.
     pub ticks: usize,
@@ -44,7 +44,7 @@ pub fn extent_of(bytes: &[u8]) -> Option<Extent>
     })
 }
 
-// Counts the ticks of the whole groups that lead these bytes, up to `most` ticks, and returns the bytes behind them.
+// Counts the ticks of the whole groups that lead these bytes, up to `most` ticks, and returns the bytes after them.
 fn behind_groups(format: Format, bytes: &[u8], most: usize) -> (usize, &[u8])
     requires { most ≤ SEGMENT_TICKS }
     ensures { (groups : List (List (List Action))) × AreLeading format most bytes.now groups result.1.now

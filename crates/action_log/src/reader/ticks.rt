@@ -121,7 +121,7 @@ fn action_count(bytes: &[u8]) -> Option<(usize, &[u8])>
     Some((count, rest))
 }
 
-// Reads the number of ticks of a group behind its gate, and returns it with the bytes after it.
+// Reads the number of ticks of a group after its gate, and returns it with the bytes after it.
 fn tick_count(bytes: &[u8]) -> Option<(usize, &[u8])>
     ensures some { IfSome result (λ found. (format : Format)
         → group_at format bytes.now ≡ several_at (tick_at format) found.0 found.1.now) }
@@ -159,7 +159,7 @@ pub(super) struct Counts {
     pub(super) actions: usize,
 }
 
-/// Counts the ticks and the actions of a group behind its gate, and returns the bytes after it.
+/// Counts the ticks and the actions of a group after its gate, and returns the bytes after it.
 pub(super) fn count_group(format: Format, bytes: &[u8]) -> Option<(usize, usize, &[u8])>
     ensures some { IfSome result (λ found. (ticks : List (List Action))
         × (group_at format bytes.now ≡ Some (ticks, found.2.now)) × (length ticks ≡ found.0)
@@ -232,7 +232,7 @@ fn read_tick<'a>(
     Ok(rest)
 }
 
-// Adds the ticks of a group behind its gate, and returns the bytes after it.
+// Adds the ticks of a group after its gate, and returns the bytes after it.
 fn read_group<'a>(
     format: Format,
     bytes: &'a [u8],

@@ -24,7 +24,7 @@ use disk_model::Disk;
 use file_format::MARK_PLACE;
 use world_actions::Refusal;
 
-// The header and the words of the target, behind its closed gate.
+// The header and the words of the target, after its closed gate.
 impl ImageKeeper {
     // Writes the number of cells and the tick.
     #[tactic(auto, unfolding(crate::specs::Image::image_of))]

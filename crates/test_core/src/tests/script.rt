@@ -162,7 +162,7 @@ const SCRIPTS: [(&[u8], &[u8]); 16] = [
         b"open plain 1\nset 0 7\nend\nopen quick 1\nopen zigzag 01\nopen  plain 1\nget 0\nopen plain 3\nworld\nend\n",
         b"ready 0\n+\ntick 1\n- 16\n- 16\n- 16\n= 7\nready 0\n0 0 0\ntick 1\n",
     ),
-    // The rest of a line that is too long is no line of its own.
+    // The rest of a line that is too long is no line by itself.
     (
         b"open plain 1\nget 0\nget 0000000000000000000000000000000000000000000000000000000000000000000000000000\nget 00000000000000000000000000000000000000000000000000000000000000000000000000000 get 0\nget 0\n",
         b"ready 0\n= 0\n- 16\n- 16\n= 0\n",

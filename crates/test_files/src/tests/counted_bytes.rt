@@ -10,7 +10,7 @@ use std::alloc::Global;
 use std::test::Fail;
 use world_actions::Refusal;
 
-// An image of the words 5 and 7 at tick 3 in the first format, and five bytes behind it.
+// An image of the words 5 and 7 at tick 3 in the first format, and five bytes after it.
 fn image() -> [u8; 38] {
     let mut bytes = [9; 38];
     bytes[..17].copy_from_slice(&[1, 2, 0, 0, 0, 0, 0, 0, 0, 3, 0, 0, 0, 0, 0, 0, 0]);
@@ -47,7 +47,7 @@ fn an_image_is_read_to_its_last_word(rt: HostRuntime) -> Result<(), Fail> {
     Ok(())
 }
 
-// An open segment of so many groups of 67 bytes, a gate, and so many bytes behind it.
+// An open segment of so many groups of 67 bytes, a gate, and so many bytes after it.
 fn segment(alloc: Global, groups: u32, gate: u8, behind: usize) -> Result<Vec<u8>, Refusal> {
     let mut bytes = [1, 0, 0, 0, 0, 0, 0, 0, 0].to_vec(alloc)?;
     push_groups(&mut bytes, groups)?;
@@ -77,7 +77,7 @@ fn a_segment_is_read_to_its_last_gate(rt: HostRuntime) -> Result<(), Fail> {
         (1, 2, 300_000, 77),
         (2_000, 0, 0, 134_010), // three pieces
         (2_000, 0, 300_000, 134_010),
-        (1, 1, 300_000, 300_077), // no group behind an open gate
+        (1, 1, 300_000, 300_077), // no group after an open gate
     ] {
         let read = count_segment(rt.alloc(), groups, gate, behind)?;
         assert_eq!(rt;
@@ -127,7 +127,7 @@ fn groups_lead_a_segment(rt: HostRuntime) -> Result<(), Fail> {
     Ok(())
 }
 
-// Two images, a segment of a group and a closed file, each with bytes behind those that count.
+// Two images, a segment of a group and a closed file, each with bytes after those that count.
 fn files(alloc: Global) -> Result<FourFiles<Fused<ModelFile>>, Refusal> {
     let log = segment(alloc, 1, 0, 9)?;
     Ok(FourFiles {

@@ -23,7 +23,7 @@ fn reported(bytes: &[u8]) -> u8 {
     }
 }
 
-// The format and the number behind the gate of a file of ten bytes.
+// The format and the number after the gate of a file of ten bytes.
 fn mark_of(file: &[u8; 10]) -> (u8, u64) {
     match marked_at(file) {
         Some((format, number)) => (number_of(format), number),

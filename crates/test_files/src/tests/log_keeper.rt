@@ -35,7 +35,7 @@ fn queue_tick(
     Ok(())
 }
 
-// Queues the first ticks behind base 0.
+// Queues the first ticks after base 0.
 fn queue_ticks(
     rt: &impl Abort,
     alloc: Global,
@@ -141,7 +141,7 @@ fn two_ticks(
     Ok(queue)
 }
 
-// True if log.a has tick 1 behind base 0.
+// True if log.a has tick 1 after base 0.
 fn has_first(a: &ModelFile) -> bool {
     let segment = [
         1, 0, 0, 0, 0, 0, 0, 0, 0x20, 1, 1, 0, 1, 0, 1, 0, 0, 0, 0, 5, 0, 0, 0, 0, 0, 0, 0, 0,
@@ -149,7 +149,7 @@ fn has_first(a: &ModelFile) -> bool {
     a.durable() == segment.as_slice()
 }
 
-// True if log.b has tick 2 behind base 1.
+// True if log.b has tick 2 after base 1.
 fn has_second(b: &ModelFile) -> bool {
     let segment = [
         1, 1, 0, 0, 0, 0, 0, 0, 0x20, 1, 1, 0, 1, 0, 2, 0, 0, 0, 0, 2, 0, 0, 0, 0, 0, 0, 0, 0,
@@ -218,7 +218,7 @@ fn writes_ticks_in_groups(rt: HostRuntime) -> Result<(), Fail> {
     Ok(())
 }
 
-// Covers nothing in front of a switch, and then an older switch alone. Returns the work of the switch that is left, which is
+// Covers nothing in front of a switch, and then only an older switch. Returns the work of the switch that is left, which is
 // at tick 3.
 fn cover_switches(
     rt: &impl Abort,
@@ -278,7 +278,7 @@ fn check_covers(
     Ok(())
 }
 
-// A cover takes the records before the switch: a tick, nothing, and an older switch alone.
+// A cover takes the records before the switch: a tick, nothing, and only an older switch.
 #[test]
 fn covers_what_stands_before_a_switch(rt: HostRuntime) -> Result<(), Fail> {
     let mut queue = HeapCircularBuffer::with_capacity(rt.alloc(), 8)?;

@@ -110,7 +110,7 @@ fn reads_each_action_of_the_second_format(rt: HostRuntime) {
     assert_eq!(rt; outcome(rt.alloc(), &bytes), 15);
 }
 
-// An open segment: a group of 32 ticks without an action, a group of one more, a closed gate, and bytes behind it.
+// An open segment: a group of 32 ticks without an action, a group of one more, a closed gate, and bytes after it.
 fn two_groups() -> [u8; 87] {
     let mut bytes = [0; 87];
     bytes[0] = 1;
@@ -124,7 +124,7 @@ fn assert_groups(rt: &impl Abort, bytes: &[u8], want: Option<usize>) {
     assert_eq!(rt; count_groups(bytes), want, "{} bytes", bytes.len());
 }
 
-// Asserts the groups of the segment, without and with the bytes behind the closed gate.
+// Asserts the groups of the segment, without and with the bytes after the closed gate.
 fn assert_two_groups(rt: &impl Abort, bytes: &[u8; 87]) {
     assert_groups(rt, &bytes[..81], Some(2));
     assert_groups(rt, bytes, Some(2));
@@ -147,7 +147,7 @@ fn counts_groups_of_an_open_segment(rt: HostRuntime) {
     assert_groups(&rt, &bytes, None);
 }
 
-// A base with its gate, and the bytes behind it.
+// A base with its gate, and the bytes after it.
 fn joined(base: &[u8; 9], group: &[u8; 5]) -> [u8; 14] {
     let mut bytes = [0; 14];
     bytes[..9].copy_from_slice(base);

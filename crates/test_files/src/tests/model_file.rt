@@ -61,7 +61,7 @@ fn crash(file: ModelFile, left: Vec<u8>) -> (u8, ModelFile) {
     }
 }
 
-// Returns the code alone.
+// Returns only the code.
 fn crash_code(alloc: Global, file: ModelFile, left: &[u8]) -> Result<u8, Refusal> {
     let (code, _) = crash(file, left.to_vec(alloc)?);
     Ok(code)

@@ -89,8 +89,8 @@ const TRIED: u8 = 1;
 
 const NOT_TRIED: u8 = 2;
 
-// Writes to a disk that is open for reading alone. Returns the code of the failure, or 0 if the disk keeps no reason of one.
-// A write behind the known length isn't tried.
+// Writes to a disk that is open for reading only. Returns the code of the failure, or 0 if the disk keeps no reason of one.
+// A write after the known length isn't tried.
 fn fail_write(disk: &mut FileDisk, at: u64) -> u8 {
     let _ = disk.take_failure();
     let answer = disk.write_at(at, &[9]);
@@ -122,7 +122,7 @@ fn what_was_written_is_read(rt: HostRuntime) -> Result<(), Fail> {
     remove(&rt, &folder)
 }
 
-// Counts the reads that fail: past the end, at the end, and far behind it.
+// Counts the reads that fail: past the end, at the end, and far after it.
 fn faults_of_reads(disk: &mut FileDisk) -> u32 {
     let mut faults = 0u32;
     for at in [2, 3, u64::MAX] {
@@ -133,7 +133,7 @@ fn faults_of_reads(disk: &mut FileDisk) -> u32 {
     faults
 }
 
-// Counts the writes that fail: behind the end, and far behind it.
+// Counts the writes that fail: after the end, and far after it.
 fn faults_of_writes(disk: &mut FileDisk) -> u32 {
     let mut faults = 0u32;
     for at in [4, u64::MAX] {
@@ -169,7 +169,7 @@ fn what_is_not_whole_is_a_fault(rt: HostRuntime) -> Result<(), Fail> {
     remove(&rt, &folder)
 }
 
-// Tries to write to a disk of 1 2 3 that is open for reading alone. The known length is three bytes.
+// Tries to write to a disk of 1 2 3 that is open for reading only. The known length is three bytes.
 fn check_read_only(rt: &impl Abort, alloc: Global, disk: &mut FileDisk) -> Result<(), Refusal> {
     for (at, want) in [(0, TRIED), (3, TRIED), (4, NOT_TRIED)] {
         assert_eq!(rt; fail_write(disk, at), want, "at {at}");

@@ -1,4 +1,4 @@
-//! An assertion in a function of its own: proving one takes longer than proving a call.
+//! An assertion in its own function: proving one takes longer than proving a call.
 use std::fmt::Debug;
 use std::process::Abort;
 

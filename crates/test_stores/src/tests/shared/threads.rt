@@ -105,7 +105,7 @@ fn run_both<M: Method + Send + 'static, R: Threads + Sync>(
     (front, back)
 }
 
-// Runs each seat in a thread of its own. At the end no round is open.
+// Runs each seat in its own thread. At the end no round is open.
 fn check_pair<M: Method + Send + 'static, R: Threads + Sync + Abort>(
     rt: &R,
     front: Front<M>,

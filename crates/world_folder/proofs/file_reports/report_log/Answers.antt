@@ -7,7 +7,7 @@ use Rattle.action_log.specs.LogState.{segment_in}
 use Rattle.world_folder.proofs.FormatLemmas.{segment_format}
 use Rattle.world_folder.proofs.file_reports.report_log.Goals as goal
 
--- a refusal of BadLog isn't for want of memory
+-- a refusal of BadLog isn't for lack of memory
 malformed : (bytes : List ℕ) (refusal : Refusal) → refusal ≡ BadLog
     → (refusal ≡ NoMemory) ⊎ ((refusal ≡ BadLog) × IsSegment bytes MalformedSegment) → IsSegment bytes MalformedSegment
 malformed bytes refusal is (inl memory) = absurd cc
