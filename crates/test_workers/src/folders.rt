@@ -3,10 +3,8 @@ use crate::same::same;
 use disk_model::FourFiles;
 use std::alloc::Global;
 use std::process::Abort;
-use world_folder::{
-    Listed, ModelFolder, Noted, copy_into, create_listed, create_zeros, report_status,
-    report_world, salvage_into,
-};
+use world_folder::{Listed, ModelFolder, Noted, create_listed, create_zeros};
+use world_reports::{copy_into, report_status, report_world, salvage_into};
 
 fn no_bytes(alloc: Global) -> FourFiles<Vec<u8>> {
     FourFiles {

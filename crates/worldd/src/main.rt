@@ -28,10 +28,8 @@ use std::io;
 use std::time::Clock;
 use streams::run_steps;
 use world_actions::Refusal;
-use world_folder::{
-    Ending, Stream, StreamFailure, back_up, create, create_of_words, inspect, opened, recover,
-    salvage_world, status,
-};
+use world_folder::{Ending, Stream, StreamFailure, create, create_of_words, opened};
+use world_reports::{back_up, inspect, recover, salvage_world, status};
 use world_server::serve;
 
 fn main(rt: HostRuntime) -> Ending {

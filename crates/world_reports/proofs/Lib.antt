@@ -1,0 +1,3 @@
+pub mod FormatLemmas
+pub mod LookLemmas
+pub mod CopyLemmas

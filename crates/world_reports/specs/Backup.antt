@@ -1,0 +1,65 @@
+-- A copy of a world in another folder.
+use Rattle.std.specs.Prelude.{◌≡◌, ℕ, nat_lt, if◌then◌else◌, List, ◌∷◌}
+use Rattle.disk_model.specs.Disk.{Only}
+use Rattle.disk_model.specs.declared.four_files.FourFiles.{FourFiles}
+use Rattle.file_format.specs.declared.slot.Slot.{Slot}
+use Rattle.file_format.specs.declared.slot.Slot.TheVariants.{A, B}
+use Rattle.recovery.specs.declared.recovered.Recovered.{Recovered}
+use Rattle.world_reports.specs.declared.copying.Images.TheVariants.{Newest}
+use Rattle.world_folder.specs.declared.entry.Entry.{Entry}
+use Rattle.world_folder.specs.declared.found.WorldReport.{WorldReport}
+use Rattle.world_folder.specs.declared.world_file.WorldFile.{WorldFile}
+use Rattle.world_folder.specs.declared.world_file.WorldFile.TheVariants.{ImageA, ImageB, LogA, LogB}
+use Rattle.world_reports.specs.Copying.{IsCopied}
+use Rattle.world_folder.specs.Fault.{Files, Stands, IsWhole}
+use Rattle.world_folder.specs.History.{Act, Made, FoundEmpty, Printed, Warned, synced}
+use Rattle.world_reports.specs.Texts.{backed_up_text, begun_text}
+use Rattle.world_reports.specs.Verified.{IsVerified}
+
+-- it is named on standard error how often a copy was begun, if it was begun anew
+abbrev pub with_tries : (tries : ℕ) → List Act → List Act
+with_tries tries acts = if nat_lt 1 tries then Warned (begun_text tries) ∷ acts else acts
+
+module _ {D : Type 0} (content : D → List ℕ) (leaves : D → List ℕ → Type 0) where
+  -- a file was made under its name, and has these bytes, which are durable
+  pub record IsWritten (file : WorldFile) (bytes : List ℕ) (disk : D) (before after : List Act) : Type 0 where
+    pub entry : Entry
+    pub made : after ≡ Made file entry ∷ before
+    pub has : content disk ≡ bytes
+    pub durable : Only (content disk) (leaves disk)
+
+  -- both images were written, the newest one last
+  abbrev pub AreImagesWritten : (newest : Slot) → Files → (image_a image_b : D) → (before after : List Act) → Type 0
+  AreImagesWritten A files image_a image_b before after =
+      (acts : List Act) × IsWritten ImageB files.image_b.items image_b before acts × IsWritten ImageA files.image_a.items image_a acts after
+  AreImagesWritten B files image_a image_b before after =
+      (acts : List Act) × IsWritten ImageA files.image_a.items image_a before acts × IsWritten ImageB files.image_b.items image_b acts after
+
+  -- four files were written, the newest image last, and then their names and the folder's own were made durable
+  pub record AreWritten (newest : Slot) (files : Files) (made : FourFiles D) (before after : List Act) : Type 0 where
+    pub with_log_a : List Act
+    pub with_log_b : List Act
+    pub with_images : List Act
+    pub log_a : IsWritten LogA files.log_a.items made.log_a before with_log_a
+    pub log_b : IsWritten LogB files.log_b.items made.log_b with_log_a with_log_b
+    pub images : AreImagesWritten newest files made.image_a made.image_b with_log_b with_images
+    pub named : after ≡ synced with_images
+
+  -- A copy of a world was made in an empty folder, and durable. Its files were read again, and hold the world that was read. Only
+  -- then it was printed.
+  pub record IsBackedUp (made : FourFiles D) (source_before source_after before after : List Act) : Type 0 where
+    pub copied : Files
+    pub lengths : FourFiles ℕ
+    pub tries : ℕ
+    pub read : Recovered
+    pub reported : WorldReport
+    pub room : List Act
+    pub written : List Act
+    pub verified : List Act
+    pub copy : IsCopied Newest copied lengths source_before source_after
+    pub stands : Stands copied read
+    pub whole : IsWhole copied read
+    pub is_room : room ≡ FoundEmpty ∷ before
+    pub are_written : AreWritten read.slot copied made room written
+    pub is_verified : IsVerified read reported written verified
+    pub printed : after ≡ Printed (backed_up_text reported.tick reported.from) ∷ with_tries tries verified

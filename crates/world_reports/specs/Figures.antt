@@ -1,0 +1,35 @@
+-- The figures of a world.
+use Rattle.std.specs.Prelude.{◌≡◌, ℕ, nat_lt, Option, Some, None, if◌then◌else◌}
+use Rattle.file_format.specs.declared.slot.Slot.{Slot}
+use Rattle.file_format.specs.declared.slot.Slot.TheVariants.{A, B}
+use Rattle.recovery.specs.declared.recovered.Recovered.{Recovered}
+use Rattle.world_reports.specs.declared.figures.Figures.{Figures as FiguresValue}
+use Rattle.world_reports.specs.declared.file_reports.LogReport.{LogReport}
+use Rattle.world_reports.specs.declared.file_reports.LogReport.TheVariants.{Open}
+use Rattle.world_folder.specs.Fault.{Files, Stands}
+use Rattle.world_reports.specs.FileReports.{IsLogReport}
+
+-- the base of an open segment, and how many ticks it has
+abbrev pub reported_segment : LogReport → Option (ℕ × ℕ)
+reported_segment (Open format base groups ticks) = Some (base, ticks)
+reported_segment log = None
+
+-- of two segments the open one with the greater base, log.b if both have it, and how many ticks it has
+abbrev pub current_segment : Option (ℕ × ℕ) → Option (ℕ × ℕ) → Option (Slot × ℕ)
+current_segment (Some (s, m)) (Some (t, n)) = if nat_lt t s then Some (A, m) else Some (B, n)
+current_segment (Some (s, m)) None = Some (A, m)
+current_segment None (Some (t, n)) = Some (B, n)
+current_segment None None = None
+
+-- these are the figures of four files: those of the world that recovery finds, and the segment that the log continues in
+pub record AreFigures (files : Files) (figures : FiguresValue) : Type 0 where
+  pub found : Recovered
+  pub stands : Stands files found
+  pub tick : figures.tick ≡ found.tick
+  pub image : figures.image ≡ found.from
+  pub slot : figures.slot ≡ found.slot
+  pub log_a : LogReport
+  pub log_b : LogReport
+  pub reported_a : IsLogReport files.log_a.items log_a
+  pub reported_b : IsLogReport files.log_b.items log_b
+  pub segment : figures.segment ≡ current_segment (reported_segment log_a) (reported_segment log_b)

@@ -1,0 +1,95 @@
+-- The report on the files of a folder.
+use Rattle.std.specs.Prelude.{◌≡◌, ℕ, Bool, true, false, List, [], ◌∷◌, ◌++◌, codes, decimal, length, Option, Some, None, Result, Ok, Err, Vec}
+use Rattle.std.specs.List.{flat_map}
+use Rattle.std.specs.declared.alloc.Global.{Global}
+use Rattle.std.specs.declared.io.Error.{Error}
+use Rattle.recovery.specs.declared.recovered.Recovered.{Recovered}
+use Rattle.world_folder.specs.Fault.{Files, AreRead, Stands}
+use Rattle.world_folder.specs.History.{Act, Printed, IsPrinted}
+use Rattle.world_reports.specs.Looking.{IsSeen}
+use Rattle.world_folder.specs.Texts.{recovered_text}
+use Rattle.world_reports.specs.Texts.{image_reported_text, log_reported_text, counted_text}
+use Rattle.world_reports.specs.FileReports.{IsImageReport, IsLogReport}
+use Rattle.world_folder.specs.WorldFile.{name_of}
+use Rattle.world_reports.specs.declared.inspecting.FileLine.{FileLine}
+use Rattle.world_reports.specs.declared.inspecting.FileReport.{FileReport}
+use Rattle.world_reports.specs.declared.inspecting.FileReport.TheVariants.{Image, Log, Unreadable}
+use Rattle.world_reports.specs.declared.looking.Seen.{Seen}
+use Rattle.world_folder.specs.declared.world_file.Named.{Named}
+use Rattle.world_folder.specs.declared.world_file.WorldFile.{WorldFile}
+use Rattle.world_folder.specs.declared.world_file.WorldFile.TheVariants.{ImageA, ImageB, LogA, LogB}
+
+-- a file's report, and its length
+abbrev pub reported_line : (name reported : List ℕ) → (length : ℕ) → Option (List ℕ)
+reported_line name reported length = Some (name ++ codes ": " ++ reported ++ codes ", " ++ counted_text length (codes "byte"))
+
+-- the text of the line on a file, which isn't stated if it has an error of the system
+abbrev pub reported_text : WorldFile → FileReport → (length : ℕ) → Option (List ℕ)
+reported_text file (Image reported) length = reported_line (name_of file) (image_reported_text reported) length
+reported_text file (Log reported) length = reported_line (name_of file) (log_reported_text reported) length
+reported_text file (Unreadable error) length = None
+
+abbrev pub file_line_text : FileLine → Option (List ℕ)
+file_line_text line = reported_text line.file line.reported line.length
+
+-- how the bytes of a file read, by its format
+abbrev pub IsFileReport : WorldFile → (bytes : List ℕ) → FileReport → Type 0
+IsFileReport ImageA bytes (Image reported) = IsImageReport bytes reported
+IsFileReport ImageB bytes (Image reported) = IsImageReport bytes reported
+IsFileReport LogA bytes (Log reported) = IsLogReport bytes reported
+IsFileReport LogB bytes (Log reported) = IsLogReport bytes reported
+IsFileReport file bytes reported = ⊥
+
+-- a length, or that of the bytes
+abbrev pub length_or : Option ℕ → (bytes : List ℕ) → ℕ
+length_or None bytes = length bytes
+length_or (Some known) bytes = known
+
+-- the line on a file that was read so: how its bytes read, or why it can't be read
+abbrev pub IsLineOf : WorldFile → Result (Vec ℕ Global) Error → Option ℕ → FileLine → Type 0
+IsLineOf file (Ok bytes) known line = (line.file ≡ file) × IsFileReport file bytes.items line.reported × (line.length ≡ length_or known bytes.items)
+IsLineOf file (Err error) known line = (line.file ≡ file) × (line.reported ≡ Unreadable error)
+
+abbrev pub IsFileLine : Named (Result (Vec ℕ Global) Error) → Option ℕ → FileLine → Type 0
+IsFileLine named known line = IsLineOf named.file named.value known line
+
+-- the line on each file was printed, image.a first
+pub record AreFilesReported (seen : Seen) (before after : List Act) : Type 0 where
+  pub image_a : FileLine
+  pub image_b : FileLine
+  pub log_a : FileLine
+  pub log_b : FileLine
+  pub is_image_a : IsFileLine seen.files.image_a seen.lengths.image_a image_a
+  pub is_image_b : IsFileLine seen.files.image_b seen.lengths.image_b image_b
+  pub is_log_a : IsFileLine seen.files.log_a seen.lengths.log_a log_a
+  pub is_log_b : IsFileLine seen.files.log_b seen.lengths.log_b log_b
+  pub with_image_a : List Act
+  pub with_image_b : List Act
+  pub with_log_a : List Act
+  pub image_a_printed : IsPrinted (file_line_text image_a) before with_image_a
+  pub image_b_printed : IsPrinted (file_line_text image_b) with_image_a with_image_b
+  pub log_a_printed : IsPrinted (file_line_text log_a) with_image_b with_log_a
+  pub log_b_printed : IsPrinted (file_line_text log_b) with_log_a after
+
+-- all words in decimal, one space between
+abbrev pub words_text : List ℕ → List ℕ
+words_text [] = []
+words_text (first ∷ rest) = decimal first ++ flat_map (λ word. 32 ∷ decimal word) rest
+
+-- the words are printed, if they are asked for
+abbrev pub words_printed : (with_words : Bool) → (words : List ℕ) → List Act → List Act
+words_printed true words acts = Printed (words_text words) ∷ acts
+words_printed false words acts = acts
+
+-- The files were seen, and the line on each was printed. Then the world was printed that recovery finds in them.
+pub record IsInspected (with_words : Bool) (before after : List Act) : Type 0 where
+  pub seen : Seen
+  pub looked : List Act
+  pub reported : List Act
+  pub bytes : Files
+  pub found : Recovered
+  pub is_seen : IsSeen seen before looked
+  pub files : AreFilesReported seen looked reported
+  pub are_read : AreRead seen.files bytes
+  pub stands : Stands bytes found
+  pub printed : after ≡ words_printed with_words found.words.items (Printed (recovered_text found.tick found.from found.slot) ∷ reported)

@@ -1,0 +1,207 @@
+//! A copy of a world's files that is taken while a server writes them.
+ghost use Rattle.std.specs.Prelude.{◌≡◌, ◌∷◌, IsTrue, IfOk, IfErr};
+ghost use Rattle.world_reports.specs.Copying.{IsNotCopied, IsCopied, IsCopyOf, AreSameContents, reads};
+ghost use Rattle.world_folder.specs.Ending.{IsFault, NamesFile};
+ghost use Rattle.world_folder.specs.History.{Read};
+ghost use Rattle.world_reports.specs.Tried.{IsTriedOf};
+
+use crate::looks::{Alike, Before};
+use disk_model::FourFiles;
+use std::alloc::Global;
+use std::io;
+use world_actions::Refusal;
+use world_folder::{
+    Ending, Fault, Folder, Reading, Unreadable, WorldDisk, WorldFile, opened, path_of,
+};
+
+/// How often a copy is begun anew.
+const TRIES: u32 = 1_000;
+
+/// After how many looks at no open image there is none. A server that opens one closes the other only afterwards.
+const BLANKS: u32 = 20;
+
+/// Why no copy was taken.
+const UNSTEADY: &str = "a server began a new image or a new log under each try to copy them";
+
+/// Which images are copied, and how the files are opened.
+#[derive(Clone, Copy, Debug, PartialEq, Eq)]
+pub enum Images {
+    /// The newest one, as the system has it. The file of the older one is closed in the copy.
+    Newest,
+    /// Both, as they were at one time. The files are synced first, and read as the device has them.
+    Both,
+}
+
+/// The bytes of a world's files at one time that their formats read, and how long the files are.
+#[derive(Drop)]
+pub struct Copied {
+    pub files: FourFiles<Vec<u8>>,
+    pub lengths: FourFiles<u64>,
+    /// How often it was begun.
+    pub tries: u32,
+}
+
+/// Why no copy was taken.
+#[derive(Drop)]
+pub enum NotCopied {
+    /// No image was open.
+    NoImage,
+    /// A new image or a new segment was begun under each try.
+    Unsteady(Ending),
+    /// A file can't be read.
+    Unreadable(Ending),
+}
+
+impl NotCopied {
+    /// How the program ends.
+    pub fn ending(self) -> Ending
+        requires { IsNotCopied self }
+        ensures { IsFault result }
+    {
+        match self {
+            NotCopied::NoImage => Ending::NoWorld(Fault::NoImage),
+            NotCopied::Unsteady(ending) | NotCopied::Unreadable(ending) => ending,
+        }
+    }
+}
+
+/// The files of a world at a path, open to be read.
+#[derive(Drop)]
+pub struct Source<'a, D> {
+    pub path: &'a str,
+    pub files: FourFiles<D>,
+}
+
+/// Copies the files of the folder at this path without a lock, also while a server writes them.
+pub fn copy_world<F: Folder>(
+    alloc: Global,
+    folder: &mut F,
+    path: &str,
+    images: Images,
+) -> Result<Copied, NotCopied>
+    ensures copied { IsTrue F.honest → IsTrue F.File.honest → IfOk result (λ copied.
+        IsCopied images copied.files copied.lengths (F.history folder.old) (F.history folder.new)) }
+    ensures not { IfErr result IsNotCopied }
+{
+    match open_source(alloc, folder, path, images) {
+        Ok(mut source) => copy_from(alloc, folder, &mut source, images),
+        Err(ending) => Err(NotCopied::Unreadable(ending)),
+    }
+}
+
+// Tries to copy the files, again and again.
+fn copy_from<F: Folder>(
+    alloc: Global,
+    folder: &mut F,
+    source: &mut Source<'_, F::File>,
+    images: Images,
+) -> Result<Copied, NotCopied>
+    ensures copied { IsTrue F.File.honest → IfOk result (λ copied.
+        IsCopyOf F.File.content images source.old.files copied.files copied.lengths) }
+    ensures history { IsTrue F.honest → F.history folder.new ≡ F.history folder.old }
+    ensures not { IfErr result IsNotCopied }
+{
+    let mut blanks = 0;
+    for number in 1..=TRIES {
+        match try_copy(alloc, source, images) {
+            Ok(Tried::Copied(alike)) => {
+                let (files, lengths) = alike.parts();
+                return Ok(Copied {
+                    files,
+                    lengths,
+                    tries: number,
+                });
+            }
+            Ok(Tried::NoImage) => blanks += 1,
+            Ok(Tried::Unsteady) => {}
+            Err(ending) => return Err(NotCopied::Unreadable(ending)),
+        }
+        if blanks == BLANKS {
+            return Err(NotCopied::NoImage);
+        }
+        folder.pause();
+    }
+    Err(NotCopied::Unsteady(unsteady(alloc, source.path)))
+}
+
+fn open_source<'a, F: Folder>(
+    alloc: Global,
+    folder: &mut F,
+    path: &'a str,
+    images: Images,
+) -> Result<Source<'a, F::File>, Ending>
+    ensures opened { IsTrue F.honest → IfOk result (λ source. F.history folder.new ≡ reads (F.File.content source.files.image_a)
+        (F.File.content source.files.image_b) (F.File.content source.files.log_a) (F.File.content source.files.log_b) (F.history folder.old)) }
+    ensures fault { IfErr result IsFault }
+{
+    let files = FourFiles {
+        image_a: open_one(alloc, folder, path, WorldFile::ImageA, images)?,
+        image_b: open_one(alloc, folder, path, WorldFile::ImageB, images)?,
+        log_a: open_one(alloc, folder, path, WorldFile::LogA, images)?,
+        log_b: open_one(alloc, folder, path, WorldFile::LogB, images)?,
+    };
+    Ok(Source { path, files })
+}
+
+fn open_one<F: Folder>(
+    alloc: Global,
+    folder: &mut F,
+    path: &str,
+    file: WorldFile,
+    images: Images,
+) -> Result<F::File, Ending>
+    ensures opened { IsTrue F.honest → IfOk result (λ disk. F.history folder.new ≡ Read file (F.File.content disk) ∷ F.history folder.old) }
+    ensures named { IfErr result (NamesFile path.now file) }
+    ensures fault { IfErr result IsFault }
+{
+    let how = match images {
+        Images::Newest => Reading::Cached,
+        Images::Both => Reading::Synced,
+    };
+    let disk = folder.open_to_read(file, how);
+    opened(alloc, path, file.name(), disk)
+}
+
+// The result of a try.
+#[derive(Drop)]
+enum Tried {
+    Copied(Alike),
+    // No image was open.
+    NoImage,
+    // The images or the segments weren't the same throughout, or a segment became longer.
+    Unsteady,
+}
+
+// Copies images and the log between two looks at all heads. The copied files are looked at too.
+fn try_copy<D: WorldDisk>(
+    alloc: Global,
+    source: &mut Source<'_, D>,
+    images: Images,
+) -> Result<Tried, Ending>
+    ensures copied { IsTrue D.honest → IfOk result (IsTriedOf D.content images source.old.files) }
+    ensures kept { IsTrue D.honest → IfOk result (λ _. AreSameContents D.content source.old.files source.new.files) }
+    ensures fault { IfErr result IsFault }
+{
+    let Some(before) = Before::look(alloc, source)? else {
+        return Ok(Tried::NoImage);
+    };
+    let within = before.read(alloc, source, images)?;
+    let after = within.look_again(alloc, source)?;
+    match Alike::of(within, after) {
+        Some(alike) => Ok(Tried::Copied(alike)),
+        None => Ok(Tried::Unsteady),
+    }
+}
+
+// How the program ends if no copy could be taken.
+fn unsteady(alloc: Global, folder: &str) -> Ending
+    ensures { IsFault result }
+{
+    match path_of(alloc, "", folder) {
+        Ok(path) => Ending::Unreadable(Unreadable {
+            path,
+            error: io::Error::other(UNSTEADY),
+        }),
+        Err(_) => Ending::Fault(Refusal::NoMemory),
+    }
+}

@@ -1,0 +1,213 @@
+//! Figures of a world, by what its files hold.
+ghost use Rattle.std.specs.Prelude.{◌≡◌, IsTrue, IfOk, IfErr, OnOk, Some};
+ghost use Rattle.world_folder.specs.Ending.{IsFault};
+ghost use Rattle.world_folder.specs.Fault.{Explains};
+ghost use Rattle.world_reports.specs.StatusReport.{IsStatusReported, IsServerReported, AreFiguresReported};
+ghost use Rattle.world_reports.specs.FileReports.{IsLogReport};
+ghost use Rattle.world_reports.specs.Figures.{AreFigures, current_segment, reported_segment};
+ghost use Rattle.world_reports.specs.Texts.{figures_text, lengths_text, pair_text, segment_text, total_of};
+
+use crate::copying::{Images, copy_world};
+use crate::counted::Counted;
+use crate::file_reports::{LogReport, report_log};
+use crate::served::server_in;
+use action_log::SEGMENT_TICKS;
+use disk_model::FourFiles;
+use recovery::Slot;
+use std::alloc::Global;
+use std::fmt;
+use std::fs::{File, Files};
+use std::time::Clock;
+use world_actions::Refusal;
+use world_folder::{
+    Ending, Fault, Folder, FoundReport, IMAGE_A, IMAGE_B, LOG_A, LOG_B, SystemFolder, WorldReport,
+    stands_in,
+};
+
+/// Figures of a world.
+#[derive(Clone, Copy, Debug, PartialEq, Eq)]
+pub struct Figures {
+    /// The tick up to which the files hold it.
+    pub tick: u64,
+    /// The tick of its newest image, and that one's file.
+    pub image: u64,
+    pub slot: Slot,
+    /// The segment that the next ticks are written to, and how many it has.
+    pub segment: Option<(Slot, usize)>,
+}
+
+/// The figures of a world whose files have these bytes.
+pub fn figures_of(alloc: Global, files: &FourFiles<Vec<u8>>) -> Result<Figures, Fault>
+    ensures figures { IfOk result (AreFigures files.now) }
+    ensures fault { IfErr result (Explains files.now) }
+{
+    let (Ok(log_a), Ok(log_b)) = (
+        report_log(alloc, &files.log_a),
+        report_log(alloc, &files.log_b),
+    ) else {
+        return Err(Fault::NoMemory);
+    };
+    match stands_in(alloc, files) {
+        Ok(found) => Ok(Figures {
+            tick: found.tick,
+            image: found.from,
+            slot: found.slot,
+            segment: current_segment(log_a, log_b),
+        }),
+        Err(fault) => Err(fault),
+    }
+}
+
+// The open segment with the greater base, log.b if both have it, and how many ticks it has.
+fn current_segment(log_a: LogReport, log_b: LogReport) -> Option<(Slot, usize)>
+    ensures { result ≡ current_segment (reported_segment log_a) (reported_segment log_b) }
+{
+    match (opened_segment(log_a), opened_segment(log_b)) {
+        (Some((first, ticks)), Some((second, _))) if second < first => Some((Slot::A, ticks)),
+        (_, Some((_, ticks))) => Some((Slot::B, ticks)),
+        (Some((_, ticks)), None) => Some((Slot::A, ticks)),
+        (None, None) => None,
+    }
+}
+
+// The base of an open segment, and how many ticks it has.
+fn opened_segment(log: LogReport) -> Option<(u64, usize)>
+    ensures { result ≡ reported_segment log }
+{
+    match log {
+        LogReport::Open { base, ticks, .. } => Some((base, ticks)),
+        LogReport::Closed | LogReport::Damaged => None,
+    }
+}
+
+/// Prints the figures of the world in a folder of the system, as `report_status` does.
+pub fn status<R: Files<File = File> + Clock + Print + Eprint + AllocGlobal>(
+    rt: &R,
+    folder: &str,
+) -> Result<(), Ending>
+    ensures { IfErr result IsFault }
+{
+    report_status(rt.alloc(), &mut SystemFolder::new(rt, folder), folder)
+}
+
+/// Prints the figures of the world in the folder at this path, which a server may write meanwhile, and then whether one does. If
+/// the files hold no world, only the last line is printed.
+pub fn report_status<F: Folder>(alloc: Global, folder: &mut F, path: &str) -> Result<(), Ending>
+    ensures reported { IsTrue F.honest → IsTrue F.File.honest → OnOk result (IsStatusReported (F.history folder.old) (F.history folder.new)) }
+    ensures fault { IfErr result IsFault }
+{
+    let printed = print_figures(alloc, folder, path);
+    print_server(folder)?;
+    printed
+}
+
+fn print_server<F: Folder>(folder: &mut F) -> Result<(), Ending>
+    ensures reported { IsTrue F.honest → OnOk result (IsServerReported (F.history folder.old) (F.history folder.new)) }
+    ensures fault { IfErr result IsFault }
+{
+    let reported = server_in(folder)?;
+    folder.print(reported)?;
+    Ok(())
+}
+
+fn print_figures<F: Folder>(alloc: Global, folder: &mut F, path: &str) -> Result<(), Ending>
+    ensures reported { IsTrue F.honest → IsTrue F.File.honest → OnOk result (AreFiguresReported (F.history folder.old) (F.history folder.new)) }
+    ensures fault { IfErr result IsFault }
+{
+    let copied = match copy_world(alloc, folder, path, Images::Newest) {
+        Ok(copied) => copied,
+        Err(reason) => return Err(reason.ending()),
+    };
+    let figures = match figures_of(alloc, &copied.files) {
+        Ok(figures) => figures,
+        Err(fault) => return Err(Ending::NoWorld(fault)),
+    };
+    folder.print(figures)?;
+    folder.print(Lengths(copied.lengths))?;
+    Ok(())
+}
+
+impl fmt::Display for Figures {
+    ghost output = { λ figures. Some (figures_text figures) };
+
+    fn fmt<W: fmt::Write>(&self, f: &mut fmt::Formatter<W>) -> fmt::Result {
+        let found = FoundReport {
+            world: WorldReport {
+                tick: self.tick,
+                from: self.image,
+            },
+            slot: self.slot,
+        };
+        let replayed = Counted {
+            count: self.tick.saturating_sub(self.image) as usize,
+            noun: "tick",
+        };
+        let segment = SegmentReport(self.segment);
+        write!(f, "{found}\nlog: {replayed} after the image, {segment}")
+    }
+}
+
+// The segment that the log continues in, and how many ticks it has.
+#[derive(Clone, Copy)]
+struct SegmentReport(Option<(Slot, usize)>);
+
+impl fmt::Display for SegmentReport {
+    ghost output = { λ segment. Some (segment_text segment.0) };
+
+    fn fmt<W: fmt::Write>(&self, f: &mut fmt::Formatter<W>) -> fmt::Result {
+        match self.0 {
+            Some((Slot::A, ticks)) => write!(f, "{LOG_A} has {ticks} of {SEGMENT_TICKS}"),
+            Some((Slot::B, ticks)) => write!(f, "{LOG_B} has {ticks} of {SEGMENT_TICKS}"),
+            None => f.write_str("no segment is open"),
+        }
+    }
+}
+
+// How many bytes each file has, and all together.
+#[derive(Drop)]
+struct Lengths(FourFiles<u64>);
+
+impl Lengths {
+    fn total(&self) -> u64
+        ensures { result ≡ total_of self.now.0 }
+    {
+        let lengths = &self.0;
+        lengths
+            .image_a
+            .saturating_add(lengths.image_b)
+            .saturating_add(lengths.log_a)
+            .saturating_add(lengths.log_b)
+    }
+}
+
+impl fmt::Display for Lengths {
+    ghost output = { λ lengths. Some (lengths_text lengths.0) };
+
+    fn fmt<W: fmt::Write>(&self, f: &mut fmt::Formatter<W>) -> fmt::Result {
+        let images = PairLengths {
+            a: (IMAGE_A, self.0.image_a),
+            b: (IMAGE_B, self.0.image_b),
+        };
+        let logs = PairLengths {
+            a: (LOG_A, self.0.log_a),
+            b: (LOG_B, self.0.log_b),
+        };
+        let total = self.total();
+        write!(f, "bytes: {images}, {logs}, together {total}")
+    }
+}
+
+// How many bytes each of two files has, with their names.
+#[derive(Clone, Copy)]
+struct PairLengths {
+    a: (&'static str, u64),
+    b: (&'static str, u64),
+}
+
+impl fmt::Display for PairLengths {
+    ghost output = { λ pair. Some (pair_text pair.a.0.now pair.a.1 pair.b.0.now pair.b.1) };
+
+    fn fmt<W: fmt::Write>(&self, f: &mut fmt::Formatter<W>) -> fmt::Result {
+        write!(f, "{} {}, {} {}", self.a.0, self.a.1, self.b.0, self.b.1)
+    }
+}

@@ -1,0 +1,165 @@
+ghost use Rattle.std.specs.Prelude.{◌≡◌, Some, IsTrue, IfOk, IfErr, OnOk, string_bytes};
+ghost use Rattle.world_folder.specs.Ending.{IsFault};
+ghost use Rattle.world_reports.specs.Inspection.{IsFileLine, IsFileReport, AreFilesReported, IsInspected, file_line_text, words_text, words_printed};
+
+use crate::counted::Counted;
+use crate::file_reports::{ImageReport, LogReport, report_image, report_log};
+use crate::looking::{Seen, look_at_folder};
+use crate::recovering::found_in;
+use disk_model::FourFiles;
+use recovery::Recovered;
+use std::alloc::{AllocError, Global};
+use std::fs::{File, Files};
+use std::time::Clock;
+use std::{fmt, io};
+use world_actions::Refusal;
+use world_folder::{Ending, Folder, FoundReport, Named, SystemFolder, WorldFile};
+
+/// Prints how each file of a folder of the system reads, and which world they hold, as `report_files` does.
+pub fn inspect<R: Files<File = File> + Clock + Print + Eprint + AllocGlobal>(
+    rt: &R,
+    folder: &str,
+    with_words: bool,
+) -> Result<(), Ending>
+    ensures { IfErr result IsFault }
+{
+    let mut system = SystemFolder::new(rt, folder);
+    report_files(rt.alloc(), &mut system, folder, with_words)
+}
+
+/// Prints how each file of the folder at this path reads, and then which world they hold, with its words if they are asked for. A
+/// server may write the world meanwhile. This writes nothing into the folder.
+pub fn report_files<F: Folder>(
+    alloc: Global,
+    folder: &mut F,
+    path: &str,
+    with_words: bool,
+) -> Result<(), Ending>
+    ensures reported { IsTrue F.honest → IsTrue F.File.honest → OnOk result (IsInspected with_words (F.history folder.old) (F.history folder.new)) }
+    ensures fault { IfErr result IsFault }
+{
+    let seen = look_at_folder(alloc, folder, path)?;
+    print_files(alloc, folder, &seen)?;
+    let found = found_in(alloc, path, seen.files)?;
+    folder.print(FoundReport::of(&found))?;
+    print_words(alloc, folder, &found, with_words)?;
+    Ok(())
+}
+
+// Prints the words of a world, if they are asked for.
+fn print_words<F: Folder>(
+    alloc: Global,
+    folder: &mut F,
+    found: &Recovered,
+    with_words: bool,
+) -> Result<(), Ending>
+    ensures printed { IsTrue F.honest → OnOk result (F.history folder.new ≡ words_printed with_words found.now.words.items (F.history folder.old)) }
+    ensures fault { IfErr result IsFault }
+{
+    if with_words {
+        let line = line_of(alloc, &found.words)?;
+        folder.print(line)?;
+    }
+    Ok(())
+}
+
+// Prints how each file reads.
+fn print_files<F: Folder>(alloc: Global, folder: &mut F, seen: &Seen) -> Result<(), Ending>
+    ensures printed { IsTrue F.honest → OnOk result (AreFilesReported seen.now (F.history folder.old) (F.history folder.new)) }
+    ensures fault { IfErr result IsFault }
+{
+    let lines = FourFiles {
+        image_a: file_line(alloc, &seen.files.image_a, seen.lengths.image_a)?,
+        image_b: file_line(alloc, &seen.files.image_b, seen.lengths.image_b)?,
+        log_a: file_line(alloc, &seen.files.log_a, seen.lengths.log_a)?,
+        log_b: file_line(alloc, &seen.files.log_b, seen.lengths.log_b)?,
+    };
+    folder.print(lines.image_a)?;
+    folder.print(lines.image_b)?;
+    folder.print(lines.log_a)?;
+    folder.print(lines.log_b)?;
+    Ok(())
+}
+
+// The report on a file.
+#[derive(Clone, Copy)]
+enum FileReport {
+    Image(ImageReport),
+    Log(LogReport),
+    Unreadable(io::Error),
+}
+
+// The line on a file: its name, how it reads, and how long it is.
+#[derive(Clone, Copy)]
+struct FileLine {
+    file: WorldFile,
+    reported: FileReport,
+    length: u64,
+}
+
+// The line on a file that was read so. A length that isn't known is that of the bytes.
+fn file_line(
+    alloc: Global,
+    named: &Named<io::Result<Vec<u8>>>,
+    length: Option<u64>,
+) -> Result<FileLine, Ending>
+    ensures line { IfOk result (IsFileLine named.now length) }
+    ensures fault { IfErr result IsFault }
+{
+    match &named.value {
+        Ok(bytes) => match reported_of(alloc, named.file, bytes) {
+            Ok(reported) => Ok(FileLine {
+                file: named.file,
+                reported,
+                length: length.unwrap_or(bytes.len() as u64),
+            }),
+            Err(refusal) => Err(Ending::Fault(refusal)),
+        },
+        Err(error) => Ok(FileLine {
+            file: named.file,
+            reported: FileReport::Unreadable(*error),
+            length: 0,
+        }),
+    }
+}
+
+fn reported_of(alloc: Global, file: WorldFile, bytes: &[u8]) -> Result<FileReport, Refusal>
+    ensures { IfOk result (IsFileReport file bytes.now) }
+{
+    match file {
+        WorldFile::ImageA | WorldFile::ImageB => Ok(FileReport::Image(report_image(alloc, bytes)?)),
+        WorldFile::LogA | WorldFile::LogB => Ok(FileReport::Log(report_log(alloc, bytes)?)),
+    }
+}
+
+impl fmt::Display for FileLine {
+    ghost output = { λ line. file_line_text line };
+
+    fn fmt<W: fmt::Write>(&self, f: &mut fmt::Formatter<W>) -> fmt::Result {
+        let name = self.file.name();
+        let length = Counted {
+            count: self.length as usize,
+            noun: "byte",
+        };
+        match self.reported {
+            FileReport::Image(reported) => write!(f, "{name}: {reported}, {length}"),
+            FileReport::Log(reported) => write!(f, "{name}: {reported}, {length}"),
+            FileReport::Unreadable(error) => write!(f, "{name}: unreadable: {error}"),
+        }
+    }
+}
+
+// All words, one space between.
+fn line_of(alloc: Global, words: &[u64]) -> Result<String, AllocError>
+    ensures { IfOk result (λ line. string_bytes line ≡ words_text words.now) }
+{
+    let mut line = String::new(alloc);
+    let Some((first, rest)) = words.split_first() else {
+        return Ok(line);
+    };
+    write!(line, "{first}")?;
+    for word in rest {
+        write!(line, " {word}")?;
+    }
+    Ok(line)
+}

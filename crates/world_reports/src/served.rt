@@ -1,0 +1,109 @@
+//! The report on the server of a world, by the locks of its files.
+ghost use Rattle.std.specs.Prelude.{◌≡◌, Some, IsTrue, IfOk};
+ghost use Rattle.world_reports.specs.Served.{IsServerReport, asked, part_reported, server_reported};
+ghost use Rattle.world_reports.specs.Texts.{part_text, server_text};
+
+use std::{fmt, io};
+use world_folder::{Folder, LockState, WorldFile};
+
+/// The report on a part of a server. A part that is down stays so up to the server's end.
+#[derive(Clone, Copy, Debug, PartialEq, Eq)]
+pub enum PartReport {
+    Up,
+    Down,
+    Unknown,
+}
+
+/// The report on the server of a world.
+#[derive(Clone, Copy, Debug, PartialEq, Eq)]
+pub enum ServerReport {
+    /// A program writes the world: a server, or one that makes it.
+    Running { log: PartReport, images: PartReport },
+    /// No program does.
+    Missing,
+    Unknown,
+}
+
+/// The locks of the files by which a server is known.
+#[derive(Drop)]
+pub struct Locks {
+    /// A server holds it from its start to its end.
+    pub image_a: LockState,
+    /// It holds this one once its images are down.
+    pub image_b: LockState,
+    /// It holds this one once its log is down.
+    pub log_a: LockState,
+}
+
+/// Reports on the server of the world in a folder. It asks for locks, and gives them back at once.
+pub fn server_in<F: Folder>(folder: &mut F) -> io::Result<ServerReport>
+    ensures { IsTrue F.honest → IfOk result (λ reported. IsServerReport reported (F.history folder.old) (F.history folder.new)) }
+{
+    let locks = locks_in(folder)?;
+    Ok(report_of_locks(&locks))
+}
+
+// Asks for the lock of image.a last. A server that starts or ends meanwhile is then reported as one without a fault, or as none.
+fn locks_in<F: Folder>(folder: &mut F) -> io::Result<Locks>
+    ensures { IsTrue F.honest → IfOk result (λ locks. F.history folder.new ≡ asked locks (F.history folder.old)) }
+{
+    let image_b = folder.lock_state(WorldFile::ImageB)?;
+    let log_a = folder.lock_state(WorldFile::LogA)?;
+    let image_a = folder.lock_state(WorldFile::ImageA)?;
+    Ok(Locks {
+        image_a,
+        image_b,
+        log_a,
+    })
+}
+
+// What the locks say of the server.
+fn report_of_locks(locks: &Locks) -> ServerReport
+    ensures { result ≡ server_reported locks.now }
+{
+    match locks.image_a {
+        LockState::Held => ServerReport::Running {
+            log: report_part(locks.log_a),
+            images: report_part(locks.image_b),
+        },
+        LockState::Free => ServerReport::Missing,
+        LockState::Unknown => ServerReport::Unknown,
+    }
+}
+
+// What a lock says of the part of a server that takes it when it goes down.
+fn report_part(lock: LockState) -> PartReport
+    ensures { result ≡ part_reported lock }
+{
+    match lock {
+        LockState::Held => PartReport::Down,
+        LockState::Free => PartReport::Up,
+        LockState::Unknown => PartReport::Unknown,
+    }
+}
+
+impl fmt::Display for PartReport {
+    ghost output = { λ part. Some (part_text part) };
+
+    fn fmt<W: fmt::Write>(&self, f: &mut fmt::Formatter<W>) -> fmt::Result {
+        match self {
+            PartReport::Up => f.write_str("up"),
+            PartReport::Down => f.write_str("down"),
+            PartReport::Unknown => f.write_str("unknown"),
+        }
+    }
+}
+
+impl fmt::Display for ServerReport {
+    ghost output = { λ server. Some (server_text server) };
+
+    fn fmt<W: fmt::Write>(&self, f: &mut fmt::Formatter<W>) -> fmt::Result {
+        match self {
+            ServerReport::Running { log, images } => {
+                write!(f, "server: running, log {log}, images {images}")
+            }
+            ServerReport::Missing => f.write_str("server: none"),
+            ServerReport::Unknown => f.write_str("server: unknown"),
+        }
+    }
+}

@@ -1,0 +1,103 @@
+//! A world that was written into a folder, and recovered from there.
+ghost use Rattle.std.specs.Prelude.{◌≡◌, Some, IsTrue, IfSome, IfNone, IfOk, IfErr};
+ghost use Rattle.world_folder.specs.Ending.{IsFault};
+ghost use Rattle.world_folder.specs.Texts.{world_text};
+ghost use Rattle.world_reports.specs.Texts.{backed_up_text, salvaged_text};
+ghost use Rattle.world_reports.specs.Verified.{IsSameWorld, IsVerified};
+
+use crate::recovering::found_in;
+use recovery::Recovered;
+use std::alloc::Global;
+use std::{fmt, io};
+use world_actions::Refusal;
+use world_folder::{Ending, Folder, Unreadable, WorldReport, path_of, read_folder};
+
+/// Why what was written isn't reported as a world.
+const OTHER_WORLD: &str = "its files hold another world than was written into them";
+
+/// Shows that new files recover to the world that was written into them. Only `Verified::of` gives one.
+#[derive(Clone, Copy, Debug, PartialEq, Eq)]
+pub struct Verified {
+    world: WorldReport,
+}
+
+impl Verified {
+    /// Compares the world that was written with the one that was found.
+    pub fn of(written: &Recovered, found: &Recovered) -> Option<Self>
+        ensures same { IfSome result (λ verified. IsSameWorld written.now found.now
+            × (verified.world ≡ record { tick = found.now.tick; from = found.now.from })) }
+        ensures other { IfNone result (¬ IsSameWorld written.now found.now) }
+    {
+        if written.tick == found.tick && written.words.as_slice() == found.words.as_slice() {
+            let world = WorldReport::of(found);
+            Some(Verified { world })
+        } else {
+            None
+        }
+    }
+}
+
+impl fmt::Display for Verified {
+    ghost output = { λ verified. Some (world_text verified.world.tick verified.world.from) };
+
+    fn fmt<W: fmt::Write>(&self, f: &mut fmt::Formatter<W>) -> fmt::Result {
+        write!(f, "{}", self.world)
+    }
+}
+
+/// Recovers the world in the folder at this path, into which this one was written.
+pub fn verify<F: Folder>(
+    alloc: Global,
+    folder: &mut F,
+    path: &str,
+    written: &Recovered,
+) -> Result<Verified, Ending>
+    ensures verified { IsTrue F.honest → IsTrue F.File.honest → IfOk result (λ verified.
+        IsVerified written.now verified.world (F.history folder.old) (F.history folder.new)) }
+    ensures same { IfOk result (λ verified. verified.world.tick ≡ written.now.tick) }
+    ensures fault { IfErr result IsFault }
+{
+    let read = read_folder(alloc, folder);
+    let found = found_in(alloc, path, read)?;
+    match Verified::of(written, &found) {
+        Some(verified) => Ok(verified),
+        None => Err(other_world(alloc, path)),
+    }
+}
+
+/// The report on a copy.
+#[derive(Clone, Copy)]
+pub struct BackedUp(pub Verified);
+
+impl fmt::Display for BackedUp {
+    ghost output = { λ report. Some (backed_up_text report.0.world.tick report.0.world.from) };
+
+    fn fmt<W: fmt::Write>(&self, f: &mut fmt::Formatter<W>) -> fmt::Result {
+        write!(f, "backed up {}", self.0)
+    }
+}
+
+/// The report on a world that was salvaged.
+#[derive(Clone, Copy)]
+pub struct SalvagedInto(pub Verified);
+
+impl fmt::Display for SalvagedInto {
+    ghost output = { λ report. Some (salvaged_text report.0.world.tick report.0.world.from) };
+
+    fn fmt<W: fmt::Write>(&self, f: &mut fmt::Formatter<W>) -> fmt::Result {
+        write!(f, "salvaged {}", self.0)
+    }
+}
+
+// How the program ends if another world was found.
+fn other_world(alloc: Global, folder: &str) -> Ending
+    ensures { IsFault result }
+{
+    match path_of(alloc, "", folder) {
+        Ok(path) => Ending::Unreadable(Unreadable {
+            path,
+            error: io::Error::other(OTHER_WORLD),
+        }),
+        Err(_) => Ending::Fault(Refusal::NoMemory),
+    }
+}
