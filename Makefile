@@ -1,4 +1,5 @@
 # The commands of every day, as `make crate NAME=batches`. docs/CONTRIBUTING.md says more about each.
+PREFIX = /usr/local
 PORT = 7070
 WORLD = out/world
 WORLDD = crates/worldd/out/worldd
@@ -14,4 +15,8 @@ serve: ; mkdir -p $(WORLD) && if [ ! -e $(WORLD)/image.a ]; then $(WORLDD) creat
 	$(WORLDD) serve --dir $(WORLD) --method zigzag --every 4096 --port $(PORT) --clients 100
 try-serve: ; scripts/try_serve.sh $(WORLD) $(PORT)
 bench: ; bench/serve.sh
-.PHONY: try build gate docs crate wrong-bodies serve try-serve bench
+install: ; ./install.sh "$(PREFIX)"
+uninstall: ; ./install.sh --uninstall "$(PREFIX)"
+clean: ; rm -rf out crates/*/out && find . -name __pycache__ -prune -exec rm -rf {} +
+help: ; @sed -n '/^| `make /{s/`//g; s/^| \([^|]*\) | \(.*\) |$$/\1: \2/p}' docs/CONTRIBUTING.md
+.PHONY: try build gate docs crate wrong-bodies serve try-serve bench install uninstall clean help

@@ -215,7 +215,7 @@ def install(worldd: pathlib.Path, room: pathlib.Path) -> str:
             include_header(prefix)
             installed = {str(path.relative_to(prefix)) for path in prefix.rglob("*") if path.is_file()}
             want(installed == INSTALLED, f"what was installed differs by {sorted(installed ^ INSTALLED)}")
-            install_standby(top, room / "standby" / name)
+            uninstall(top, prefix)
         else:
             is_told = re.fullmatch("install.sh: a unit can't have the path [^\0-\x1f]*\n", run.stderr)
             want(run.returncode == 2 and bool(is_told) and not prefix.exists(), f"a prefix wasn't refused: {run}")
@@ -225,12 +225,22 @@ def install(worldd: pathlib.Path, room: pathlib.Path) -> str:
 def install_standby(top: pathlib.Path, prefix: pathlib.Path) -> None:
     """Installs the files of a standby, without the kit."""
     subprocess.run([top / "install.sh", "--standby", prefix], check=True, stdout=subprocess.DEVNULL, env={"PATH": "/usr/bin:/bin"})
-    files = {path.name: path.read_text() for path in prefix.rglob("*") if path.is_file()}
-    want(set(files) == STANDBY, f"what was installed for a standby differs by {sorted(set(files) ^ STANDBY)}")
     folder = prefix / "share" / "worldd" / "standby"
+    files = {path.name: path.read_text() for path in folder.iterdir()}
+    want(set(files) == STANDBY, f"what was installed for a standby differs by {sorted(set(files) ^ STANDBY)}")
     want(f'"{prefix}/bin/worldd" recover' in files["promote"], f"promote with {prefix}")
     want(f'"\'{folder}/fence-peer\'"' in files["world.res"] and os.access(folder / "fence-peer", os.X_OK), f"world.res with {prefix}")
     want("@PREFIX@" not in "".join(files.values()), f"a file with {prefix}")
+
+
+def uninstall(top: pathlib.Path, prefix: pathlib.Path) -> None:
+    """Removes all that was installed, and no file that isn't of it."""
+    install_standby(top, prefix)
+    other = prefix / "share" / "worldd" / "other"
+    other.write_text("kept")
+    subprocess.run([top / "install.sh", "--uninstall", prefix], check=True, stdout=subprocess.DEVNULL, env={"PATH": "/usr/bin:/bin"})
+    left = [path for path in prefix.rglob("*") if path.is_file()]
+    want(left == [other], f"of what was installed {left} are left")
 
 
 def include_header(prefix: pathlib.Path) -> None:
