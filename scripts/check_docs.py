@@ -10,7 +10,7 @@ It takes seconds, and prints the page, the line and the reason of each of these:
 - a block of code that differs from the file that it quotes
 - a wrong body of the gate that scripts/wrong_bodies.tsv lacks, and a line there on a body, a function or a clause that is
   not in the tree
-- a function of the walk of a tick that its file does not have
+- a function of the walk of a tick or of a checkpoint that its file does not have
 - a function that README promises something of, and that worldd does not call
 - a page that has more words than its budget, or a page of docs/ that no budget has
 - a version of the programs, of a client or of a manual page that isn't the first one of CHANGELOG.md
