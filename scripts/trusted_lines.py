@@ -163,7 +163,7 @@ def is_test(path):
 
 
 def reached_from(names, known):
-    """The definitions that stand behind these names."""
+    """The definitions that these names have."""
     reached, waiting = set(), list(names)
     while waiting:
         name = waiting.pop()
@@ -244,9 +244,9 @@ def of_one(crate, name):
     return lambda clause: (clause.crate, clause.item[1]) == (crate, name)
 
 
-def is_near(told, found):
-    """Whether a figure of a page is that of the tree, but for one in a hundred."""
-    return abs(int(told.replace(",", "")) - found) * 100 <= found
+def is_near(stated, found):
+    """Whether a figure of a page is that of the tree, up to one in a hundred."""
+    return abs(int(stated.replace(",", "")) - found) * 100 <= found
 
 
 def findings():
