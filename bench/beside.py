@@ -46,12 +46,12 @@ class Series:
     def row(self, load: Load) -> list[str]:
         """A row of the table, in the order of its columns."""
         batches, ratio, processor_ratio = self.median("batches"), self.ratio("batches"), self.ratio("processor")
-        figures = f"{batches * load.lines:.0f}", f"{batches:.0f}", told_ratio(ratio), f"{self.median('wait'):.3f}"
-        processor = f"{self.median('processor'):.1f}", told_ratio(processor_ratio)
+        figures = f"{batches * load.lines:.0f}", f"{batches:.0f}", ratio_text(ratio), f"{self.median('wait'):.3f}"
+        processor = f"{self.median('processor'):.1f}", ratio_text(processor_ratio)
         return [self.system.name, self.transport, str(load.clients), str(load.lines), *figures, *processor]
 
 
-def told_ratio(ratio: float | None) -> str:
+def ratio_text(ratio: float | None) -> str:
     """A ratio as it is printed; empty if there is none."""
     return "" if ratio is None else f"{ratio:.2f}"
 
@@ -139,7 +139,7 @@ def main() -> None:
     raise_descriptors()
     rows = []
     with tempfile.TemporaryDirectory(dir=given.dir) as room:
-        # PostgreSQL has a user of its own if this one is root.
+        # PostgreSQL has its own user if this one is root.
         pathlib.Path(room).chmod(0o711)
         folder = pathlib.Path(room) / "data"
         folder.mkdir()

@@ -170,7 +170,7 @@ static int by_size(const void *one, const void *other) {
     return (a > b) - (a < b);
 }
 
-static void tell(const char *name, const uint8_t *image, size_t length, Bytes log) {
+static void report(const char *name, const uint8_t *image, size_t length, Bytes log) {
     double times[RUNS];
     uint64_t sum = 0;
     for (int run = 0; run < RUNS; run++) {
@@ -189,7 +189,7 @@ int main(void) {
     size_t length = 17 + 8 * CELLS;
     uint8_t *image = calloc(length, 1), none[] = {1, 0, 0, 0, 0, 0, 0, 0, 0x20, 0};
     put(put(image, 1, 1), CELLS | (uint64_t)2 << 60, 8);
-    tell("an image of 65,536 cells", image, length, (Bytes){none, none + sizeof none});
-    tell("a full segment on it", image, length, full_segment());
+    report("an image of 65,536 cells", image, length, (Bytes){none, none + sizeof none});
+    report("a full segment on it", image, length, full_segment());
     return 0;
 }

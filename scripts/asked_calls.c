@@ -24,8 +24,8 @@ __attribute__((constructor)) static void begin(void)
         abort();
 }
 
-/* The answer to the question of a call, which holds up all others until it is told. It is 0 if the file isn't of a world, or
- * for a write that is neither the first nor the last one of an image's words. */
+/* The answer to the question of a call, which holds up all others until its result is reported. It is 0 if the file isn't of a
+ * world, or for a write that is neither the first nor the last one of an image's words. */
 static char answer_to(const char *call, int file, long at, size_t count, int first)
 {
     char link[32], path[PATH_MAX] = "", line[PATH_MAX + 64], answer;
@@ -43,7 +43,7 @@ static char answer_to(const char *call, int file, long at, size_t count, int fir
 }
 
 /* Reports what came of a call, and gives it back. A call that was answered so fails, whatever it did. */
-static ssize_t told(char answer, ssize_t result)
+static ssize_t reported(char answer, ssize_t result)
 {
     char line[32];
     if (answer == 0)
@@ -62,25 +62,25 @@ ssize_t pwrite(int file, const void *bytes, size_t count, off_t at)
 {
     char answer = answer_to("write", file, at, count, *(const unsigned char *)bytes);
     size_t asked = answer == '0' ? 0 : answer == '1' ? count / 2 : count;
-    return told(answer, syscall(SYS_pwrite64, file, bytes, asked, at));
+    return reported(answer, syscall(SYS_pwrite64, file, bytes, asked, at));
 }
 
 ssize_t pread(int file, void *bytes, size_t count, off_t at)
 {
     char answer = count == 0 ? 0 : answer_to("read", file, at, count, 0);
-    return told(answer, syscall(SYS_pread64, file, bytes, count, at));
+    return reported(answer, syscall(SYS_pread64, file, bytes, count, at));
 }
 
 int fdatasync(int file)
 {
     char answer = answer_to("sync", file, 0, 0, 0);
-    return (int)told(answer, syscall(SYS_fdatasync, file));
+    return (int)reported(answer, syscall(SYS_fdatasync, file));
 }
 
 int fsync(int file)
 {
     char answer = answer_to("sync", file, 0, 0, 0);
-    return (int)told(answer, syscall(SYS_fsync, file));
+    return (int)reported(answer, syscall(SYS_fsync, file));
 }
 
 int posix_fadvise(int file, off_t at, off_t count, int advice)

@@ -108,23 +108,23 @@ class Trial:
 
     def figures(self, world: pathlib.Path, floor: int) -> None:
         """What `status` reports of a world that is served: no tick is missing that was answered."""
-        told, _ = self.ask("status", world)
+        printed, _ = self.ask("status", world)
         form = r"recovered (\d+) from (\d+) in image\.[ab]\nlog: (\d+) ticks? after the image, (.*)\nbytes: .*, together (\d+)\nserver: running, log up, images up\n"
-        match = re.fullmatch(form, told)
+        match = re.fullmatch(form, printed)
         if not match or int(match[1]) - int(match[2]) != int(match[3]):
-            raise Wrong(f"status prints {told!r}")
+            raise Wrong(f"status prints {printed!r}")
         if int(match[1]) < floor:
-            raise Wrong(f"status prints {told!r}, and tick {floor} was answered before")
+            raise Wrong(f"status prints {printed!r}, and tick {floor} was answered before")
         self.tally.figures += 1
 
     def copy(self, world: pathlib.Path, to: pathlib.Path, floor: int) -> Copy:
         """Backs the world up, and reads what the copy holds."""
         to.mkdir()
-        told, errors = self.ask("backup", world, "--to", str(to))
-        match = re.fullmatch(r"backed up (\d+) from (\d+)\n", told)
+        printed, errors = self.ask("backup", world, "--to", str(to))
+        match = re.fullmatch(r"backed up (\d+) from (\d+)\n", printed)
         begun = re.fullmatch(r"(?:worldd: it was begun (\d+) times\n)?", errors)
         if not match or not begun:
-            raise Wrong(f"backup prints {told!r} and {errors!r}")
+            raise Wrong(f"backup prints {printed!r} and {errors!r}")
         found = kill_trial.found_in(f"recovered {match[1]} from {match[2]}", self.ask("inspect", to, "--words")[0].splitlines())
         if found.tick < floor:
             raise Wrong(f"{found.line}, and tick {floor} was answered before")

@@ -72,7 +72,7 @@ BUDGETS = {
     ("docs/CONTRIBUTING.md",): 2_000,
     ("docs/STANDBY.md",): 1_200,
 }
-# The lines that state the version of this tree. Python has a form of its own for one that isn't released.
+# The lines that state the version of this tree. Python has its own form for one that isn't released.
 VERSIONS = (
     ("crates/command_line/src/version.rt", r'pub const VERSION\w*: &str = "([^" ]*)'),
     ("clients/python/cektaulis/__init__.py", r'__version__ = "(.*)"'),

@@ -229,7 +229,7 @@ def build_players(room: pathlib.Path) -> None:
 
 
 def compile_header() -> None:
-    """Compiles the header alone by each compiler that is there, as C and as C++."""
+    """Compiles only the header by each compiler that is there, as C and as C++."""
     in_cpp = ((compiler, "c++", (f"-std={by}",)) for compiler in ("g++", "clang++") for by in ("c++17", "c++20"))
     ways = ("gcc", "c", IN_C), ("clang", "c", IN_C), *in_cpp
     tried = [(compiler, language, flags) for compiler, language, flags in ways if shutil.which(compiler)]

@@ -1,5 +1,5 @@
 #!/usr/bin/env python3
-"""Tries the clients of clients/ in Python, C and Rust on a serving worldd, and on servers of its own that answer badly.
+"""Tries the clients of clients/ in Python, C and Rust on a serving worldd, and on its own servers that answer badly.
 
     scripts/client_trial.py crates/worldd/out/worldd
     scripts/client_trial.py WORLDD --kills 200
@@ -671,10 +671,10 @@ def try_doubt(seconds: float) -> None:
     script.end()
     if got != [[batch], [batch], False, [batch, (Get(1),)]]:
         raise Wrong(f"a batch is lost: {got}")
-    try_doubt_behind_answers(seconds)
+    try_doubt_after_answers(seconds)
 
 
-def try_doubt_behind_answers(seconds: float) -> None:
+def try_doubt_after_answers(seconds: float) -> None:
     """The client in Python doubts the batches after answers that it keeps, and no others."""
     get = Step("get 1", "tick 1: =4")
     script = Script([get, get, Step("add 1 1", "fault 12")], [READY, Step("get 1", None)], [READY])
@@ -917,9 +917,9 @@ def try_package(room: pathlib.Path, version: str) -> None:
     if not wanted | {f"cektaulis-{in_python}.dist-info/METADATA"} <= names or "cektaulis/py.typed" not in names:
         raise Wrong(f"the package has {names}")
     command, path = [sys.executable, "-m", "cektaulis", "--version"], {"PYTHONPATH": str(room / "installed")}
-    told = subprocess.run(command, cwd=room, env=BY_HAND | path, capture_output=True, text=True, check=True).stdout
-    if told != f"cektaulis {in_python}\n":
-        raise Wrong(f"the package prints {told}")
+    printed = subprocess.run(command, cwd=room, env=BY_HAND | path, capture_output=True, text=True, check=True).stdout
+    if printed != f"cektaulis {in_python}\n":
+        raise Wrong(f"the package prints {printed}")
     print(f"package: {run.stdout.strip()} has its types, runs and leaves nothing behind")
 
 
@@ -934,8 +934,8 @@ def main() -> int:
         room = pathlib.Path(folder)
         kinds = {"python": PythonPlayer, "c": CPlayer}
         try:
-            told = subprocess.run([given.worldd, "--version"], capture_output=True, text=True, check=True).stdout
-            try_package(room, told.split()[1])
+            printed = subprocess.run([given.worldd, "--version"], capture_output=True, text=True, check=True).stdout
+            try_package(room, printed.split()[1])
             try_patterns(given.worldd.resolve(), room)
             build_players(room)
             compile_header()

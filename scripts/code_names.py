@@ -22,9 +22,9 @@ class Names:
 
     def __init__(self) -> None:
         self.all: set[str] = set()
-        # What can stand behind `NAME::`, of a crate, a type or a trait.
+        # What can follow `NAME::`, of a crate, a type or a trait.
         self.members: dict[str, set[str]] = collections.defaultdict(set)
-        # What can stand behind "`NAME`:", of a function, a type or a definition.
+        # What can follow "`NAME`:", of a function, a type or a definition.
         self.clauses: dict[str, set[str]] = collections.defaultdict(set)
         self.functions: dict[str, set[str]] = collections.defaultdict(set)
         # The clauses of the functions of a crate that have a name, by crate and name.

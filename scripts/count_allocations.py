@@ -44,8 +44,8 @@ def counts_of(measures: str, library: pathlib.Path) -> tuple[list[str], list[int
         return run.stdout.splitlines(), [int(count) for count in counts]
 
 
-def tell(line: str, count: int) -> bool:
-    """Tells how many allocations a call makes, and whether that is as few as the line says."""
+def is_within(line: str, count: int) -> bool:
+    """Prints how many allocations a call makes, and returns whether that is as few as the line says."""
     call, most = line.split(MOST)
     print(f"{call}: {count} of at most {most} allocations")
     return count <= int(most)
@@ -92,7 +92,7 @@ def main() -> int:
         room = pathlib.Path(folder)
         library = built_watcher(room)
         lines, counts = counts_of(given.measures, library)
-        held = [tell(line, count) for line, count in zip(lines, counts, strict=True)]
+        held = [is_within(line, count) for line, count in zip(lines, counts, strict=True)]
         held.append(count_served(given.worldd, library, room))
     return 0 if len(held) > 1 and all(held) else 1
 

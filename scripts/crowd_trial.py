@@ -63,24 +63,24 @@ class Server:
 
     def expect(self, line: str) -> None:
         """The next line must be this one."""
-        told = self.line()
-        if told != line:
-            raise Wrong(f"worldd printed `{told}` in place of `{line}`")
+        printed = self.line()
+        if printed != line:
+            raise Wrong(f"worldd printed `{printed}` in place of `{line}`")
 
     def connect(self) -> socket.socket:
         """A client's connection."""
         return connect(self.address)
 
     def end(self, ticks: int) -> str:
-        """Waits for its end after so many ticks, and gives what it told people."""
+        """Waits for its end after so many ticks, and gives what it printed for people."""
         printed, _ = self.process.communicate(timeout=PATIENCE_SECONDS)
         if printed != f"stopped tick {ticks} acked {ticks}\n" or self.process.returncode:
             raise Wrong(f"worldd ended with status {self.process.returncode} and `{printed}`")
         return self.errors.read_text()
 
 
-def told_to(stream: socket.socket, text: bytes) -> str:
-    """All that a client is told that sends this and no more."""
+def answer_to(stream: socket.socket, text: bytes) -> str:
+    """All that a client gets that sends this and no more."""
     with stream:
         stream.sendall(text)
         stream.shutdown(socket.SHUT_WR)
@@ -91,12 +91,12 @@ def try_row(worldd: str, room: pathlib.Path, way: Way) -> None:
     """Two clients come one after the other."""
     server = Server(worldd, room / f"row-{way}", way, 2, 64, 2)
     for tick in (1, 2):
-        line = told_to(server.connect(), ROW)
+        line = answer_to(server.connect(), ROW)
         if line != f"tick {tick}: + =5 -3 -16\n":
-            raise Wrong(f"the client of tick {tick} was told `{line}`")
-    told = server.end(2)
-    if told != CLOSED.format(way.transport):
-        raise Wrong(f"worldd told people `{told}`")
+            raise Wrong(f"the client of tick {tick} was answered `{line}`")
+    errors = server.end(2)
+    if errors != CLOSED.format(way.transport):
+        raise Wrong(f"worldd printed `{errors}`")
 
 
 def batch_of(chance: random.Random) -> Batch:
@@ -140,10 +140,10 @@ def judge(answered: list[tuple[Batch, str]], ticks: int) -> None:
     words = [0] * CELLS
     numbers = {}
     for batch, line in answered:
-        told = re.match(r"tick ([0-9]+):", line)
-        if not told or int(told[1]) in numbers:
+        match = re.match(r"tick ([0-9]+):", line)
+        if not match or int(match[1]) in numbers:
             raise Wrong(f"a batch was answered `{line}`")
-        numbers[int(told[1])] = batch, line
+        numbers[int(match[1])] = batch, line
     if sorted(numbers) != list(range(1, ticks + 1)):
         raise Wrong(f"{len(numbers)} ticks were answered, up to {max(numbers)}")
     for number in range(1, ticks + 1):
@@ -167,12 +167,12 @@ def try_crowd(worldd: str, room: pathlib.Path, way: Way, seed: int) -> int:
     for thread in [*rude, *clients]:
         thread.join()
     answered = [one for client in clients for one in client.answered]
-    answered.append((last, told_to(slow, text[-1:]).removesuffix("\n")))
+    answered.append((last, answer_to(slow, text[-1:]).removesuffix("\n")))
     judge(answered, CLIENTS * BATCHES + 1)
-    told = server.end(CLIENTS * BATCHES + 1)
-    opened = len(re.findall(r"image of tick [0-9]+ opened", told))
-    if opened + 1 != told.count("\n") or told.count(CLOSED.format(way.transport)) != 1 or not opened:
-        raise Wrong(f"worldd told people `{told[-500:]}`")
+    errors = server.end(CLIENTS * BATCHES + 1)
+    opened = len(re.findall(r"image of tick [0-9]+ opened", errors))
+    if opened + 1 != errors.count("\n") or errors.count(CLOSED.format(way.transport)) != 1 or not opened:
+        raise Wrong(f"worldd printed `{errors[-500:]}`")
     return opened
 
 

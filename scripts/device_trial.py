@@ -126,7 +126,7 @@ class Trial(Rig):
             self.tally["file system stopped"] += down[0] == "stopped"
             self.down = self.down if down[0] == "stopped" else down[0]
         elif line.startswith("worldd: ") and not re.search(" image of tick ", line):
-            self.told_by_server = line
+            self.server_line = line
 
     def answer_came(self, port: int, line: str) -> None:
         """A batch was answered, or refused since the log is down. The client sends the next one as long as all play. It has
@@ -134,9 +134,9 @@ class Trial(Rig):
         if line == "gone":
             self.gone.add(port)
             return
-        batch, told = self.waiting.pop(port), re.match(r"tick (\d+):", line)
-        if told and int(told[1]) not in self.answered:
-            self.answered[int(told[1])] = batch, line
+        batch, match = self.waiting.pop(port), re.match(r"tick (\d+):", line)
+        if match and int(match[1]) not in self.answered:
+            self.answered[int(match[1])] = batch, line
             self.tally["ticks answered"] += 1
             self.ticks += 1
         elif line == "fault 12":
@@ -230,16 +230,16 @@ class Trial(Rig):
         """Nothing is down if no call failed. What came of the call may arrive after the line that something is down."""
         if self.down and not self.failed_now:
             self.until(lambda: not self.is_asked, "a call goes on")
-            if not self.failed_now and self.strayed and IO_ERROR in self.told_by_server:
+            if not self.failed_now and self.strayed and IO_ERROR in self.server_line:
                 raise Strayed
             if not self.failed_now:
-                raise Wrong(f"{self.down} in {self.phase}, though no call failed: {self.told_by_server}")
+                raise Wrong(f"{self.down} in {self.phase}, though no call failed: {self.server_line}")
 
     def left_here(self, size: int, share: float) -> list[str]:
-        """Cuts the power of the disk that this machine has, and tells what is left."""
+        """Cuts the power of the disk that this machine has, and reports what is left."""
         with self.running.lock:
             self.running.cut(self.left, size, share)
-        return here_machine.told_of(self.folder, self.given.worldd, self.given.fs, self.left)
+        return here_machine.lines_of(self.folder, self.given.worldd, self.given.fs, self.left)
 
     def start(self, **words: object) -> contextlib.closing[Disk]:
         """Starts a machine with a new disk: this one, or one of QEMU's."""
@@ -251,11 +251,11 @@ class Trial(Rig):
         """Cuts the power, and judges what another machine recovers then."""
         way, (is_torn, share) = random.choice(list(WAYS.items()))
         size, share = SECTOR if is_torn else WHOLE, random.random() if share is None else share
-        told = world_of(self.left_here(size, share) if self.given.here else self.cut(self.running, self.reader, size, share))
+        lines = world_of(self.left_here(size, share) if self.given.here else self.cut(self.running, self.reader, size, share))
         self.tally.update(["cuts", moment, way])
-        if not told[0].startswith("recovered"):
-            raise Wrong(f"recovered no world: {told[0]}, {moment}" + (f", of {self.failed_now}" if self.failed_now else ""))
-        found = found_in(told[0], told)
+        if not lines[0].startswith("recovered"):
+            raise Wrong(f"recovered no world: {lines[0]}, {moment}" + (f", of {self.failed_now}" if self.failed_now else ""))
+        found = found_in(lines[0], lines)
         judge(self.before, found, self.answered, frozenset([*self.waiting.values(), *self.dead]))
         return found
 
@@ -296,7 +296,7 @@ class Trial(Rig):
         found = self.look("in play")
         # What was not answered before the start is in this world or nowhere.
         self.before, self.dead = found, []
-        self.answered = {tick: told for tick, told in self.answered.items() if tick > found.tick}
+        self.answered = {tick: answer for tick, answer in self.answered.items() if tick > found.tick}
 
     def serve(self, run: int, upto: int) -> None:
         """Lets calls fail in a new machine. One whose server fell by a refusal that strayed is judged, and left."""
@@ -306,7 +306,7 @@ class Trial(Rig):
         self.waiting: dict[int, Batch] = {}
         self.dead: list[Batch] = []
         self.gone: set[int] = set()
-        self.wanted, self.wanted_now, self.failed_now, self.told_by_server, self.until_cut = None, (), None, "", 0
+        self.wanted, self.wanted_now, self.failed_now, self.server_line, self.until_cut = None, (), None, "", 0
         self.strayed = 0
         words = {"method": METHODS[run % 2], "every": random.choice(EVERY)}
         with self.start(**words) as self.running:
@@ -335,12 +335,12 @@ class Trial(Rig):
         """What was met: all in all, and of each file in each step, in starts and in play."""
         names = ("failed calls", *(f"by a {way}" for way in (CALL, *REFUSED)), "images down", "log down", "fault 18", "file system stopped")
         names += ("failed elsewhere", "not met", "batches refused", "ticks answered", "cuts", *CUTS, "in play", "elsewhere", *WAYS)
-        told = [f"{name} {self.tally[name]}" for name in names]
+        counts = [f"{name} {self.tally[name]}" for name in names]
         for phase, file in dict.fromkeys(kind[:2] for kind in self.kinds):
             steps = dict.fromkeys(kind[2] for kind in self.kinds if kind[:2] == (phase, file))
             met = {step: [f"{kind[3]} {self.tally[kind]}" for kind in self.kinds if kind[:3] == (phase, file, step)] for step in steps}
-            told.append(f"{file} in {phase}: " + ", ".join(f"{step} ({', '.join(each)})" for step, each in met.items()))
-        return "; ".join(told)
+            counts.append(f"{file} in {phase}: " + ", ".join(f"{step} ({', '.join(each)})" for step, each in met.items()))
+        return "; ".join(counts)
 
 
 def main() -> int:

@@ -1,4 +1,4 @@
-"""This machine in place of one of QEMU's, for device_trial.py: much faster, and for root alone. The disk is a file that is
+"""This machine in place of one of QEMU's, for device_trial.py: much faster, and only for root. The disk is a file that is
 served from here by the protocol of FUSE, with a loop device over it. A power cut is a copy of what that disk holds then."""
 import contextlib
 import ctypes
@@ -197,8 +197,8 @@ def here(rig: Rig, script: str, ports: int, **words: object) -> Here:
     return Here(room, text, rig.new_disk(), ports)
 
 
-def told_of(room: pathlib.Path, worldd: str, fs: str, left: bytearray) -> list[str]:
-    """What worldd tells of a disk that a cut left."""
+def lines_of(room: pathlib.Path, worldd: str, fs: str, left: bytearray) -> list[str]:
+    """What worldd prints of a disk that a cut left."""
     path, folder = room / "left", room / "looked"
     folder.mkdir(exist_ok=True)
     with path.open("wb") as file:

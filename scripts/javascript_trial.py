@@ -67,10 +67,10 @@ def play(address: str, batches: list[Batch]) -> list[list[str]]:
     given = "".join(json.dumps([[str(word) for word in request] for request in batch]) + "\n" for batch in batches)
     run = ["node", "--input-type=module", "--eval", PLAYER, address]
     ended = subprocess.run(run, input=given, capture_output=True, text=True, timeout=2 * PATIENCE_SECONDS)
-    told = [line.split("\t") for line in ended.stdout.splitlines()]
-    if ended.returncode or len(told) != len(batches):
-        raise Wrong(f"the player ended with status {ended.returncode} after {len(told)} batches: {ended.stderr}")
-    return told
+    answers = [line.split("\t") for line in ended.stdout.splitlines()]
+    if ended.returncode or len(answers) != len(batches):
+        raise Wrong(f"the player ended with status {ended.returncode} after {len(answers)} batches: {ended.stderr}")
+    return answers
 
 
 def try_model(trial: Trial, chance: random.Random) -> None:
@@ -89,29 +89,29 @@ def try_model(trial: Trial, chance: random.Random) -> None:
 def try_codes(trial: Trial) -> None:
     """Each code comes back with the text of docs/CLIENT.md, and so does the end of the connection."""
     server = Script([Step("get 0", line) for line in (*CODES, None)])
-    told = play(server.address, [(("get", 0),)] * (len(CODES) + 1))
+    answers = play(server.address, [(("get", 0),)] * (len(CODES) + 1))
     server.end()
     wanted = [[code.replace("fault", "BatchRefused"), text] for code, text in zip(CODES, TEXTS.values())]
-    if told != [*wanted, ["Unanswered true", "the server closed the connection"]]:
-        raise Wrong(f"codes come back as {told}")
+    if answers != [*wanted, ["Unanswered true", "the server closed the connection"]]:
+        raise Wrong(f"codes come back as {answers}")
     trial.met.update(code for code in CODES if "fault" in code)
 
 
 def try_kills(trial: Trial, chance: random.Random, kills: int) -> int:
     """Each batch of `playOnce` counts once, though the server is killed so often or more. Gives how many counted."""
-    given, told, played, begun = trial.room / "batches", trial.room / "answers", 0, time.monotonic()
+    given, answers, played, begun = trial.room / "batches", trial.room / "answers", 0, time.monotonic()
     given.write_text(f"add {COUNT} 1, get {COUNT}\n" * BATCHES)
     while trial.met["kills"] < kills or not trial.met[LOST] and time.monotonic() - begun < MOST_KILLING_SECONDS:
-        with given.open() as batches, told.open("w") as answers:
+        with given.open() as batches, answers.open("w") as output:
             run = ["node", CLIENT, trial.address, str(MARKER), str(played + 1)]
-            client = subprocess.Popen(run, stdin=batches, stdout=answers)
+            client = subprocess.Popen(run, stdin=batches, stdout=output)
         while client.poll() is None:
             time.sleep(chance.uniform(0, 0.2))
-            if told.stat().st_size:
+            if answers.stat().st_size:
                 trial.kill()
                 trial.serve()
                 trial.met["kills"] += 1
-        for played, line in enumerate(told.read_text().splitlines(), played + 1):
+        for played, line in enumerate(answers.read_text().splitlines(), played + 1):
             if line != LOST and not line.endswith(f": + ={played}"):
                 raise Wrong(f"batch {played} was answered `{line}`")
             trial.met[LOST if line == LOST else "counted once"] += 1

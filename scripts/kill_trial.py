@@ -210,10 +210,10 @@ class Client(threading.Thread):
 
     def take(self, batch: Batch, line: str) -> None:
         """Keeps what a batch was answered."""
-        told = re.match(r"tick ([0-9]+):", line)
-        if not told:
+        match = re.match(r"tick ([0-9]+):", line)
+        if not match:
             raise Wrong(f"a batch was answered `{line}`")
-        number = int(told[1])
+        number = int(match[1])
         if number <= max(self.answered, default=0):
             raise Wrong(f"tick {number} was answered to a client after its tick {max(self.answered)}")
         self.answered[number] = batch, line
@@ -228,7 +228,7 @@ def collected(clients: list[Client], ended: int) -> tuple[Answered, frozenset[Ba
             raise Wrong(client.wrong)
         for number in client.answered:
             if number in answered or number <= ended:
-                raise Wrong(f"the number {number} was told of two ticks")
+                raise Wrong(f"two ticks were answered with the number {number}")
         answered |= client.answered
     return answered, frozenset(client.waiting for client in clients if client.waiting)
 
@@ -238,7 +238,7 @@ def collected(clients: list[Client], ended: int) -> tuple[Answered, frozenset[Ba
 
 @dataclasses.dataclass(frozen=True)
 class Found:
-    """What `recover` and `inspect` tell: the line of the world, its tick, its image's tick and file, and the words."""
+    """What `recover` and `inspect` print: the line of the world, its tick, its image's tick and file, and the words."""
 
     line: str
     tick: int
@@ -248,14 +248,14 @@ class Found:
     in_round: bool
 
 
-def found_in(recovered: str, told: list[str]) -> Found:
+def found_in(recovered: str, lines: list[str]) -> Found:
     """What stands in the files, from the line of `recover` and the lines of `inspect`."""
     form = r"(recovered ([0-9]+) from ([0-9]+)) in (image\.[ab])\n([0-9]+(?: [0-9]+)*)"
-    match = re.fullmatch(form, "\n".join(told[-2:]))
+    match = re.fullmatch(form, "\n".join(lines[-2:]))
     if not match or match[1] != recovered:
-        raise Wrong(f"inspect ends with {told[-2:]}, and recover tells `{recovered}`")
+        raise Wrong(f"inspect ends with {lines[-2:]}, and recover prints `{recovered}`")
     # A round's image is closed, and has bytes already.
-    in_round = any(re.match(r"image\.[ab]: closed, [1-9]", line) for line in told)
+    in_round = any(re.match(r"image\.[ab]: closed, [1-9]", line) for line in lines)
     words = [int(word) for word in match[5].split(" ")]
     return Found(match[1], int(match[2]), int(match[3]), match[4], words, in_round)
 
@@ -302,9 +302,9 @@ def difference(batch: Batch, line: str, wanted: str) -> str:
     """The first reply of an answer that isn't the model's."""
     tick = wanted.partition(":")[0]
     replies = itertools.zip_longest(batch, line.split(" ")[2:], wanted.split(" ")[2:])
-    for request, told, right in replies:
-        if told != right:
-            return f"`{line_of(request or ())}` of {tick} was answered `{told}`, and the model has `{right}`"
+    for request, given, right in replies:
+        if given != right:
+            return f"`{line_of(request or ())}` of {tick} was answered `{given}`, and the model has `{right}`"
     return f"{tick} was answered by a line that is spaced wrong"
 
 
@@ -345,7 +345,7 @@ class Server:
         return self.process.stdout.readline().removesuffix("\n")
 
     def begin(self, before: Found) -> None:
-        """Waits until it tells the world that it has found, which has to be this one."""
+        """Waits until it prints the world that it has found, which has to be this one."""
         line = self.line()
         if line != before.line:
             raise Wrong(f"serve began with `{line}` after `{before.line}`{self.complaint()}")
@@ -355,7 +355,7 @@ class Server:
         line = self.line()
         match = re.fullmatch(r"listening (.+)", line)
         if not match:
-            raise Wrong(f"serve told `{line}` in place of where it listens{self.complaint()}")
+            raise Wrong(f"serve printed `{line}` in place of where it listens{self.complaint()}")
         return match[1]
 
     def kill(self) -> str:
@@ -377,7 +377,7 @@ class Server:
         return printed.removesuffix("\n")
 
     def look_at_complaints(self) -> None:
-        """A keeper that is down and a session that is refused are told on standard error."""
+        """A keeper that is down and a session that is refused are reported on standard error."""
         if re.search("down|refused|fault", self.complaint()):
             raise Wrong(f"serve went on{self.complaint()}")
 

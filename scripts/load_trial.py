@@ -129,8 +129,8 @@ class Trial:
         self.seen[kind] += 1
         if isinstance(want, int):
             head = re.match(r"(.*), (.*) a batch, \d+\.\d{3} s\n(.*), \d+ a second\n(.*), \d+ a second\nmilliseconds: p50 ", run.stdout)
-            told = "1 connection", counted(lines, "line"), counted(want, "tick"), counted(want * lines, "action")
-            self.check(what, (head and head.groups(), run.returncode), (told, 0))
+            counts = "1 connection", counted(lines, "line"), counted(want, "tick"), counted(want * lines, "action")
+            self.check(what, (head and head.groups(), run.returncode), (counts, 0))
             self.check(f"{what}: its progress", run.stderr, PROGRESS if kind == "slow" else "")
             for batch in server.batches:
                 cells = [re.fullmatch(rb"set (\d+) \d+\n", line) for line in batch[:-1]]

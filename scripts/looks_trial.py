@@ -41,15 +41,15 @@ LINES = {
 
 
 class Player(Client):
-    """A client that keeps its last tick alone."""
+    """A client that keeps only its last tick."""
 
     last = 0
 
     def take(self, batch: Batch, line: str) -> None:
-        told = re.match(r"tick ([0-9]+):", line)
-        if not told or int(told[1]) <= self.last:
+        match = re.match(r"tick ([0-9]+):", line)
+        if not match or int(match[1]) <= self.last:
             raise Wrong(f"a batch was answered `{line}` after tick {self.last}")
-        self.last = int(told[1])
+        self.last = int(match[1])
 
 
 def batches(seed: str, client: int, cells: int, stop: threading.Event) -> Iterator[Batch]:
@@ -90,13 +90,13 @@ class Trial:
         slowed = {"LD_PRELOAD": str(self.library), "READS_SLOWED": str(SLOWED_MICROSECONDS)} if is_slow else {}
         self.tally.update([command, *["slowed"] * is_slow])
         try:
-            told = self.ask(command, world, *(["--to", str(to)] if command == "backup" else []), **slowed)
+            printed = self.ask(command, world, *(["--to", str(to)] if command == "backup" else []), **slowed)
         except Wrong as wrong:
             self.wrong[str(wrong)] += 1
             return 0
-        match = re.fullmatch(LINES[command], told)
+        match = re.fullmatch(LINES[command], printed)
         if not match:
-            raise Wrong(f"{command} prints {told!r}")
+            raise Wrong(f"{command} prints {printed!r}")
         self.wrong[f"{command} reported a tick older than an answer"] += int(match[1]) < floor
         self.tally["ahead of the answers"] += int(match[1]) > floor
         return int(match[1])

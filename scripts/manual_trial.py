@@ -5,8 +5,8 @@
 
 Pages have to have each command, each flag with its value and its text, each usage and each status, and nothing else. The
 completions of bash, zsh and fish have to offer each command, each flag and each value that is listed, and nothing else. Those of
-bash and fish are asked, and those of zsh are run with stand-ins for its functions. A shell that isn't there is named, and the
-text of its file alone is compared. Groff, if it is there, has to print the pages without a warning.
+bash and fish are asked, and those of zsh are run with stand-ins for its functions. A shell that isn't there is named, and only
+the text of its file is compared. Groff, if it is there, has to print the pages without a warning.
 """
 import argparse
 import dataclasses

@@ -72,7 +72,7 @@ image*
 crash lose
 world
 """
-# What tells that a growth of a file in memory was refused; in a start the lines before it are refused too.
+# What is printed if a growth of a file in memory was refused; in a start the lines before it are refused too.
 REFUSED_LINES = "image down", "log down"
 STARTING = "- 19"
 FAULT = "fault 17"
@@ -104,11 +104,11 @@ GROWING = {
 
 @dataclasses.dataclass(frozen=True)
 class Run:
-    """A run: its status, what it printed and told, and whether an allocation was refused."""
+    """A run: its status, what it printed on both streams, and whether an allocation was refused."""
 
     status: int
     printed: str
-    told: str
+    errors: str
     was_refused: bool
 
 
@@ -129,7 +129,7 @@ class Refuser:
     def start(
         self, command: list[object], number: int, which: str = "REFUSED_ALLOCATION", **files: object
     ) -> tuple[subprocess.Popen, int]:
-        """A program whose allocation of this number is refused, and where that is told."""
+        """A program whose allocation of this number is refused, and where that is reported."""
         reader, writer = os.pipe()
         refused = {"LD_PRELOAD": str(self.library), which: str(number), "REFUSED_TO": str(writer)}
         with open(writer, closefd=True):
@@ -141,8 +141,8 @@ class Refuser:
     def run(self, command: list[object], number: int, script: str = "", **which: str) -> Run:
         """A run whose allocation of this number is refused, 0 for none."""
         process, reader = self.start(command, number, **which, stdin=subprocess.PIPE, stderr=subprocess.PIPE)
-        printed, told = process.communicate(script, PATIENCE_SECONDS)
-        return Run(process.returncode, printed, told, was_told(reader))
+        printed, errors = process.communicate(script, PATIENCE_SECONDS)
+        return Run(process.returncode, printed, errors, was_refused(reader))
 
     def runs(self, command: list[object], script: str = "") -> Iterator[Run]:
         """A run for each allocation, which is refused, and a last one for which none is."""
@@ -153,15 +153,15 @@ class Refuser:
                 return
 
 
-def was_told(reader: int) -> bool:
-    """Whether an allocation was refused, told once the program has ended."""
-    with open(reader, "rb") as told:
-        return bool(told.read())
+def was_refused(reader: int) -> bool:
+    """Whether an allocation was refused, as is reported up to the program's end."""
+    with open(reader, "rb") as reports:
+        return bool(reports.read())
 
 
 def is_fault(run: Run) -> bool:
-    """Whether lack of memory ended the run, and was told so."""
-    return run.status == 13 and run.told.partition("\n")[0] == FAULT
+    """Whether lack of memory ended the run, and was reported so."""
+    return run.status == 13 and run.errors.partition("\n")[0] == FAULT
 
 
 def require(seen: collections.Counter[str], *kinds: str) -> None:
@@ -174,9 +174,9 @@ def require(seen: collections.Counter[str], *kinds: str) -> None:
 # The calls.
 
 
-def code_of(told: str) -> str | None:
+def code_of(kind: str) -> str | None:
     """The code with which a call was refused, whose answer then is right."""
-    refused = CALL_REFUSED.fullmatch(told)
+    refused = CALL_REFUSED.fullmatch(kind)
     return refused[1] if refused else None
 
 
@@ -185,12 +185,12 @@ def try_calls(refuser: Refuser) -> collections.Counter[str]:
     refused: collections.Counter[str] = collections.Counter()
     for number in itertools.count(1):
         run = refuser.run([CALLS], number, which="REFUSED_IN_STRETCH")
-        told = dict(line.split(": ") for line in run.printed.splitlines())
-        codes = {call: code for call, kind in told.items() if (code := code_of(kind))}
-        if run.status or {kind for call, kind in told.items() if call not in codes} - {CALL_ANSWERED, CALLS_MADE}:
+        answers = dict(line.split(": ") for line in run.printed.splitlines())
+        codes = {call: code for call, kind in answers.items() if (code := code_of(kind))}
+        if run.status or {kind for call, kind in answers.items() if call not in codes} - {CALL_ANSWERED, CALLS_MADE}:
             raise Wrong(f"with allocation {number} of each call refused: `{run.printed}`")
         if not codes:
-            calls = [call for call, kind in told.items() if kind == CALL_ANSWERED]
+            calls = [call for call, kind in answers.items() if kind == CALL_ANSWERED]
             require(refused, *(f"{call} with {code}" for call in calls for code in GROWING.get(call, (NO_MEMORY,))))
             return refused
         refused.update(f"{call} with {code}" for call, code in codes.items())
@@ -207,11 +207,11 @@ def kind_of(run: Run, whole: str) -> str:
     if is_fault(run) and whole.startswith(run.printed) and run.printed[-1:] in ("", "\n"):
         return "ended by the fault"
     given, wanted = run.printed.splitlines(), whole.splitlines()
-    others = [told for told, right in zip(given, wanted) if told != right]
-    refused = next((told for told in others if told in REFUSED_LINES), STARTING)
+    others = [line for line, right in zip(given, wanted) if line != right]
+    refused = next((line for line in others if line in REFUSED_LINES), STARTING)
     if others and others[0] in (refused, STARTING) and len(given) == len(wanted) and run.status == 0:
         return f"gone on after `{refused}`"
-    raise Wrong(f"a script ended with status {run.status}, `{run.printed}` and `{run.told}`")
+    raise Wrong(f"a script ended with status {run.status}, `{run.printed}` and `{run.errors}`")
 
 
 def try_script(worldd: str, refuser: Refuser, script: str) -> collections.Counter[str]:
@@ -235,7 +235,7 @@ def try_scripts(worldd: str, refuser: Refuser, store: str) -> collections.Counte
 # A folder.
 
 
-def told_of(worldd: str, folder: pathlib.Path) -> list[str]:
+def lines_of(worldd: str, folder: pathlib.Path) -> list[str]:
     """The lines of `inspect` for a folder, with ample memory."""
     run = subprocess.run([worldd, "inspect", "--words", "--dir", folder], capture_output=True, text=True, check=True)
     return run.stdout.splitlines()
@@ -249,11 +249,11 @@ def try_create(worldd: str, refuser: Refuser, room: pathlib.Path) -> int:
         command = [worldd, "create", "--dir", folder, "--cells", "2"]
         run = refuser.run(command, number)
         if not (is_fault(run) if run.printed != "created 2\n" else run.status == 0):
-            raise Wrong(f"create ended with status {run.status} and `{run.told}`")
+            raise Wrong(f"create ended with status {run.status} and `{run.errors}`")
         if is_fault(run):
             subprocess.run(command, check=True, capture_output=True)
-        if told_of(worldd, folder)[-2:] != ["recovered 0 from 0 in image.a", "0 0"]:
-            raise Wrong(f"create left `{told_of(worldd, folder)}` in {folder}")
+        if lines_of(worldd, folder)[-2:] != ["recovered 0 from 0 in image.a", "0 0"]:
+            raise Wrong(f"create left `{lines_of(worldd, folder)}` in {folder}")
         if not run.was_refused:
             return number - 1
     raise AssertionError
@@ -262,16 +262,16 @@ def try_create(worldd: str, refuser: Refuser, room: pathlib.Path) -> int:
 def try_reading(worldd: str, refuser: Refuser, folder: pathlib.Path, command: str, *flags: str) -> int:
     """Reads a folder, and must leave it as it is."""
     words = [worldd, command, "--dir", folder, *flags]
-    whole, before = refuser.run(words, 0).printed, told_of(worldd, folder)
+    whole, before = refuser.run(words, 0).printed, lines_of(worldd, folder)
     refused = 0
     for run in refuser.runs(words):
-        told = zip(run.printed.splitlines(), whole.splitlines())
-        is_front = all(line == right or line.endswith(UNREADABLE) for line, right in told)
+        pairs = zip(run.printed.splitlines(), whole.splitlines())
+        is_front = all(line == right or line.endswith(UNREADABLE) for line, right in pairs)
         if not (is_fault(run) and is_front) and (run.status, run.printed) != (0, whole):
-            raise Wrong(f"{command} ended with status {run.status}, `{run.printed}` and `{run.told}`")
+            raise Wrong(f"{command} ended with status {run.status}, `{run.printed}` and `{run.errors}`")
         refused += is_fault(run)
-    if told_of(worldd, folder) != before or not refused:
-        raise Wrong(f"{command} was refused {refused} times, and left `{told_of(worldd, folder)}`")
+    if lines_of(worldd, folder) != before or not refused:
+        raise Wrong(f"{command} was refused {refused} times, and left `{lines_of(worldd, folder)}`")
     return refused
 
 
@@ -299,11 +299,11 @@ class World:
         if line != wanted:
             raise Wrong(f"a batch was answered `{line}` in place of `{wanted}`")
 
-    def judge(self, told: list[str]) -> None:
+    def judge(self, lines: list[str]) -> None:
         """Holds what stands in the files to the model."""
-        if self.unanswered and told[-2].startswith(f"recovered {self.tick + 1} "):
+        if self.unanswered and lines[-2].startswith(f"recovered {self.tick + 1} "):
             self.run(self.unanswered)
-        line, words = told[-2:]
+        line, words = lines[-2:]
         if not line.startswith(f"recovered {self.tick} ") or words != " ".join(map(str, self.words)):
             raise Wrong(f"`{line}` and `{words}` stand after tick {self.tick}, whose words are {self.words}")
 
@@ -327,7 +327,7 @@ def play(address: str, world: World, batches: collections.deque[Batch], seen: co
 
 
 def play_all(address: str, world: World, seen: collections.Counter[str]) -> bool:
-    """Plays by one connection after another, as many as the server takes, and tells whether all batches were sent."""
+    """Plays by one connection after another, as many as the server takes, and returns whether all batches were sent."""
     batches = collections.deque(BATCHES)
     for _ in range(CLIENTS):
         try:
@@ -340,8 +340,8 @@ def play_all(address: str, world: World, seen: collections.Counter[str]) -> bool
 def try_server(
     worldd: str, refuser: Refuser, folder: pathlib.Path, flags: list[str], number: int, seen: collections.Counter[str]
 ) -> bool:
-    """Serves a folder while an allocation is refused, and tells whether one was. No socket is left."""
-    before = told_of(worldd, folder)
+    """Serves a folder while an allocation is refused, and returns whether one was. No socket is left."""
+    before = lines_of(worldd, folder)
     world = World(before[-2], [int(word) for word in before[-1].split(" ")])
     errors = folder.with_suffix(".errors")
     with errors.open("w") as file:
@@ -350,8 +350,8 @@ def try_server(
     lines = [process.stdout.readline(), process.stdout.readline()]
     is_whole = lines[1].startswith("listening ") and play_all(lines[1].split()[1], world, seen)
     last, _ = process.communicate(timeout=PATIENCE_SECONDS)
-    run = Run(process.returncode, last, errors.read_text(), was_told(reader))
-    world.judge(told_of(worldd, folder))
+    run = Run(process.returncode, last, errors.read_text(), was_refused(reader))
+    world.judge(lines_of(worldd, folder))
     if left := list(folder.glob("socket*")):
         raise Wrong(f"serve ended and left {left}")
     if is_fault(run):
@@ -359,7 +359,7 @@ def try_server(
     elif (run.status, last) == (0, f"stopped tick {world.tick} acked {world.tick}\n") and is_whole:
         seen["served to its end"] += 1
     else:
-        raise Wrong(f"serve ended with status {run.status}, `{lines}`, `{last}` and `{run.told}`")
+        raise Wrong(f"serve ended with status {run.status}, `{lines}`, `{last}` and `{run.errors}`")
     return run.was_refused
 
 

@@ -42,8 +42,8 @@ class Session(threading.Thread):
 
     def take(self, line: bytes) -> None:
         """Takes an answer: it has to be that of the next batch, and of a later tick."""
-        told, _, answer = line.partition(b": ")
-        number = int(told[5:]) if told[:5] == b"tick " and told[5:].isdigit() else 0
+        tick, _, answer = line.partition(b": ")
+        number = int(tick[5:]) if tick[:5] == b"tick " and tick[5:].isdigit() else 0
         if answer != b"+ =%d\n" % (len(self.ticks) + 1) or number <= (self.ticks[-1] if self.ticks else 0):
             self.wrong = self.wrong or f"batch {len(self.ticks) + 1} was answered {line!r}"
         self.ticks.append(number)

@@ -68,16 +68,16 @@ class Trial(Rig):
             machine.slow, machine.kept_back = SLOW_LOG if run % 4 in (0, 3) else (b"", 0), KEPT_BACK * (self.fault == FLUSHES)
             while cuts and time.monotonic() < end:
                 for port, line in machine.events(WRITE_SECONDS):
-                    told, word = re.match(r"tick (\d+):", line), line.partition(" ")[0]
+                    match, word = re.match(r"tick (\d+):", line), line.partition(" ")[0]
                     if port == DISK and cuts and random.random() < chances[word]:
                         found, cuts = self.found_after(machine), cuts - 1
                         image, before = (bytearray(self.left), found) if cuts == kept else (image, before)
-                    elif told:
-                        self.answered[int(told[1])] = self.waiting[port], line
+                    elif match:
+                        self.answered[int(match[1])] = self.waiting[port], line
                     elif word in ("created", "listening") or line == self.before.line:
                         self.part, chances = PARTS[word], LATE if word == "listening" else EARLY
                     elif port > 0 or re.search("fault|recovered|down|refused|panic", line):
-                        raise Wrong(f"the machine told `{line}`")
+                        raise Wrong(f"the machine printed `{line}`")
                     # A client sends its first batch once it listens, and each other one once the one before is answered.
                     for client in range(1, 1 + CLIENTS) if word == "listening" else [port] if port > 0 else ():
                         self.waiting[client] = next(plans[client - 1])
@@ -91,21 +91,21 @@ class Trial(Rig):
         """Cuts the power, judges what another machine recovers then, and gives the world on the disk that was left."""
         way, (is_torn, share) = random.choice(list(WAYS.items()))
         size = self.given.sector or SECTORS.get(self.given.fs, 512) if is_torn else WHOLE
-        told = self.cut(machine, self.reader, size, random.random() if share is None else share)
-        self.tally.update({"cuts": 1, way: 1, self.part: 1, MENDED: "\n".join(told).count("FILE SYSTEM WAS MODIFIED")})
-        told = world_of(told)
-        is_unmade = self.part == CREATE and told[0] in ("fault 13", "fault 18") and f"created {self.given.cells}" in told[1:2]
-        told = [self.fresh.line, *told[2:]] if is_unmade else told
-        if not told[0].startswith("recovered"):
-            raise Wrong(f"recovered no world: {told[0]}")
-        found = found_in(told[0], told)
+        lines = self.cut(machine, self.reader, size, random.random() if share is None else share)
+        self.tally.update({"cuts": 1, way: 1, self.part: 1, MENDED: "\n".join(lines).count("FILE SYSTEM WAS MODIFIED")})
+        lines = world_of(lines)
+        is_unmade = self.part == CREATE and lines[0] in ("fault 13", "fault 18") and f"created {self.given.cells}" in lines[1:2]
+        lines = [self.fresh.line, *lines[2:]] if is_unmade else lines
+        if not lines[0].startswith("recovered"):
+            raise Wrong(f"recovered no world: {lines[0]}")
+        found = found_in(lines[0], lines)
         judge(self.before, found, self.answered, frozenset(self.waiting.values()))
-        self.tally.update([*["no world"] * is_unmade, *self.stood(found, told)])
+        self.tally.update([*["no world"] * is_unmade, *self.stood(found, lines)])
         return None if is_unmade else found
 
-    def stood(self, found: Found, told: list[str]) -> list[str]:
+    def stood(self, found: Found, lines: list[str]) -> list[str]:
         """The kinds of what stands in the files."""
-        logs = sorted((int(base), int(ticks), name) for name, base, ticks in LOG.findall("\n".join(told))) or [(0, 0, "")]
+        logs = sorted((int(base), int(ticks), name) for name, base, ticks in LOG.findall("\n".join(lines))) or [(0, 0, "")]
         (base, ticks, _), (last, tail, name), first = logs[0], logs[-1], self.before.tick
         kinds = [f"from {found.image}", *["in a round"] * found.in_round, *[f"tail of log.{name}"] * (tail > 0)]
         kinds += ["in a switch"] * (len(logs) == 1 and base > first) + ["covered"] * (first <= base and base + ticks < last)
@@ -125,7 +125,7 @@ class Trial(Rig):
         return counts
 
 
-def told_of(given: argparse.Namespace, folder: pathlib.Path, fault: str) -> str:
+def result_of(given: argparse.Namespace, folder: pathlib.Path, fault: str) -> str:
     """What came of a trial, which without some syncs, or without flushes, has to be a loss."""
     trial = Trial(argparse.Namespace(**vars(given) | (UDF if given.show and fault in ("", *FOLDERS) else {})), folder, fault)
     try:
@@ -163,7 +163,7 @@ def main() -> int:
     folder = pathlib.Path(tempfile.mkdtemp(prefix="power-trial-"))
     try:
         for fault in (*SYNCS, "", *FOLDERS, FLUSHES) if given.show else ("",):
-            print(told_of(given, folder, fault), flush=True)
+            print(result_of(given, folder, fault), flush=True)
     except (Wrong, OSError, subprocess.SubprocessError) as wrong:
         print(f"power_trial: {wrong}\npower_trial: seed {given.seed}, files in {folder}", file=sys.stderr)
         return 1

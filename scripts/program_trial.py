@@ -615,8 +615,8 @@ def try_damaged(trial: Trial) -> None:
         ((GARBAGE,) * 4, (damaged,) * 4, "14\nworldd: an image file is damaged: image.a and image.b"),
     ):
         with new_folder(*files) as folder:
-            told = "".join(f"{name}: {line}\n" for name, line in zip(NAMES, lines))
-            check_fault(trial, f"fault {fault}", folder, f"fault {fault}\n", told)
+            printed = "".join(f"{name}: {line}\n" for name, line in zip(NAMES, lines))
+            check_fault(trial, f"fault {fault}", folder, f"fault {fault}\n", printed)
     for files, fault in (
         ((b"", b"", b"", b""), "13\nworldd: there is no image to recover from"),
         ((BAD_IMAGE, SMALL_IMAGE, b"", b""), "14\nworldd: an image file is damaged: image.a"),
@@ -633,7 +633,7 @@ def try_damaged(trial: Trial) -> None:
 
 
 def try_not_serving(trial: Trial) -> None:
-    """Worlds that aren't served: the reason is told, and no file is made."""
+    """Worlds that aren't served: the reason is printed, and no file is made."""
 
     def refused(what: str, folder: pathlib.Path, fault: str) -> None:
         for method in METHODS:

@@ -5,7 +5,7 @@
 
 `recover`, `inspect`, `status`, `backup` and `salvage` must print what they print of the same world in a folder that can be
 written, and copy the same bytes. Commands that write there must be refused with the system's own reason, and no file may change.
-The file systems are mounted in a mount namespace of its own: as root, or as a user by a user namespace. A file system that
+The file systems are mounted in a separate mount namespace: as root, or as a user by a user namespace. A file system that
 can't be made here is named in one line, and isn't tried.
 """
 import argparse
@@ -185,8 +185,8 @@ class Trial:
             played(server.client(), TICKS)
         finally:
             server.kill()
-        told = self.run("inspect", "--dir", self.worlds / "played").output
-        newest = max((int(base), name) for name, base in re.findall(r"(log\..): open, format 2, base (\d+),", told))[1]
+        printed = self.run("inspect", "--dir", self.worlds / "played").output
+        newest = max((int(base), name) for name, base in re.findall(r"(log\..): open, format 2, base (\d+),", printed))[1]
         for name in ("new", SERVED):
             (self.worlds / name).mkdir()
             want(self.run("create", "--dir", self.worlds / name, "--cells", 10).status == 0, "a new world isn't made")
@@ -255,8 +255,8 @@ class Trial:
                 played(client, TICKS, ticks - TICKS)
                 for command, outcome in self.looks(place / SERVED).items():
                     if command != "salvage":
-                        told = re.search(rf"^(recovered|backed up) {ticks} from ", outcome.output, re.MULTILINE)
-                        want(bool(told), f"{command} of a served world on {way}, after tick {ticks}: {outcome}")
+                        match = re.search(rf"^(recovered|backed up) {ticks} from ", outcome.output, re.MULTILINE)
+                        want(bool(match), f"{command} of a served world on {way}, after tick {ticks}: {outcome}")
                         self.met[way]["looks at a served world"] += 1
         finally:
             client.leave()
@@ -300,8 +300,8 @@ class Trial:
         """What can be tried in a namespace, or outside of one."""
         self.make_worlds()
         self.wanted = {name: self.looks(self.worlds / name) for name in WORLDS}
-        told = self.wanted["played"]["recover"].output
-        want(told.startswith(f"recovered {TICKS} from "), f"the world of {TICKS} ticks is another: {told}")
+        line = self.wanted["played"]["recover"].output
+        want(line.startswith(f"recovered {TICKS} from "), f"the world of {TICKS} ticks is another: {line}")
         if is_inside:
             self.file_systems()
         else:
@@ -331,7 +331,7 @@ def contents(place: pathlib.Path) -> dict[str, bytes]:
 
 
 def tried(worldd: pathlib.Path, is_inside: bool) -> int:
-    """Runs the trial in a folder of its own."""
+    """Runs the trial in its own folder."""
     with tempfile.TemporaryDirectory(prefix="readers") as room:
         try:
             Trial(worldd, pathlib.Path(room)).all(is_inside)
@@ -345,7 +345,7 @@ def main() -> int:
     """Runs it outside of a namespace, and then in one."""
     parser = argparse.ArgumentParser(description=__doc__.splitlines()[0])
     parser.add_argument("worldd", type=pathlib.Path, help="the built worldd")
-    parser.add_argument(INSIDE, action="store_true", help="the file systems alone, which are mounted in this namespace")
+    parser.add_argument(INSIDE, action="store_true", help="only the file systems, which are mounted in this namespace")
     given = parser.parse_args()
     os.environ["PATH"] += ":/usr/sbin:/sbin"
     signal.signal(signal.SIGPIPE, signal.SIG_IGN)

@@ -90,8 +90,8 @@ class Player(threading.Thread):
         self.start()
 
     def run(self) -> None:
-        while told := re.match(rb"tick (\d+): \+\n", self.client.play()):
-            self.answered = int(told[1])
+        while match := re.match(rb"tick (\d+): \+\n", self.client.play()):
+            self.answered = int(match[1])
 
 
 class Trial:
@@ -108,14 +108,14 @@ class Trial:
         server = subprocess.Popen(command, stdout=subprocess.PIPE, stderr=subprocess.DEVNULL, text=True, **AS_USER)
         self.servers.append(server)
         lines = [server.stdout.readline() for _ in range(2)]
-        told = re.fullmatch(r"recovered (\d+) from \d+\n", lines[0])
-        want(bool(told) and lines[1] == f"listening {place}\n", f"the user can't serve {folder}: {lines}")
+        match = re.fullmatch(r"recovered (\d+) from \d+\n", lines[0])
+        want(bool(match) and lines[1] == f"listening {place}\n", f"the user can't serve {folder}: {lines}")
         player = Player(str(place))
         end = time.monotonic() + SECONDS
-        while player.answered < int(told[1]) + 50:
+        while player.answered < int(match[1]) + 50:
             want(player.is_alive() and time.monotonic() < end, f"no answers of a server of {folder}")
             time.sleep(0.001)
-        return server, int(told[1]), player
+        return server, int(match[1]), player
 
     def holds(self, folder: pathlib.Path, floor: int) -> int:
         """A folder has to belong to the user, and to hold each tick up to this one with its words. It gives the tick."""
@@ -124,9 +124,9 @@ class Trial:
             found = path.stat()
             want((found.st_uid, found.st_gid) == (owner.st_uid, owner.st_gid), f"{path} belongs to another user")
             want(stat.S_IMODE(found.st_mode) == mode, f"{path} has the mode {stat.S_IMODE(found.st_mode):o}")
-        told = subprocess.run([PROGRAM, "inspect", "--dir", folder, "--words"], capture_output=True, text=True)
-        found = re.search(r"^recovered (\d+) from \d+ in image\.[ab]\n(\d+) ", told.stdout, re.MULTILINE)
-        want(bool(found) and found[1] == found[2], f"{folder} holds other words: {told.stdout[:300]}{told.stderr}")
+        run = subprocess.run([PROGRAM, "inspect", "--dir", folder, "--words"], capture_output=True, text=True)
+        found = re.search(r"^recovered (\d+) from \d+ in image\.[ab]\n(\d+) ", run.stdout, re.MULTILINE)
+        want(bool(found) and found[1] == found[2], f"{folder} holds other words: {run.stdout[:300]}{run.stderr}")
         want(int(found[1]) >= floor, f"{folder} holds tick {found[1]}, and tick {floor} was answered")
         return int(found[1])
 
@@ -157,14 +157,14 @@ class Trial:
         """A backup under a server, its restore, and files that are removed under the server."""
         server, _, player = self.serve(WORLD)
         floor = player.answered
-        told = re.search(r"^backed up (\d+) from \d+$", follow(BACKUP), re.MULTILINE)
-        want(bool(told) and int(told[1]) >= floor, f"tick {floor} was answered before a copy of {told}")
+        match = re.search(r"^backed up (\d+) from \d+$", follow(BACKUP), re.MULTILINE)
+        want(bool(match) and int(match[1]) >= floor, f"tick {floor} was answered before a copy of {match}")
         self.met["copies while it serves"] += 1
-        self.met["copies ahead of the answers"] += int(told[1]) > floor
+        self.met["copies ahead of the answers"] += int(match[1]) > floor
         follow(RESTORE)
-        want(self.holds(OTHER, floor) == int(told[1]), "what was restored is another tick")
+        want(self.holds(OTHER, floor) == int(match[1]), "what was restored is another tick")
         self.met["copies restored"] += 1
-        self.serves_again(OTHER, int(told[1]))
+        self.serves_again(OTHER, int(match[1]))
         shutil.rmtree(COPY)
         for name in NAMES:
             (WORLD / name).unlink()
@@ -176,7 +176,7 @@ class Trial:
         self.serves_again(OTHER, tick)
 
     def run(self) -> str:
-        """Each round begins with a user and a world of its own."""
+        """Each round begins with its own user and its own world."""
         for _ in range(ROUNDS):
             want(follow(MAKING) == "created 1000\n", "the manual made no world")
             self.met["worlds made"] += 1
@@ -210,15 +210,15 @@ def install(worldd: pathlib.Path, room: pathlib.Path) -> str:
         if name in RIGHT:
             unit = (prefix / "share" / "worldd" / "worldd.service").read_text() if run.returncode == 0 else ""
             want(f'\nExecStart="{prefix}/bin/worldd" serve ' in unit and "@PREFIX@" not in unit, f"no unit with {prefix}: {run}")
-            told = subprocess.run([prefix / "bin" / "worldd", "--version"], capture_output=True, text=True).stdout
-            want(told.startswith("worldd "), f"no program with {prefix}: {told}")
+            printed = subprocess.run([prefix / "bin" / "worldd", "--version"], capture_output=True, text=True).stdout
+            want(printed.startswith("worldd "), f"no program with {prefix}: {printed}")
             include_header(prefix)
             installed = {str(path.relative_to(prefix)) for path in prefix.rglob("*") if path.is_file()}
             want(installed == INSTALLED, f"what was installed differs by {sorted(installed ^ INSTALLED)}")
             uninstall(top, prefix)
         else:
-            is_told = re.fullmatch("install.sh: a unit can't have the path [^\0-\x1f]*\n", run.stderr)
-            want(run.returncode == 2 and bool(is_told) and not prefix.exists(), f"a prefix wasn't refused: {run}")
+            match = re.fullmatch("install.sh: a unit can't have the path [^\0-\x1f]*\n", run.stderr)
+            want(run.returncode == 2 and bool(match) and not prefix.exists(), f"a prefix wasn't refused: {run}")
     return f"prefixes with a unit {len(RIGHT)}; prefixes refused {len(ODD)}"
 
 
@@ -256,7 +256,7 @@ def include_header(prefix: pathlib.Path) -> None:
 
 
 def furnish(worldd: pathlib.Path, room: pathlib.Path) -> None:
-    """Puts a copy of /etc, an empty /var and the program alone in /usr/local/bin over those of the system, in this namespace."""
+    """Puts a copy of /etc, an empty /var and only the program in /usr/local/bin over those of the system, in this namespace."""
     shutil.copytree("/etc", room / "etc", symlinks=True, ignore_dangling_symlinks=True)
     (room / "bin").mkdir()
     shutil.copy(worldd, room / "bin" / "worldd")
@@ -283,7 +283,7 @@ def inside(worldd: pathlib.Path, room: pathlib.Path) -> int:
 
 
 def main() -> int:
-    """Runs the trial in a namespace of its own."""
+    """Runs the trial in its own namespace."""
     parser = argparse.ArgumentParser(description=__doc__.splitlines()[0])
     parser.add_argument("worldd", type=pathlib.Path, help="the built worldd")
     parser.add_argument(INSIDE, type=pathlib.Path, metavar="ROOM", help="with a folder for its files, in this namespace")

@@ -5,7 +5,7 @@
     scripts/round_latency.py WORLDD --cells 65536 --every 4096 --seconds 30 --dir /mnt/disk
 
 One client sends batches of random sets, each once the last one is answered. A round goes from the answer of its tick,
-after which its mark comes, to the line that tells that its image was opened.
+after which its mark comes, to the line that reports its image as opened.
 """
 import argparse
 import bisect
@@ -23,7 +23,7 @@ METHODS = "zigzag", "pingpong"
 
 
 class Server:
-    """A serving worldd over a new world, and when it told of its images."""
+    """A serving worldd over a new world, and when it reported its images."""
 
     def __init__(self, worldd: str, folder: pathlib.Path, method: str, cells: int, every: int) -> None:
         subprocess.run([worldd, "create", "--dir", folder, "--cells", str(cells)], check=True, capture_output=True)
@@ -40,9 +40,9 @@ class Server:
     def hear(self) -> None:
         """Notes when each image was opened."""
         for line in self.process.stderr:
-            told = re.fullmatch(r"worldd: image of tick (\d+) opened\n", line)
-            if told:
-                self.opened[int(told[1])] = time.perf_counter()
+            match = re.fullmatch(r"worldd: image of tick (\d+) opened\n", line)
+            if match:
+                self.opened[int(match[1])] = time.perf_counter()
 
     def close(self) -> None:
         """Waits for its end."""
@@ -68,7 +68,7 @@ def play(port: int, cells: int, seconds: float) -> list[tuple[float, float]]:
     return times
 
 
-def told_of(name: str, waits: list[float]) -> str:
+def text_of(name: str, waits: list[float]) -> str:
     """Median, 99th percentile and greatest of these waits, in milliseconds."""
     if not waits:
         return f"{name}: none"
@@ -92,8 +92,8 @@ def measure(worldd: str, folder: pathlib.Path, method: str, cells: int, every: i
     lasted = sorted(opened - begin for begin, opened in rounds)
     middle = 1e3 * lasted[len(lasted) // 2] if lasted else 0
     print(f"{method}, {cells} cells, an image every {every} ticks: {len(rounds)} rounds of {middle:.0f} ms")
-    print("  " + told_of("in a round", inside))
-    print("  " + told_of("between rounds", between))
+    print("  " + text_of("in a round", inside))
+    print("  " + text_of("between rounds", between))
 
 
 def main() -> None:

@@ -169,10 +169,10 @@ class Trial:
 
     def saved(self, world: World, files: Files, saved: pathlib.Path) -> str:
         """How much was saved, which recovers."""
-        told, looked = self.ask("recover", saved), self.ask("inspect", saved, "--words")
-        if told.returncode or looked.returncode:
-            raise Wrong(f"what was saved isn't recovered: {' '.join(told.stderr.split())}")
-        tick, words = int(told.stdout.split()[1]), [int(word) for word in looked.stdout.splitlines()[-1].split()]
+        recovered, looked = self.ask("recover", saved), self.ask("inspect", saved, "--words")
+        if recovered.returncode or looked.returncode:
+            raise Wrong(f"what was saved isn't recovered: {' '.join(recovered.stderr.split())}")
+        tick, words = int(recovered.stdout.split()[1]), [int(word) for word in looked.stdout.splitlines()[-1].split()]
         if tick < len(world.words) and words == world.words[tick]:
             return WHOLE if tick == len(world.words) - 1 else PART
         for name, data in files.items():

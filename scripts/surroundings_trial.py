@@ -6,7 +6,7 @@
 
 No answered tick may be lost, no file of a world may get a byte that isn't a world's, and the server must go on or end
 with its reason. It prints how often each case was met, and fails if one was never met. Other users of the machine can be
-tried by root alone.
+tried only by root.
 """
 import argparse
 import collections
@@ -51,7 +51,7 @@ LESS_THAN_A_STACK = 200 << 10
 SMALL_PIPE = 4096
 LINES_WAITING = 256
 # How many clients send batches that are too long, and lines after them.
-LONG_BATCHES, SENT_BEHIND = 45, 100_000
+LONG_BATCHES, SENT_AFTER = 45, 100_000
 # A limit on a file's size that no write ends at.
 FILE_LIMIT = 20_011
 # One that the image of a start passes.
@@ -132,7 +132,7 @@ class Client:
 
 
 class Server:
-    """A serving worldd on a world of its own."""
+    """A serving worldd on its own world."""
 
     def __init__(
         self, worldd: str, folder: pathlib.Path, *flags: str, clients: int = 100_000, transport: str = "port",
@@ -420,7 +420,7 @@ class Trial:
         server.holds(ticks)
 
     def shortage(self) -> None:
-        """The disk is full: a new world and a start end with a status of their own, and room mends it."""
+        """The disk is full: a new world and a start end with their own status, and room mends it."""
         full = self.scratch / "full"
         full.mkdir()
         mount = ("mount", "-t", "tmpfs", "-o", "size=64k", "tmpfs", full)
@@ -506,7 +506,7 @@ class Trial:
         want(client.play() == b"fault 12\n", "no `fault 12` of a log that is down")
 
     def unread_files(self) -> None:
-        """The same if this user may not read the files, and if it may read image.a alone."""
+        """The same if this user may not read the files, and if it may read only image.a."""
         self.scratch.chmod(0o755)
         worldd = self.scratch / "worldd"
         shutil.copy(self.worldd, worldd)
@@ -591,7 +591,7 @@ class Trial:
         self.met["no /dev/null"] += 1
 
     def links(self) -> None:
-        """Files that are no ordinary files of their own, for those that write a world."""
+        """Files that aren't ordinary files with one name, for those that write a world."""
         for command in (("serve", "--method", "zigzag", "--port", "0", "--clients", "1"), ("create", "--cells", "2")):
             for name, other, reason in (
                 ("image.a", None, "a symbolic link"), ("log.b", None, "a symbolic link"),
@@ -785,7 +785,7 @@ class Trial:
         server = self.server(transport=transport, clients=LONG_BATCHES)
         for number in range(LONG_BATCHES):
             client = server.client()
-            client.socket.sendall(b"get 0\n" * (1_025 + number % 3 * SENT_BEHIND))
+            client.socket.sendall(b"get 0\n" * (1_025 + number % 3 * SENT_AFTER))
             want(client.answers.read() == b"fault 16\n", f"no `fault 16` by a {transport}")
             self.met["fault 16 not reset"] += 1
             client.leave()
@@ -845,7 +845,7 @@ class Trial:
 
     def parts(self, connections: int) -> dict[str, Callable[[], object]]:
         """Every case, by the names of the parts that try them."""
-        alone = (
+        single = (
             self.ended_sessions, self.closed_streams, self.overstayed, self.shortage, self.lost_files, self.server_lines, self.unread_files,
             self.slow_readers, self.starts_beside_looks, self.no_null, self.descriptors, self.refused_clients, self.lost_listener,
             self.unread_errors, self.broken_output, self.links, self.full_file, self.failed_start, self.threads, self.socket_modes,
@@ -855,7 +855,7 @@ class Trial:
         return {
             "short_connections": lambda: [self.short_connections(connections, transport) for transport in TRANSPORTS],
             "door": lambda: [self.door(transport) for transport in TRANSPORTS],
-            **{part.__name__: part for part in alone},
+            **{part.__name__: part for part in single},
             "too_long": lambda: [self.too_long(transport) for transport in TRANSPORTS],
         }
 
@@ -988,7 +988,7 @@ def footprint(pid: int) -> Footprint:
 
 
 def main() -> int:
-    """Runs every case in a folder of its own."""
+    """Runs every case in its own folder."""
     parser = argparse.ArgumentParser(description=__doc__.splitlines()[0])
     parser.add_argument("worldd", type=pathlib.Path, help="the built worldd")
     parser.add_argument("--connections", type=int, default=3_000, help="how many short connections come in a row")

@@ -1,14 +1,14 @@
 #!/usr/bin/env python3
 """Counts the lines that a reader has to believe. Run at the top of the repository:
 
-    scripts/trusted_lines.py                  for README's table, and for all that its crates hand out
+    scripts/trusted_lines.py                  for README's promises, and for all that its crates hand out
     scripts/trusted_lines.py unreached        the definitions that no contract of a crate reaches, too
     scripts/trusted_lines.py of CRATE NAME    for one function's contract
 
-For README's table these are the contracts that it cites, those of all traits, which are premises on disks, folders
-and sessions, and the definitions in specs/, the types and the constants that they reach. The prover shows these
-contracts from those of the functions below them, which need no belief. The other count has the contracts of all that
-each crate hands out.
+For README's promises, its theorem and its table, these are the contracts that they cite, those of all traits, which are
+premises on disks, folders and sessions, and the definitions in specs/, the types and the constants that they reach. The
+prover shows these contracts from those of the functions below them, which need no belief. The other count has the
+contracts of all that each crate hands out.
 
 Lines are those of the crates that worldd is made of: tests, trials and tools don't count. A line counts unless it is
 blank, a comment, an attribute or an import. It goes by the text: a name stands for the definition that its file has or
@@ -35,14 +35,16 @@ DEFINITION = re.compile(r"(?:unfoldable |abbrev )?pub (?:record |data )?([^\s:({
 CASE = re.compile(r"  (\w+) :")
 ITEM = re.compile(r"(pub |pub\(\w+\) )?(?:const )?(fn|trait|struct|enum) (\w+)")
 IMPL = re.compile(r"impl(?:<.*?>)? (?:(\w[\w:]*)(?:<.*>)? for )?(\w+)")
-# README's table of promises, and the contracts of a row. What follows a colon are names of clauses.
+# README's theorem, by its crate and function; its table of promises, and the contracts of a row. What follows a colon are names
+# of clauses.
+THEOREM = re.compile(r"^It is proved of the core \(`(\w+)::(\w+)`", re.MULTILINE)
 TABLE = re.compile(r"^## What is proved$(.*?)^## ", re.MULTILINE | re.DOTALL)
 ROW = re.compile(r"^\| .* \| (`.*`) \|$", re.MULTILINE)
 CLAUSES = re.compile(r"(?<=`): (?:`\w+`(?:, )?)+")
 CITED = re.compile(r"`(?:(\w+)::)?(\w+)`")
-# The figures of the page on proofs: for README's table, for all that crates hand out, and for one function.
+# The figures of the page on proofs: for README's promises, for all that crates hand out, and for one function.
 PAGE = "docs/PROOFS.md"
-TABLE_FIGURE = re.compile(r"they are (?P<lines>[\d,]+) of [\d,]+ lines, (?P<share>[\d.]+)%")
+README_FIGURE = re.compile(r"they are (?P<lines>[\d,]+) of [\d,]+ lines, (?P<share>[\d.]+)%")
 ALL_FIGURE = re.compile(r"are (?P<lines>[\d,]+)\s+lines, (?P<share>[\d.]+)%")
 ONE_FIGURE = re.compile(r"^\| [^|]*`(\w+)::(?:\w+::)?(\w+)` \| (?P<lines>[\d,]+) \|$", re.MULTILINE)
 CLAUSE = re.compile(r"(?:requires|ensures|decreases|ghost (?!use))")
@@ -146,6 +148,12 @@ def cited_in_readme():
     return {(owner or name, name) for owner, name in cited}
 
 
+def theorem_of_readme():
+    """The crate and the function whose contract is README's theorem."""
+    crate, name = THEOREM.search(pathlib.Path("README.md").read_text()).groups()
+    return crate, (name, name)
+
+
 def of_traits(path):
     """The names of a file's traits and of their functions."""
     found, inside = set(), False
@@ -163,7 +171,7 @@ def is_test(path):
 
 
 def reached_from(names, known):
-    """The definitions that stand behind these names."""
+    """The definitions that these names have."""
     reached, waiting = set(), list(names)
     while waiting:
         name = waiting.pop()
@@ -190,6 +198,7 @@ class Tree:
     def __init__(self):
         self.known, self.lines, self.clauses = {}, collections.Counter(), []
         self.cited = cited_in_readme()
+        self.theorem = theorem_of_readme()
         self.served = {"worldd"} | below(read_crates())["worldd"]
         for crate in sorted(pathlib.Path("crates").iterdir()):
             for kind in ("src", "specs", "proofs"):
@@ -229,9 +238,10 @@ class Tree:
         own, names = self.reached(wanted)
         return len(own), sum(self.known[name][0] for name in names)
 
-    def of_table(self, clause):
-        """Whether README's table asks for this line."""
-        return clause.is_of_trait or (clause.crate in self.served and clause.item in self.cited)
+    def of_readme(self, clause):
+        """Whether README's theorem or its table asks for this line."""
+        is_of_table = clause.crate in self.served and clause.item in self.cited
+        return clause.is_of_trait or is_of_table or (clause.crate, clause.item) == self.theorem
 
 
 def handed_out(clause):
@@ -244,15 +254,15 @@ def of_one(crate, name):
     return lambda clause: (clause.crate, clause.item[1]) == (crate, name)
 
 
-def is_near(told, found):
-    """Whether a figure of a page is that of the tree, but for one in a hundred."""
-    return abs(int(told.replace(",", "")) - found) * 100 <= found
+def is_near(stated, found):
+    """Whether a figure of a page is that of the tree, up to one in a hundred."""
+    return abs(int(stated.replace(",", "")) - found) * 100 <= found
 
 
 def findings():
     """The figures of the page on proofs that aren't those of the tree, each with its line."""
     tree, text = Tree(), pathlib.Path(PAGE).read_text()
-    wanted = [(TABLE_FIGURE, tree.of_table, "README's table"), (ALL_FIGURE, handed_out, "all that crates hand out")]
+    wanted = [(README_FIGURE, tree.of_readme, "README's promises"), (ALL_FIGURE, handed_out, "all that crates hand out")]
     rows = [(row, of_one(row[1], row[2]), row[2]) for row in ONE_FIGURE.finditer(text)]
     for found, rule, what in [(figure.search(text), rule, what) for figure, rule, what in wanted] + rows:
         believed = sum(tree.believed(rule))
@@ -264,7 +274,7 @@ def findings():
 def main():
     tree, one = Tree(), sys.argv[2:] if sys.argv[1:2] == ["of"] else None
     print(f"code {tree.lines['src']}, specs {tree.lines['specs']}, proofs {tree.lines['proofs']}: {tree.everything()} lines")
-    asked = {"the table of README": tree.of_table, "all that crates hand out": handed_out}
+    asked = {"the promises of README": tree.of_readme, "all that crates hand out": handed_out}
     for which, wanted in {" ".join(one): of_one(*one)}.items() if one else asked.items():
         contracts, defined = tree.believed(wanted)
         share = 100 * (contracts + defined) / tree.everything()

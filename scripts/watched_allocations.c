@@ -48,7 +48,7 @@ static int is_sign(size_t size)
     return size >= ONE_REFUSED && size <= ENDED;
 }
 
-static void tell_count(void)
+static void print_count(void)
 {
     if (getenv("COUNTED_TO") && dprintf((int)number_in("COUNTED_TO"), "%ld\n", atomic_load(&counted)) < 0)
         abort();
@@ -57,7 +57,7 @@ static void tell_count(void)
 static void follow(size_t size)
 {
     if (atomic_exchange(&is_each_counted, 0))
-        tell_count();
+        print_count();
     atomic_store(&left, size == ONE_REFUSED ? number_in("REFUSED_IN_STRETCH") : 0);
     atomic_store(&is_each_refused, size == EACH_REFUSED);
     atomic_store(&counted, 0);

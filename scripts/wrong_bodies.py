@@ -246,7 +246,7 @@ def refused_by(failed: dict[str, set[str]]) -> str:
 
 
 def refused_together(crate: pathlib.Path, group: dict[pathlib.Path, set]) -> dict[pathlib.Path, str]:
-    """Those of a group that one check refuses, each by goals of a function that it alone changes; none if another failed."""
+    """Those of a group that one check refuses, each by goals of a function that only it changes; none if another failed."""
     try:
         run = check(crate, list(group))
     except ValueError:
@@ -260,7 +260,7 @@ def refused_together(crate: pathlib.Path, group: dict[pathlib.Path, set]) -> dic
 
 
 def own_copy(name: str, copy: pathlib.Path) -> pathlib.Path:
-    """A crate in a copy of its own, with the work that its checks kept. Checks in one copy would wait for one another."""
+    """A crate in its own copy, with the work that its checks kept. Checks in one copy would wait for one another."""
     own = copy.with_name(name)
     shutil.copytree(copy, own)
     kept = TOP / "crates" / name / "out" / "incremental"
@@ -271,11 +271,11 @@ def own_copy(name: str, copy: pathlib.Path) -> pathlib.Path:
 
 def attempt_crate(name: str, copy: pathlib.Path) -> collections.Counter:
     """Tries the wrong bodies of a crate, prints what came of each, and counts the answers."""
-    crate, told = own_copy(name, copy), collections.Counter()
+    crate, counts = own_copy(name, copy), collections.Counter()
     bodies = bodies_of(crate)
     if bodies and check(crate, []).returncode:
         print(f"{name}: the crate itself isn't proved", flush=True)
-        return told
+        return counts
     groups = groups_of(bodies, crate)
     while groups:
         group = groups.pop(0)
@@ -285,10 +285,10 @@ def attempt_crate(name: str, copy: pathlib.Path) -> collections.Counter:
             continue
         for body in group:
             answer = refused.get(body) or attempt_alone(crate, body)
-            told[answer.partition(",")[0]] += 1
+            counts[answer.partition(",")[0]] += 1
             print(f"{name}/{body.stem}: {answer}", flush=True)
     shutil.rmtree(crate.parent.parent)
-    return told
+    return counts
 
 
 def attempt_alone(crate: pathlib.Path, body: pathlib.Path) -> str:
@@ -313,9 +313,9 @@ def attempt(crates: list[str], jobs: int) -> int:
             return 0
         lay(crates, copy)
         with ThreadPoolExecutor(jobs) as pool:
-            told = sum(pool.map(lambda crate: attempt_crate(crate, copy), crates), collections.Counter())
-    print(f"wrong bodies: {told['refused']} of {count} refused ({' '.join(crates)})")
-    return 0 if told["refused"] == count else 1
+            counts = sum(pool.map(lambda crate: attempt_crate(crate, copy), crates), collections.Counter())
+    print(f"wrong bodies: {counts['refused']} of {count} refused ({' '.join(crates)})")
+    return 0 if counts["refused"] == count else 1
 
 
 def main() -> int:

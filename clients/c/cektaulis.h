@@ -339,7 +339,7 @@ static inline void cektaulis_next(struct cektaulis *world) {
     world->address = world->addresses[world->at];
 }
 
-/* Connects to a port of this machine, or to the path of a socket. Digits alone are a port. Each call bears so many
+/* Connects to a port of this machine, or to the path of a socket. An address of only digits is a port. Each call bears so many
  * milliseconds of silence; 0 waits for ever. The address stays the caller's, and is read again by `cektaulis_reconnect`. */
 static inline enum cektaulis_status cektaulis_open(struct cektaulis *world, const char *address, int milliseconds) {
     memset(world, 0, sizeof *world);
@@ -740,8 +740,8 @@ static inline enum cektaulis_status cektaulis_look(struct cektaulis *world, uint
     return status;
 }
 
-/* Whether a batch with `cektaulis_set(cell, number)` in it was played, if this client alone writes the cell, and ever greater
- * numbers. True is certain. False is certain once the server was started again. If the connection alone broke, a batch that
+/* Whether a batch with `cektaulis_set(cell, number)` in it was played, if only this client writes the cell, with ever greater
+ * numbers. True is certain. False is certain once the server was started again. If only the connection broke, a batch that
  * had arrived may still be played later. CEKTAULIS_MARKER_REFUSED if the world has no such cell. */
 static inline enum cektaulis_status cektaulis_was_played(
     struct cektaulis *world, uint32_t cell, uint64_t number, bool *played) {
@@ -822,7 +822,7 @@ static inline enum cektaulis_status cektaulis_check_once(
 
 /* Plays a batch exactly once, though its connection breaks. CEKTAULIS_ANSWER_LOST: it was played, and its answer is lost.
  *
- * The batch gets the marker `cektaulis_set(cell, number)`. This client alone writes the cell, and ever greater numbers. If the
+ * The batch gets the marker `cektaulis_set(cell, number)`. Only this client writes the cell, with ever greater numbers. If the
  * connection breaks, it connects again and looks at the cell. The batch is sent again if it wasn't played, or was refused for
  * now (faults 6 and 17). Nothing is sent if the cell holds the number at the beginning. Earlier answers are to be received
  * first.

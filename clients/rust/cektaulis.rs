@@ -303,7 +303,7 @@ enum Address {
 }
 
 impl Address {
-    /// Digits alone are a port.
+    /// An address of only digits is a port.
     fn of(text: &str) -> Result<Address, Error> {
         if !text.is_empty() && text.bytes().all(|byte| byte.is_ascii_digit()) {
             return match text.parse::<u16>() {
@@ -496,7 +496,7 @@ pub struct World {
 }
 
 impl World {
-    /// Connects to a port of this machine, or to the path of a socket. Digits alone are a port. Each call bears so much
+    /// Connects to a port of this machine, or to the path of a socket. An address of only digits is a port. Each call bears so much
     /// silence; None waits for ever.
     pub fn open(address: &str, timeout: Option<Duration>) -> Result<World, Error> {
         World::open_any(&[address], timeout)
@@ -601,7 +601,7 @@ impl World {
     /// Plays a batch exactly once, though its connection breaks, and returns its tick. None: it was played, and its answer is
     /// lost.
     ///
-    /// The batch gets the marker `Set { cell, value: number }`. This client alone writes the cell, and ever greater numbers. If
+    /// The batch gets the marker `Set { cell, value: number }`. Only this client writes the cell, with ever greater numbers. If
     /// the connection breaks, it connects again and looks at the cell. The batch is sent again if it wasn't played, or was
     /// refused for now (faults 6 and 17). Nothing is sent if the cell holds the number at the beginning.
     ///
@@ -696,10 +696,10 @@ impl World {
         Ok(self.come_back(None)?.ok().map(|()| self.doubtful.clone()))
     }
 
-    /// Whether a batch with `Set { cell, value: number }` in it was played, if this client alone writes the cell, and ever
+    /// Whether a batch with `Set { cell, value: number }` in it was played, if only this client writes the cell, with ever
     /// greater numbers. `MarkerRefused` if the world has no such cell.
     ///
-    /// True is certain. False is certain once the server was started again. If the connection alone broke, a batch that had
+    /// True is certain. False is certain once the server was started again. If only the connection broke, a batch that had
     /// arrived may still be played later.
     pub fn was_played(&mut self, cell: u32, number: u64) -> Result<bool, Error> {
         let marker = marker_of(cell, number)?;

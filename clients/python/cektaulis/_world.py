@@ -139,7 +139,7 @@ class World:
         """Plays a batch exactly once, though its connection breaks, and returns its tick. None: it was played, and its
         answer is lost.
 
-        The batch gets the marker `Set(cell, number)`. This client alone writes the cell, and ever greater numbers. If the
+        The batch gets the marker `Set(cell, number)`. Only this client writes the cell, with ever greater numbers. If the
         connection breaks, it connects again and looks at the cell. The batch is sent again if it wasn't played, or was
         refused for now (faults 6 and 17). Nothing is sent if the cell holds the number at the beginning.
 
@@ -251,10 +251,10 @@ class World:
         return list(self._doubtful)
 
     def was_played(self, cell: int, number: int) -> bool:
-        """Whether a batch with `Set(cell, number)` in it was played, if this client alone writes the cell, and ever greater
+        """Whether a batch with `Set(cell, number)` in it was played, if only this client writes the cell, with ever greater
         numbers. `MarkerRefused` if the world has no such cell.
 
-        True is certain. False is certain once the server was started again. If the connection alone broke, a batch that
+        True is certain. False is certain once the server was started again. If only the connection broke, a batch that
         had arrived may still be played later.
         """
         marker = marker_of(cell, number)
