@@ -213,15 +213,7 @@ impl Case for Play {
 
     fn call(&mut self) -> Result<u64, Refusal> {
         let buffer = Vec::new(self.alloc);
-        let (tick, text) = play(
-            self.alloc,
-            buffer,
-            &mut self.front,
-            &self.batch,
-            false,
-            0,
-            0,
-        )?;
+        let (tick, text) = play(self.alloc, buffer, &mut self.front, &self.batch, 0, 0)?;
         Ok(folded(digest_of_bytes(&text), tick.actions().len() as u64))
     }
 
