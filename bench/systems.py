@@ -104,6 +104,13 @@ def printed_by(command: list[str], folder: pathlib.Path) -> str:
     return ran.stdout
 
 
+def driver_of(name: str, room: str, *libraries: str) -> str:
+    """A driver in C, compiled. It is empty if that fails, since a header or a library isn't there."""
+    driver = f"{room}/{name}"
+    command = ["cc", "-O2", "-pthread", "-o", driver, str(HERE / f"{name}.c"), *libraries]
+    return "" if subprocess.run(command, stdout=QUIET, stderr=QUIET).returncode else driver
+
+
 def until(succeeds: list[str], server: subprocess.Popen[str]) -> None:
     """Waits until this command succeeds: the server is up."""
     end = time.monotonic() + START_SECONDS
@@ -168,17 +175,19 @@ def run_worldd(worldd: str, world_load: str, method: str, every: int, folder: pa
 # SQLite
 
 
-def sqlite_driver(room: str) -> str:
-    """The compiled driver. It is empty if it can't be compiled, since SQLite's header or library isn't there."""
-    driver = f"{room}/sqlite_sets"
-    command = ["cc", "-O2", "-pthread", "-o", driver, str(HERE / "sqlite_sets.c"), "-lsqlite3"]
-    return "" if subprocess.run(command, stdout=QUIET, stderr=QUIET).returncode else driver
-
-
 def run_sqlite(driver: str, folder: pathlib.Path, load: Load) -> Sample:
     """A run of SQLite in the driver's own process: the processor time includes that of its clients."""
     numbers = map(str, (load.clients, load.lines, CELLS, load.seconds))
     return Sample(*map(float, printed_by([driver, "cells.db", *numbers], folder).split()))
+
+
+# The device calls of a group, which no server that makes them can outrun
+
+
+def run_device_calls(driver: str, folder: pathlib.Path, load: Load) -> Sample:
+    """A run of the four calls of a group, in which each client has a tick."""
+    numbers = map(str, (load.clients, load.lines, load.seconds))
+    return Sample(*map(float, printed_by([driver, "segment", *numbers], folder).split()))
 
 
 # PostgreSQL
@@ -248,8 +257,8 @@ def systems(worldd: str, world_load: str, every: list[int], room: str) -> list[S
     lacks = missing("postgres", "initdb", "pg_isready", "psql", "pgbench")
     found.append(System("PostgreSQL", both, lacks, functools.partial(run_postgres, postgres_user())))
     lacks = missing("cc")
-    driver = "" if lacks else sqlite_driver(room)
-    if not lacks and not driver:
-        lacks = ["libsqlite3-dev"]
-    found.append(System("SQLite", (LIBRARY,), lacks, functools.partial(run_sqlite, driver)))
+    driver = "" if lacks else driver_of("sqlite_sets", room, "-lsqlite3")
+    found.append(System("SQLite", (LIBRARY,), lacks or ([] if driver else ["libsqlite3-dev"]), functools.partial(run_sqlite, driver)))
+    driver = "" if lacks else driver_of("device_calls", room)
+    found.append(System("device calls", (LIBRARY,), lacks, functools.partial(run_device_calls, driver)))
     return found
