@@ -95,7 +95,7 @@ impl<M: Method, D: Disk + Drop, A: Gate + Drop, B: Gate + Drop, C: Gate + Drop> 
     /// Makes the step. Whatever the steps before it were, the four files are sound after it, on disks that keep to the disk
     /// model. For this the workers meet after the step. A server's workers meet only once they have stopped.
     pub fn step<R: Wait>(&mut self, rt: &R, next: Next)
-        ensures made { (mid : Started D) × Makes A.reported B.reported C.reported D.called D.faults next
+        ensures made { (mid : Started D) × Makes A.answers B.answers C.answers D.called D.faults next
             (record { mutator = self.old.mutator; checkpointer = self.old.checkpointer; log_writer = self.old.log_writer }) mid
             × Meets mid (record { mutator = self.new.mutator; checkpointer = self.new.checkpointer; log_writer = self.new.log_writer }) }
         ensures sound { IsTrue D.honest → AreSound D.content D.may_leave self.new.mutator self.new.checkpointer self.new.log_writer }
@@ -125,7 +125,7 @@ impl<M: Method, D: Disk + Drop, A: Gate + Drop, B: Gate + Drop, C: Gate + Drop> 
 
     // One worker makes the step, and the others stay as they are.
     fn make_step<R: Wait>(&mut self, rt: &R, next: Next)
-        ensures made { Makes A.reported B.reported C.reported D.called D.faults next
+        ensures made { Makes A.answers B.answers C.answers D.called D.faults next
             (record { mutator = self.old.mutator; checkpointer = self.old.checkpointer; log_writer = self.old.log_writer })
             (record { mutator = self.new.mutator; checkpointer = self.new.checkpointer; log_writer = self.new.log_writer }) }
         ensures mutator { KeepsFront self.old.mutator self.new.mutator }
