@@ -6,8 +6,8 @@ use denote.Param.Send.{IsSend, view_send, recorded_send, struct_send, sendable}
 use Rattle.std.proofs.Crossing.{crosses}
 use Rattle.shared_capture.specs.contracts.back.Back as Back
 use Rattle.shared_capture.specs.contracts.front.Front as Front
-use Rattle.shared_capture.specs.contracts.cover.SignalOut as SignalOut
-use Rattle.shared_capture.specs.contracts.cover.SignalIn as SignalIn
+use Rattle.shared_capture.specs.contracts.signal.SignalOut as SignalOut
+use Rattle.shared_capture.specs.contracts.signal.SignalIn as SignalIn
 use Rattle.shared_capture.specs.declared.method.Method as method
 use Rattle.disk_model.specs.declared.disk.Disk as disk
 use Rattle.workers.specs.declared.gate.Gate as gate

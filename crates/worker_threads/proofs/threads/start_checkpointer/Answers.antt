@@ -1,7 +1,7 @@
 use denote.Param.{param}
 use denote.Param.Send.{IsSend, param_send}
 use Rattle.shared_capture.specs.contracts.back.Back as Back
-use Rattle.shared_capture.specs.contracts.cover.SignalOut as SignalOut
+use Rattle.shared_capture.specs.contracts.signal.SignalOut as SignalOut
 use Rattle.worker_threads.proofs.Sends.{checkpointer_sends}
 use Rattle.worker_threads.proofs.threads.start_checkpointer.Goals as goal
 

@@ -6,8 +6,8 @@ use Rattle.circular_buffer.specs.contracts.heap.HeapCircularBuffer as Ring
 use Rattle.action_log.specs.contracts.record.Record as Record
 use Rattle.workers.specs.contracts.post.Waiting as Waiting
 use Rattle.workers.specs.contracts.item_channel.ItemReceiver as ItemReceiver
-use Rattle.shared_capture.specs.contracts.cover.SignalIn as SignalIn
-use Rattle.shared_capture.specs.contracts.cover.SignalOut as SignalOut
+use Rattle.shared_capture.specs.contracts.signal.SignalIn as SignalIn
+use Rattle.shared_capture.specs.contracts.signal.SignalOut as SignalOut
 use Rattle.worker_threads.proofs.Sends.{log_writer_sends}
 use Rattle.worker_threads.proofs.threads.start_log_writer.Goals as goal
 

@@ -2,7 +2,7 @@ use denote.Param.{param}
 use denote.Param.Send.{IsSend, param_send}
 use Rattle.workers.specs.contracts.ask_channel.AskReceiver as AskReceiver
 use Rattle.shared_capture.specs.contracts.front.Front as Front
-use Rattle.shared_capture.specs.contracts.cover.SignalIn as SignalIn
+use Rattle.shared_capture.specs.contracts.signal.SignalIn as SignalIn
 use Rattle.world_ticks.specs.contracts.tick.Tick as Tick
 use Rattle.workers.specs.contracts.post.Waiting as Waiting
 use Rattle.workers.specs.contracts.item_channel.ItemSender as ItemSender
