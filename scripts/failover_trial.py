@@ -25,7 +25,7 @@ from check_docs import TOP, commands_after
 from kill_trial import CELLS, CLIENTS, METHODS, Answered, Batch, Client, Found, Wrong
 from kill_trial import batches, collected, found_in, judge
 from mirror_machine import CONSOLE, CREATE, PACKAGES, PAGE, PEER, PROMOTE, SERVICE, STEP_DOWN, UP
-from mirror_machine import Edits, Pair
+from mirror_machine import PATIENCE_SECONDS, Edits, Pair
 from power_machine import lacking, parser_of, status_of
 
 sys.path.insert(0, str(TOP / "clients" / "python"))
@@ -133,6 +133,7 @@ class Trial(Pair):
         self.killed, self.is_held, port = threading.Event(), False, self.ports[self.primary]
         self.clients = [Client(port, self.plan(client), self.killed) for client in range(CLIENTS)]
         for client in self.clients:
+            client.stream.settimeout(PATIENCE_SECONDS)
             client.start()
         self.until(lambda: self.answered() and all(c.answered for c in self.clients), "no answers")
 

@@ -30,12 +30,13 @@ MODULES = "virtio_pci", "virtio_blk", "virtio_console", "crc32c_generic", "crc32
 INIT = """#!/bin/busybox sh
 /bin/busybox --install -s /bin; export PATH=/bin
 mount -t proc proc /proc; mount -t sysfs sys /sys; mount -t devtmpfs dev /dev; ifconfig lo 127.0.0.1 up
-for module in {modules} {modules}; do insmod /modules/$module 2>/dev/null; done
+for module in {modules}; do insmod /modules/$module 2>/dev/null || again="$again $module"; done
+for module in $again; do insmod /modules/$module; done
 """
 QEMU = """qemu-system-x86_64 -accel tcg,tb-size=128 -cpu Nehalem -m 384 -display none -nodefaults -no-reboot
     -kernel {packed}/kernel -initrd {packed}/files -blockdev driver=nbd,node-name=d,server.type=unix,server.path={room}/disk
     -serial chardev:c0 -device virtio-serial-pci -device virtio-blk-pci,drive=d,discard=off,write-zeroes=off"""
-APPENDED = "console=ttyS0 quiet panic=-1 mitigations=off nokaslr no_timer_check"
+APPENDED = "console=ttyS0 quiet panic=-1 mitigations=off no_timer_check acpi=off ipv6.disable=1"
 # A kernel that xz packed has these bytes in front of its packed part.
 XZ = b"\xfd7zXZ\0"
 # Of the NBD protocol: the greeting of a disk that can be flushed, and the kinds of requests.
@@ -92,7 +93,7 @@ def modules(root: pathlib.Path, names: list[str]) -> list[pathlib.Path]:
 def pack(room: pathlib.Path, root: pathlib.Path, names: Sequence[str], programs: dict[str, str], script: str) -> None:
     """Packs the machine's kernel and its first file system: busybox and these programs with their C library, modules of the
     kernel, a script."""
-    loaded = modules(root, [*MODULES, *names])
+    loaded = modules(root, [*names, *MODULES])
     programs = {"bin/busybox": shutil.which("busybox"), **programs}
     linked = re.findall(r"(/\S+) \(0x", subprocess.run(["ldd", *programs.values()], capture_output=True, text=True).stdout)
     paths = {path.lstrip("/"): path for path in linked} | programs | {f"modules/{path.name}": path for path in loaded}
