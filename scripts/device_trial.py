@@ -20,7 +20,7 @@ import time
 from collections.abc import Callable
 
 import here_machine
-from kill_trial import CLIENTS, METHODS, Batch, Found, Wrong, batches, found_in, judge, text_of
+from kill_trial import CELLS, CLIENTS, METHODS, Batch, Found, Wrong, batches, found_in, judge, text_of
 from power_machine import DISK, FLUSH, MOUNTED, READ, SECTOR, WAYS, WHOLE, WRITE, Disk, Rig, lacking, parser_of, status_of, world_of
 
 FS, SMALL_MEGABYTES = ("ext4", "xfs"), 32
@@ -341,7 +341,8 @@ class Trial(Rig):
 
 def main() -> int:
     """Runs the trial, and keeps the files where it fails."""
-    parser = parser_of(__doc__, 600)
+    parser = parser_of(__doc__)
+    parser.add_argument("--cells", type=int, default=600, help=f"of the world, {CELLS} at least (600)")
     parser.add_argument("--fs", choices=FS, default=FS[0], help="the file system (ext4)")
     parser.add_argument("--options", default="rw", help="of its mount (rw)")
     parser.add_argument("--failures", type=int, default=150, help="how many calls fail (150)")

@@ -33,10 +33,11 @@ from cektaulis import Add, World
 
 EVERY, PLAY_SECONDS, FROZEN_SECONDS, LIBRARY_BATCHES, LIBRARY_SECONDS = (8, 64), 2.5, 4, 40, 150
 # The wire's time for a packet where a delayed one is wanted. Clients wait so long before each batch
-# while a machine starts.
-SLOW, PAUSE_SECONDS = (0.15, 0.3), 0.7
-# The cell of the library's marker, after those of the model's clients. The next one counts batches.
-MARKER = CELLS + 1
+# while a machine starts. A start is killed so soon after its first line, at most.
+SLOW, PAUSE_SECONDS, START_SECONDS = (0.15, 0.3), 0.7, 0.05
+# The cells of the page's world, and the one of the library's marker, after those of the model's
+# clients. The next one counts batches.
+WORLD_CELLS, MARKER = 1000, CELLS + 1
 FORCE, UP_TO_DATE = "drbdadm primary --force world", "ds:UpToDate/UpToDate"
 MET = "in a round", "in a start", "fence asked", "ticks while one caught up", "library batches"
 
@@ -47,7 +48,7 @@ class Trial(Pair):
     def __init__(self, given: argparse.Namespace, folder: pathlib.Path, edits: Edits) -> None:
         super().__init__(given, folder, edits)
         self.begun, self.seconds = time.monotonic(), []
-        self.before = Found("recovered 0 from 0", 0, 0, "image.a", [0] * given.cells, False)
+        self.before = Found("recovered 0 from 0", 0, 0, "image.a", [0] * WORLD_CELLS, False)
         self.primary, self.runs, self.found = "alpha", 0, self.before
         self.is_held, self.pause, self.killed = False, 0.0, threading.Event()
         self.clients: list[Client] = []
@@ -89,8 +90,7 @@ class Trial(Pair):
             self.sh(name, CREATE, UP)
         self.until_state("alpha", "cs:Connected")
         self.flags("alpha")
-        for line in commands_after("**On alpha", PAGE):
-            self.sh("alpha", line.replace("--cells 1000", f"--cells {self.given.cells}"))
+        self.sh("alpha", *commands_after("**On alpha", PAGE))
         self.play()
 
     def flags(self, name: str) -> None:
@@ -227,7 +227,9 @@ class Trial(Pair):
         old = self.primary
         self.sh(old, STEP_DOWN)
         self.judge(self.promote(PEER[old]))
-        self.tally["in a start"] += not self.printed()[1:]
+        self.until(self.printed, "the service prints nothing")
+        self.wait(random.uniform(0, START_SECONDS))
+        self.tally["in a start"] += len(self.printed()) == 1
         self.kill(PEER[old])
         self.take_over(old)
         self.tally["failovers"] += 1
@@ -418,7 +420,7 @@ CONTROLS = {
 
 def main() -> int:
     """Runs the trial, or shows what has to be seen."""
-    parser = parser_of(__doc__, 3000)
+    parser = parser_of(__doc__)
     parser.add_argument("--failovers", type=int, default=9, help="how many servers die (9)")
     parser.add_argument("--both", type=int, default=0, help="how often both lose power first (0)")
     parser.add_argument("--delay", type=float, default=0, help="of a packet, in seconds (0)")

@@ -82,7 +82,6 @@ STEP_DOWN, _ = commands_after("On the machine that serves, and then", PAGE)
 # Where the names, the addresses and the disk are written, and how the state of DRBD is printed.
 RESOURCE, STATE = "/etc/drbd.d/world.res", "sleep 0.2; grep ' 0: cs:' /proc/drbd"
 
-
 Edits = dict[str, str]
 
 

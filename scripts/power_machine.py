@@ -21,7 +21,7 @@ import tempfile
 import time
 from collections.abc import Callable, Iterator, Sequence
 
-from kill_trial import CELLS, PATIENCE_SECONDS, QUIET, Wrong
+from kill_trial import PATIENCE_SECONDS, QUIET, Wrong
 
 # What has to be there: programs, by their packages.
 PACKAGES = {"qemu-system-x86": "qemu-system-x86_64", "busybox-static": "busybox", "e2fsprogs": "mkfs.ext4"}
@@ -266,11 +266,10 @@ def world_of(told: list[str]) -> list[str]:
     return [line for line in told if re.match(r"recovered|fault|created|image|log|\d+ ", line)] or ["nothing"]
 
 
-def parser_of(page: str, cells: int) -> argparse.ArgumentParser:
+def parser_of(page: str) -> argparse.ArgumentParser:
     """The arguments of each trial that has machines."""
     parser = argparse.ArgumentParser(description=page.splitlines()[0])
     parser.add_argument("worldd", type=os.path.abspath, help="the built program")
-    parser.add_argument("--cells", type=int, default=cells, help=f"of the world, {CELLS} at least ({cells})")
     parser.add_argument("--seed", type=int, default=time.time_ns() % 10**9, help="of the batches, the moments and what is left")
     parser.add_argument("--kernel", type=pathlib.Path, default="/", help="where a kernel is installed or unpacked (/)")
     return parser

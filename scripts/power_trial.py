@@ -15,7 +15,7 @@ import struct
 import sys
 import time
 
-from kill_trial import CLIENTS, COUNT, METHODS, Found, Wrong, batches, found_in, judge, text_of
+from kill_trial import CELLS, CLIENTS, COUNT, METHODS, Found, Wrong, batches, found_in, judge, text_of
 from power_machine import DISK, MEGABYTES, MOUNTED, WAYS, WHOLE, Machine, Rig, lacking, parser_of, status_of, world_of
 
 # The disk of a file system, and the sectors at which its writes are torn: btrfs has no current copy of its 4,096-byte superblock.
@@ -135,7 +135,8 @@ def told_of(given: argparse.Namespace, folder: pathlib.Path, fault: str) -> str:
 
 def main() -> int:
     """Runs the trial, and keeps the files where it fails."""
-    parser = parser_of(__doc__, 600)
+    parser = parser_of(__doc__)
+    parser.add_argument("--cells", type=int, default=600, help=f"of the world, {CELLS} at least (600)")
     parser.add_argument("--fs", choices=MEGABYTES, default="ext4", help="the file system (ext4)")
     parser.add_argument("--options", default="rw", help="of its mount, as data=journal (rw)")
     parser.add_argument("--method", choices=METHODS, help="in place of both in turn")
