@@ -90,7 +90,7 @@ class Trial(Pair):
             self.sh(name, CREATE, UP)
         self.until_state("alpha", "cs:Connected")
         self.flags("alpha")
-        self.sh("alpha", *commands_after("**On alpha", PAGE))
+        self.sh("alpha", *commands_after("**Only on alpha**", PAGE))
         self.play()
 
     def flags(self, name: str) -> None:
