@@ -285,6 +285,8 @@ class Trial(Pair):
         kind = f"caches {'kept' if is_kept else 'lost'}"
         lost = self.lost(self.promote(other, FORCE))
         self.tally.update({kind: 1, f"{kind}: lost some": lost > 0, f"{kind}: ticks lost": lost})
+        if is_kept and lost:
+            raise Wrong(f"{lost} answered ticks are lost, though the drives kept what had ended")
         self.kill(other)
         self.images[other][:] = image
         self.up(*PEER)

@@ -139,7 +139,6 @@ class Pair:
 
     def fence(self, name: str) -> None:
         """Switches the other machine off for this one, and says so, if the fence works."""
-        self.tally["fence asked"] += 1
         if self.has_fence and name in self.machines:
             if PEER[name] in self.machines:
                 self.kill(PEER[name])
@@ -190,6 +189,7 @@ class Pair:
             for name, port, line in self.step():
                 self.lines[name, port].append(line)
                 if port == FENCE:
+                    self.tally["fence asked"] += 1
                     self.fence(name)
         return True
 
