@@ -158,6 +158,15 @@ def read_page(path: pathlib.Path) -> Page:
     return Page(str(path.relative_to(TOP)), "\n".join(prose), tuple(blocks))
 
 
+def commands_after(words: str, text: str) -> list[str]:
+    """The commands of a page's first block after these words."""
+    lines = text.partition(words)[2].splitlines()
+    begin = next((at for at, line in enumerate(lines) if line.startswith("    ")), None)
+    if begin is None:
+        raise LookupError(f"the page has no commands after `{words}`")
+    return block_at(lines, begin)[2]
+
+
 def pages() -> list[Page]:
     """All pages of the repository."""
     return [read_page(path) for path in sorted([*TOP.glob("*.md"), *TOP.glob("docs/**/*.md")])]

@@ -12,20 +12,16 @@ start, which has to lose ticks.
 import argparse
 import contextlib
 import itertools
-import os
 import pathlib
 import random
 import re
-import shutil
-import subprocess
 import sys
-import tempfile
 import time
 from collections.abc import Callable
 
 import here_machine
 from kill_trial import CELLS, CLIENTS, METHODS, Batch, Found, Wrong, batches, found_in, judge, text_of
-from power_machine import DISK, FLUSH, MOUNTED, READ, SECTOR, WAYS, WHOLE, WRITE, Disk, Rig, lacking, world_of
+from power_machine import DISK, FLUSH, MOUNTED, READ, SECTOR, WAYS, WHOLE, WRITE, Disk, Rig, lacking, parser_of, status_of, world_of
 
 FS, SMALL_MEGABYTES = ("ext4", "xfs"), 32
 # The ports of the clients are in front of the one on which calls are asked, and the one that starts the server again.
@@ -345,38 +341,31 @@ class Trial(Rig):
 
 def main() -> int:
     """Runs the trial, and keeps the files where it fails."""
-    parser = argparse.ArgumentParser(description=__doc__.splitlines()[0])
-    parser.add_argument("worldd", type=os.path.abspath, help="the built program")
+    parser = parser_of(__doc__)
+    parser.add_argument("--cells", type=int, default=600, help=f"of the world, {CELLS} at least (600)")
     parser.add_argument("--fs", choices=FS, default=FS[0], help="the file system (ext4)")
     parser.add_argument("--options", default="rw", help="of its mount (rw)")
-    parser.add_argument("--cells", type=int, default=600, help=f"of the world, {CELLS} at least (600)")
     parser.add_argument("--failures", type=int, default=150, help="how many calls fail (150)")
-    parser.add_argument("--seed", type=int, default=time.time_ns() % 10**9, help="of the batches, the calls and what is left")
-    parser.add_argument("--kernel", type=pathlib.Path, default="/", help="where a kernel is installed or unpacked (/)")
     parser.add_argument("--here", action="store_true", help="on this machine as root, by FUSE and a loop device, without QEMU")
     parser.add_argument("--show", action="store_true", help="keep the system's copies of the files at a start")
-    given, os.environ["PATH"] = parser.parse_args(), f"{os.environ['PATH']}:/usr/sbin:/sbin"
-    random.seed(given.seed)
-    if missing := here_machine.lacking() if given.here else lacking(given.kernel):
-        print(f"device_trial: skipped: there is no {', no '.join(missing)}")
-        return 0
-    print(f"device_trial: seed {given.seed}", flush=True)
-    folder = pathlib.Path(tempfile.mkdtemp(prefix="device-trial-", dir=here_machine.MEMORY if given.here else None))
-    trial = Trial(given, folder, "DROP_LEFT_OUT=1" if given.show else "")
-    try:
-        with here_machine.writing_late() if given.here else contextlib.nullcontext():
-            print(trial.run(given.failures))
+    given = parser.parse_args()
+
+    def run(folder: pathlib.Path) -> None:
+        trial = Trial(given, folder, "DROP_LEFT_OUT=1" if given.show else "")
+        try:
+            with here_machine.writing_late() if given.here else contextlib.nullcontext():
+                print(trial.run(given.failures))
+        except Wrong as wrong:
+            if given.show and str(wrong).startswith("recovered"):
+                print(f"without the drop on {given.fs}: seen at failed call {trial.tally['failed calls']}: {wrong}")
+                return
+            (folder / "left").write_bytes(trial.left)
+            raise
         if given.show:
             raise Wrong("no loss was seen without the drop of copies")
-    except (Wrong, OSError, subprocess.SubprocessError) as wrong:
-        if given.show and str(wrong).startswith("recovered"):
-            print(f"without the drop on {given.fs}: seen at failed call {trial.tally['failed calls']}: {wrong}")
-        else:
-            (folder / "left").write_bytes(trial.left)
-            print(f"device_trial: {wrong}\ndevice_trial: seed {given.seed}, files in {folder}", file=sys.stderr)
-            return 1
-    shutil.rmtree(folder)
-    return 0
+
+    missing, parent = (here_machine.lacking, here_machine.MEMORY) if given.here else (lambda: lacking(given.kernel), None)
+    return status_of("device_trial", given, missing, run, parent)
 
 
 if __name__ == "__main__":

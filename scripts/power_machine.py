@@ -3,7 +3,10 @@ protocol. It records what is asked of it, and may refuse it. Its power may be cu
 import argparse
 import collections
 import contextlib
+import functools
 import heapq
+import lzma
+import os
 import pathlib
 import random
 import re
@@ -13,6 +16,7 @@ import signal
 import socket
 import struct
 import subprocess
+import sys
 import tempfile
 import time
 from collections.abc import Callable, Iterator, Sequence
@@ -26,12 +30,15 @@ MODULES = "virtio_pci", "virtio_blk", "virtio_console", "crc32c_generic", "crc32
 INIT = """#!/bin/busybox sh
 /bin/busybox --install -s /bin; export PATH=/bin
 mount -t proc proc /proc; mount -t sysfs sys /sys; mount -t devtmpfs dev /dev; ifconfig lo 127.0.0.1 up
-for module in {modules} {modules}; do insmod /modules/$module 2>/dev/null; done
+for module in {modules}; do insmod /modules/$module 2>/dev/null || again="$again $module"; done
+for module in $again; do insmod /modules/$module; done
 """
-QEMU = """qemu-system-x86_64 -accel tcg,tb-size=128 -cpu Nehalem -m 384 -display none -nodefaults -no-reboot -initrd {room}/files
-    -blockdev driver=nbd,node-name=d,server.type=unix,server.path={room}/disk -serial chardev:c0 -device virtio-serial-pci
-    -device virtio-blk-pci,drive=d,discard=off,write-zeroes=off"""
-APPENDED = "console=ttyS0 quiet panic=-1 mitigations=off nokaslr no_timer_check"
+QEMU = """qemu-system-x86_64 -accel tcg,tb-size=128 -cpu Nehalem -m 384 -display none -nodefaults -no-reboot
+    -kernel {packed}/kernel -initrd {packed}/files -blockdev driver=nbd,node-name=d,server.type=unix,server.path={room}/disk
+    -serial chardev:c0 -device virtio-serial-pci -device virtio-blk-pci,drive=d,discard=off,write-zeroes=off"""
+APPENDED = "console=ttyS0 quiet panic=-1 mitigations=off no_timer_check acpi=off ipv6.disable=1"
+# A kernel that xz packed has these bytes in front of its packed part.
+XZ = b"\xfd7zXZ\0"
 # Of the NBD protocol: the greeting of a disk that can be flushed, and the kinds of requests.
 GREETING, CAN_BE_FLUSHED, READ, WRITE = struct.Struct(">8sQQI124x"), 5, 0, 1
 FAILED, SECTOR, FLUSH = 5, 512, 3
@@ -57,14 +64,26 @@ def kernel_of(root: pathlib.Path) -> pathlib.Path | None:
     return max(root.glob("boot/vmlinuz-*"), key=lambda path: [int(n) for n in re.findall(r"\d+", path.name)], default=None)
 
 
-def lacking(root: pathlib.Path) -> list[str]:
-    """The packages that aren't there."""
-    return [name for name, program in PACKAGES.items() if not shutil.which(program)] + ["kernel"] * (not kernel_of(root))
+def lacking(root: pathlib.Path, packages: dict[str, str] = PACKAGES, module: str = "") -> list[str]:
+    """The packages that aren't there, and the kernel if it or its module of this name isn't."""
+    missing = [name for name, program in packages.items() if not shutil.which(program)]
+    if not kernel_of(root) or (module and not modules(root, [module])):
+        missing.append(f"kernel with {module}" if module else "kernel")
+    return missing
+
+
+@functools.cache
+def unpacked(kernel: pathlib.Path) -> bytes:
+    """The kernel without its packing, which starts in half the time, if xz packed it."""
+    data = kernel.read_bytes()
+    at = data.find(XZ)
+    return lzma.LZMADecompressor().decompress(data[at:]) if at >= 0 else data
 
 
 def modules(root: pathlib.Path, names: list[str]) -> list[pathlib.Path]:
     """The kernel's modules of these names, each after those that it needs."""
-    files = {path.stem.replace("-", "_"): path for path in root.rglob("*.ko")}
+    release = kernel_of(root).name.removeprefix("vmlinuz-")
+    files = {path.stem.replace("-", "_"): path for path in (root / "lib" / "modules" / release).rglob("*.ko")}
     for name in names:
         needs = re.search(rb"\0depends=([^\0]*)\0", files[name].read_bytes()) if name in files else None
         names += needs[1].decode().replace("-", "_").split(",") if needs else []
@@ -72,8 +91,9 @@ def modules(root: pathlib.Path, names: list[str]) -> list[pathlib.Path]:
 
 
 def pack(room: pathlib.Path, root: pathlib.Path, names: Sequence[str], programs: dict[str, str], script: str) -> None:
-    """Packs the machine's first file system: busybox and these programs with their C library, modules of the kernel, a script."""
-    loaded = modules(root / "lib" / "modules" / kernel_of(root).name.removeprefix("vmlinuz-"), [*MODULES, *names])
+    """Packs the machine's kernel and its first file system: busybox and these programs with their C library, modules of the
+    kernel, a script."""
+    loaded = modules(root, [*names, *MODULES])
     programs = {"bin/busybox": shutil.which("busybox"), **programs}
     linked = re.findall(r"(/\S+) \(0x", subprocess.run(["ldd", *programs.values()], capture_output=True, text=True).stdout)
     paths = {path.lstrip("/"): path for path in linked} | programs | {f"modules/{path.name}": path for path in loaded}
@@ -84,6 +104,7 @@ def pack(room: pathlib.Path, root: pathlib.Path, names: Sequence[str], programs:
     (room / "first" / "init").write_text(INIT.format(modules=" ".join(path.name for path in loaded)) + script)
     (room / "first" / "init").chmod(0o755)
     subprocess.run("find . | busybox cpio -o -H newc >../files", shell=True, cwd=room / "first", check=True, stderr=QUIET)
+    (room / "kernel").write_bytes(unpacked(kernel_of(root)))
 
 
 class Disk:
@@ -129,13 +150,13 @@ class Machine(Disk):
     and durable once a flush is done that began after that. A disk that lies keeps the last writes back at each flush."""
 
     def __init__(
-        self, room: pathlib.Path, root: pathlib.Path, image: bytearray, ports: int, more: Sequence[str] = (), files: Sequence[int] = ()
+        self, room: pathlib.Path, packed: pathlib.Path, image: bytearray, ports: int, more: Sequence[str] = (), files: Sequence[int] = ()
     ) -> None:
-        """Starts it, with more words for QEMU and these open files of ours."""
+        """Starts what was packed in a folder, with more words for QEMU and these open files of ours."""
         super().__init__(image)
         self.slow, self.kept_back, self.due, self.rests = (b"", 0.0), 0, [], [b""] * (1 + ports)
         doors = [socket.create_server(f"{room}/{name}", family=socket.AF_UNIX) for name in ("disk", "lines")]
-        words = [*QEMU.format(room=room).split(), "-kernel", str(kernel_of(root)), "-append", APPENDED]
+        words = [*QEMU.format(room=room, packed=packed).split(), "-append", APPENDED]
         for port in range(1 + ports):
             words += ["-chardev", f"socket,id=c{port},path={room}/lines"]
             words += ["-device", f"virtserialport,chardev=c{port}"] if port else []
@@ -153,6 +174,9 @@ class Machine(Disk):
         """Takes its power."""
         self.process.kill()
         self.process.wait()
+        self.chosen.close()
+        for stream in self.streams:
+            stream.close()
 
     def take(self, seconds: float) -> int:
         """Takes a request of the disk, and gives how many writes and flushes that was. They are done after some such time."""
@@ -217,7 +241,7 @@ class Rig:
             subprocess.run(["cc", "-shared", "-fPIC", "-o", f"{room}/first.so", source], check=True)
         words |= {"fault": self.fault, "library": "/lib/first.so" if self.library else ""}
         pack(room, given.kernel, [given.fs], programs, script.format(**vars(given) | words))
-        return contextlib.closing(Machine(room, given.kernel, image, ports))
+        return contextlib.closing(Machine(room, room, image, ports))
 
     def reading(self) -> contextlib.closing[Disk]:
         """Starts the machine that tells what is left on a disk."""
@@ -240,3 +264,33 @@ class Rig:
 def world_of(told: list[str]) -> list[str]:
     """The lines of a world among those that were told of a disk."""
     return [line for line in told if re.match(r"recovered|fault|created|image|log|\d+ ", line)] or ["nothing"]
+
+
+def parser_of(page: str) -> argparse.ArgumentParser:
+    """The arguments of each trial that has machines."""
+    parser = argparse.ArgumentParser(description=page.splitlines()[0])
+    parser.add_argument("worldd", type=os.path.abspath, help="the built program")
+    parser.add_argument("--seed", type=int, default=time.time_ns() % 10**9, help="of the batches, the moments and what is left")
+    parser.add_argument("--kernel", type=pathlib.Path, default="/", help="where a kernel is installed or unpacked (/)")
+    return parser
+
+
+def status_of(
+    name: str, given: argparse.Namespace, lacking: Callable[[], list[str]], run: Callable[[pathlib.Path], None],
+    parent: str | None = None,
+) -> int:
+    """Runs a trial in a new folder, which is kept if it fails, and gives its status."""
+    os.environ["PATH"] += ":/usr/sbin:/sbin"
+    random.seed(given.seed)
+    if missing := lacking():
+        print(f"{name}: skipped: there is no {', no '.join(missing)}")
+        return 0
+    print(f"{name}: seed {given.seed}", flush=True)
+    folder = pathlib.Path(tempfile.mkdtemp(prefix=f"{name.replace('_', '-')}-", dir=parent))
+    try:
+        run(folder)
+    except (Wrong, OSError, subprocess.SubprocessError) as wrong:
+        print(f"{name}: {wrong}\n{name}: seed {given.seed}, files in {folder}", file=sys.stderr)
+        return 1
+    shutil.rmtree(folder)
+    return 0

@@ -8,22 +8,15 @@ flush had covered, and of the others any, whole or torn at sectors. A second mac
 must be there, as kill_trial.py judges it. The next run begins with such a disk. With --show each kind of sync must matter.
 """
 import argparse
-import collections
-import contextlib
-import os
 import pathlib
 import random
 import re
-import shutil
-import signal
 import struct
-import subprocess
 import sys
-import tempfile
 import time
 
 from kill_trial import CELLS, CLIENTS, COUNT, METHODS, Found, Wrong, batches, found_in, judge, text_of
-from power_machine import DISK, MEGABYTES, MOUNTED, WAYS, WHOLE, Machine, Rig, lacking, world_of
+from power_machine import DISK, MEGABYTES, MOUNTED, WAYS, WHOLE, Machine, Rig, lacking, parser_of, status_of, world_of
 
 # The disk of a file system, and the sectors at which its writes are torn: btrfs has no current copy of its 4,096-byte superblock.
 # udf brings no name along with a sync of a new file, so the syncs of folders are left out there. Nothing mends its map of free
@@ -142,33 +135,22 @@ def result_of(given: argparse.Namespace, folder: pathlib.Path, fault: str) -> st
 
 def main() -> int:
     """Runs the trial, and keeps the files where it fails."""
-    parser = argparse.ArgumentParser(description=__doc__.splitlines()[0])
-    parser.add_argument("worldd", type=os.path.abspath, help="the built program")
+    parser = parser_of(__doc__)
+    parser.add_argument("--cells", type=int, default=600, help=f"of the world, {CELLS} at least (600)")
     parser.add_argument("--fs", choices=MEGABYTES, default="ext4", help="the file system (ext4)")
     parser.add_argument("--options", default="rw", help="of its mount, as data=journal (rw)")
     parser.add_argument("--method", choices=METHODS, help="in place of both in turn")
     parser.add_argument("--every", type=int, help="in place of 1, 8 and 64 in turn")
-    parser.add_argument("--cells", type=int, default=600, help=f"of the world, {CELLS} at least (600)")
     parser.add_argument("--cuts", type=int, default=120, help="how often the power is cut (120)")
     parser.add_argument("--sector", type=int, help="at how many bytes a write is torn (512, and 4096 of btrfs)")
-    parser.add_argument("--seed", type=int, default=time.time_ns() % 10**9, help="of the batches, the moments and what is left")
-    parser.add_argument("--kernel", type=pathlib.Path, default="/", help="where a kernel is installed or unpacked (/)")
     parser.add_argument("--show", action="store_true", help="leave syncs and flushes out, one after another")
-    given, os.environ["PATH"] = parser.parse_args(), f"{os.environ['PATH']}:/usr/sbin:/sbin"
-    random.seed(given.seed)
-    if missing := lacking(given.kernel):
-        print(f"power_trial: skipped: there is no {', no '.join(missing)}")
-        return 0
-    print(f"power_trial: seed {given.seed}", flush=True)
-    folder = pathlib.Path(tempfile.mkdtemp(prefix="power-trial-"))
-    try:
+    given = parser.parse_args()
+
+    def run(folder: pathlib.Path) -> None:
         for fault in (*SYNCS, "", *FOLDERS, FLUSHES) if given.show else ("",):
             print(result_of(given, folder, fault), flush=True)
-    except (Wrong, OSError, subprocess.SubprocessError) as wrong:
-        print(f"power_trial: {wrong}\npower_trial: seed {given.seed}, files in {folder}", file=sys.stderr)
-        return 1
-    shutil.rmtree(folder)
-    return 0
+
+    return status_of("power_trial", given, lambda: lacking(given.kernel), run)
 
 
 if __name__ == "__main__":

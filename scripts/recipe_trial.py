@@ -26,9 +26,9 @@ import tempfile
 import threading
 import time
 
+from check_docs import TOP, commands_after
 from surroundings_trial import NAMES, Client, Wrong, is_root, want
 
-TOP = pathlib.Path(__file__).resolve().parent.parent
 MANUAL = (TOP / "docs" / "OPERATIONS.md").read_text()
 # Prefixes that a unit can have, and others.
 RIGHT = "plain", "with a space", "\u00e9", "a;b#c*d~e"
@@ -59,19 +59,10 @@ CASES = (
 )
 
 
-def recipe(name: str) -> str:
-    """The commands of the manual after these words."""
-    lines = MANUAL.partition(name)[2].splitlines()
-    begin = next((number for number, line in enumerate(lines) if line.startswith("    ")), None)
-    want(begin is not None, f"the manual has no recipe after `{name}`")
-    end = next(number for number, line in enumerate(lines) if number > begin and not line.startswith("    "))
-    return "\n".join(line[4:] for line in lines[begin:end])
-
-
 def follow(name: str, room: pathlib.Path | None = None, **words: object) -> str:
     """Runs the commands of a recipe as root, or in a folder as the user of the world, with these words in their places. It gives
     what they print."""
-    text = recipe(name)
+    text = "\n".join(commands_after(name, MANUAL))
     for word, given in words.items():
         want(word in text, f"the recipe after `{name}` has no {word}")
         text = re.sub(rf"\b{word}\b", str(given), text)
