@@ -25,6 +25,11 @@ COLUMNS = "system", "transport", "clients", "lines", "sets", "batches", "ratio",
 HEAD = f"{'':<14} {'sets/s':>10} {'batches/s':>10} {'ratio':>6} {'p50, ms':>9} {'us/batch':>9} {'ratio':>6}"
 
 
+def figures_of(runs: list[Sample], field: str) -> list[float]:
+    """A figure of some runs."""
+    return [getattr(run, field) for run in runs]
+
+
 @dataclasses.dataclass
 class Series:
     """The runs of one system under one load, each with the run of Redis just before it."""
@@ -36,13 +41,14 @@ class Series:
 
     def median(self, field: str) -> float:
         """The median of a figure."""
-        return statistics.median(getattr(run, field) for run in self.runs)
+        return statistics.median(figures_of(self.runs, field))
 
     def ratio(self, field: str) -> float | None:
         """The median of a figure's quotients by those of Redis."""
         if not self.beside:
             return None
-        return statistics.median(getattr(run, field) / getattr(other, field) for run, other in zip(self.runs, self.beside))
+        pairs = zip(figures_of(self.runs, field), figures_of(self.beside, field))
+        return statistics.median(own / other for own, other in pairs)
 
     def row(self, load: Load) -> list[str]:
         """A row of the table, in the order of its columns."""

@@ -361,7 +361,7 @@ def python_version(version: str) -> str:
 
 def wrong_versions() -> Iterator[Finding]:
     """Versions that differ from that of the changelog's first section, and files that state none."""
-    newest = re.search(r"^## (.*)$", (TOP / "CHANGELOG.md").read_text(), re.MULTILINE)[1]
+    newest = re.findall(r"^## (.*)$", (TOP / "CHANGELOG.md").read_text(), re.MULTILINE)[0]
     for file, pattern in VERSIONS:
         want, found = python_version(newest) if file.endswith("__init__.py") else newest, False
         for number, line in enumerate((TOP / file).read_text().splitlines(), 1):

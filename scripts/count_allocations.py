@@ -18,6 +18,7 @@ import tempfile
 
 from kill_trial import connect
 from memory_trial import built_watcher
+from trial import Words, absolute, begun
 
 PATIENCE_SECONDS = 60
 MOST = ": at most "
@@ -69,10 +70,9 @@ def count_served(worldd: str, library: pathlib.Path, room: pathlib.Path) -> bool
     subprocess.run([worldd, "create", "--dir", folder, "--cells", str(LINES)], check=True, stdout=subprocess.DEVNULL)
     flags = ["--method", "zigzag", "--port", "0", "--clients", "1", "--every", str(MANY)]
     watched = os.environ | {"LD_PRELOAD": str(library), "COUNTED_IN": str(counter)}
-    command = [worldd, "serve", "--dir", folder, *flags]
+    command: Words = [worldd, "serve", "--dir", folder, *flags]
     with subprocess.Popen(command, env=watched, stdout=subprocess.PIPE, stderr=subprocess.DEVNULL, text=True) as server:
-        server.stdout.readline()
-        with connect(server.stdout.readline().split()[1]) as stream:
+        with connect(begun(server)[1].split()[1]) as stream:
             play(stream, range(1, FEW))
             before = int.from_bytes(counter.read_bytes(), sys.byteorder)
             play(stream, range(FEW, MANY))
@@ -85,8 +85,8 @@ def count_served(worldd: str, library: pathlib.Path, room: pathlib.Path) -> bool
 def main() -> int:
     """Counts the allocations of each call, and of a served batch."""
     parser = argparse.ArgumentParser(description=__doc__.splitlines()[0])
-    parser.add_argument("measures", type=os.path.abspath, help="the built program that makes the calls")
-    parser.add_argument("worldd", type=os.path.abspath, help="the built server")
+    parser.add_argument("measures", type=absolute, help="the built program that makes the calls")
+    parser.add_argument("worldd", type=absolute, help="the built server")
     given = parser.parse_args()
     with tempfile.TemporaryDirectory() as folder:
         room = pathlib.Path(folder)

@@ -10,7 +10,6 @@ Each method serves over a port and over a socket.
 """
 import argparse
 import itertools
-import os
 import pathlib
 import random
 import re
@@ -24,6 +23,7 @@ from typing import NamedTuple
 
 from kill_trial import CELLS, METHODS, PATIENCE_SECONDS, TRANSPORTS, Batch, Wrong
 from kill_trial import answer, connect, flags_of, random_request, text_of
+from trial import Words, absolute, output_of
 
 CLIENTS, BATCHES = 50, 200
 FLOOD = 10_000_000
@@ -50,7 +50,7 @@ class Server:
         subprocess.run([worldd, "create", "--dir", folder, "--cells", str(cells)], check=True, capture_output=True)
         where = flags_of(way.transport, folder.with_suffix(".socket"))
         flags = ["--method", way.method, "--every", str(every), "--clients", str(clients), *where]
-        command = [worldd, "serve", "--dir", folder, *flags]
+        command: Words = [worldd, "serve", "--dir", folder, *flags]
         self.errors = folder.with_suffix(".errors")
         with self.errors.open("w") as errors:
             self.process = subprocess.Popen(command, stdout=subprocess.PIPE, stderr=errors, text=True)
@@ -59,7 +59,7 @@ class Server:
 
     def line(self) -> str:
         """The next line that it prints."""
-        return self.process.stdout.readline().removesuffix("\n")
+        return output_of(self.process).readline().removesuffix("\n")
 
     def expect(self, line: str) -> None:
         """The next line must be this one."""
@@ -179,7 +179,7 @@ def try_crowd(worldd: str, room: pathlib.Path, way: Way, seed: int) -> int:
 def main() -> int:
     """Runs the trial, and keeps the files where it fails."""
     parser = argparse.ArgumentParser(description=__doc__.splitlines()[0])
-    parser.add_argument("worldd", type=os.path.abspath, help="the built program")
+    parser.add_argument("worldd", type=absolute, help="the built program")
     parser.add_argument("--seed", type=int, default=1, help="of the batches")
     given = parser.parse_args()
     room = pathlib.Path(tempfile.mkdtemp(prefix="crowd-trial-"))

@@ -8,11 +8,13 @@ goes on. With each set of standard streams closed, the files have to stay a worl
 """
 import argparse
 import itertools
-import os
 import pathlib
 import subprocess
 import sys
 import tempfile
+from typing import Any
+
+from trial import absolute, closing, input_of, output_of
 
 SECONDS = 60
 CELLS = 2
@@ -43,10 +45,10 @@ class Trial:
         expect(f"status of worldd {command}", (run.returncode, run.stderr), (0, ""))
         return run.stdout
 
-    def start(self, **streams: object) -> subprocess.Popen:
+    def start(self, **streams: Any) -> subprocess.Popen[str]:
         """The program, with pipes unless its streams are said."""
-        how = {"stdin": subprocess.PIPE, "stdout": subprocess.PIPE, "stderr": subprocess.PIPE, "text": True, "cwd": self.folder}
-        return subprocess.Popen([self.embedded], **(how | streams))
+        how: dict[str, Any] = dict.fromkeys(("stdin", "stdout", "stderr"), subprocess.PIPE)
+        return subprocess.Popen([self.embedded], text=True, cwd=self.folder, **(how | streams))
 
     def tick(self) -> int:
         """The tick that recovery finds."""
@@ -62,9 +64,9 @@ class Trial:
     def play_two(self) -> None:
         """Of two at once the second is refused, and the first goes on."""
         one = self.start()
-        one.stdin.write("get 0\nend\n")
-        one.stdin.flush()
-        answer = one.stdout.readline()
+        input_of(one).write("get 0\nend\n")
+        input_of(one).flush()
+        answer = output_of(one).readline()
         two = self.start()
         said, errors = two.communicate(BATCHES, timeout=SECONDS)
         expect("the second program", (two.returncode, said), (1, ""))
@@ -77,7 +79,7 @@ class Trial:
         """With these standard streams closed, no text gets into a file, and no tick is lost."""
         before = self.tick()
         streams = {("stdin", "stdout", "stderr")[at]: subprocess.DEVNULL for at in closed}
-        program = self.start(**streams, preexec_fn=lambda: [os.close(at) for at in closed])
+        program = self.start(**streams, preexec_fn=closing(closed))
         program.communicate(None if 0 in closed else BATCHES, timeout=SECONDS)
         ticks = self.tick() - before
         if ticks not in ((0,) if 0 in closed else (0, 1, 2)):
@@ -100,8 +102,8 @@ def run(given: argparse.Namespace) -> str:
 def main() -> int:
     """Runs the trial."""
     parser = argparse.ArgumentParser(description=__doc__.splitlines()[0])
-    parser.add_argument("embedded", type=os.path.abspath, help="the built example")
-    parser.add_argument("worldd", type=os.path.abspath, help="the built worldd")
+    parser.add_argument("embedded", type=absolute, help="the built example")
+    parser.add_argument("worldd", type=absolute, help="the built worldd")
     try:
         print(run(parser.parse_args()))
     except (Wrong, OSError, subprocess.SubprocessError) as wrong:

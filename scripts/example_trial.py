@@ -21,7 +21,11 @@ import tempfile
 import threading
 import time
 
-from check_docs import TOP, Block, pages
+from check_docs import Block, pages
+from map import TOP
+from trial import Words, begun, free_port, input_of, output_of
+
+import cektaulis
 
 EXAMPLES, CLIENTS = TOP / "examples", TOP / "clients"
 SECONDS = 60
@@ -32,9 +36,6 @@ GAME_SECONDS, GAMES, PLAYERS, GOLD = 10, {"game.py": 0, "game.c": 602}, 300, 100
 GAME_LINE = r"steps (\d+), turns (\d+), late (\d+), losses (\d+), sent again (\d+), longest step (\d+) ms\n"
 # For so many seconds the server is away once in a while. No step of a game may take as long as the bound in milliseconds.
 AWAY_SECONDS, STEP_BOUND = 0.8, 600
-
-sys.path.insert(0, str(CLIENTS / "python"))
-import cektaulis
 
 
 class Wrong(Exception):
@@ -52,12 +53,6 @@ def run_session(worldd: pathlib.Path) -> None:
     script = (EXAMPLES / "session.txt").read_text()
     run = subprocess.run([worldd, "steps"], input=script, capture_output=True, text=True, timeout=SECONDS, check=True)
     compare("examples/session.txt", run.stdout, (EXAMPLES / "session.expected").read_text())
-
-
-def free_port() -> str:
-    """A port that nobody listens on."""
-    with socket.create_server(("127.0.0.1", 0)) as listener:
-        return str(listener.getsockname()[1])
 
 
 def run_block(worldd: pathlib.Path, page: str, block: Block, room: pathlib.Path) -> None:
@@ -81,13 +76,13 @@ def run_block(worldd: pathlib.Path, page: str, block: Block, room: pathlib.Path)
     watch = threading.Timer(SECONDS, os.killpg, (shell.pid, signal.SIGKILL))
     watch.start()
     try:
-        for line in block.text.replace(PORT, free_port()).splitlines():
+        for line in block.text.replace(PORT, str(free_port())).splitlines():
             if line.startswith("$ "):
-                shell.stdin.write(line.removeprefix("$ ") + "\n")
+                input_of(shell).write(line.removeprefix("$ ") + "\n")
             else:
-                compare(f"{page}:{block.line}", shell.stdout.readline(), line + "\n")
-        shell.stdin.close()
-        compare(f"{page}:{block.line}", shell.stdout.read(), "")
+                compare(f"{page}:{block.line}", output_of(shell).readline(), line + "\n")
+        input_of(shell).close()
+        compare(f"{page}:{block.line}", output_of(shell).read(), "")
         if shell.wait():
             raise Wrong(f"{page}:{block.line}: its last command fails")
     finally:
@@ -164,25 +159,24 @@ def try_reconnect(room: pathlib.Path) -> None:
 def try_mistakes(room: pathlib.Path) -> None:
     """Both clients refuse what is no port and no line."""
     in_c, in_python = room / "client", EXAMPLES / "client.py"
-    for command in (
-        *([in_c, port, "1", "1"] for port in ("0", "65536", "72928")),
-        *([in_c, PORT, *rest] for rest in (["x", "1"], ["1", "x"], ["1", "0"], ["1", "1", "get 0 1"], ["1", "1", "set 1 2"])),
-        *([sys.executable, in_python, port] for port in ("0", "65536", "72928")),
-    ):
+    ports, no_lines = ("0", "65536", "72928"), (["x", "1"], ["1", "x"], ["1", "0"], ["1", "1", "get 0 1"], ["1", "1", "set 1 2"])
+    commands: list[Words] = [[in_c, port, "1", "1"] for port in ports]
+    commands += [[in_c, PORT, *rest] for rest in no_lines]
+    commands += [[sys.executable, in_python, port] for port in ports]
+    for command in commands:
         run = subprocess.run(command, stderr=subprocess.DEVNULL, timeout=SECONDS)
         compare(" ".join(map(str, command)), f"status {run.returncode}\n", "status 2\n")
 
 
-def serve(worldd: pathlib.Path, folder: pathlib.Path) -> subprocess.Popen:
+def serve(worldd: pathlib.Path, folder: pathlib.Path) -> subprocess.Popen[str]:
     """A server of a folder, at its file `socket`, once it listens."""
-    command = [worldd, "serve", "--dir", folder, "--method", "zigzag", "--socket", folder / "socket", "--clients", "100000"]
+    command: Words = [worldd, "serve", "--dir", folder, "--method", "zigzag", "--socket", folder / "socket", "--clients", "100000"]
     server = subprocess.Popen(command, stdout=subprocess.PIPE, stderr=subprocess.DEVNULL, text=True)
-    for _ in range(2):
-        server.stdout.readline()
+    begun(server)
     return server
 
 
-def lose(server: subprocess.Popen, games: list[subprocess.Popen], way: int) -> None:
+def lose(server: subprocess.Popen[str], games: list[subprocess.Popen[str]], way: int) -> None:
     """Kills the server of some games: at once; when it has turns that it hasn't played, for longer; or when it has played turns
     whose answers no game has seen."""
     if way:
@@ -206,12 +200,12 @@ def try_games(worldd: pathlib.Path, room: pathlib.Path) -> None:
     folder.mkdir()
     subprocess.run([*IN_C, "-o", in_c, EXAMPLES / "game.c"], check=True)
     subprocess.run([worldd, "create", "--dir", folder, "--cells", "1204"], check=True, stdout=subprocess.DEVNULL)
-    programs = {"game.py": [sys.executable, EXAMPLES / "game.py"], "game.c": [in_c]}
+    programs: dict[str, Words] = {"game.py": [sys.executable, EXAMPLES / "game.py"], "game.c": [in_c]}
     environment = os.environ | {"PYTHONPATH": str(CLIENTS / "python"), "PYTHONDONTWRITEBYTECODE": "1"}
     server, kills, end = serve(worldd, folder), 0, time.monotonic() + GAME_SECONDS - 1
     games = {}
     for name, first in GAMES.items():
-        command = [*programs[name], folder / "socket", str(GAME_SECONDS), str(first)]
+        command: Words = [*programs[name], folder / "socket", str(GAME_SECONDS), str(first)]
         games[name] = subprocess.Popen(command, stdout=subprocess.PIPE, text=True, env=environment)
     try:
         # A game that begins late has its words before the first kill.

@@ -19,10 +19,11 @@ import sys
 import tempfile
 import time
 
-from check_docs import TOP
-from client_trial import ELSEWHERE, MODEL, MODEL_LINES, MOST_KILLING_SECONDS, TEXTS, TURN, Trial, silent_at
-from example_trial import Script, Step, Wrong, free_port
+from client_trial import ELSEWHERE, MODEL, MODEL_LINES, MOST_KILLING_SECONDS, TEXTS, TURN, World, silent_at
+from example_trial import Script, Step, Wrong
 from kill_trial import CELLS, LIMIT, PATIENCE_SECONDS, PORT, TRANSPORTS, Batch, Request, answer, difference, random_request
+from map import TOP
+from trial import Words, free_port, input_of, output_of
 
 CLIENT = TOP / "clients" / "javascript" / "cektaulis.mjs"
 MARKER, COUNT, BATCHES = 0, 1, 100
@@ -73,7 +74,7 @@ def play(address: str, batches: list[Batch]) -> list[list[str]]:
     return answers
 
 
-def try_model(trial: Trial, chance: random.Random) -> None:
+def try_model(trial: World, chance: random.Random) -> None:
     """Random lines are answered as by a plain model."""
     batches, words = [EDGES], [0] * CELLS
     while sum(map(len, batches)) < MODEL_LINES:
@@ -86,7 +87,7 @@ def try_model(trial: Trial, chance: random.Random) -> None:
         trial.met[MODEL] += len(batch)
 
 
-def try_codes(trial: Trial) -> None:
+def try_codes(trial: World) -> None:
     """Each code comes back with the text of docs/CLIENT.md, and so does the end of the connection."""
     server = Script([Step("get 0", line) for line in (*CODES, None)])
     answers = play(server.address, [(("get", 0),)] * (len(CODES) + 1))
@@ -97,13 +98,13 @@ def try_codes(trial: Trial) -> None:
     trial.met.update(code for code in CODES if "fault" in code)
 
 
-def try_kills(trial: Trial, chance: random.Random, kills: int) -> int:
+def try_kills(trial: World, chance: random.Random, kills: int) -> int:
     """Each batch of `playOnce` counts once, though the server is killed so often or more. Gives how many counted."""
     given, answers, played, begun = trial.room / "batches", trial.room / "answers", 0, time.monotonic()
     given.write_text(f"add {COUNT} 1, get {COUNT}\n" * BATCHES)
     while trial.met["kills"] < kills or not trial.met[LOST] and time.monotonic() - begun < MOST_KILLING_SECONDS:
         with given.open() as batches, answers.open("w") as output:
-            run = ["node", CLIENT, trial.address, str(MARKER), str(played + 1)]
+            run: Words = ["node", CLIENT, trial.address, str(MARKER), str(played + 1)]
             client = subprocess.Popen(run, stdin=batches, stdout=output)
         while client.poll() is None:
             time.sleep(chance.uniform(0, 0.2))
@@ -123,17 +124,17 @@ def try_kills(trial: Trial, chance: random.Random, kills: int) -> int:
     return played
 
 
-def try_addresses(trial: Trial, count: int) -> None:
+def try_addresses(trial: World, count: int) -> None:
     """Of two addresses a client finds the one that serves. It leaves one that is silent. It has counted up to a number before."""
-    other, copy = free_port() if trial.transport == PORT else str(trial.room / "other"), trial.room.with_suffix(".copy")
-    run = ["node", "--input-type=module", "--eval", COUNTER, other, trial.address, str(TURN)]
+    other, copy = str(free_port() if trial.transport == PORT else trial.room / "other"), trial.room.with_suffix(".copy")
+    run: Words = ["node", "--input-type=module", "--eval", COUNTER, other, trial.address, str(TURN)]
     with subprocess.Popen(run, stdin=subprocess.PIPE, stdout=subprocess.PIPE, text=True, bufsize=1) as client:
 
         def counts(kind: str = "counted once") -> None:
             nonlocal count
             count += 1
-            client.stdin.write(f"{count}\n")
-            if (line := client.stdout.readline()) != f"{count}\n":
+            input_of(client).write(f"{count}\n")
+            if (line := output_of(client).readline()) != f"{count}\n":
                 raise Wrong(f"batch {count} was answered `{line}`")
             trial.met[kind] += 1
 
@@ -154,7 +155,7 @@ def try_addresses(trial: Trial, count: int) -> None:
         counts(ELSEWHERE[2])
         held.kill()
         held.communicate()
-        client.stdin.close()
+        input_of(client).close()
 
 
 def main() -> int:
@@ -170,7 +171,7 @@ def main() -> int:
     for transport in TRANSPORTS:
         chance = random.Random(f"{given.seed} {transport}")
         with tempfile.TemporaryDirectory(prefix="javascript-trial-") as folder:
-            trial = Trial(None, given.worldd.resolve(), pathlib.Path(folder) / "world", transport, CELLS)
+            trial = World(given.worldd.resolve(), pathlib.Path(folder) / "world", transport, CELLS)
             trial.serve()
             try:
                 try_model(trial, chance)

@@ -14,7 +14,6 @@ import argparse
 import dataclasses
 import io
 import itertools
-import os
 import pathlib
 import random
 import re
@@ -27,6 +26,8 @@ import tempfile
 import threading
 import time
 from collections.abc import Iterator
+
+from trial import absolute, output_of
 
 LIMIT = 999_999_999_999_999_999
 TICK_ACTIONS = 256
@@ -64,7 +65,7 @@ class Wrong(Exception):
 
 def changes(words: list[int], action: Request) -> dict[int, int] | int:
     """The words that an action changes, or the code of its refusal."""
-    kind, *numbers = action
+    kind, numbers = action[0], numbers_of(action)
     count = 2 if kind in ("move", "swap") else 1
     cells, amount = numbers[:count], sum(numbers[count:])
     if any(cell >= len(words) for cell in cells):
@@ -88,6 +89,11 @@ def changes(words: list[int], action: Request) -> dict[int, int] | int:
     return dict(zip(cells, left)) if all(0 <= word <= LIMIT for word in left) else OUT_OF_RANGE
 
 
+def numbers_of(request: Request) -> list[int]:
+    """What stands after the kind of a request."""
+    return [int(number) for number in request[1:]]
+
+
 def answer(words: list[int], batch: Batch, number: int) -> str:
     """Runs a batch on the words as the tick of this number, and gives the line that answers it."""
     replies, accepted = [f"tick {number}:"], 0
@@ -95,7 +101,7 @@ def answer(words: list[int], batch: Batch, number: int) -> str:
         match request:
             case (_,):
                 replies.append(f"-{BAD_LINE}")
-            case ("get", cell):
+            case ("get", int(cell)):
                 replies.append(f"={words[cell]}" if cell < len(words) else f"-{BAD_CELL}")
             case action:
                 changed = changes(words, action) if accepted < TICK_ACTIONS else TICK_FULL
@@ -334,15 +340,15 @@ class Server:
     def __enter__(self) -> "Server":
         return self
 
-    def __exit__(self, *_) -> None:
+    def __exit__(self, *_: object) -> None:
         self.watch.cancel()
         self.process.kill()
         self.process.wait()
-        self.process.stdout.close()
+        output_of(self.process).close()
 
     def line(self) -> str:
         """The next line that it prints."""
-        return self.process.stdout.readline().removesuffix("\n")
+        return output_of(self.process).readline().removesuffix("\n")
 
     def begin(self, before: Found) -> None:
         """Waits until it prints the world that it has found, which has to be this one."""
@@ -362,7 +368,7 @@ class Server:
         """Kills it, and gives what it had printed since."""
         self.killed.set()
         self.process.kill()
-        printed, status = self.process.stdout.read(), self.process.wait()
+        printed, status = output_of(self.process).read(), self.process.wait()
         if status != -signal.SIGKILL:
             raise Wrong(f"serve ended by itself with status {status}{self.complaint()}")
         self.look_at_complaints()
@@ -370,7 +376,7 @@ class Server:
 
     def end(self) -> str:
         """The line with which it ends by itself."""
-        printed, status = self.process.stdout.read(), self.process.wait()
+        printed, status = output_of(self.process).read(), self.process.wait()
         if status:
             raise Wrong(f"serve ended with status {status}{self.complaint()}")
         self.look_at_complaints()
@@ -521,7 +527,7 @@ class Trial:
 def arguments() -> argparse.Namespace:
     """What the command line asks for."""
     parser = argparse.ArgumentParser(description=__doc__.splitlines()[0])
-    parser.add_argument("worldd", type=os.path.abspath, help="the built program")
+    parser.add_argument("worldd", type=absolute, help="the built program")
     parser.add_argument("--kills", type=int, default=200, help="how many times a serving worldd is killed (200)")
     parser.add_argument("--seconds", type=float, default=float("inf"), help="begin no kill after so many seconds")
     parser.add_argument("--seed", type=int, default=time.time_ns() % 10**9, help="of the batches and the moments")

@@ -16,6 +16,8 @@ import sys
 import tempfile
 import threading
 import time
+from collections.abc import Callable
+from typing import BinaryIO
 
 SECONDS = 60
 LINES = 2
@@ -38,7 +40,7 @@ def counted(count: int, noun: str) -> str:
 class Server:
     """A stand-in for worldd on a port or on a socket, in its own thread."""
 
-    def __init__(self, answers, lines: int, path: pathlib.Path | None):
+    def __init__(self, answers: "Answers", lines: int, path: pathlib.Path | None):
         if path is None:
             self.listener = socket.create_server(("127.0.0.1", 0))
             self.flags = ("--port", str(self.listener.getsockname()[1]))
@@ -51,7 +53,7 @@ class Server:
         self.thread = threading.Thread(target=answers, args=(self,))
         self.thread.start()
 
-    def read_batch(self, reader) -> bool:
+    def read_batch(self, reader: BinaryIO) -> bool:
         """Reads a batch, and keeps its lines. False: the client has gone."""
         batch = [reader.readline() for _ in range(self.lines + 1)]
         self.batches.append(batch)
@@ -65,7 +67,11 @@ class Server:
             self.path.unlink()
 
 
-def giving(answers, pause: float = 0):
+# The work of a server.
+Answers = Callable[[Server], None]
+
+
+def giving(answers: tuple[str, ...], pause: float = 0) -> Answers:
     """A server's work: it takes a client, and answers its batches so, each after a pause."""
 
     def serve(server: Server) -> None:
@@ -105,23 +111,27 @@ class Trial:
         self.runs = 0
         self.seen: collections.Counter[str] = collections.Counter()
 
-    def run(self, *words: str) -> subprocess.CompletedProcess:
+    def run(self, *words: str) -> subprocess.CompletedProcess[str]:
         """Runs the program with these words."""
         self.runs += 1
         return subprocess.run([self.program, *words], capture_output=True, text=True, timeout=SECONDS)
 
-    def check(self, what: str, got, want) -> None:
+    def check(self, what: str, got: object, want: object) -> None:
         """Compares what was got, and prints what is wrong."""
         if got != want:
             self.wrong += 1
             print(f"WRONG: {what}:\n  got  {got!r}\n  want {want!r}", file=sys.stderr)
 
-    def load(self, what: str, serve, want: str | int, kind: str, lines: int = LINES, more: tuple[str, ...] = ("--batches", "2")) -> None:
+    def load(
+        self, what: str, serve: Answers, want: str | int, kind: str, lines: int = LINES, more: tuple[str, ...] = ("--batches", "2")
+    ) -> None:
         """Loads a server at a port and one at a socket."""
         for path in (None, self.path):
             self.load_at(path, what, serve, want, kind, lines, more)
 
-    def load_at(self, path, what: str, serve, want: str | int, kind: str, lines: int, more: tuple[str, ...]) -> None:
+    def load_at(
+        self, path: pathlib.Path | None, what: str, serve: Answers, want: str | int, kind: str, lines: int, more: tuple[str, ...]
+    ) -> None:
         """Loads a server, and compares the error, or what is printed of so many ticks where the load ends well."""
         server = Server(serve, lines, path)
         run = self.run(*server.flags, "--lines", str(lines), "--cells", str(CELLS), *more)
@@ -141,7 +151,7 @@ class Trial:
 
 def try_answers(trial: Trial) -> None:
     """Answers that are right, wrong, cut off, or refusals."""
-    for answers, want, kind in (
+    tries: tuple[tuple[tuple[str, ...], str | int, str], ...] = (
         (("tick 1: + +\n", "tick 5: + +\n"), 2, "right"),
         (("tick 2: + +\n", "tick 2: + +\n"), f"{WRONG}2: tick 2: + +", "wrong"),
         (("tick 0: + +\n",), f"{WRONG}0: tick 0: + +", "wrong"),
@@ -158,7 +168,8 @@ def try_answers(trial: Trial) -> None:
         (("tick 1: + +\n", ""), CLOSED, "closed"),
         (("tick 1: +",), f"{CUT_OFF}tick 1: +", "cut off"),
         (("tick 1: + +",), f"{CUT_OFF}tick 1: + +", "cut off"),
-    ):
+    )
+    for answers, want, kind in tries:
         trial.load(f"answers {answers}", giving(answers), want, kind)
     trial.load("batches without lines", giving(("tick 1:\n", "tick 2:\n")), 2, "right", lines=0)
     trial.load("one batch of a line", giving(("tick 1: +\n",)), 1, "right", lines=1, more=("--batches", "1"))

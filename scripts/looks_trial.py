@@ -75,8 +75,9 @@ class Trial:
     def ask(self, command: str, folder: pathlib.Path, *flags: str, **variables: str) -> str:
         """What a command prints, which has to end well."""
         words = [self.worldd, command, "--dir", str(folder), *flags]
-        how = {"stdin": QUIET, "capture_output": True, "text": True, "timeout": PATIENCE_SECONDS}
-        ended = subprocess.run(words, **how, env=os.environ | variables)
+        ended = subprocess.run(
+            words, stdin=QUIET, capture_output=True, text=True, timeout=PATIENCE_SECONDS, env=os.environ | variables
+        )
         if ended.returncode:
             raise Wrong(f"{command} ended with status {ended.returncode}: {' '.join(ended.stderr.split())}")
         return ended.stdout

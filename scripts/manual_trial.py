@@ -50,7 +50,7 @@ class Help:
     statuses: frozenset[str]
 
 
-def compare(what: str, got, want) -> None:
+def compare(what: str, got: object, want: object) -> None:
     """Refuses a difference."""
     if got != want:
         raise Wrong(f"{what} has\n  {got}\nin place of\n  {want}")
@@ -59,6 +59,7 @@ def compare(what: str, got, want) -> None:
 def flag_of(line: str) -> Flag:
     """The flag of a line of the help."""
     found = re.fullmatch(r" +(?:(-\w), )?(--[\w-]+)(?: <(\w+)>)? +(.*)", line)
+    assert found is not None, f"a flag of the help has the line `{line}`"
     short, long, value, text = found.groups()
     listed = re.search(r" \[possible values: (.*?)\]", text)
     values = tuple(listed[1].split(", ")) if listed else ()

@@ -9,7 +9,6 @@ The ticks of all answers have to be 1, 2 and so on, each once, and those of a se
 import argparse
 import array
 import itertools
-import os
 import pathlib
 import shutil
 import socket
@@ -20,6 +19,7 @@ import threading
 
 from crowd_trial import Server, Way
 from kill_trial import METHODS, TRANSPORTS, Wrong
+from trial import absolute
 
 SESSIONS, EVERY, AHEAD = 10, 4096, 200
 
@@ -70,7 +70,7 @@ def try_way(worldd: str, room: pathlib.Path, way: Way, ticks: int) -> None:
 def main() -> int:
     """Runs the trial, and keeps the files where it fails."""
     parser = argparse.ArgumentParser(description=__doc__.splitlines()[0])
-    parser.add_argument("worldd", type=os.path.abspath, help="the built program")
+    parser.add_argument("worldd", type=absolute, help="the built program")
     parser.add_argument("--ticks", type=int, default=20_000, help="of each way to serve (20,000)")
     given = parser.parse_args()
     room, ticks = pathlib.Path(tempfile.mkdtemp(prefix="once-trial-")), given.ticks // SESSIONS * SESSIONS

@@ -22,8 +22,10 @@ import sys
 import tempfile
 import time
 from collections.abc import Iterator
+from typing import Any, BinaryIO
 
 from kill_trial import SOCKET, TRANSPORTS, connect
+from trial import begun, free_port
 
 NAMES = ("image.a", "image.b", "log.a", "log.b")
 METHODS = ("zigzag", "pingpong")
@@ -75,11 +77,11 @@ class Trial:
         self.runs = 0
         self.seen: collections.Counter[str] = collections.Counter()
 
-    def run(self, *words, full: bool = False, script: bytes = b"", memory: int = 0) -> Outcome:
+    def run(self, *words: str | bytes, full: bool = False, script: bytes = b"", memory: int = 0) -> Outcome:
         """Runs the program with these words, with so many bytes of memory if a number is given. A full output takes no byte."""
         limited = (lambda: resource.setrlimit(resource.RLIMIT_AS, (memory, memory))) if memory else None
         with open("/dev/full", "wb") as device:
-            output = device if full else subprocess.PIPE
+            output: BinaryIO | int = device if full else subprocess.PIPE
             command = [self.program, *words]
             run = subprocess.run(command, input=script, stdout=output, stderr=subprocess.PIPE, timeout=SECONDS, preexec_fn=limited)
         outcome = Outcome((run.stdout or b"").decode(), run.stderr.decode(), run.returncode)
@@ -88,7 +90,7 @@ class Trial:
         self.seen[f"status {outcome.status}" + (f", {first}" if first.startswith("fault ") else "")] += 1
         return outcome
 
-    def check(self, what: str, got, want) -> None:
+    def check(self, what: str, got: object, want: object) -> None:
         """Compares what was got, and prints what is wrong."""
         if got != want:
             self.wrong += 1
@@ -100,7 +102,7 @@ class Trial:
 
 
 @contextlib.contextmanager
-def new_folder(*files: bytes):
+def new_folder(*files: bytes) -> Iterator[pathlib.Path]:
     """A folder with these bytes in the files of a world, in their order; with none, no file."""
     with tempfile.TemporaryDirectory(prefix="worldd-trial-") as name:
         folder = pathlib.Path(name)
@@ -440,7 +442,7 @@ def try_copies(trial: Trial) -> None:
 
 def both(trial: Trial, folder: pathlib.Path, full: bool = False) -> tuple[Outcome, Outcome]:
     """`recover` and `inspect` of a folder."""
-    return tuple(trial.run(command, "--dir", str(folder), full=full) for command in ("recover", "inspect"))
+    return trial.run("recover", "--dir", str(folder), full=full), trial.run("inspect", "--dir", str(folder), full=full)
 
 
 def check_found(trial: Trial, what: str, folder: pathlib.Path, recovered: str, lines: str, noted: str = "") -> None:
@@ -490,12 +492,12 @@ def try_found(trial: Trial) -> None:
 # Files of which one was lost: an empty one beside an image of tick 3, an empty log beside ticks, and a log that begins after
 # the recovered tick.
 LOST = (
-    (("", IMAGE_OF_3, LOG_OF_3, LOG_OF_4), 14, "an image file is damaged: image.a is empty, so it was lost"),
-    ((IMAGE_OF_3, "", LOG_OF_3, LOG_OF_4), 14, "an image file is damaged: image.b is empty, so it was lost"),
-    ((IMAGE_OF_3, IMAGE_OF_2, "", LOG_OF_4), 15, "a log file is damaged: log.a is empty, so it was lost"),
-    ((IMAGE_OF_3, IMAGE_OF_2, LOG_OF_3, ""), 15, "a log file is damaged: log.b is empty, so it was lost"),
-    ((NEW_IMAGE, "", LOG_OF_GROUPS, ""), 15, "a log file is damaged: log.b is empty, so it was lost"),
-    ((NEW_IMAGE, "", "", LOG_OF_GROUPS), 15, "a log file is damaged: log.a is empty, so it was lost"),
+    ((b"", IMAGE_OF_3, LOG_OF_3, LOG_OF_4), 14, "an image file is damaged: image.a is empty, so it was lost"),
+    ((IMAGE_OF_3, b"", LOG_OF_3, LOG_OF_4), 14, "an image file is damaged: image.b is empty, so it was lost"),
+    ((IMAGE_OF_3, IMAGE_OF_2, b"", LOG_OF_4), 15, "a log file is damaged: log.a is empty, so it was lost"),
+    ((IMAGE_OF_3, IMAGE_OF_2, LOG_OF_3, b""), 15, "a log file is damaged: log.b is empty, so it was lost"),
+    ((NEW_IMAGE, b"", LOG_OF_GROUPS, b""), 15, "a log file is damaged: log.b is empty, so it was lost"),
+    ((NEW_IMAGE, b"", b"", LOG_OF_GROUPS), 15, "a log file is damaged: log.a is empty, so it was lost"),
     ((IMAGE_OF_2, b"\0", b"\0", LOG_OF_4), 15, "a log file is damaged: log.b begins after ticks that were lost"),
     ((b"\0", IMAGE_OF_2, NEW_LOG_OF_3, b"\0"), 15, "a log file is damaged: log.a begins after ticks that were lost"),
 )
@@ -505,7 +507,6 @@ def try_lost(trial: Trial) -> None:
     """Files of which one was lost: no command takes them for a world, and nothing is written."""
     serve = "--method", "zigzag", "--port", "0", "--clients", "1"
     for files, code, why in LOST:
-        files = tuple(data or b"" for data in files)
         fault = f"fault {code}\nworldd: {why}\n"
         with new_folder(*files) as folder, new_folder() as to:
             for line in (("recover",), ("status",), ("serve", *serve), ("backup", "--to", str(to))):
@@ -534,7 +535,7 @@ def try_doubtful(trial: Trial) -> None:
             trial.ends(f"recover beside {logs}", trial.run("recover", "--dir", str(folder)), "recovered 0 from 0\n", note, 0)
             line = f"serve --dir {folder} --method zigzag --port 0 --clients 1".split()
             with subprocess.Popen([trial.program, *line], stdout=subprocess.PIPE, stderr=subprocess.PIPE, text=True) as server:
-                address = [server.stdout.readline() for _ in range(2)][-1].split()[-1]
+                address = begun(server)[1].split()[-1]
                 trial.check(f"serve beside {logs}", answer_to(address, b"end\n"), "tick 1:\n")
                 _, errors = server.communicate(timeout=SECONDS)
             trial.runs += 1
@@ -657,12 +658,6 @@ def try_not_serving(trial: Trial) -> None:
             refused(f"fault {fault}", folder, f"fault {fault}\n")
 
 
-def free_port() -> int:
-    """A port on which nobody listens."""
-    with socket.create_server(("127.0.0.1", 0)) as listener:
-        return listener.getsockname()[1]
-
-
 def answer_to(address: str, batch: bytes) -> str:
     """What a client is answered that writes a batch."""
     with connect(address) as client:
@@ -676,8 +671,7 @@ def serve_two(trial: Trial, folder: pathlib.Path, method: str, transport: str, m
     address = str(folder / "socket") if transport == SOCKET else str(free_port())
     line = f"serve --dir {folder} --method {method} --{transport} {address} --clients 2".split()
     with subprocess.Popen([trial.program, *line, *more], stdout=subprocess.PIPE, stderr=subprocess.PIPE, text=True) as server:
-        begun = server.stdout.readline(), server.stdout.readline()
-        trial.check(f"serve {more}", begun, ("recovered 0 from 0\n", f"listening {address}\n"))
+        trial.check(f"serve {more}", begun(server), ["recovered 0 from 0\n", f"listening {address}\n"])
         answers = (
             answer_to(address, b"set 0 5\nget 0\nmove 0 1 9\nfoo\nend\n"),
             answer_to(address, b"add 0 1\nget 0\nend\n"),
@@ -711,9 +705,9 @@ def try_largest(trial: Trial) -> None:
         line = f"serve --dir {folder} --method zigzag --every 65536 --port {port} --clients 1".split()
         for first in (0, LARGEST_TICKS):
             with subprocess.Popen([trial.program, *line], stdout=subprocess.PIPE, stderr=subprocess.DEVNULL, text=True) as server:
-                begun = server.stdout.readline(), server.stdout.readline()
-                trial.check("the largest world", begun, (f"recovered {first} from 0\n", f"listening {port}\n"))
-                answers = answer_to(port, batch.encode() * LARGEST_TICKS) if begun[1] else ""
+                lines = begun(server)
+                trial.check("the largest world", lines, [f"recovered {first} from 0\n", f"listening {port}\n"])
+                answers = answer_to(port, batch.encode() * LARGEST_TICKS) if lines[1] else ""
                 want = [f"tick {n}:{' +' * 255} ={n}" for n in range(first + 1, first + LARGEST_TICKS + 1)]
                 trial.check("answers of the largest world", answers.splitlines() == want, True)
                 output, _ = server.communicate(timeout=SECONDS)
@@ -724,12 +718,12 @@ def try_largest(trial: Trial) -> None:
 
 
 @contextlib.contextmanager
-def reporting(trial: Trial, *flags: str, **process) -> Iterator[tuple[str, pathlib.Path]]:
+def reporting(trial: Trial, *flags: str, **process: Any) -> Iterator[tuple[str, pathlib.Path]]:
     """A server that prints its figures each second: its address, and the file of what it prints."""
     with new_folder(NEW_IMAGE, b"", b"", b"") as folder, open(folder / "errors", "w") as errors:
         line = f"serve --dir {folder} --method zigzag --port 0 --report 1".split()
         with subprocess.Popen([trial.program, *line, *flags], stdout=subprocess.PIPE, stderr=errors, text=True, **process) as server:
-            yield [server.stdout.readline() for _ in range(2)][-1].split()[-1], folder / "errors"
+            yield begun(server)[1].split()[-1], folder / "errors"
             server.communicate(timeout=SECONDS)
         trial.runs += 1
 
@@ -761,7 +755,7 @@ def try_reporting_down(trial: Trial) -> None:
     limit = functools.partial(resource.setrlimit, resource.RLIMIT_FSIZE, (FILE_LIMIT, FILE_LIMIT))
     with reporting(trial, "--clients", "1", "--every", "65536", preexec_fn=limit) as (address, errors):
         with connect(address) as client, client.makefile() as reader:
-            answers = []
+            answers: list[str] = []
             while not answers or answers[-1].startswith("tick"):
                 client.sendall(b"add 0 1\nend\n")
                 answers.append(reader.readline())

@@ -20,8 +20,10 @@ import subprocess
 import sys
 import tempfile
 from collections.abc import Iterator
+from typing import Any
 
-from surroundings_trial import NAMES, OWNER, STRANGER, Server, Wrong, is_root, want
+from surroundings_trial import OWNER, STRANGER, Client, Server, Wrong, is_root, want
+from trial import Words, as_user
 
 TICKS, SECONDS = 30, 30
 READS = ("recover",), ("inspect",), ("inspect", "--words"), ("status",)
@@ -111,7 +113,7 @@ def stopped(source: pathlib.Path, place: pathlib.Path) -> Iterator[None]:
     with filled(source, place) as file:
         make("mount", "-t", "sysfs", "sysfs", place.with_suffix(".sys"))
         with unmounted(place.with_suffix(".sys")):
-            find = ["losetup", "--noheadings", "--output", "NAME", "--associated", file]
+            find: Words = ["losetup", "--noheadings", "--output", "NAME", "--associated", file]
             loop = pathlib.Path(subprocess.run(find, capture_output=True, text=True).stdout.strip()).name
             (place.with_suffix(".sys") / "fs/ext4" / loop / "trigger_fs_error").write_text("1")
         yield
@@ -165,15 +167,14 @@ class Trial:
         shutil.copy(worldd, self.worldd)
         self.worldd.chmod(0o755)
         room.chmod(0o755)
-        self.as_user: dict[str, object] = {}
+        self.as_user: dict[str, Any] = {}
         self.met: dict[str, collections.Counter[str]] = {}
         self.copies = 0
 
     def run(self, *words: object) -> Outcome:
         """Runs a command to its end, as the user whose turn it is."""
         command = [str(word) for word in (self.worldd, *words)]
-        how = {"stdin": subprocess.DEVNULL, "capture_output": True, "text": True, "timeout": SECONDS, **self.as_user}
-        run = subprocess.run(command, **how)
+        run = subprocess.run(command, stdin=subprocess.DEVNULL, capture_output=True, text=True, timeout=SECONDS, **self.as_user)
         return Outcome(run.returncode, run.stdout, run.stderr, None)
 
     def make_worlds(self) -> None:
@@ -240,10 +241,10 @@ class Trial:
             wanted = Outcome(1, "", f"fault 18\nworldd: {place / folder}/image.a: {reason}\n", None)
             want(outcome == wanted, f"{command[0]} on {way}: {outcome}")
             self.met[way][f"{command[0]} refused"] += 1
-        for command, world in (("backup", "played"), ("salvage", "damaged")):
-            outcome = self.run(command, "--dir", place / world, "--to", place / EMPTY)
-            wanted = rf"fault 18\nworldd: {re.escape(str(place / EMPTY))}/(image|log)\.[ab]: {re.escape(reason)}\n"
-            want(outcome.status == 1 and bool(re.fullmatch(wanted, outcome.errors)), f"{command} to {way}: {outcome}")
+        for copying, world in (("backup", "played"), ("salvage", "damaged")):
+            outcome = self.run(copying, "--dir", place / world, "--to", place / EMPTY)
+            form = rf"fault 18\nworldd: {re.escape(str(place / EMPTY))}/(image|log)\.[ab]: {re.escape(reason)}\n"
+            want(outcome.status == 1 and bool(re.fullmatch(form, outcome.errors)), f"{copying} to {way}: {outcome}")
             self.met[way]["copies to it refused"] += 1
 
     def served(self, way: str, place: pathlib.Path) -> None:
@@ -286,7 +287,7 @@ class Trial:
             if is_root():
                 os.chown(path, OWNER, OWNER)
         for way, user in users.items():
-            self.as_user = {"user": user, "group": user, "extra_groups": []} if user else {}
+            self.as_user = as_user(user) if user else {}
             self.only_read(way, place, DENIED)
             if user == STRANGER:
                 for path in (self.worlds / SERVED).iterdir():
@@ -312,7 +313,7 @@ class Trial:
             want(not missed, f"{way}: never met: {', '.join(missed)}")
 
 
-def played(client, ticks: int, before: int = 0) -> None:
+def played(client: Client, ticks: int, before: int = 0) -> None:
     """Plays so many ticks."""
     for tick in range(before + 1, before + ticks + 1):
         want(client.play(b"add %d 3\n" % (tick % 10)).startswith(b"tick %d:" % tick), f"tick {tick} wasn't answered")

@@ -25,8 +25,10 @@ import sys
 import tempfile
 import threading
 import time
+from typing import Any
 
 from surroundings_trial import NAMES, Client, Wrong, is_root, want
+from trial import Words, as_user, begun, found_in_text
 
 TOP = pathlib.Path(__file__).resolve().parent.parent
 MANUAL = (TOP / "docs" / "OPERATIONS.md").read_text()
@@ -48,7 +50,7 @@ STANDBY = {"promote", "step-down", "fence-peer", "standby.conf", "world.res"}
 MAKING, BACKUP = "**2. Make a user, its folder, and a world**", "**While it serves**"
 RESTORE, SAVING, LARGER = "**Restore.**", "**Files are removed**", "**A world gets more cells**"
 USER, PROGRAM = "world", "/usr/local/bin/worldd"
-AS_USER = {"user": USER, "group": USER, "extra_groups": []}
+AS_USER = as_user(USER)
 WORLD, OTHER, COPY = (pathlib.Path(path) for path in ("/var/lib/world", "/var/lib/world2", "/var/backups/world.1"))
 # The folder of the sockets, in the namespace.
 SOCKETS = pathlib.Path("/var/sockets")
@@ -62,8 +64,8 @@ CASES = (
 def recipe(name: str) -> str:
     """The commands of the manual after these words."""
     lines = MANUAL.partition(name)[2].splitlines()
-    begin = next((number for number, line in enumerate(lines) if line.startswith("    ")), None)
-    want(begin is not None, f"the manual has no recipe after `{name}`")
+    begin = next((number for number, line in enumerate(lines) if line.startswith("    ")), len(lines))
+    want(begin < len(lines), f"the manual has no recipe after `{name}`")
     end = next(number for number, line in enumerate(lines) if number > begin and not line.startswith("    "))
     return "\n".join(line[4:] for line in lines[begin:end])
 
@@ -75,10 +77,10 @@ def follow(name: str, room: pathlib.Path | None = None, **words: object) -> str:
     for word, given in words.items():
         want(word in text, f"the recipe after `{name}` has no {word}")
         text = re.sub(rf"\b{word}\b", str(given), text)
-    who = AS_USER | {"cwd": room} if room else {}
+    who: dict[str, Any] = AS_USER | {"cwd": room} if room else {}
     run = subprocess.run(["sh", "-e", "-u", "-c", text], capture_output=True, text=True, timeout=SECONDS, **who)
     want(run.returncode == 0, f"the recipe after `{name}` ends with {run.returncode}: {run.stdout}{run.stderr}")
-    return run.stdout
+    return str(run.stdout)
 
 
 class Player(threading.Thread):
@@ -98,18 +100,20 @@ class Trial:
     """The servers and the counts so far."""
 
     def __init__(self) -> None:
-        self.met, self.sockets = collections.Counter(), itertools.count()
-        self.servers: list[subprocess.Popen] = []
+        self.met: collections.Counter[str] = collections.Counter()
+        self.sockets = itertools.count()
+        self.servers: list[subprocess.Popen[str]] = []
 
-    def serve(self, folder: pathlib.Path) -> tuple[subprocess.Popen, int, Player]:
+    def serve(self, folder: pathlib.Path) -> tuple[subprocess.Popen[str], int, Player]:
         """A server of a folder, as the user of the world: its process, the tick that it recovered, and a client that plays."""
         place = SOCKETS / str(next(self.sockets))
-        command = [PROGRAM, "serve", "--dir", folder, "--method", "zigzag", "--every", "8", "--socket", place, "--clients", "10"]
+        command: Words = [PROGRAM, "serve", "--dir", folder, *"--method zigzag --every 8 --clients 10 --socket".split(), place]
         server = subprocess.Popen(command, stdout=subprocess.PIPE, stderr=subprocess.DEVNULL, text=True, **AS_USER)
         self.servers.append(server)
-        lines = [server.stdout.readline() for _ in range(2)]
-        match = re.fullmatch(r"recovered (\d+) from \d+\n", lines[0])
-        want(bool(match) and lines[1] == f"listening {place}\n", f"the user can't serve {folder}: {lines}")
+        lines = begun(server)
+        match = re.fullmatch(rf"recovered (\d+) from \d+\nlistening {place}\n", "".join(lines))
+        if not match:
+            raise Wrong(f"the user can't serve {folder}: {lines}")
         player = Player(str(place))
         end = time.monotonic() + SECONDS
         while player.answered < int(match[1]) + 50:
@@ -121,12 +125,13 @@ class Trial:
         """A folder has to belong to the user, and to hold each tick up to this one with its words. It gives the tick."""
         owner = WORLD.stat()
         for path, mode in ((folder, 0o700), *((folder / name, 0o600) for name in NAMES)):
-            found = path.stat()
-            want((found.st_uid, found.st_gid) == (owner.st_uid, owner.st_gid), f"{path} belongs to another user")
-            want(stat.S_IMODE(found.st_mode) == mode, f"{path} has the mode {stat.S_IMODE(found.st_mode):o}")
+            of_path = path.stat()
+            want((of_path.st_uid, of_path.st_gid) == (owner.st_uid, owner.st_gid), f"{path} belongs to another user")
+            want(stat.S_IMODE(of_path.st_mode) == mode, f"{path} has the mode {stat.S_IMODE(of_path.st_mode):o}")
         run = subprocess.run([PROGRAM, "inspect", "--dir", folder, "--words"], capture_output=True, text=True)
         found = re.search(r"^recovered (\d+) from \d+ in image\.[ab]\n(\d+) ", run.stdout, re.MULTILINE)
-        want(bool(found) and found[1] == found[2], f"{folder} holds other words: {run.stdout[:300]}{run.stderr}")
+        if not found or found[1] != found[2]:
+            raise Wrong(f"{folder} holds other words: {run.stdout[:300]}{run.stderr}")
         want(int(found[1]) >= floor, f"{folder} holds tick {found[1]}, and tick {floor} was answered")
         return int(found[1])
 
@@ -157,14 +162,14 @@ class Trial:
         """A backup under a server, its restore, and files that are removed under the server."""
         server, _, player = self.serve(WORLD)
         floor = player.answered
-        match = re.search(r"^backed up (\d+) from \d+$", follow(BACKUP), re.MULTILINE)
-        want(bool(match) and int(match[1]) >= floor, f"tick {floor} was answered before a copy of {match}")
+        copied = int(found_in_text(r"^backed up (\d+) from \d+$", follow(BACKUP))[1])
+        want(copied >= floor, f"tick {floor} was answered before a copy of {copied}")
         self.met["copies while it serves"] += 1
-        self.met["copies ahead of the answers"] += int(match[1]) > floor
+        self.met["copies ahead of the answers"] += copied > floor
         follow(RESTORE)
-        want(self.holds(OTHER, floor) == int(match[1]), "what was restored is another tick")
+        want(self.holds(OTHER, floor) == copied, "what was restored is another tick")
         self.met["copies restored"] += 1
-        self.serves_again(OTHER, int(match[1]))
+        self.serves_again(OTHER, copied)
         shutil.rmtree(COPY)
         for name in NAMES:
             (WORLD / name).unlink()
@@ -261,7 +266,9 @@ def furnish(worldd: pathlib.Path, room: pathlib.Path) -> None:
     (room / "bin").mkdir()
     shutil.copy(worldd, room / "bin" / "worldd")
     (room / "bin" / "worldd").chmod(0o755)
-    mounts = ("--bind", room / "etc", "/etc"), ("--bind", room / "bin", "/usr/local/bin"), ("-t", "tmpfs", "tmpfs", "/var")
+    mounts: tuple[Words, ...] = (
+        ("--bind", room / "etc", "/etc"), ("--bind", room / "bin", "/usr/local/bin"), ("-t", "tmpfs", "tmpfs", "/var"),
+    )
     for words in mounts:
         subprocess.run(["mount", *words], check=True)
     for folder in (WORLD.parent, COPY.parent, SOCKETS):

@@ -19,7 +19,7 @@ import sys
 import tempfile
 import time
 
-from kill_trial import CELLS, Wrong, changes, random_request
+from kill_trial import CELLS, Request, Wrong, changes, random_request
 
 NAMES = ("image.a", "image.b", "log.a", "log.b")
 QUIET, PATIENCE_SECONDS, SECTOR, MARK = subprocess.DEVNULL, 60, 512, 0x20 << 56
@@ -41,9 +41,9 @@ class World:
         turn = chance.choice((1, -1))
         self.files = dict(zip(NAMES, [*images[::turn], *logs[:: chance.choice((1, -1))]]))
 
-    def tick(self) -> list[tuple]:
+    def tick(self) -> list[Request]:
         """Plays a tick of random actions, and gives those that were accepted."""
-        words, taken = list(self.words[-1]), []
+        words, taken = list(self.words[-1]), list[Request]()
         for request in (random_request(self.chance) for _ in range(self.chance.randrange(1, 9))):
             changed = changes(words, request) if request[0] in KINDS else 0
             if isinstance(changed, dict):
@@ -57,7 +57,7 @@ class World:
         """The image of this tick."""
         return struct.pack("<BQQ", 1, CELLS | MARK, tick) + struct.pack(f"<{CELLS}Q", *self.words[tick])
 
-    def segment(self, base: int, ticks: list[list[tuple]]) -> bytes:
+    def segment(self, base: int, ticks: list[list[Request]]) -> bytes:
         """The segment of these ticks, in groups."""
         made, left = struct.pack("<BQ", 1, base | MARK), list(ticks)
         while left:
@@ -65,7 +65,7 @@ class World:
             made += struct.pack("<BH", 1, len(group))
             for tick in group:
                 made += struct.pack("<H", len(tick))
-                made += b"".join(struct.pack(f"<B{KINDS[kind][1]}", KINDS[kind][0], *rest) for kind, *rest in tick)
+                made += b"".join(struct.pack(f"<B{KINDS[str(kind)][1]}", KINDS[str(kind)][0], *rest) for kind, *rest in tick)
         return made + b"\0"
 
     def has_gate(self, name: str, place: int) -> bool:

@@ -30,8 +30,10 @@ import tempfile
 import threading
 import time
 from collections.abc import Callable, Iterator
+from typing import Any
 
 from kill_trial import PORT, SOCKET, TRANSPORTS, connect
+from trial import Words, as_user, begun, closing, errors_of, found_in_text, free_port, output_of
 
 NAMES = ("image.a", "image.b", "log.a", "log.b")
 PATIENCE_SECONDS = 30
@@ -77,7 +79,7 @@ CASES = (
 CASES_OF_ROOT = ("user let in", "user refused", "socket never open to others", "shortage of room", "no /dev/null")
 # Users and groups, which the system need not know. The server's own are the first ones.
 OWNER, STRANGER = 61_001, 61_002
-AS_OWNER, AS_STRANGER = ({"user": user, "group": user, "extra_groups": []} for user in (OWNER, STRANGER))
+AS_OWNER, AS_STRANGER = as_user(OWNER), as_user(STRANGER)
 LET_IN, REFUSED = 0, 13
 # How many servers start at each mode while a stranger tries to connect.
 STARTS = 25
@@ -94,20 +96,9 @@ def want(is_so: bool, what: str) -> None:
         raise Wrong(what)
 
 
-def closing(descriptors: tuple[int, ...]) -> Callable[[], None]:
-    """Closes these descriptors in a new process."""
-    return lambda: [os.close(descriptor) for descriptor in descriptors]
-
-
 def limiting(kind: int, most: int) -> Callable[[], None]:
     """Limits a resource of a new process."""
     return lambda: resource.setrlimit(kind, (most, most))
-
-
-def free_port() -> int:
-    """A port that nobody listens on."""
-    with socket.create_server(("127.0.0.1", 0)) as probe:
-        return probe.getsockname()[1]
 
 
 class Client:
@@ -136,7 +127,7 @@ class Server:
 
     def __init__(
         self, worldd: str, folder: pathlib.Path, *flags: str, clients: int = 100_000, transport: str = "port",
-        path: pathlib.Path | None = None, **process
+        path: pathlib.Path | None = None, **process: Any
     ) -> None:
         self.worldd, self.folder, self.path = worldd, folder, path or folder.with_suffix(".socket")
         if not folder.exists():
@@ -145,7 +136,8 @@ class Server:
         self.address = str(self.path) if transport == SOCKET else str(free_port())
         fixed = ("--method", "zigzag", f"--{transport}", self.address, "--clients", str(clients))
         process = {"stdout": subprocess.PIPE, "stderr": subprocess.PIPE, **process}
-        self.process = subprocess.Popen([worldd, "serve", "--dir", folder, *fixed, *flags], **process)
+        command: Words = [worldd, "serve", "--dir", folder, *fixed, *flags]
+        self.process: subprocess.Popen[bytes] = subprocess.Popen(command, **process)
 
     def client(self) -> Client:
         """A new client, once the server listens."""
@@ -181,7 +173,7 @@ class Server:
         """The files must hold the world after so many ticks or more, and nothing else."""
         run = subprocess.run([self.worldd, "recover", "--dir", self.folder], capture_output=True, text=True)
         found = re.fullmatch(r"recovered (\d+) from \d+\n", run.stdout)
-        want(bool(found) and int(found[1]) >= ticks, f"{ticks} ticks were answered: {run.stdout}{run.stderr}")
+        want(found is not None and int(found[1]) >= ticks, f"{ticks} ticks were answered: {run.stdout}{run.stderr}")
         has_no_text(self.folder)
 
 
@@ -204,11 +196,11 @@ class Trial:
         """A folder that isn't there yet."""
         return self.scratch / f"world{next(self.folders)}"
 
-    def server(self, *flags: str, **process) -> Server:
+    def server(self, *flags: str, **process: Any) -> Server:
         """A server of a new world."""
         return Server(self.worldd, self.folder(), *flags, **process)
 
-    def run(self, *words: object, **process) -> subprocess.CompletedProcess:
+    def run(self, *words: object, **process: Any) -> subprocess.CompletedProcess[Any]:
         """Runs a command to its end."""
         return subprocess.run([self.worldd, *map(str, words)], timeout=PATIENCE_SECONDS, **process)
 
@@ -282,8 +274,8 @@ class Trial:
         crowd = [server.client() for _ in range(40)]
         for client in crowd[:4]:
             want(client.play().startswith(b"tick"), "a client that came first got no answer")
-        line = server.process.stderr.readline()
-        want(line.startswith(b"worldd: clients wait: Too many open files"), f"no line of a shortage: {line}")
+        line = errors_of(server.process).readline()
+        want(line.startswith(b"worldd: clients wait: Too many open files"), f"no line of a shortage: {line!r}")
         self.met["descriptors exhausted"] += 1
         spent = processor_seconds(server.process.pid)
         time.sleep(1)
@@ -292,8 +284,8 @@ class Trial:
             client.leave()
         late = server.client()
         want(late.play().startswith(b"tick"), "no answer after a shortage")
-        line = server.process.stderr.readline()
-        want(line == b"worldd: clients no longer wait\n", f"no line of the end of a shortage: {line}")
+        line = errors_of(server.process).readline()
+        want(line == b"worldd: clients no longer wait\n", f"no line of the end of a shortage: {line!r}")
         self.met["descriptors freed"] += 1
         server.kill()
         server.holds(5)
@@ -341,7 +333,7 @@ class Trial:
     def unread_errors(self) -> None:
         """Nobody reads standard error for ten thousand ticks and many images."""
         server = self.server("--every", "1", clients=1)
-        fcntl.fcntl(server.process.stderr, fcntl.F_SETPIPE_SZ, SMALL_PIPE)
+        fcntl.fcntl(errors_of(server.process), fcntl.F_SETPIPE_SZ, SMALL_PIPE)
         client = server.client()
         for tick in range(1, 10_001):
             want(client.play().startswith(b"tick %d:" % tick), f"tick {tick} with errors unread")
@@ -353,7 +345,7 @@ class Trial:
         begun = time.monotonic()
         status = server.process.wait(PATIENCE_SECONDS)
         want(status == 0 and time.monotonic() - begun < 10, f"the end with errors unread: {status}")
-        errors = server.process.stderr.read().decode()
+        errors = errors_of(server.process).read().decode()
         want(0 < errors.count("opened") < 9_000, "lines were not dropped")
         self.met["lines dropped"] += 1
         server.holds(10_000)
@@ -456,11 +448,11 @@ class Trial:
             want(errors.count(line) == wanted, f"{name}, {wanted} lines wanted: {errors}")
             self.met["lost file named"] += wanted
 
-    def server_line(self, folder: pathlib.Path, **process) -> str:
+    def server_line(self, folder: pathlib.Path, **process: Any) -> str:
         """What `status` prints of the server of a world."""
         command = (process.pop("program", self.worldd), "status", "--dir", folder)
         run = subprocess.run(command, capture_output=True, text=True, timeout=PATIENCE_SECONDS, **process)
-        line = run.stdout.splitlines()[-1] if run.stdout else ""
+        line: str = run.stdout.splitlines()[-1] if run.stdout else ""
         unread = run.returncode == 1 and ": Permission denied (os error 13)\n" in run.stderr
         want(line in SERVER_LINES and (run.returncode == 0 or unread), f"status prints {run.stdout}{run.stderr}")
         self.met[line] += 1
@@ -498,7 +490,7 @@ class Trial:
     def end_log(self, server: Server, client: Client) -> None:
         """Plays until the log is down, since its file may hardly grow."""
         figures = self.run("status", "--dir", server.folder, capture_output=True, text=True).stdout
-        most = (server.folder / re.search(r"(log\.[ab]) has", figures)[1]).stat().st_size + 3
+        most = (server.folder / found_in_text(r"(log\.[ab]) has", figures)[1]).stat().st_size + 3
         resource.prlimit(server.process.pid, resource.RLIMIT_FSIZE, (most, most))
         end = time.monotonic() + PATIENCE_SECONDS
         while client.play().startswith(b"tick"):
@@ -511,7 +503,7 @@ class Trial:
         worldd = self.scratch / "worldd"
         shutil.copy(self.worldd, worldd)
         worldd.chmod(0o755)
-        how = {"program": worldd, **(AS_STRANGER if is_root() else {})}
+        how: dict[str, Any] = {"program": worldd, **(AS_STRANGER if is_root() else {})}
         server = self.server()
         server.client().play()
         for name in NAMES:
@@ -539,8 +531,8 @@ class Trial:
                 process = subprocess.Popen((self.worldd, *command, "--dir", folder), stdout=subprocess.PIPE)
                 time.sleep(0.2)
                 want(process.poll() is None, f"{command[0]} ended beside a reader")
-            line = process.stdout.readline()
-            want(line in (b"recovered 0 from 0\n", b"created 2\n"), f"{command[0]} beside a reader that has gone: {line}")
+            line = output_of(process).readline()
+            want(line in (b"recovered 0 from 0\n", b"created 2\n"), f"{command[0]} beside a reader that has gone: {line!r}")
             process.kill()
             process.communicate()
             self.met["reader waited for"] += 1
@@ -550,7 +542,7 @@ class Trial:
         folder = self.folder()
         folder.mkdir()
         self.run("create", "--dir", folder, "--cells", 2, capture_output=True)
-        command = (self.worldd, "serve", "--dir", folder, *"--method zigzag --port 0 --clients 1".split())
+        command: Words = (self.worldd, "serve", "--dir", folder, *"--method zigzag --port 0 --clients 1".split())
         with Lookers(self, folder):
             for _ in range(LOOKED_AT):
                 self.starts(command, 1)
@@ -559,16 +551,16 @@ class Trial:
                 self.starts(command, 2)
                 self.met["one of two servers"] += 1
 
-    def starts(self, command: tuple[object, ...], count: int) -> None:
+    def starts(self, command: Words, count: int) -> None:
         """So many servers of one world start at once: one of them serves it."""
         servers = [subprocess.Popen(command, stdout=subprocess.PIPE, stderr=subprocess.PIPE) for _ in range(count)]
-        serving = [server for server in servers if server.stdout.readline().startswith(b"recovered")]
+        serving = [server for server in servers if output_of(server).readline().startswith(b"recovered")]
         for server in servers:
             if server not in serving:
                 errors = server.communicate()[1].decode()
                 want(errors.endswith(f": {HELD}\n"), f"a start was refused: {errors}")
         want(len(serving) == 1, f"{len(serving)} of {count} servers serve one world")
-        line = serving[0].stdout.readline()
+        line = output_of(serving[0]).readline()
         serving[0].kill()
         errors = serving[0].communicate()[1].decode()
         want(line.startswith(b"listening"), f"a server ended beside looks: {errors}")
@@ -638,7 +630,7 @@ class Trial:
                 want(status == 12 and not server.path.exists(), f"the end by the log: {status}")
                 self.met["ended by its log"] += 1
             else:
-                want(answer == b"fault 12\n", f"the answer after the log is down: {answer}")
+                want(answer == b"fault 12\n", f"the answer after the log is down: {answer!r}")
                 idle.leave()
                 client.leave()
                 status, _, errors = server.end()
@@ -813,13 +805,13 @@ class Trial:
         path = room / "socket"
         fixed = (worldd, "serve", "--dir", room, "--method", "zigzag", "--clients", "100000", "--socket", path)
         for mode, of_group, of_all in (("0600", False, False), ("0660", True, False), ("0666", True, True)):
-            command = (*fixed, "--socket-mode", mode)
+            command: Words = (*fixed, "--socket-mode", mode)
             with serving(command):
                 for user, group, may in ((OWNER, OWNER, True), (STRANGER, OWNER, of_group), (STRANGER, STRANGER, of_all)):
                     self.enter(path, mode, user, group, may)
             self.knocked(command, path, of_all)
 
-    def knocked(self, command: tuple[object, ...], path: pathlib.Path, may: bool) -> None:
+    def knocked(self, command: Words, path: pathlib.Path, may: bool) -> None:
         """A stranger tries to connect all the time while servers start at a path. It comes in if it may, and else never."""
         with Stranger(path) as stranger:
             for _ in range(STARTS):
@@ -853,11 +845,21 @@ class Trial:
             *((self.users,) if is_root() else ()),
         )
         return {
-            "short_connections": lambda: [self.short_connections(connections, transport) for transport in TRANSPORTS],
-            "door": lambda: [self.door(transport) for transport in TRANSPORTS],
+            "short_connections": over_each(lambda transport: self.short_connections(connections, transport)),
+            "door": over_each(self.door),
             **{part.__name__: part for part in single},
-            "too_long": lambda: [self.too_long(transport) for transport in TRANSPORTS],
+            "too_long": over_each(self.too_long),
         }
+
+
+def over_each(part: Callable[[str], None]) -> Callable[[], None]:
+    """A part that is tried over each transport."""
+
+    def try_each() -> None:
+        for transport in TRANSPORTS:
+            part(transport)
+
+    return try_each
 
 
 def become(user: int, group: int) -> None:
@@ -903,7 +905,7 @@ class Stranger:
             time.sleep(0.001)
         return self
 
-    def __exit__(self, *_) -> None:
+    def __exit__(self, *_: object) -> None:
         self.process.kill()
         self.process.join()
 
@@ -939,7 +941,7 @@ class Lookers:
         for thread in self.threads:
             thread.start()
 
-    def __exit__(self, *_) -> None:
+    def __exit__(self, *_: object) -> None:
         self.is_over.set()
         for thread in self.threads:
             thread.join()
@@ -949,11 +951,13 @@ class Lookers:
 
 
 @contextlib.contextmanager
-def serving(command: tuple[object, ...]) -> Iterator[None]:
+def serving(command: Words) -> Iterator[None]:
     """A server of the owner, whose process has no mask, from the line that it listens on."""
-    server = subprocess.Popen(command, umask=0, stdout=subprocess.PIPE, stderr=subprocess.DEVNULL, **AS_OWNER)
+    server: subprocess.Popen[bytes] = subprocess.Popen(
+        command, umask=0, stdout=subprocess.PIPE, stderr=subprocess.DEVNULL, **AS_OWNER
+    )
     try:
-        lines = [server.stdout.readline()[:9] for _ in range(2)]
+        lines = [line[:9] for line in begun(server)]
         want(lines == [b"recovered", b"listening"], f"no server of another user: {command}")
         yield
     finally:
