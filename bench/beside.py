@@ -7,7 +7,7 @@ Redis gets as many sets in a pipeline. A system that isn't installed is skipped.
 Each row has the medians of its runs: sets a second, batches a second, their ratio to those of Redis, the median of a batch's
 wait, the system's processor time a batch, and its ratio to that of Redis. Each run is divided by the run of Redis just before
 it over the same transport, and a ratio is the median of these quotients. SQLite runs in the process of its clients, so its
-processor time includes theirs, and its ratios are to Redis over the first transport. So are those of the row `device calls`, which
+processor time includes theirs, and its ratios are to Redis over the first transport. So are those of the row `device calls`. It
 has only the calls by which worldd makes a group of ticks durable, without a client: no batch can wait less.
 """
 import argparse
@@ -76,7 +76,7 @@ def measure(folder: pathlib.Path, found: list[System], loads: list[Load], runs: 
     """Measures one load over each of its transports: all series, those of Redis first."""
     redis, *others = found
     all_redis = [Series(redis, load.transport, [], []) for load in loads]
-    series = [Series(system, load.transport, [], []) for load in loads for system in others if load.transport in system.transports]
+    series = [Series(it, load.transport, [], []) for load in loads for it in others if load.transport in it.transports]
     series += [Series(system, LIBRARY, [], []) for system in others if LIBRARY in system.transports]
     for _ in range(runs):
         for one in series:

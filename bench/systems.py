@@ -260,7 +260,8 @@ def systems(worldd: str, world_load: str, every: list[int], room: str) -> list[S
     found.append(System("PostgreSQL", both, lacks, functools.partial(run_postgres, postgres_user())))
     lacks = missing("cc")
     driver = "" if lacks else driver_of("sqlite_sets", room, "-lsqlite3")
-    found.append(System("SQLite", (LIBRARY,), lacks or ([] if driver else ["libsqlite3-dev"]), functools.partial(run_sqlite, driver)))
+    lacks = lacks or ([] if driver else ["libsqlite3-dev"])
+    found.append(System("SQLite", (LIBRARY,), lacks, functools.partial(run_sqlite, driver)))
     driver = "" if lacks else driver_of("device_calls", room)
     found.append(System("device calls", (LIBRARY,), lacks, functools.partial(run_device_calls, driver)))
     return found

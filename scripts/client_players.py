@@ -9,7 +9,7 @@ from collections.abc import Callable
 from typing import Any
 
 from map import TOP
-from trial import Words, input_of, output_of
+from trial import Words, pipe
 
 import cektaulis
 from cektaulis import Action, Set
@@ -138,8 +138,8 @@ class CPlayer:
         self.process = subprocess.Popen([self.program], stdin=subprocess.PIPE, stdout=subprocess.PIPE, text=True, bufsize=1)
 
     def ask(self, command: str) -> str:
-        input_of(self.process).write(f"{command}\n")
-        return output_of(self.process).readline().removesuffix("\n")
+        pipe(self.process.stdin).write(f"{command}\n")
+        return pipe(self.process.stdout).readline().removesuffix("\n")
 
     def open(self, address: str, seconds: float) -> str:
         return self.ask(f"open {address} {seconds * 1000:.0f}")
@@ -193,7 +193,7 @@ class CPlayer:
         return int(self.ask(f"batch {', '.join(map(str, actions))}"))
 
     def close(self) -> None:
-        input_of(self.process).close()
+        pipe(self.process.stdin).close()
         self.process.wait(SECONDS)
 
 

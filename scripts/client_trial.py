@@ -43,10 +43,11 @@ from client_players import (
     ACTION_REFUSED, ANSWER_LOST, BAD_ACTION, BAD_ADDRESS, GARBLED, MARKER_REFUSED, NONE, NOT_CONNECTED, SECONDS, TOO_LARGE,
     UNANSWERED, CPlayer, Player, PythonPlayer, RustPlayer, build_players, compile_header, lessen_buffers,
 )
-from example_trial import Script, Step, Wrong
-from kill_trial import PORT, TRANSPORTS, Request, answer as answer_of_model
+from example_trial import Script, Step
+from kill_trial import Request, answer as answer_of_model
 from map import TOP
-from trial import Words, begun, found_in_text, free_port, output_of
+from trial import PORT, QUIET, TRANSPORTS, Words, Wrong
+from trial import all_met, ask, begun, create, found_in_text, free_port, parser_of, pipe, status_of
 
 import cektaulis
 from cektaulis import Action, Add, Cap, Get, Move, Set, Swap, Unanswered
@@ -90,14 +91,12 @@ class World:
     # It is there once the world is served.
     server: subprocess.Popen[str]
 
-    def __init__(self, worldd: pathlib.Path, room: pathlib.Path, transport: str, cells: int) -> None:
+    def __init__(self, worldd: str, room: pathlib.Path, transport: str, cells: int) -> None:
         self.worldd, self.room, self.transport = worldd, room, transport
         self.met: collections.Counter[str] = collections.Counter()
-        room.mkdir()
         # The address stays, so that a client finds the server again.
         self.address = str(free_port() if transport == PORT else room / "socket")
-        run: Words = [worldd, "create", "--dir", room, "--cells", str(cells)]
-        subprocess.run(run, check=True, stdout=subprocess.DEVNULL)
+        create(worldd, room, cells)
 
     def serve(self, address: str | None = None, room: pathlib.Path | None = None) -> None:
         """Starts the server, at its address and in its folder unless it gets others."""
@@ -108,7 +107,7 @@ class World:
 
     def kill(self) -> None:
         """Kills the server, running or held, unless it was killed."""
-        if output_of(self.server).closed:
+        if pipe(self.server.stdout).closed:
             return
         self.server.kill()
         self.server.communicate()
@@ -122,7 +121,7 @@ class World:
 class Trial(World):
     """The tries of one client."""
 
-    def __init__(self, player: Player, worldd: pathlib.Path, room: pathlib.Path, transport: str, cells: int = 4) -> None:
+    def __init__(self, player: Player, worldd: str, room: pathlib.Path, transport: str, cells: int = 4) -> None:
         super().__init__(worldd, room, transport, cells)
         self.player = player
 
@@ -244,8 +243,8 @@ def random_action(chance: random.Random) -> Action:
     """An action on a world of four cells, which may be refused."""
     cell, other = chance.choices((0, 1, 2, 3, 4), (30, 30, 30, 30, 1), k=2)
     amount = chance.choice((0, 1, 7, 50, 1000, LIMIT - 30, LIMIT, LIMIT + 1, 2**63 - 1))
-    kinds: list[Action] = [Set(cell, amount), Add(cell, chance.choice((1, -1)) * amount), Move(cell, other, amount), Swap(cell, other)]
-    kinds += [Move(cell, other, amount % 100), Add(cell, -(amount % 60)), Cap(cell, amount), Get(cell)]
+    kinds: list[Action] = [Set(cell, amount), Add(cell, chance.choice((1, -1)) * amount), Move(cell, other, amount)]
+    kinds += [Swap(cell, other), Move(cell, other, amount % 100), Add(cell, -(amount % 60)), Cap(cell, amount), Get(cell)]
     return chance.choice(kinds)
 
 
@@ -269,10 +268,11 @@ def try_polls(trial: Trial) -> None:
 def try_kept(trial: Trial) -> None:
     """Answers that came before the connection broke are received after `reconnect`, and before later ones. A call that plays
     a batch meanwhile returns its own answer."""
-    add, get, later = Step("add 1 1", "tick 1: +"), Step("get 1", "tick 2: =1"), Step("get 1", "tick 5: =1")
-    played, again = Step("get 1", "tick 3: =1"), Step("set 1 1", "tick 4: +")
+    added, got, played, again, later = "tick 1: +", "tick 2: =1", "tick 3: =1", "tick 4: +", "tick 5: =1"
+    before = Step("add 1 1", added), Step("get 1", got)
+    after = Step("get 1", played), Step("set 1 1", again), Step("get 1", later)
     for last in (Step("get 2", None), Step("get 2", "fault 12")):
-        script = Script([add, get, last], [LOST_PROBE], [READY, played, again, later])
+        script = Script([*before, last], [LOST_PROBE], [READY, *after])
         trial.open(script.address)
         actions: tuple[Action, ...] = Add(1, 1), Get(1), Get(2)
         for action in actions:
@@ -283,19 +283,13 @@ def try_kept(trial: Trial) -> None:
         # The last answer may be on its way.
         time.sleep(0.05)
         trial.expect(trial.player.reconnect(SECONDS), "ok")
-        trial.expect(trial.player.play([Get(1)]), answer_of(played))
-        trial.expect(trial.player.again(SECONDS, [Set(1, 1)]), answer_of(again))
+        trial.expect(trial.player.play([Get(1)]), played)
+        trial.expect(trial.player.again(SECONDS, [Set(1, 1)]), again)
         trial.expect(trial.player.send([Get(1)]), "ok")
-        for step in (add, get, later):
-            trial.expect(trial.player.receive(1), answer_of(step))
+        for answer in (added, got, later):
+            trial.expect(trial.player.receive(1), answer)
         trial.met[KEPT] += 2
         script.end()
-
-
-def answer_of(step: Step) -> str:
-    """The answer of a step that has one."""
-    assert step.answer is not None
-    return step.answer
 
 
 def lost(step: Step) -> Step:
@@ -443,7 +437,7 @@ def try_silent_server(trial: Trial, other: str) -> None:
     trial.hold()
     held, copy = trial.server, trial.room.with_suffix(".copy")
     copy.mkdir()
-    subprocess.run([trial.worldd, "backup", "--dir", trial.room, "--to", copy], check=True, stdout=subprocess.DEVNULL)
+    ask(trial.worldd, "backup", trial.room, "--to", str(copy))
     late = threading.Timer(TURN / 2, trial.serve, [other, copy])
     late.start()
     trial.expect(trial.player.once(OWN, 402, SECONDS, [Add(1, 1), Get(1)]).partition(":")[2], " + =6")
@@ -621,7 +615,8 @@ def refuses(kind: type[Refusing], call: Callable[[], object]) -> Refusing:
 Try = tuple[str, list[list[Step]]]
 LOOK, PROBE, BATCH = "get 0", "", "set 0 5, add 1 1"
 NO, YES, READY, PLAYED = Step(LOOK, "tick 1: =4"), Step(LOOK, "tick 4: =5"), Step(PROBE, "tick 2:"), Step(BATCH, "tick 3: + +")
-LOST, LOST_LOOK, LOST_PROBE, FULL = Step(BATCH, None), Step(LOOK, None), Step(PROBE, None), Step(BATCH, "fault 6")
+LOST, LOST_LOOK, LOST_PROBE = Step(BATCH, None), Step(LOOK, None), Step(PROBE, None)
+FULL, DOWN = Step(BATCH, "fault 6"), Step(BATCH, "fault 12")
 
 
 def try_once(trial: Trial) -> None:
@@ -633,7 +628,7 @@ def try_once(trial: Trial) -> None:
         (played, [[NO, LOST], [READY, NO, PLAYED]]),
         (ANSWER_LOST, [[NO, LOST], [READY, YES]]),
         (ANSWER_LOST, [[NO, LOST], [LOST_PROBE], [READY, LOST_LOOK], [LOST_PROBE], [READY, YES]]),
-        (played, [[NO, Step(BATCH, "fault 12")], [Step(PROBE, "fault 12")], [READY, Step(LOOK, "fault 12")], [READY, NO, PLAYED]]),
+        (played, [[NO, DOWN], [Step(PROBE, "fault 12")], [READY, Step(LOOK, "fault 12")], [READY, NO, PLAYED]]),
         (played, [[NO, FULL, Step(BATCH, "fault 17"), PLAYED]]),
         (played, [[NO, LOST], [Step(PROBE, "fault 6"), Step(LOOK, "fault 17"), NO, PLAYED]]),
         (f"fault 21: {TEXTS[-21]}", [[NO, Step(BATCH, "fault 21")]]),
@@ -666,12 +661,12 @@ def try_bounds(trial: Trial) -> None:
         trial.open(str(silent.getsockname()[1]))
         expect_in_time(trial, [SHORT], NOT_CONNECTED, trial.player.reconnect)
 
-        def play(bound: float) -> str:
+        def play(connections: list[list[Step]], bound: float) -> str:
             trial.open(Script(*connections).address)
             return trial.player.once(OWN, 5, bound, [Add(1, 1)])
 
         for wanted, connections in tries:
-            expect_in_time(trial, BOUNDS, wanted, play)
+            expect_in_time(trial, BOUNDS, wanted, functools.partial(play, connections))
 
 
 def expect_in_time(trial: Trial, bounds: Sequence[float], wanted: str, call: Callable[[float], str]) -> None:
@@ -854,18 +849,17 @@ def try_client(trial: Trial, chance: random.Random) -> None:
 
 def try_both(name: str, kind: type[Player], given: argparse.Namespace, room: pathlib.Path, transport: str) -> None:
     """Tries a client over a port or a socket, and prints what was met."""
-    worldd, folder = given.worldd.resolve(), room / f"{name}-{transport}"
-    trial = Trial(kind(), worldd, folder, transport)
+    folder = room / f"{name}-{transport}"
+    trial = Trial(kind(), given.worldd, folder, transport)
     try_client(trial, random.Random(given.seed))
-    many = Trial(kind(), worldd, folder.with_suffix(".many"), transport, 8)
+    many = Trial(kind(), given.worldd, folder.with_suffix(".many"), transport, 8)
     kills, ends = try_kills_of_many(kind, many, random.Random(given.seed), given.kills)
     met = ", ".join(f"{it} {trial.met[it]}" for it in WANTED)
     print(f"client in {name} over a {transport}: {met}")
     print(f"  {kills} kills, {ends.total()} batches of four clients, each counted once: "
           + ", ".join(f"{it} {ends[it]}" for it in ENDS))
-    never = [it for it in WANTED if not trial.met[it]] + [it for it in ENDS if not ends[it]]
-    if never:
-        raise Wrong(f"never met: {', '.join(never)}")
+    all_met(trial.met, WANTED)
+    all_met(ends, ENDS)
 
 
 # The cells of the patterns: two markers of a turn and two cells of each of its batches; a marker of trades, purses and goods.
@@ -873,7 +867,7 @@ BEGUN, COMPLETE, FIRST, SECOND = 0, 1, (2, 3), (4, 5)
 TRADE, BUYER, ESCROW, SELLER, STOCK, BOUGHT = range(6, 12)
 
 
-def try_patterns(worldd: pathlib.Path, room: pathlib.Path) -> None:
+def try_patterns(worldd: str, room: pathlib.Path) -> None:
     """Two patterns of docs/CLIENT.md: a turn over two batches with a kill in between, and trades by escrow."""
     trial = Trial(PythonPlayer(), worldd, room / "patterns", PORT, 3000)
     trial.serve()
@@ -961,12 +955,13 @@ def try_package(room: pathlib.Path, version: str) -> None:
     if (cektaulis.__version__, pkg_config[1]) != (in_python, version):
         raise Wrong(f"the versions differ: {version}, {cektaulis.__version__} in Python, {pkg_config[1]} for pkg-config")
     pythons = sys.executable, "/usr/bin/python3"
-    has_builder = [it for it in pythons if not subprocess.run([it, "-c", "import flit_core"], stderr=subprocess.DEVNULL).returncode]
+    has_builder = [it for it in pythons if not subprocess.run([it, "-c", "import flit_core"], stderr=QUIET).returncode]
     if not has_builder:
         print("client_trial: there is no flit_core, so the package isn't tried")
         return
     before = sorted(PACKAGE.rglob("*"))
-    run = subprocess.run([has_builder[0], "-c", BUILD, room], cwd=PACKAGE, env=BY_HAND, capture_output=True, text=True, check=True)
+    build: Words = [has_builder[0], "-c", BUILD, room]
+    run = subprocess.run(build, cwd=PACKAGE, env=BY_HAND, capture_output=True, text=True, check=True)
     if left := set(PACKAGE.rglob("*")) - set(before):
         raise Wrong(f"the build of the package leaves {left}")
     with zipfile.ZipFile(room / run.stdout.strip()) as wheel:
@@ -984,32 +979,28 @@ def try_package(room: pathlib.Path, version: str) -> None:
 
 def main() -> int:
     """Tries all clients."""
-    parser = argparse.ArgumentParser(description=__doc__.splitlines()[0])
-    parser.add_argument("worldd", type=pathlib.Path, help="the built program")
+    parser = parser_of(__doc__)
     parser.add_argument("--seed", type=int, default=1)
     parser.add_argument("--kills", type=int, help=f"how often each server is killed, in place of {KILLING_SECONDS} seconds")
     given = parser.parse_args()
+
+    def prepare() -> None:
+        printed = subprocess.run([given.worldd, "--version"], capture_output=True, text=True, check=True).stdout
+        try_package(room, printed.split()[1])
+        try_patterns(given.worldd, room)
+        build_players(room)
+        compile_header()
+
     with tempfile.TemporaryDirectory(prefix="client-trial-") as folder:
         room = pathlib.Path(folder)
+        status = status_of("client_trial", prepare)
         kinds: dict[str, type[Player]] = {"python": PythonPlayer, "c": CPlayer}
-        try:
-            printed = subprocess.run([given.worldd, "--version"], capture_output=True, text=True, check=True).stdout
-            try_package(room, printed.split()[1])
-            try_patterns(given.worldd.resolve(), room)
-            build_players(room)
-            compile_header()
-        except (Wrong, OSError, subprocess.SubprocessError) as wrong:
-            print(f"client_trial: {wrong}", file=sys.stderr)
-            return 1
         if shutil.which("rustc"):
             kinds["rust"] = RustPlayer
         for (name, kind), transport in itertools.product(kinds.items(), TRANSPORTS):
-            try:
-                try_both(name, kind, given, room, transport)
-            except (Wrong, OSError, subprocess.SubprocessError) as wrong:
-                print(f"client_trial: {name} over a {transport}: {wrong}", file=sys.stderr)
-                return 1
-    return 0
+            run = functools.partial(try_both, name, kind, given, room, transport)
+            status = status or status_of(f"client_trial: {name} over a {transport}", run)
+    return status
 
 
 if __name__ == "__main__":

@@ -16,11 +16,8 @@ import subprocess
 import sys
 import tempfile
 
-from kill_trial import connect
-from memory_trial import built_watcher
-from trial import Words, absolute, begun
+from trial import PATIENCE_SECONDS, Words, absolute, begun, connect, create, library_of
 
-PATIENCE_SECONDS = 60
 MOST = ": at most "
 # The batches that are counted, how many lines each has, and how often it may allocate. The buffers have grown before.
 FEW, MANY, LINES = 200, 2200, 16
@@ -39,7 +36,7 @@ def counts_of(measures: str, library: pathlib.Path) -> tuple[list[str], list[int
                 pass_fds=[writer],
                 stdout=subprocess.PIPE,
                 text=True,
-                timeout=PATIENCE_SECONDS,
+                timeout=2 * PATIENCE_SECONDS,
                 check=True,
             )
         return run.stdout.splitlines(), [int(count) for count in counts]
@@ -65,9 +62,8 @@ def play(stream: socket.socket, numbers: range) -> None:
 def count_served(worldd: str, library: pathlib.Path, room: pathlib.Path) -> bool:
     """Prints how many allocations a served batch makes, and returns whether that is as few as it may."""
     folder, counter = room / "world", room / "counter"
-    folder.mkdir()
+    create(worldd, folder, LINES)
     counter.write_bytes(bytes(8))
-    subprocess.run([worldd, "create", "--dir", folder, "--cells", str(LINES)], check=True, stdout=subprocess.DEVNULL)
     flags = ["--method", "zigzag", "--port", "0", "--clients", "1", "--every", str(MANY)]
     watched = os.environ | {"LD_PRELOAD": str(library), "COUNTED_IN": str(counter)}
     command: Words = [worldd, "serve", "--dir", folder, *flags]
@@ -90,7 +86,7 @@ def main() -> int:
     given = parser.parse_args()
     with tempfile.TemporaryDirectory() as folder:
         room = pathlib.Path(folder)
-        library = built_watcher(room)
+        library = library_of("watched_allocations.c", room)
         lines, counts = counts_of(given.measures, library)
         held = [is_within(line, count) for line, count in zip(lines, counts, strict=True)]
         held.append(count_served(given.worldd, library, room))

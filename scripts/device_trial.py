@@ -16,17 +16,15 @@ import os
 import pathlib
 import random
 import re
-import shutil
 import subprocess
 import sys
-import tempfile
 import time
 from collections.abc import Callable
 
 import here_machine
-from kill_trial import CELLS, CLIENTS, METHODS, Answered, Batch, Found, Wrong, batches, found_in, judge, text_of
+from kill_trial import CELLS, CLIENTS, Answered, Batch, Found, batches, found_in, judge, text_of
 from power_machine import DISK, FLUSH, MOUNTED, READ, SECTOR, WAYS, WHOLE, WRITE, Machine, Rig, lacking, world_of
-from trial import absolute
+from trial import METHODS, Wrong, parser_of, status_in_folder, want
 
 FS, SMALL_MEGABYTES = ("ext4", "xfs"), 32
 # The ports of the clients are in front of the one on which calls are asked, and the one that starts the server again.
@@ -62,7 +60,7 @@ while read word <&3; do
 done
 """
 
-# A call that is to fail: in a start or in play, on a file, in a step, and by the call itself or by what the disk refuses under it.
+# A call that is to fail: in a start or in play, on a file, in a step, and by the call itself or by what the disk refuses.
 Failure = tuple[str, str, str, str]
 
 
@@ -327,7 +325,7 @@ class Trial(Rig):
         self.strayed = 0
         words = {"method": METHODS[run % 2], "every": random.choice(EVERY)}
         with self.start(**words) as running:
-            assert isinstance(running, (Machine, here_machine.Here))
+            assert isinstance(running, Machine | here_machine.Here)
             self.running = running
             self.running.refused = self.refused
             try:
@@ -352,25 +350,39 @@ class Trial(Rig):
 
     def counts(self) -> str:
         """What was met: all in all, and of each file in each step, in starts and in play."""
-        names = ("failed calls", *(f"by a {way}" for way in (CALL, *REFUSED)), "images down", "log down", "fault 18", "file system stopped")
-        names += ("failed elsewhere", "not met", "batches refused", "ticks answered", "cuts", *CUTS, "in play", "elsewhere", *WAYS)
+        names = ("failed calls", *(f"by a {way}" for way in (CALL, *REFUSED)), "images down", "log down", "fault 18")
+        names += ("file system stopped", "failed elsewhere", "not met", "batches refused", "ticks answered")
+        names += ("cuts", *CUTS, "in play", "elsewhere", *WAYS)
         counts = [f"{name} {self.tally[name]}" for name in names]
         for phase, file in dict.fromkeys(kind[:2] for kind in self.kinds):
             steps = dict.fromkeys(kind[2] for kind in self.kinds if kind[:2] == (phase, file))
-            met = {step: [f"{kind[3]} {self.tally[kind]}" for kind in self.kinds if kind[:3] == (phase, file, step)] for step in steps}
+            met = {it: [f"{kind[3]} {self.tally[kind]}" for kind in self.kinds if kind[:3] == (phase, file, it)] for it in steps}
             counts.append(f"{file} in {phase}: " + ", ".join(f"{step} ({', '.join(each)})" for step, each in met.items()))
         return "; ".join(counts)
 
 
+def result_of(given: argparse.Namespace, trial: Trial) -> str:
+    """What came of a trial, which without the drop has to be a loss."""
+    try:
+        with here_machine.writing_late() if given.here else contextlib.nullcontext():
+            counts = trial.run(given.failures)
+        want(not given.show, "no loss was seen without the drop of copies")
+        return counts
+    except (Wrong, OSError, subprocess.SubprocessError) as wrong:
+        if given.show and str(wrong).startswith("recovered"):
+            return f"without the drop on {given.fs}: seen at failed call {trial.tally['failed calls']}: {wrong}"
+        (trial.folder / "left").write_bytes(trial.left)
+        raise
+
+
 def main() -> int:
     """Runs the trial, and keeps the files where it fails."""
-    parser = argparse.ArgumentParser(description=__doc__.splitlines()[0])
-    parser.add_argument("worldd", type=absolute, help="the built program")
+    parser = parser_of(__doc__, "of the batches, the calls and what is left")
     parser.add_argument("--fs", choices=FS, default=FS[0], help="the file system (ext4)")
     parser.add_argument("--options", default="rw", help="of its mount (rw)")
     parser.add_argument("--cells", type=int, default=600, help=f"of the world, {CELLS} at least (600)")
     parser.add_argument("--failures", type=int, default=150, help="how many calls fail (150)")
-    parser.add_argument("--seed", type=int, default=time.time_ns() % 10**9, help="of the batches, the calls and what is left")
+
     parser.add_argument("--kernel", type=pathlib.Path, default="/", help="where a kernel is installed or unpacked (/)")
     parser.add_argument("--here", action="store_true", help="on this machine as root, by FUSE and a loop device, without QEMU")
     parser.add_argument("--show", action="store_true", help="keep the system's copies of the files at a start")
@@ -380,22 +392,10 @@ def main() -> int:
         print(f"device_trial: skipped: there is no {', no '.join(missing)}")
         return 0
     print(f"device_trial: seed {given.seed}", flush=True)
-    folder = pathlib.Path(tempfile.mkdtemp(prefix="device-trial-", dir=here_machine.MEMORY if given.here else None))
-    trial = Trial(given, folder, "DROP_LEFT_OUT=1" if given.show else "")
-    try:
-        with here_machine.writing_late() if given.here else contextlib.nullcontext():
-            print(trial.run(given.failures))
-        if given.show:
-            raise Wrong("no loss was seen without the drop of copies")
-    except (Wrong, OSError, subprocess.SubprocessError) as wrong:
-        if given.show and str(wrong).startswith("recovered"):
-            print(f"without the drop on {given.fs}: seen at failed call {trial.tally['failed calls']}: {wrong}")
-        else:
-            (folder / "left").write_bytes(trial.left)
-            print(f"device_trial: {wrong}\ndevice_trial: seed {given.seed}, files in {folder}", file=sys.stderr)
-            return 1
-    shutil.rmtree(folder)
-    return 0
+
+    given.dir = here_machine.MEMORY if given.here else None
+    fault = "DROP_LEFT_OUT=1" if given.show else ""
+    return status_in_folder("device_trial", given, lambda folder: result_of(given, Trial(given, folder, fault)))
 
 
 if __name__ == "__main__":

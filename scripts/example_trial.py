@@ -7,7 +7,6 @@ It runs examples/session.txt as a script, each block of a page that is marked as
 that breaks before the answer comes. Then it lets both games play for ten seconds on a server that is killed. Each turn has to
 count once, and no step may wait for the server. Port 7070 stands for a free port. It needs a C compiler, as cc.
 """
-import argparse
 import contextlib
 import dataclasses
 import os
@@ -23,7 +22,7 @@ import time
 
 from check_docs import Block, pages
 from map import TOP
-from trial import Words, begun, free_port, input_of, output_of
+from trial import Words, Wrong, begun, compare, create, free_port, parser_of, pipe, status_of
 
 import cektaulis
 
@@ -38,24 +37,14 @@ GAME_LINE = r"steps (\d+), turns (\d+), late (\d+), losses (\d+), sent again (\d
 AWAY_SECONDS, STEP_BOUND = 0.8, 600
 
 
-class Wrong(Exception):
-    """What an example or a client should not have done."""
-
-
-def compare(what: str, got: str, want: str) -> None:
-    """Refuses an answer that differs."""
-    if got != want:
-        raise Wrong(f"{what} prints\n{got}in place of\n{want}")
-
-
-def run_session(worldd: pathlib.Path) -> None:
+def run_session(worldd: str) -> None:
     """The script answers as its file says."""
     script = (EXAMPLES / "session.txt").read_text()
     run = subprocess.run([worldd, "steps"], input=script, capture_output=True, text=True, timeout=SECONDS, check=True)
     compare("examples/session.txt", run.stdout, (EXAMPLES / "session.expected").read_text())
 
 
-def run_block(worldd: pathlib.Path, page: str, block: Block, room: pathlib.Path) -> None:
+def run_block(worldd: str, page: str, block: Block, room: pathlib.Path) -> None:
     """Runs the commands of a block in one shell, each once the lines of the one before were printed."""
     room.mkdir()
     (room / "worldd").symlink_to(worldd)
@@ -78,11 +67,11 @@ def run_block(worldd: pathlib.Path, page: str, block: Block, room: pathlib.Path)
     try:
         for line in block.text.replace(PORT, str(free_port())).splitlines():
             if line.startswith("$ "):
-                input_of(shell).write(line.removeprefix("$ ") + "\n")
+                pipe(shell.stdin).write(line.removeprefix("$ ") + "\n")
             else:
-                compare(f"{page}:{block.line}", output_of(shell).readline(), line + "\n")
-        input_of(shell).close()
-        compare(f"{page}:{block.line}", output_of(shell).read(), "")
+                compare(f"{page}:{block.line}", pipe(shell.stdout).readline(), line + "\n")
+        pipe(shell.stdin).close()
+        compare(f"{page}:{block.line}", pipe(shell.stdout).read(), "")
         if shell.wait():
             raise Wrong(f"{page}:{block.line}: its last command fails")
     finally:
@@ -168,9 +157,9 @@ def try_mistakes(room: pathlib.Path) -> None:
         compare(" ".join(map(str, command)), f"status {run.returncode}\n", "status 2\n")
 
 
-def serve(worldd: pathlib.Path, folder: pathlib.Path) -> subprocess.Popen[str]:
+def serve(worldd: str, folder: pathlib.Path) -> subprocess.Popen[str]:
     """A server of a folder, at its file `socket`, once it listens."""
-    command: Words = [worldd, "serve", "--dir", folder, "--method", "zigzag", "--socket", folder / "socket", "--clients", "100000"]
+    command: Words = [worldd, "serve", "--dir", folder, *"--method zigzag --clients 100000 --socket".split(), folder / "socket"]
     server = subprocess.Popen(command, stdout=subprocess.PIPE, stderr=subprocess.DEVNULL, text=True)
     begun(server)
     return server
@@ -194,12 +183,11 @@ def lose(server: subprocess.Popen[str], games: list[subprocess.Popen[str]], way:
     time.sleep(AWAY_SECONDS if way == 1 else 0.1)
 
 
-def try_games(worldd: pathlib.Path, room: pathlib.Path) -> None:
+def try_games(worldd: str, room: pathlib.Path) -> None:
     """Both games play at once while their server is killed. Prints what they print."""
     folder, in_c = room / "games", room / "game"
-    folder.mkdir()
     subprocess.run([*IN_C, "-o", in_c, EXAMPLES / "game.c"], check=True)
-    subprocess.run([worldd, "create", "--dir", folder, "--cells", "1204"], check=True, stdout=subprocess.DEVNULL)
+    create(worldd, folder, 1204)
     programs: dict[str, Words] = {"game.py": [sys.executable, EXAMPLES / "game.py"], "game.c": [in_c]}
     environment = os.environ | {"PYTHONPATH": str(CLIENTS / "python"), "PYTHONDONTWRITEBYTECODE": "1"}
     server, kills, end = serve(worldd, folder), 0, time.monotonic() + GAME_SECONDS - 1
@@ -240,11 +228,10 @@ def try_games(worldd: pathlib.Path, room: pathlib.Path) -> None:
 
 def main() -> int:
     """Runs all examples."""
-    parser = argparse.ArgumentParser(description=__doc__.splitlines()[0])
-    parser.add_argument("worldd", type=pathlib.Path, help="the built program")
-    worldd = parser.parse_args().worldd.resolve()
+    worldd = parser_of(__doc__).parse_args().worldd
     blocks = [(page.name, block) for page in pages() for block in page.blocks if block.marker == "run"]
-    try:
+
+    def run() -> str:
         with tempfile.TemporaryDirectory(prefix="example-trial-") as folder:
             room = pathlib.Path(folder)
             run_session(worldd)
@@ -253,11 +240,9 @@ def main() -> int:
             try_reconnect(room)
             try_mistakes(room)
             try_games(worldd, room)
-    except (Wrong, OSError, subprocess.SubprocessError) as wrong:
-        print(f"example_trial: {wrong}", file=sys.stderr)
-        return 1
-    print(f"examples: the script, the broken connection, the games and blocks of commands ({len(blocks)}) do what their pages say")
-    return 0
+        return f"examples: the script, a lost connection, the games and {len(blocks)} blocks of commands do what their pages say"
+
+    return status_of("example_trial", run)
 
 
 if __name__ == "__main__":

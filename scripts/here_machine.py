@@ -8,7 +8,6 @@ import pty
 import selectors
 import shutil
 import signal
-import socket
 import struct
 import subprocess
 import tempfile
@@ -17,9 +16,8 @@ import time
 import tty
 from collections.abc import Iterator
 
-from kill_trial import QUIET, Wrong
 from power_machine import DISK, FAILED, FLUSH, READ, WRITE, Disk, Rig
-from trial import Words, output_of
+from trial import QUIET, Words, Wrong, free_port, pipe
 
 # Of the protocol: the kinds of requests, and the attributes of a folder and of the file in it.
 INIT, LOOKUP, GETATTR, OPEN, OPENDIR, READS, WRITES, SYNCS = 26, 1, 3, 14, 27, 15, 16, 20
@@ -139,7 +137,7 @@ class Here(Served):
             ["sh", "-c", text], cwd="/", stdin=QUIET, stdout=subprocess.PIPE, stderr=subprocess.STDOUT, start_new_session=True
         )
         self.chosen = selectors.DefaultSelector()
-        self.chosen.register(output_of(self.process), selectors.EVENT_READ, 0)
+        self.chosen.register(pipe(self.process.stdout), selectors.EVENT_READ, 0)
         for port, stream in self.streams.items():
             self.chosen.register(stream, selectors.EVENT_READ, port)
 
@@ -180,7 +178,8 @@ def writing_late() -> Iterator[None]:
 
 def lacking() -> list[str]:
     """What isn't there."""
-    paths = ["/dev/fuse", "/dev/loop-control", *(str(shutil.which(name)) for name in ("losetup", "busybox", "mkfs.ext4", "mkfs.xfs"))]
+    programs = "losetup", "busybox", "mkfs.ext4", "mkfs.xfs"
+    paths = ["/dev/fuse", "/dev/loop-control", *(str(shutil.which(name)) for name in programs)]
     is_there = all(map(os.path.exists, paths))
     return ["root"] * (os.geteuid() != 0) + ["FUSE, loop device, busybox or file system"] * (not is_there)
 
@@ -193,8 +192,7 @@ def here(rig: Rig, script: str, ports: int, **words: object) -> Here:
     (room / "bin" / "nc").symlink_to(shutil.which("busybox") or "busybox")
     source = pathlib.Path(__file__).with_name(rig.library)
     subprocess.run(["cc", "-shared", "-fPIC", "-o", room / "first.so", source], check=True)
-    with socket.create_server(("127.0.0.1", 0)) as chosen:
-        words |= {"fault": rig.fault, "library": room / "first.so", "port": chosen.getsockname()[1]}
+    words |= {"fault": rig.fault, "library": room / "first.so", "port": free_port()}
     text = f"PATH={room}/bin:$PATH\n" + script.format(**vars(rig.given) | words)
     return Here(room, text, rig.new_disk(), ports)
 

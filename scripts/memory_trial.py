@@ -7,7 +7,6 @@ First each call that takes memory, by the program trial_memory; then a script ov
 inspect, and serve, by either method over a port and over a socket: each is run again and again, the Nth time with its Nth
 allocation refused, until it has none left to refuse. It needs a C compiler, as cc.
 """
-import argparse
 import collections
 import dataclasses
 import itertools
@@ -17,12 +16,12 @@ import re
 import shutil
 import subprocess
 import sys
-import tempfile
 from collections.abc import Iterator
 from typing import Any
 
-from kill_trial import METHODS, PATIENCE_SECONDS, QUIET, TRANSPORTS, Batch, Wrong, answer, connect, flags_of, text_of
-from trial import Words, absolute, begun
+from kill_trial import Batch, answer, text_of
+from trial import METHODS, PATIENCE_SECONDS, QUIET, TRANSPORTS, Words, Wrong
+from trial import begun, connect, flags_of, library_of, parser_of, status_in_folder
 
 STORES = "plain", "zigzag", "pingpong", "zigzag-shared", "pingpong-shared"
 SCRIPT = """\
@@ -114,19 +113,11 @@ class Run:
     was_refused: bool
 
 
-def built_watcher(room: pathlib.Path) -> pathlib.Path:
-    """The library that watches the allocations of a program before which it is loaded."""
-    library = room / "watched_allocations.so"
-    source = pathlib.Path(__file__).with_name("watched_allocations.c")
-    subprocess.run(["cc", "-shared", "-fPIC", "-O1", "-o", library, source], check=True)
-    return library
-
-
 class Refuser:
     """Refuses an allocation of each program that it starts."""
 
     def __init__(self, room: pathlib.Path) -> None:
-        self.library = built_watcher(room)
+        self.library = library_of("watched_allocations.c", room)
 
     def start(
         self, command: Words, number: int, which: str = "REFUSED_ALLOCATION", **files: Any
@@ -389,11 +380,9 @@ def line_of(kinds: collections.Counter[str]) -> str:
 
 def main() -> int:
     """Runs the trial, and keeps the files where it fails."""
-    parser = argparse.ArgumentParser(description=__doc__.splitlines()[0])
-    parser.add_argument("worldd", type=absolute, help="the built program")
-    given = parser.parse_args()
-    room = pathlib.Path(tempfile.mkdtemp(prefix="memory-trial-"))
-    try:
+    given = parser_of(__doc__).parse_args()
+
+    def run(room: pathlib.Path) -> None:
         refuser = Refuser(room)
         calls = try_calls(refuser)
         print(f"calls refused {calls.total()} times, and answered then: {line_of(calls)}")
@@ -405,11 +394,8 @@ def main() -> int:
         for method, transport in itertools.product(METHODS, TRANSPORTS):
             seen = try_serving(given.worldd, refuser, room, method, transport)
             print(f"serve by {method} over a {transport}: {line_of(seen)}")
-    except (Wrong, OSError, subprocess.SubprocessError) as wrong:
-        print(f"memory_trial: {wrong}\nmemory_trial: files in {room}", file=sys.stderr)
-        return 1
-    shutil.rmtree(room)
-    return 0
+
+    return status_in_folder("memory_trial", given, run)
 
 
 if __name__ == "__main__":

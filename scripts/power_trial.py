@@ -12,16 +12,13 @@ import os
 import pathlib
 import random
 import re
-import shutil
 import struct
-import subprocess
 import sys
-import tempfile
 import time
 
-from kill_trial import CELLS, CLIENTS, COUNT, METHODS, Answered, Batch, Found, Wrong, batches, found_in, judge, text_of
+from kill_trial import CELLS, CLIENTS, COUNT, Answered, Batch, Found, batches, found_in, judge, text_of
 from power_machine import DISK, MEGABYTES, MOUNTED, WAYS, WHOLE, Machine, Rig, lacking, world_of
-from trial import absolute
+from trial import METHODS, Wrong, all_met, parser_of, status_in_folder
 
 # The disk of a file system, and the sectors at which its writes are torn: btrfs has no current copy of its 4,096-byte superblock.
 # udf brings no name along with a sync of a new file, so the syncs of folders are left out there. Nothing mends its map of free
@@ -121,9 +118,8 @@ class Trial(Rig):
                     image, before = self.new_disk(), None
                 image, before = self.serve(run, image, before, min(CUTS_OF_A_RUN, cuts - done))
         counts = "; ".join(f"{name} {self.tally[name]}" for name in ("cuts", "ticks answered", *KINDS, MENDED))
-        never = [kind for kind in KINDS if not self.tally[kind] and UNMET.get(kind) not in (self.given.fs, self.given.options)]
-        if never and not self.given.show:
-            raise Wrong(f"never met: {', '.join(never)}: {counts}")
+        kinds = [kind for kind in KINDS if UNMET.get(kind) not in (self.given.fs, self.given.options)]
+        all_met(self.tally, [] if self.given.show else kinds, after=f": {counts}")
         return counts
 
 
@@ -144,8 +140,7 @@ def result_of(given: argparse.Namespace, folder: pathlib.Path, fault: str) -> st
 
 def main() -> int:
     """Runs the trial, and keeps the files where it fails."""
-    parser = argparse.ArgumentParser(description=__doc__.splitlines()[0])
-    parser.add_argument("worldd", type=absolute, help="the built program")
+    parser = parser_of(__doc__, "of the batches, the moments and what is left")
     parser.add_argument("--fs", choices=MEGABYTES, default="ext4", help="the file system (ext4)")
     parser.add_argument("--options", default="rw", help="of its mount, as data=journal (rw)")
     parser.add_argument("--method", choices=METHODS, help="in place of both in turn")
@@ -153,7 +148,7 @@ def main() -> int:
     parser.add_argument("--cells", type=int, default=600, help=f"of the world, {CELLS} at least (600)")
     parser.add_argument("--cuts", type=int, default=120, help="how often the power is cut (120)")
     parser.add_argument("--sector", type=int, help="at how many bytes a write is torn (512, and 4096 of btrfs)")
-    parser.add_argument("--seed", type=int, default=time.time_ns() % 10**9, help="of the batches, the moments and what is left")
+
     parser.add_argument("--kernel", type=pathlib.Path, default="/", help="where a kernel is installed or unpacked (/)")
     parser.add_argument("--show", action="store_true", help="leave syncs and flushes out, one after another")
     given, os.environ["PATH"] = parser.parse_args(), f"{os.environ['PATH']}:/usr/sbin:/sbin"
@@ -162,15 +157,12 @@ def main() -> int:
         print(f"power_trial: skipped: there is no {', no '.join(missing)}")
         return 0
     print(f"power_trial: seed {given.seed}", flush=True)
-    folder = pathlib.Path(tempfile.mkdtemp(prefix="power-trial-"))
-    try:
+
+    def run(folder: pathlib.Path) -> None:
         for fault in (*SYNCS, "", *FOLDERS, FLUSHES) if given.show else ("",):
             print(result_of(given, folder, fault), flush=True)
-    except (Wrong, OSError, subprocess.SubprocessError) as wrong:
-        print(f"power_trial: {wrong}\npower_trial: seed {given.seed}, files in {folder}", file=sys.stderr)
-        return 1
-    shutil.rmtree(folder)
-    return 0
+
+    return status_in_folder("power_trial", given, run)
 
 
 if __name__ == "__main__":

@@ -8,7 +8,6 @@ written, and copy the same bytes. Commands that write there must be refused with
 The file systems are mounted in a separate mount namespace: as root, or as a user by a user namespace. A file system that
 can't be made here is named in one line, and isn't tried.
 """
-import argparse
 import collections
 import contextlib
 import os
@@ -22,8 +21,8 @@ import tempfile
 from collections.abc import Iterator
 from typing import Any
 
-from surroundings_trial import OWNER, STRANGER, Client, Server, Wrong, is_root, want
-from trial import Words, as_user
+from surroundings_trial import OWNER, STRANGER, Client, Server, is_root
+from trial import Words, all_met, as_user, parser_of, status_of, want
 
 TICKS, SECONDS = 30, 30
 READS = ("recover",), ("inspect",), ("inspect", "--words"), ("status",)
@@ -162,7 +161,7 @@ WAYS = {
 class Trial:
     """Worlds in a folder, and what was met in each way in which they can only be read."""
 
-    def __init__(self, worldd: pathlib.Path, room: pathlib.Path) -> None:
+    def __init__(self, worldd: str, room: pathlib.Path) -> None:
         self.room, self.worlds, self.worldd = room, room / "worlds", room / "worldd"
         shutil.copy(worldd, self.worldd)
         self.worldd.chmod(0o755)
@@ -309,8 +308,7 @@ class Trial:
             self.users()
         for way, met in self.met.items():
             print(f"readers: {way}: {', '.join(f'{name} {count}' for name, count in met.items())}")
-            missed = [name for name in MET if not met[name]]
-            want(not missed, f"{way}: never met: {', '.join(missed)}")
+            all_met(met, MET, f"{way}: ")
 
 
 def played(client: Client, ticks: int, before: int = 0) -> None:
@@ -331,27 +329,15 @@ def contents(place: pathlib.Path) -> dict[str, bytes]:
     return {str(path.relative_to(place)): path.read_bytes() for path in files}
 
 
-def tried(worldd: pathlib.Path, is_inside: bool) -> int:
-    """Runs the trial in its own folder."""
-    with tempfile.TemporaryDirectory(prefix="readers") as room:
-        try:
-            Trial(worldd, pathlib.Path(room)).all(is_inside)
-        except (Wrong, subprocess.SubprocessError) as wrong:
-            print(f"readers: {wrong}", file=sys.stderr)
-            return 1
-    return 0
-
-
 def main() -> int:
     """Runs it outside of a namespace, and then in one."""
-    parser = argparse.ArgumentParser(description=__doc__.splitlines()[0])
-    parser.add_argument("worldd", type=pathlib.Path, help="the built worldd")
+    parser = parser_of(__doc__)
     parser.add_argument(INSIDE, action="store_true", help="only the file systems, which are mounted in this namespace")
     given = parser.parse_args()
     os.environ["PATH"] += ":/usr/sbin:/sbin"
     signal.signal(signal.SIGPIPE, signal.SIG_IGN)
-    worldd = given.worldd.resolve()
-    status = tried(worldd, given.inside)
+    with tempfile.TemporaryDirectory(prefix="readers") as room:
+        status = status_of("readers", lambda: Trial(given.worldd, pathlib.Path(room)).all(given.inside))
     if given.inside or status:
         return status
     inside = ["unshare", "--mount", *["--map-root-user"] * (not is_root())]
@@ -359,7 +345,7 @@ def main() -> int:
         print("readers: not tried: file systems, since there is no mount namespace here")
         return 0
     sys.stdout.flush()
-    return subprocess.run([*inside, sys.executable, __file__, worldd, INSIDE]).returncode
+    return subprocess.run([*inside, sys.executable, __file__, given.worldd, INSIDE]).returncode
 
 
 if __name__ == "__main__":

@@ -10,7 +10,7 @@ mount namespace in which the folders of the system are copies or empty. This nee
 Before that install.sh runs on odd prefixes, over a stand-in for the kit: each gets a unit with its path and each file that
 install.sh names, or is refused and nothing is made. A program in C includes the header that was installed.
 """
-import argparse
+
 import collections
 import itertools
 import os
@@ -27,15 +27,16 @@ import threading
 import time
 from typing import Any
 
-from surroundings_trial import NAMES, Client, Wrong, is_root, want
-from trial import Words, as_user, begun, found_in_text
+from map import TOP
+from surroundings_trial import Client, is_root
+from trial import NAMES, Words, Wrong, all_met, as_user, begun, found_in_text, parser_of, status_of, want
 
-TOP = pathlib.Path(__file__).resolve().parent.parent
 MANUAL = (TOP / "docs" / "OPERATIONS.md").read_text()
 # Prefixes that a unit can have, and others.
 RIGHT = "plain", "with a space", "\u00e9", "a;b#c*d~e"
 ODD = (
-    "tab\t", "new\nline", "escape\x1b[31m", "quo'te", 'quo"te', "per%cent", "dol$lar", "back\\slash", "and&", "bar|", "not \udcff text",
+    "tab\t", "new\nline", "escape\x1b[31m", "quo'te", 'quo"te', "per%cent", "dol$lar", "back\\slash", "and&", "bar|",
+    "not \udcff text",
 )
 # What install.sh writes, and nothing else.
 INSTALLED = {"include/cektaulis.h", "share/pkgconfig/cektaulis.pc", "share/worldd/worldd.service"}.union(*(
@@ -190,12 +191,11 @@ class Trial:
             self.round()
             shutil.rmtree(WORLD)
             subprocess.run(["userdel", USER], check=True, capture_output=True)
-        missed = [case for case in CASES if not self.met[case]]
-        want(not missed, f"never met: {', '.join(missed)}")
+        all_met(self.met, CASES)
         return "; ".join(f"{case} {self.met[case]}" for case in CASES)
 
 
-def install(worldd: pathlib.Path, room: pathlib.Path) -> str:
+def install(worldd: str, room: pathlib.Path) -> str:
     """Installs the program with each prefix, over a command `rt` that does nothing."""
     top, kit = room / "top", room / "kit"
     kit.mkdir()
@@ -224,17 +224,23 @@ def install(worldd: pathlib.Path, room: pathlib.Path) -> str:
         else:
             match = re.fullmatch("install.sh: a unit can't have the path [^\0-\x1f]*\n", run.stderr)
             want(run.returncode == 2 and bool(match) and not prefix.exists(), f"a prefix wasn't refused: {run}")
-    return f"prefixes with a unit {len(RIGHT)}; prefixes refused {len(ODD)}"
+    return f"recipes: prefixes with a unit {len(RIGHT)}; prefixes refused {len(ODD)}"
+
+
+def run_installer(top: pathlib.Path, flag: str, prefix: pathlib.Path) -> None:
+    """Runs install.sh with a flag, without the kit."""
+    subprocess.run([top / "install.sh", flag, prefix], check=True, stdout=subprocess.DEVNULL, env={"PATH": "/usr/bin:/bin"})
 
 
 def install_standby(top: pathlib.Path, prefix: pathlib.Path) -> None:
-    """Installs the files of a standby, without the kit."""
-    subprocess.run([top / "install.sh", "--standby", prefix], check=True, stdout=subprocess.DEVNULL, env={"PATH": "/usr/bin:/bin"})
+    """Installs the files of a standby."""
+    run_installer(top, "--standby", prefix)
     folder = prefix / "share" / "worldd" / "standby"
     files = {path.name: path.read_text() for path in folder.iterdir()}
     want(set(files) == STANDBY, f"what was installed for a standby differs by {sorted(set(files) ^ STANDBY)}")
     want(f'"{prefix}/bin/worldd" recover' in files["promote"], f"promote with {prefix}")
-    want(f'"\'{folder}/fence-peer\'"' in files["world.res"] and os.access(folder / "fence-peer", os.X_OK), f"world.res with {prefix}")
+    is_fenced = f'"\'{folder}/fence-peer\'"' in files["world.res"] and os.access(folder / "fence-peer", os.X_OK)
+    want(is_fenced, f"world.res with {prefix}")
     want("@PREFIX@" not in "".join(files.values()), f"a file with {prefix}")
 
 
@@ -243,7 +249,7 @@ def uninstall(top: pathlib.Path, prefix: pathlib.Path) -> None:
     install_standby(top, prefix)
     other = prefix / "share" / "worldd" / "other"
     other.write_text("kept")
-    subprocess.run([top / "install.sh", "--uninstall", prefix], check=True, stdout=subprocess.DEVNULL, env={"PATH": "/usr/bin:/bin"})
+    run_installer(top, "--uninstall", prefix)
     left = [path for path in prefix.rglob("*") if path.is_file()]
     want(left == [other], f"of what was installed {left} are left")
 
@@ -260,7 +266,7 @@ def include_header(prefix: pathlib.Path) -> None:
     subprocess.run(command, input=b"#include <cektaulis.h>\n", check=True)
 
 
-def furnish(worldd: pathlib.Path, room: pathlib.Path) -> None:
+def furnish(worldd: str, room: pathlib.Path) -> None:
     """Puts a copy of /etc, an empty /var and only the program in /usr/local/bin over those of the system, in this namespace."""
     shutil.copytree("/etc", room / "etc", symlinks=True, ignore_dangling_symlinks=True)
     (room / "bin").mkdir()
@@ -275,44 +281,36 @@ def furnish(worldd: pathlib.Path, room: pathlib.Path) -> None:
         folder.mkdir()
 
 
-def inside(worldd: pathlib.Path, room: pathlib.Path) -> int:
+def inside(worldd: str, room: pathlib.Path) -> str:
     """Runs the trial in this namespace."""
     trial = Trial()
     try:
         furnish(worldd, room)
-        print(f"recipes: {trial.run()}")
-    except (Wrong, OSError, subprocess.SubprocessError) as wrong:
-        print(f"recipes: {wrong}", file=sys.stderr)
-        return 1
+        return f"recipes: {trial.run()}"
     finally:
         trial.end()
-    return 0
 
 
 def main() -> int:
     """Runs the trial in its own namespace."""
-    parser = argparse.ArgumentParser(description=__doc__.splitlines()[0])
-    parser.add_argument("worldd", type=pathlib.Path, help="the built worldd")
+    parser = parser_of(__doc__)
     parser.add_argument(INSIDE, type=pathlib.Path, metavar="ROOM", help="with a folder for its files, in this namespace")
     given = parser.parse_args()
     os.environ["PATH"] += ":/usr/sbin:/sbin"
     signal.signal(signal.SIGPIPE, signal.SIG_IGN)
-    worldd = given.worldd.resolve()
     if given.inside:
-        return inside(worldd, given.inside)
+        return status_of("recipes", lambda: inside(given.worldd, given.inside))
     with tempfile.TemporaryDirectory(prefix="recipes") as room:
-        try:
-            print(f"recipes: {install(worldd, pathlib.Path(room))}", flush=True)
-        except (Wrong, OSError, subprocess.SubprocessError) as wrong:
-            print(f"recipes: {wrong}", file=sys.stderr)
-            return 1
+        status = status_of("recipes", lambda: install(given.worldd, pathlib.Path(room)))
+    if status:
+        return status
     lacking = [name for name in ("unshare", "useradd", "userdel", "runuser") if not shutil.which(name)]
     if not is_root() or lacking or subprocess.run(["unshare", "--mount", "true"]).returncode:
         print(f"recipes: not tried: {f'there is no {lacking[0]}' if lacking else 'only root can, with a mount namespace'}")
         return 0
     with tempfile.TemporaryDirectory(prefix="recipes") as room:
         pathlib.Path(room).chmod(0o755)
-        return subprocess.run(["unshare", "--mount", sys.executable, __file__, worldd, INSIDE, room]).returncode
+        return subprocess.run(["unshare", "--mount", sys.executable, __file__, given.worldd, INSIDE, room]).returncode
 
 
 if __name__ == "__main__":

@@ -18,18 +18,18 @@ import tempfile
 import threading
 import time
 
-from trial import Words, begun, errors_of
+from trial import METHODS, Words, absolute, begun, create, pipe
 
 LINES = 16
-METHODS = "zigzag", "pingpong"
 
 
 class Server:
     """A serving worldd over a new world, and when it reported its images."""
 
     def __init__(self, worldd: str, folder: pathlib.Path, method: str, cells: int, every: int) -> None:
-        subprocess.run([worldd, "create", "--dir", folder, "--cells", str(cells)], check=True, capture_output=True)
-        command: Words = [worldd, "serve", "--dir", folder, "--method", method, "--every", str(every), "--port", "0", "--clients", "1"]
+        create(worldd, folder, cells)
+        flags = ["--method", method, "--every", str(every), "--port", "0", "--clients", "1"]
+        command: Words = [worldd, "serve", "--dir", folder, *flags]
         self.process = subprocess.Popen(command, stdout=subprocess.PIPE, stderr=subprocess.PIPE, text=True)
         self.port = int(begun(self.process)[1].split()[1])
         self.opened: dict[int, float] = {}
@@ -38,7 +38,7 @@ class Server:
 
     def hear(self) -> None:
         """Notes when each image was opened."""
-        for line in errors_of(self.process):
+        for line in pipe(self.process.stderr):
             match = re.fullmatch(r"worldd: image of tick (\d+) opened\n", line)
             if match:
                 self.opened[int(match[1])] = time.perf_counter()
@@ -99,7 +99,7 @@ def measure(worldd: str, folder: pathlib.Path, method: str, cells: int, every: i
 def main() -> None:
     """Measures both methods."""
     parser = argparse.ArgumentParser(description=__doc__, formatter_class=argparse.RawDescriptionHelpFormatter)
-    parser.add_argument("worldd")
+    parser.add_argument("worldd", type=absolute)
     parser.add_argument("--cells", type=int, default=1_048_576)
     parser.add_argument("--every", type=int, default=4096)
     parser.add_argument("--seconds", type=float, default=20)
@@ -107,7 +107,7 @@ def main() -> None:
     given = parser.parse_args()
     for method in METHODS:
         with tempfile.TemporaryDirectory(dir=given.dir) as folder:
-            measure(given.worldd, pathlib.Path(folder), method, given.cells, given.every, given.seconds)
+            measure(given.worldd, pathlib.Path(folder) / "world", method, given.cells, given.every, given.seconds)
 
 
 main()

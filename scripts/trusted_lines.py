@@ -78,7 +78,8 @@ def declared(crate: str, path: pathlib.Path) -> Known:
     found: Known = {}
     names: dict[str, Name] = {}
     for owner, group, one in TYPES_USED.findall(text):
-        names |= {name.strip(): (crate if owner == "crate" else owner, DECLARED, name.strip()) for name in (group or one).split(",")}
+        home = crate if owner == "crate" else owner
+        names |= {name.strip(): (home, DECLARED, name.strip()) for name in (group or one).split(",")}
     lines = text.splitlines()
     for at, line in enumerate(lines):
         start = TYPE.match(line)
@@ -287,7 +288,8 @@ def findings() -> Iterator[tuple[int, str]]:
         believed = sum(tree.believed(rule))
         share = f"{100 * believed / tree.everything():.1f}"
         if not found or not is_near(found["lines"], believed) or found.groupdict().get("share", share) != share:
-            yield text[: found.start()].count("\n") + 1 if found else 1, f"for {what} one has to believe {believed:,} lines, {share}%"
+            line = text[: found.start()].count("\n") + 1 if found else 1
+            yield line, f"for {what} one has to believe {believed:,} lines, {share}%"
 
 
 def main() -> None:

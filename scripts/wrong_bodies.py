@@ -226,7 +226,8 @@ def check(crate: pathlib.Path, bodies: list[pathlib.Path]) -> subprocess.Complet
             for file, text in apply(body, crate).items():
                 were.setdefault(file, file.read_text())
                 file.write_text(text)
-        return subprocess.run(["rt", "check", "--jobs", "1"], cwd=crate, stdout=subprocess.PIPE, stderr=subprocess.STDOUT, text=True)
+        command, pipe = ["rt", "check", "--jobs", "1"], subprocess.PIPE
+        return subprocess.run(command, cwd=crate, stdout=pipe, stderr=subprocess.STDOUT, text=True)
     finally:
         for file, text in were.items():
             file.write_text(text)
@@ -259,8 +260,11 @@ def refused_together(crate: pathlib.Path, group: Group) -> dict[pathlib.Path, st
     changed = {it for them in group.values() for it in them if it}
     if run.returncode != 1 or not all(any(it.holds(path) for it in changed) for path in failed):
         return {}
-    own = {body: {path: failed[path] for path in failed if any(it and it.holds(path) for it in them)} for body, them in group.items()}
-    return {body: refused_by(goals) for body, goals in own.items() if goals}
+    refused = {}
+    for body, them in group.items():
+        if goals := {path: failed[path] for path in failed if any(it and it.holds(path) for it in them)}:
+            refused[body] = refused_by(goals)
+    return refused
 
 
 def own_copy(name: str, copy: pathlib.Path) -> pathlib.Path:
