@@ -34,8 +34,8 @@ PLAYED = range(COUNT + 1, LAST_MARK)
 # What came of the copies; each count but the last has to grow.
 SUMMARY = (
     "backup trial: {copies} copies and {figures} figures of {answered} ticks, none older than an answer; {ahead} had ticks that "
-    "were answered later; {with_log} had ticks of the log; {from_a} from image.a and {from_b} from image.b; {served} were served; "
-    "begun anew {anew} times"
+    "were answered later; {with_log} had ticks of the log; {from_a} from image.a and {from_b} from image.b; {served} were "
+    "served; begun anew {anew} times"
 )
 FIGURES = (
     r"recovered (\d+) from (\d+) in image\.[ab]\nlog: (\d+) ticks? after the image, (.*)\nbytes: .*, together (\d+)\n"

@@ -829,8 +829,8 @@ class Trial:
             self.ended_sessions, self.closed_streams, self.overstayed, self.shortage, self.lost_files, self.server_lines,
             self.unread_files, self.slow_readers, self.starts_beside_looks, self.no_null, self.descriptors, self.refused_clients,
             self.lost_listener, self.unread_errors, self.broken_output, self.links, self.full_file, self.failed_start,
-            self.threads, self.socket_modes, self.old_sockets, self.taken_places, self.socket_in_use, self.next_server, self.longest_path,
-            *((self.users,) if is_root() else ()),
+            self.threads, self.socket_modes, self.old_sockets, self.taken_places, self.socket_in_use, self.next_server,
+            self.longest_path, *((self.users,) if is_root() else ()),
         )
         return {
             "short_connections": over_each(lambda transport: self.short_connections(connections, transport)),
