@@ -30,15 +30,9 @@ def counts_of(measures: str, library: pathlib.Path) -> tuple[list[str], list[int
     watched = {"LD_PRELOAD": str(library), "COUNTED_TO": str(writer)}
     with open(reader, encoding="ascii") as counts:
         with open(writer, closefd=True):
-            run = subprocess.run(
-                [measures, "allocations"],
-                env=os.environ | watched,
-                pass_fds=[writer],
-                stdout=subprocess.PIPE,
-                text=True,
-                timeout=2 * PATIENCE_SECONDS,
-                check=True,
-            )
+            command, seconds, pipe = [measures, "allocations"], 2 * PATIENCE_SECONDS, subprocess.PIPE
+            environment = os.environ | watched
+            run = subprocess.run(command, env=environment, pass_fds=[writer], stdout=pipe, text=True, timeout=seconds, check=True)
         return run.stdout.splitlines(), [int(count) for count in counts]
 
 

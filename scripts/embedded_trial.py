@@ -7,6 +7,7 @@ It plays two batches, twice, and `worldd recover` has to find each tick. Of two 
 goes on. With each set of standard streams closed, the files have to stay a world.
 """
 import argparse
+import functools
 import itertools
 import pathlib
 import subprocess
@@ -14,7 +15,7 @@ import sys
 import tempfile
 from typing import Any
 
-from trial import absolute, closing, compare, create, pipe, ran, status_of, want
+from trial import absolute, close_all, compare, create, pipe, ran, status_of, want
 
 SECONDS = 60
 CELLS = 2
@@ -63,7 +64,7 @@ class Trial:
         """With these standard streams closed, no text gets into a file, and no tick is lost."""
         before = self.tick()
         streams = {("stdin", "stdout", "stderr")[at]: subprocess.DEVNULL for at in closed}
-        program = self.start(**streams, preexec_fn=closing(closed))
+        program = self.start(**streams, preexec_fn=functools.partial(close_all, closed))
         program.communicate(None if 0 in closed else BATCHES, timeout=SECONDS)
         ticks = self.tick() - before
         want(ticks in ((0,) if 0 in closed else (0, 1, 2)), f"with {closed} closed {ticks} ticks came")

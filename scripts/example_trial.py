@@ -22,7 +22,7 @@ import time
 
 from check_docs import Block, pages
 from map import TOP
-from trial import Words, Wrong, begun, compare, create, free_port, parser_of, pipe, status_of
+from trial import QUIET, Words, Wrong, begun, compare, create, free_port, parser_of, pipe, status_of
 
 import cektaulis
 
@@ -50,17 +50,9 @@ def run_block(worldd: str, page: str, block: Block, room: pathlib.Path) -> None:
     (room / "worldd").symlink_to(worldd)
     (room / "examples").symlink_to(EXAMPLES)
     (room / "clients").symlink_to(CLIENTS)
-    path = f"{room}:{os.environ['PATH']}"
+    environment, both = os.environ | {"PATH": f"{room}:{os.environ['PATH']}"}, subprocess.PIPE
     shell = subprocess.Popen(
-        ["sh"],
-        cwd=room,
-        env=os.environ | {"PATH": path},
-        stdin=subprocess.PIPE,
-        stdout=subprocess.PIPE,
-        stderr=subprocess.DEVNULL,
-        text=True,
-        bufsize=1,
-        start_new_session=True,
+        ["sh"], cwd=room, env=environment, stdin=both, stdout=both, stderr=QUIET, text=True, bufsize=1, start_new_session=True
     )
     watch = threading.Timer(SECONDS, os.killpg, (shell.pid, signal.SIGKILL))
     watch.start()

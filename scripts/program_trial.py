@@ -165,17 +165,10 @@ def try_command_lines(trial: Trial) -> None:
         trial.ends(f"{words} to a full output", trial.run(*words.split(), full=True), "", FULL, 1)
     escaped = "fault 18\nworldd: no\\x1b[31m\\x07\\x0a\\x7f\\x9b\u00e9/image.a: " + NO_FILE + "\n"
     trial.ends("control characters of a path", trial.run("recover", "--dir", "no\x1b[31m\a\n\x7f\x9b\u00e9"), "", escaped, 1)
+    usage = "\n\nUsage: worldd"
     for words, start, end in (
-        (
-            "",
-            "A main-memory world server with asynchronous checkpoints\n\nUsage: worldd <COMMAND>\n",
-            "  -V, --version  Print version\n",
-        ),
-        (
-            "steps",
-            "Runs the script on standard input, over a world in memory\n\nUsage: worldd steps\n",
-            "21 no tick numbers are left\n",
-        ),
+        ("", f"A main-memory world server with asynchronous checkpoints{usage} <COMMAND>\n", "  -V, --version  Print version\n"),
+        ("steps", f"Runs the script on standard input, over a world in memory{usage} steps\n", "21 no tick numbers are left\n"),
         (
             "create",
             f"Makes the files of a new world in a folder\n\n{make}\n",

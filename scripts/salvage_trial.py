@@ -123,13 +123,8 @@ def tailed(chance: random.Random, files: Files, name: str) -> None:
 
 
 WAYS = {
-    "bits flipped": flipped,
-    "gate flipped": closed,
-    "tail cut": cut,
-    "file lost": lost,
-    "file emptied": emptied,
-    "sector zeroed": zeroed,
-    "bytes after": tailed,
+    "bits flipped": flipped, "gate flipped": closed, "tail cut": cut, "file lost": lost, "file emptied": emptied,
+    "sector zeroed": zeroed, "bytes after": tailed,
 }
 
 

@@ -12,6 +12,7 @@ import collections
 import contextlib
 import ctypes
 import fcntl
+import functools
 import itertools
 import mmap
 import multiprocessing
@@ -31,7 +32,7 @@ import time
 from collections.abc import Callable, Iterator
 from typing import Any
 
-from trial import NAMES, PATIENCE_SECONDS, PORT, QUIET, SOCKET, TRANSPORTS, Words, Wrong, all_met, as_user, begun, closing
+from trial import NAMES, PATIENCE_SECONDS, PORT, QUIET, SOCKET, TRANSPORTS, Words, Wrong, all_met, as_user, begun, close_all
 from trial import connect, create, found_in_text, free_port, library_of, parser_of, pipe, ran, status_of, want
 
 CELLS = 1000
@@ -213,7 +214,7 @@ class Trial:
         folder.mkdir()
         on_folder = ("create", "--cells", 2), ("recover",), ("inspect",)
         for command in (*((*words, "--dir", folder) for words in on_folder), ("steps",)):
-            run = self.run(*command, preexec_fn=closing(closed), stdin=QUIET, stdout=QUIET, stderr=QUIET)
+            run = self.run(*command, preexec_fn=functools.partial(close_all, closed), stdin=QUIET, stdout=QUIET, stderr=QUIET)
             want(run.returncode == 0, f"{command[0]} without {closed}: {run.returncode}")
             for name in NAMES:
                 want((folder / name).read_bytes() == (whole / name).read_bytes(), f"{command[0]} without {closed}: {name}")
@@ -221,7 +222,8 @@ class Trial:
 
     def serve_without(self, closed: tuple[int, ...]) -> None:
         """A server with these descriptors closed, killed under load."""
-        server = self.server("--every", "8", preexec_fn=closing(closed), stdin=QUIET, stdout=QUIET, stderr=QUIET)
+        closes = functools.partial(close_all, closed)
+        server = self.server("--every", "8", preexec_fn=closes, stdin=QUIET, stdout=QUIET, stderr=QUIET)
         client = server.client()
         for tick in range(1, 101):
             want(client.play().startswith(b"tick %d:" % tick), f"tick {tick} without {closed}")
@@ -833,21 +835,11 @@ class Trial:
             self.longest_path, *((self.users,) if is_root() else ()),
         )
         return {
-            "short_connections": over_each(lambda transport: self.short_connections(connections, transport)),
-            "door": over_each(self.door),
+            "short_connections": lambda: [*map(functools.partial(self.short_connections, connections), TRANSPORTS)],
+            "door": lambda: [*map(self.door, TRANSPORTS)],
             **{part.__name__: part for part in single},
-            "too_long": over_each(self.too_long),
+            "too_long": lambda: [*map(self.too_long, TRANSPORTS)],
         }
-
-
-def over_each(part: Callable[[str], None]) -> Callable[[], None]:
-    """A part that is tried over each transport."""
-
-    def try_each() -> None:
-        for transport in TRANSPORTS:
-            part(transport)
-
-    return try_each
 
 
 def become(user: int, group: int) -> None:

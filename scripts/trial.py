@@ -139,14 +139,10 @@ def as_user(user: int | str) -> dict[str, Any]:
     return {"user": user, "group": user, "extra_groups": []}
 
 
-def closing(descriptors: tuple[int, ...]) -> Callable[[], None]:
+def close_all(descriptors: tuple[int, ...]) -> None:
     """Closes these descriptors in a new process."""
-
-    def close() -> None:
-        for descriptor in descriptors:
-            os.close(descriptor)
-
-    return close
+    for descriptor in descriptors:
+        os.close(descriptor)
 
 
 def library_of(source: str, room: pathlib.Path) -> pathlib.Path:
