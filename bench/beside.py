@@ -7,7 +7,7 @@ Redis gets as many sets in a pipeline. A system that isn't installed is skipped.
 Each row has the medians of its runs: sets a second, batches a second, their ratio to those of Redis, the median of a batch's
 wait, the system's processor time a batch, and its ratio to that of Redis. Each run is divided by the run of Redis just before
 it over the same transport, and a ratio is the median of these quotients. SQLite runs in the process of its clients, so its
-processor time includes theirs, and its ratios are to Redis over the first transport. So are those of the row `device calls`, which
+processor time includes theirs, and its ratios are to Redis over the first transport. So are those of the row `device calls`. It
 has only the calls by which worldd makes a group of ticks durable, without a client: no batch can wait less.
 """
 import argparse
@@ -25,6 +25,11 @@ COLUMNS = "system", "transport", "clients", "lines", "sets", "batches", "ratio",
 HEAD = f"{'':<14} {'sets/s':>10} {'batches/s':>10} {'ratio':>6} {'p50, ms':>9} {'us/batch':>9} {'ratio':>6}"
 
 
+def figures_of(runs: list[Sample], field: str) -> list[float]:
+    """A figure of some runs."""
+    return [getattr(run, field) for run in runs]
+
+
 @dataclasses.dataclass
 class Series:
     """The runs of one system under one load, each with the run of Redis just before it."""
@@ -36,13 +41,14 @@ class Series:
 
     def median(self, field: str) -> float:
         """The median of a figure."""
-        return statistics.median(getattr(run, field) for run in self.runs)
+        return statistics.median(figures_of(self.runs, field))
 
     def ratio(self, field: str) -> float | None:
         """The median of a figure's quotients by those of Redis."""
         if not self.beside:
             return None
-        return statistics.median(getattr(run, field) / getattr(other, field) for run, other in zip(self.runs, self.beside))
+        pairs = zip(figures_of(self.runs, field), figures_of(self.beside, field))
+        return statistics.median(own / other for own, other in pairs)
 
     def row(self, load: Load) -> list[str]:
         """A row of the table, in the order of its columns."""
@@ -70,7 +76,7 @@ def measure(folder: pathlib.Path, found: list[System], loads: list[Load], runs: 
     """Measures one load over each of its transports: all series, those of Redis first."""
     redis, *others = found
     all_redis = [Series(redis, load.transport, [], []) for load in loads]
-    series = [Series(system, load.transport, [], []) for load in loads for system in others if load.transport in system.transports]
+    series = [Series(it, load.transport, [], []) for load in loads for it in others if load.transport in it.transports]
     series += [Series(system, LIBRARY, [], []) for system in others if LIBRARY in system.transports]
     for _ in range(runs):
         for one in series:

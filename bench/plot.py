@@ -59,7 +59,7 @@ def short(number: float) -> str:
 
 
 def steps(low: float, high: float) -> list[int]:
-    """The numbers 1, 2 and 5 times a power of 10 from the last one that isn't above `low` to the first that isn't below `high`."""
+    """The numbers 1, 2 and 5 times a power of 10, from the last not above `low` to the first that isn't below `high`."""
     all_steps = [digit * 10**power for power in range(10) for digit in (1, 2, 5)]
     first = max(step for step in all_steps if step <= low)
     last = min(step for step in all_steps if step >= high)

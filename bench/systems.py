@@ -16,6 +16,7 @@ import statistics
 import subprocess
 import time
 from collections.abc import Callable, Iterator
+from typing import Any
 
 PORT, SOCKET, LIBRARY = "port", "socket", "library"
 CELLS = 65_536
@@ -65,7 +66,8 @@ def free_port() -> int:
     """A port that nobody listens on."""
     with socket.socket() as probe:
         probe.bind(("127.0.0.1", 0))
-        return probe.getsockname()[1]
+        port: int = probe.getsockname()[1]
+        return port
 
 
 def processor_seconds(pid: int) -> float:
@@ -91,7 +93,7 @@ def running(command: list[str], folder: pathlib.Path, user: str | None = None) -
         process.wait()
 
 
-def as_user(user: str | None) -> dict[str, str | int]:
+def as_user(user: str | None) -> dict[str, Any]:
     """What makes a command run as this user."""
     return {"user": user, "group": pwd.getpwnam(user).pw_gid} if user and os.geteuid() == 0 else {}
 
@@ -116,7 +118,7 @@ def until(succeeds: list[str], server: subprocess.Popen[str]) -> None:
     end = time.monotonic() + START_SECONDS
     while subprocess.run(succeeds, stdout=QUIET, stderr=QUIET).returncode:
         if server.poll() is not None or time.monotonic() > end:
-            raise SystemExit(f"bench: {server.args[0]} doesn't start")
+            raise SystemExit(f"bench: the server of {succeeds[0]} doesn't start")
         time.sleep(0.05)
 
 
@@ -161,15 +163,15 @@ def run_worldd(worldd: str, world_load: str, method: str, every: int, folder: pa
     # One client more than play, so that it doesn't end before its processor time is read.
     flags = ["--method", method, "--every", str(every), "--clients", str(load.clients + 1), *listening]
     with running([worldd, "serve", "--dir", ".", *flags], folder) as server:
-        server.stdout.readline()
-        address = server.stdout.readline().split()[1]
+        assert server.stdout is not None
+        address = [server.stdout.readline() for _ in range(2)][1].split()[1]
         before = processor_seconds(server.pid)
         playing = ["--connections", str(load.clients), "--lines", str(load.lines), "--cells", str(CELLS)]
         command = [world_load, f"--{load.transport}", address, *playing, "--seconds", str(load.seconds)]
         printed = printed_by(command, folder)
         used = processor_seconds(server.pid) - before
-    ticks, rate = map(int, re.search(r"(\d+) ticks, (\d+) a second", printed).groups())
-    return Sample(rate, float(re.search(r"p50 (\S+)", printed)[1]), 1e6 * used / ticks)
+    ticks, rate = map(int, re.findall(r"(\d+) ticks, (\d+) a second", printed)[0])
+    return Sample(rate, float(re.findall(r"p50 (\S+)", printed)[0]), 1e6 * used / ticks)
 
 
 # SQLite
@@ -233,7 +235,7 @@ def run_postgres(user: str, folder: pathlib.Path, load: Load) -> Sample:
         before = processor_seconds(server.pid)
         printed = printed_by([*command, *playing], folder)
         used = processor_seconds(server.pid) - before
-    rate = float(re.search(r"tps = (\S+) \(without", printed)[1])
+    rate = float(re.findall(r"tps = (\S+) \(without", printed)[0])
     waits = [int(line.split()[2]) for file in folder.glob("waits.*") for line in file.read_text().splitlines()]
     return Sample(rate, statistics.median(waits) / 1000, 1e6 * used / len(waits))
 
@@ -258,7 +260,8 @@ def systems(worldd: str, world_load: str, every: list[int], room: str) -> list[S
     found.append(System("PostgreSQL", both, lacks, functools.partial(run_postgres, postgres_user())))
     lacks = missing("cc")
     driver = "" if lacks else driver_of("sqlite_sets", room, "-lsqlite3")
-    found.append(System("SQLite", (LIBRARY,), lacks or ([] if driver else ["libsqlite3-dev"]), functools.partial(run_sqlite, driver)))
+    lacks = lacks or ([] if driver else ["libsqlite3-dev"])
+    found.append(System("SQLite", (LIBRARY,), lacks, functools.partial(run_sqlite, driver)))
     driver = "" if lacks else driver_of("device_calls", room)
     found.append(System("device calls", (LIBRARY,), lacks, functools.partial(run_device_calls, driver)))
     return found

@@ -9,22 +9,21 @@ copy has to hold a world not older than the greatest tick that was answered befo
 ticks. `worldd status` has to report no older one either. Images have many pages, so a copy of half an image would show.
 At the end of each play a copy is served.
 """
-import argparse
+
+import collections
 import dataclasses
 import itertools
 import pathlib
 import random
 import re
 import shutil
-import subprocess
 import sys
-import tempfile
 import threading
-import time
 from collections.abc import Iterator
 
 import kill_trial
-from kill_trial import METHODS, SOCKET, TRANSPORTS, Batch, Client, Request, Server, Wrong, answer, collected, connect, flags_of
+from kill_trial import Batch, Client, Request, Server, answer, collected
+from trial import METHODS, SOCKET, TRANSPORTS, Wrong, ask, connect, create, flags_of, parser_of, status_in_folder, summary
 
 EVERY = 1, 8, 64
 CLIENTS = 4
@@ -32,8 +31,16 @@ CLIENTS = 4
 CELLS = 20_000
 FIRST_MARK, COUNT, LAST_MARK = 0, 1, CELLS - 1
 PLAYED = range(COUNT + 1, LAST_MARK)
-PATIENCE_SECONDS = 60
-QUIET = subprocess.DEVNULL
+# What came of the copies; each count but the last has to grow.
+SUMMARY = (
+    "backup trial: {copies} copies and {figures} figures of {answered} ticks, none older than an answer; {ahead} had ticks that "
+    "were answered later; {with_log} had ticks of the log; {from_a} from image.a and {from_b} from image.b; {served} were "
+    "served; begun anew {anew} times"
+)
+FIGURES = (
+    r"recovered (\d+) from (\d+) in image\.[ab]\nlog: (\d+) ticks? after the image, (.*)\nbytes: .*, together (\d+)\n"
+    r"server: running, log up, images up\n"
+)
 
 
 def random_request(chance: random.Random) -> Request:
@@ -70,69 +77,37 @@ class Copy:
     words: list[int]
 
 
-@dataclasses.dataclass
-class Tally:
-    """What came of the copies; each count but the last has to grow."""
-
-    copies: int = 0
-    figures: int = 0
-    answered: int = 0
-    ahead: int = 0
-    with_log: int = 0
-    from_a: int = 0
-    from_b: int = 0
-    served: int = 0
-    anew: int = 0
-
-    def __str__(self) -> str:
-        return (
-            f"{self.copies} copies and {self.figures} figures of {self.answered} ticks, none older than an answer; "
-            f"{self.ahead} had ticks that were answered later; {self.with_log} had ticks of the log; {self.from_a} from image.a and "
-            f"{self.from_b} from image.b; {self.served} were served; begun anew {self.anew} times"
-        )
-
-
 class Trial:
     """A world in a folder, and the counts so far."""
 
     def __init__(self, worldd: str, room: pathlib.Path, seed: int) -> None:
-        self.worldd, self.room, self.seed, self.tally = worldd, room, seed, Tally()
-
-    def ask(self, command: str, folder: pathlib.Path, *flags: str) -> tuple[str, str]:
-        """What a command prints, which has to end well."""
-        words = [self.worldd, command, "--dir", str(folder), *flags]
-        ended = subprocess.run(words, stdin=QUIET, capture_output=True, text=True, timeout=PATIENCE_SECONDS)
-        if ended.returncode:
-            raise Wrong(f"{command} ended with status {ended.returncode}: {' '.join(ended.stderr.split())}")
-        return ended.stdout, ended.stderr
+        self.worldd, self.room, self.seed = worldd, room, seed
+        self.tally: collections.Counter[str] = collections.Counter()
 
     def figures(self, world: pathlib.Path, floor: int) -> None:
         """What `status` reports of a world that is served: no tick is missing that was answered."""
-        printed, _ = self.ask("status", world)
-        form = r"recovered (\d+) from (\d+) in image\.[ab]\nlog: (\d+) ticks? after the image, (.*)\nbytes: .*, together (\d+)\nserver: running, log up, images up\n"
-        match = re.fullmatch(form, printed)
+        printed = ask(self.worldd, "status", world).stdout
+        match = re.fullmatch(FIGURES, printed)
         if not match or int(match[1]) - int(match[2]) != int(match[3]):
             raise Wrong(f"status prints {printed!r}")
         if int(match[1]) < floor:
             raise Wrong(f"status prints {printed!r}, and tick {floor} was answered before")
-        self.tally.figures += 1
+        self.tally["figures"] += 1
 
     def copy(self, world: pathlib.Path, to: pathlib.Path, floor: int) -> Copy:
         """Backs the world up, and reads what the copy holds."""
         to.mkdir()
-        printed, errors = self.ask("backup", world, "--to", str(to))
-        match = re.fullmatch(r"backed up (\d+) from (\d+)\n", printed)
-        begun = re.fullmatch(r"(?:worldd: it was begun (\d+) times\n)?", errors)
+        ended = ask(self.worldd, "backup", world, "--to", str(to))
+        match = re.fullmatch(r"backed up (\d+) from (\d+)\n", ended.stdout)
+        begun = re.fullmatch(r"(?:worldd: it was begun (\d+) times\n)?", ended.stderr)
         if not match or not begun:
-            raise Wrong(f"backup prints {printed!r} and {errors!r}")
-        found = kill_trial.found_in(f"recovered {match[1]} from {match[2]}", self.ask("inspect", to, "--words")[0].splitlines())
+            raise Wrong(f"backup prints {ended.stdout!r} and {ended.stderr!r}")
+        lines = ask(self.worldd, "inspect", to, "--words").stdout.splitlines()
+        found = kill_trial.found_in(f"recovered {match[1]} from {match[2]}", lines)
         if found.tick < floor:
             raise Wrong(f"{found.line}, and tick {floor} was answered before")
-        self.tally.copies += 1
-        self.tally.anew += int(begun[1] or 1) - 1
-        self.tally.with_log += found.tick > found.base
-        self.tally.from_a += found.image == "image.a"
-        self.tally.from_b += found.image == "image.b"
+        self.tally.update(copies=1, anew=int(begun[1] or 1) - 1, with_log=found.tick > found.base)
+        self.tally[f"from_{found.image[-1]}"] += 1
         return Copy(floor, found.tick, found.words)
 
     def serve_copy(self, to: pathlib.Path, tick: int, method: str) -> None:
@@ -145,7 +120,7 @@ class Trial:
                 line = reader.readline()
         if line != f"tick {tick + 1}: +\n":
             raise Wrong(f"a served copy of tick {tick} answers {line!r}")
-        self.tally.served += 1
+        self.tally["served"] += 1
 
     def copies(self, world: pathlib.Path, clients: list[Client], count: int) -> Iterator[Copy]:
         """So many copies, one after another. The last one stays."""
@@ -160,8 +135,7 @@ class Trial:
     def play(self, number: int, method: str, every: int, count: int) -> None:
         """Lets clients play, and takes so many copies meanwhile."""
         world = self.room / f"world{number}"
-        world.mkdir()
-        self.ask("create", world, "--cells", str(CELLS))
+        create(self.worldd, world, CELLS)
         flags = ["--method", method, "--every", str(every), "--clients", str(CLIENTS)]
         flags += flags_of(TRANSPORTS[number % 2], self.room / f"socket{number}")
         with Server([self.worldd, "serve", "--dir", str(world), *flags], self.room / "complaints") as server:
@@ -197,41 +171,24 @@ class Trial:
             if words != copy.words:
                 cell = next(cell for cell in range(CELLS) if words[cell] != copy.words[cell])
                 raise Wrong(f"a copy of tick {number} has {copy.words[cell]} in cell {cell}, and the model {words[cell]}")
-            self.tally.ahead += copy.tick > copy.floor
-        self.tally.answered += len(answered)
+            self.tally["ahead"] += copy.tick > copy.floor
+        self.tally["answered"] += len(answered)
 
-    def run(self, count: int) -> Tally:
+    def run(self, count: int) -> str:
         """Takes so many copies in all, as many by each method and after each number of ticks."""
         kinds = list(itertools.product(METHODS, EVERY))
         for number, (method, every) in enumerate(kinds):
             self.play(number, method, every, -(-count // len(kinds)))
-        for name, count in dataclasses.asdict(self.tally).items():
-            if not count and name != "anew":
-                raise Wrong(f"the count `{name}` is 0: {self.tally}")
-        return self.tally
-
-
-def arguments() -> argparse.Namespace:
-    """What the command line asks for."""
-    parser = argparse.ArgumentParser(description=__doc__.splitlines()[0])
-    parser.add_argument("worldd", type=lambda path: str(pathlib.Path(path).resolve()), help="the built program")
-    parser.add_argument("--backups", type=int, default=60, help="how many copies are taken (60)")
-    parser.add_argument("--seed", type=int, default=time.time_ns() % 10**9, help="of the batches")
-    parser.add_argument("--dir", help="where the folders of the worlds are made (the system's for temporary files)")
-    return parser.parse_args()
+        return summary(SUMMARY, self.tally, "anew")
 
 
 def main() -> int:
     """Runs the trial, and keeps the files where it fails."""
-    given = arguments()
-    room = pathlib.Path(tempfile.mkdtemp(prefix="backup-trial-", dir=given.dir))
-    try:
-        print(f"backup trial: {Trial(given.worldd, room, given.seed).run(given.backups)}")
-    except (Wrong, OSError, subprocess.TimeoutExpired) as wrong:
-        print(f"backup_trial: {wrong}\nbackup_trial: seed {given.seed}, files in {room}", file=sys.stderr)
-        return 1
-    shutil.rmtree(room)
-    return 0
+    parser = parser_of(__doc__, "of the batches")
+    parser.add_argument("--backups", type=int, default=60, help="how many copies are taken (60)")
+    parser.add_argument("--dir", help="where the folders of the worlds are made (the system's for temporary files)")
+    given = parser.parse_args()
+    return status_in_folder("backup_trial", given, lambda room: Trial(given.worldd, room, given.seed).run(given.backups))
 
 
 if __name__ == "__main__":

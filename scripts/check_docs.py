@@ -16,8 +16,8 @@ It takes seconds, and prints the page, the line and the reason of each of these:
 - a version of the programs, of a client or of a manual page that isn't the first one of CHANGELOG.md
 
 A block between fences is a quote, whole or in part: of the file in a marker on a line above it, `<!-- examples/FILE -->` or
-`<!-- clients/.. -->`, or without a language of any file in src/ or specs/ of a crate. An indented block is text. The marker `<!-- run -->` makes it
-commands with their output, which scripts/example_trial.py runs.
+`<!-- clients/.. -->`, or without a language of any file in src/ or specs/ of a crate. An indented block is text. The marker
+`<!-- run -->` makes it commands with their output, which scripts/example_trial.py runs.
 
 The words of a page are those outside of its blocks. Those of tables count too; the lines between their heads and rows don't.
 """
@@ -34,8 +34,8 @@ import trusted_lines
 import walk
 from wrong_bodies import PROMISES, read_promises
 
-# Names in backquotes that no file here has: words of contracts, words in place of a name, and names of the system. A name of one or
-# two letters is a variable or a command.
+# Names in backquotes that no file here has: words of contracts, words in place of a name, and names of the system. A name of
+# one or two letters is a variable or a command.
 NOT_OF_CRATES = {"requires", "ensures", "decreases", "function", "clause", "PATH", "foo", "args", "stdout", "Makefile"}
 NOT_OF_CRATES |= {"pwrite", "fdatasync", "rename", "O_NOFOLLOW", "AF_UNIX", "nobarrier", "chown", "dmesg", "readlink", "sysctl"}
 NOT_OF_CRATES |= {"fs::read", "postgresql", "UpToDate", "StandAlone"}
@@ -48,7 +48,10 @@ COUNTED = (
     (r"(?:other {} (?:crates|test)|{} other crates)", ("crates of worldd", "other crates")),
     (r"(?<!at most ){} crates", ("crates",)),
     (r"\| crates \| {} \|", ("crates",)),
-    (r"(?<!at most ){} (?:\w+ly )?wrong (?:function )?bodies", ("all wrong bodies", "wrong bodies of the gate", "wrong bodies beside it")),
+    (
+        r"(?<!at most ){} (?:\w+ly )?wrong (?:function )?bodies",
+        ("all wrong bodies", "wrong bodies of the gate", "wrong bodies beside it"),
+    ),
     (r"\| wrong bodies that it tries \| {} \|", ("wrong bodies of the gate",)),
     (r"{} of `must-fail/`", ("wrong bodies of the gate",)),
     (r"(?:other {} are in `wrong-bodies/`|{} others\b)", ("wrong bodies beside it",)),
@@ -87,7 +90,9 @@ PAST = re.compile(r"\b(?:[Bb]efore|Until then),[^.|\n]*")
 # A path of the repository. What a program's folder out/ has is made by a run of the gate.
 PATH = re.compile(r"(?<![\w/.-])((?:docs|scripts|bench|examples|clients|crates|\.ci)/[\w./*-]*[\w*/])")
 MADE = re.compile(r"crates/\w+/out/.*")
-FOLDERS = (".", "docs", "docs/proofs", "scripts", "bench", "examples", "clients/python", "clients/c", "clients/rust", "clients/javascript")
+FOLDERS = (
+    ".", "docs", "docs/proofs", "scripts", "bench", "examples", *(f"clients/{it}" for it in ("python", "c", "rust", "javascript"))
+)
 FILE = re.compile(r"(?<![\w/.*-])(\w+\.(?:md|py|sh|c))\b")
 PLACEHOLDERS = re.compile(r"\b(?:NAME|CRATE|FILE)\b")
 LINK = re.compile(r"\[[^\]\n]*\]\(([^)\s]+)\)")
@@ -370,7 +375,7 @@ def python_version(version: str) -> str:
 
 def wrong_versions() -> Iterator[Finding]:
     """Versions that differ from that of the changelog's first section, and files that state none."""
-    newest = re.search(r"^## (.*)$", (TOP / "CHANGELOG.md").read_text(), re.MULTILINE)[1]
+    newest = re.findall(r"^## (.*)$", (TOP / "CHANGELOG.md").read_text(), re.MULTILINE)[0]
     for file, pattern in VERSIONS:
         want, found = python_version(newest) if file.endswith("__init__.py") else newest, False
         for number, line in enumerate((TOP / file).read_text().splitlines(), 1):

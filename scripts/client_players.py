@@ -5,11 +5,12 @@ import pathlib
 import shutil
 import socket
 import subprocess
-import sys
+from collections.abc import Callable
+from typing import Any
 
-from check_docs import TOP
+from map import TOP
+from trial import Words, pipe
 
-sys.path.insert(0, str(TOP / "clients" / "python"))
 import cektaulis
 from cektaulis import Action, Set
 
@@ -27,8 +28,8 @@ IN_C = "-std=c11", "-D_POSIX_C_SOURCE=200809L"
 class PythonPlayer:
     """The client in Python. Its calls return what came of them in the words of scripts/client_player.c."""
 
-    def __init__(self) -> None:
-        self.world: cektaulis.World | None = None
+    # It is there once the client has connected.
+    world: cektaulis.World
 
     def open_any(self, addresses: list[str], seconds: float) -> str:
         return self.open(addresses, seconds)
@@ -46,7 +47,16 @@ class PythonPlayer:
         return self.answer(lambda: (self.world.reconnect(seconds), "ok")[1])
 
     def send(self, batch: list[Action]) -> str:
-        return self.answer(lambda: self.world.send(*batch) or "ok")
+        return self.sent(*batch)
+
+    def sent(self, *actions: Any) -> str:
+        """Sends what may be no action."""
+
+        def call() -> str:
+            self.world.send(*actions)
+            return "ok"
+
+        return self.answer(call)
 
     def receive(self, _count: int) -> str:
         return self.answer(lambda: text_of(self.world.receive()))
@@ -80,10 +90,11 @@ class PythonPlayer:
         return self.world.connections
 
     def lessen_buffers(self) -> None:
-        lessen_buffers(self.world._stream)
+        with socket.socket(fileno=os.dup(self.world.fileno())) as stream:
+            lessen_buffers(stream)
 
     def no_action(self) -> str:
-        return self.answer(lambda: self.world.send([Set(0, 1)]))
+        return self.sent([Set(0, 1)])
 
     def played(self, cell: int, number: int) -> str:
         return self.answer(lambda: "yes" if self.world.was_played(cell, number) else "no")
@@ -92,10 +103,10 @@ class PythonPlayer:
         return len(next(cektaulis.batches(actions)))
 
     def close(self) -> None:
-        if self.world is not None:
+        if hasattr(self, "world"):
             self.world.close()
 
-    def answer(self, call) -> str:
+    def answer(self, call: Callable[[], str]) -> str:
         try:
             return call()
         except cektaulis.BatchRefused as refused:
@@ -127,8 +138,8 @@ class CPlayer:
         self.process = subprocess.Popen([self.program], stdin=subprocess.PIPE, stdout=subprocess.PIPE, text=True, bufsize=1)
 
     def ask(self, command: str) -> str:
-        self.process.stdin.write(f"{command}\n")
-        return self.process.stdout.readline().removesuffix("\n")
+        pipe(self.process.stdin).write(f"{command}\n")
+        return pipe(self.process.stdout).readline().removesuffix("\n")
 
     def open(self, address: str, seconds: float) -> str:
         return self.ask(f"open {address} {seconds * 1000:.0f}")
@@ -182,7 +193,7 @@ class CPlayer:
         return int(self.ask(f"batch {', '.join(map(str, actions))}"))
 
     def close(self) -> None:
-        self.process.stdin.close()
+        pipe(self.process.stdin).close()
         self.process.wait(SECONDS)
 
 
@@ -200,6 +211,10 @@ class RustPlayer(CPlayer):
             raise OSError(ctypes.get_errno(), "pidfd_getfd")
         with socket.socket(fileno=taken) as stream:
             lessen_buffers(stream)
+
+
+# A client, by which a trial plays.
+Player = PythonPlayer | CPlayer
 
 
 def text_of(tick: cektaulis.Tick) -> str:
@@ -224,7 +239,7 @@ def build_players(room: pathlib.Path) -> None:
     if not shutil.which("rustc"):
         print("client_trial: there is no rustc, so the client in Rust isn't tried")
         return
-    build = ["rustc", "--edition", "2021", "-O", "-D", "warnings", "-o", RustPlayer.program]
+    build: Words = ["rustc", "--edition", "2021", "-O", "-D", "warnings", "-o", RustPlayer.program]
     subprocess.run([*build, TOP / "scripts" / "client_player.rs"], check=True)
 
 

@@ -17,6 +17,7 @@ import collections
 import concurrent.futures
 import contextlib
 import dataclasses
+import functools
 import importlib.util
 import itertools
 import os
@@ -34,15 +35,21 @@ import tempfile
 import threading
 import time
 import zipfile
+from collections.abc import Callable, Sequence
+from typing import Any, TypeVar
 
-from check_docs import TOP, python_version
+from check_docs import python_version
 from client_players import (
     ACTION_REFUSED, ANSWER_LOST, BAD_ACTION, BAD_ADDRESS, GARBLED, MARKER_REFUSED, NONE, NOT_CONNECTED, SECONDS, TOO_LARGE,
-    UNANSWERED, CPlayer, PythonPlayer, RustPlayer, build_players, cektaulis, compile_header, lessen_buffers,
+    UNANSWERED, CPlayer, Player, PythonPlayer, RustPlayer, build_players, compile_header, lessen_buffers,
 )
-from example_trial import Script, Step, Wrong, free_port
-from kill_trial import PORT, TRANSPORTS, answer as answer_of_model
+from example_trial import Script, Step
+from kill_trial import Request, answer as answer_of_model
+from map import TOP
+from trial import PORT, QUIET, TRANSPORTS, Words, Wrong
+from trial import all_met, ask, begun, create, found_in_text, free_port, parser_of, pipe, status_of
 
+import cektaulis
 from cektaulis import Action, Add, Cap, Get, Move, Set, Swap, Unanswered
 
 # How long a client waits that is to see a silent server.
@@ -75,18 +82,48 @@ COUNT, SHOP, PURSES = 4, 5, {2: 6, 3: 7}
 GOLD = 10**9
 
 
-class Trial:
-    """The tries of one client, and how often each kind of answer was met."""
+Refusing = TypeVar("Refusing", bound=Exception)
 
-    def __init__(self, player, worldd: pathlib.Path, room: pathlib.Path, transport: str, cells: int = 4) -> None:
-        self.player, self.worldd, self.room, self.transport = player, worldd, room, transport
-        self.met: collections.Counter = collections.Counter()
-        self.server: subprocess.Popen | None = None
-        room.mkdir()
+
+class World:
+    """A world with the server that serves it, and how often each kind of answer was met."""
+
+    # It is there once the world is served.
+    server: subprocess.Popen[str]
+
+    def __init__(self, worldd: str, room: pathlib.Path, transport: str, cells: int) -> None:
+        self.worldd, self.room, self.transport = worldd, room, transport
+        self.met: collections.Counter[str] = collections.Counter()
         # The address stays, so that a client finds the server again.
-        self.address = free_port() if transport == PORT else str(room / "socket")
-        run = [worldd, "create", "--dir", room, "--cells", str(cells)]
-        subprocess.run(run, check=True, stdout=subprocess.DEVNULL)
+        self.address = str(free_port() if transport == PORT else room / "socket")
+        create(worldd, room, cells)
+
+    def serve(self, address: str | None = None, room: pathlib.Path | None = None) -> None:
+        """Starts the server, at its address and in its folder unless it gets others."""
+        flags = [f"--{self.transport}", address or self.address, "--clients", "1000", "--every", "8", "--method", "zigzag"]
+        command: Words = [self.worldd, "serve", "--dir", room or self.room, *flags]
+        self.server = subprocess.Popen(command, stdout=subprocess.PIPE, stderr=subprocess.DEVNULL, text=True)
+        begun(self.server)
+
+    def kill(self) -> None:
+        """Kills the server, running or held, unless it was killed."""
+        if pipe(self.server.stdout).closed:
+            return
+        self.server.kill()
+        self.server.communicate()
+
+    def hold(self) -> None:
+        """Stops the server, and waits until all of its threads stand."""
+        self.server.send_signal(signal.SIGSTOP)
+        os.waitid(os.P_PID, self.server.pid, os.WSTOPPED)
+
+
+class Trial(World):
+    """The tries of one client."""
+
+    def __init__(self, player: Player, worldd: str, room: pathlib.Path, transport: str, cells: int = 4) -> None:
+        super().__init__(worldd, room, transport, cells)
+        self.player = player
 
     def note(self, got: str) -> str:
         """Counts what an answer has."""
@@ -111,31 +148,11 @@ class Trial:
         sent = self.player.send(list(batch))
         return self.player.receive(len(batch)) if sent == "ok" else sent
 
-    def serve(self, address: str | None = None, room: pathlib.Path | None = None) -> None:
-        """Starts the server, at its address and in its folder unless it gets others."""
-        flags = [f"--{self.transport}", address or self.address, "--clients", "1000", "--every", "8", "--method", "zigzag"]
-        command = [self.worldd, "serve", "--dir", room or self.room, *flags]
-        self.server = subprocess.Popen(command, stdout=subprocess.PIPE, stderr=subprocess.DEVNULL, text=True)
-        for _ in range(2):
-            self.server.stdout.readline()
-
-    def kill(self) -> None:
-        """Kills the server, running or held, unless it was killed."""
-        if self.server.stdout.closed:
-            return
-        self.server.kill()
-        self.server.communicate()
-
-    def hold(self) -> None:
-        """Stops the server, and waits until all of its threads stand."""
-        self.server.send_signal(signal.SIGSTOP)
-        os.waitid(os.P_PID, self.server.pid, os.WSTOPPED)
-
     def open(self, address: str | None = None, seconds: float = SECONDS) -> None:
         """Connects, which has to go well."""
         self.expect(self.player.open(address or self.address, seconds), "ok")
 
-    def expect_later(self, call, wanted: str, event) -> None:
+    def expect_later(self, call: Callable[[], str], wanted: str, event: Callable[[], None]) -> None:
         """Expects an answer of a call that doesn't wait once something was done, and none before it."""
         self.expect(call(), NONE)
         event()
@@ -187,7 +204,9 @@ def try_limits(trial: Trial) -> None:
     trial.expect(trial.play(Get(2)), "tick 7: =256")
     lengths = [(600, 0, 256), (0, 2000, 1024), (256, 900, 1024), (100, 100, 200)]
     for sets, gets, wanted in lengths:
-        if trial.player.batch([Set(0, 1)] * sets + [Get(0)] * gets) != wanted:
+        actions: list[Action] = [Set(0, 1)] * sets
+        actions += [Get(0)] * gets
+        if trial.player.batch(actions) != wanted:
             raise Wrong(f"{sets} sets and {gets} gets make another batch than one of {wanted}")
 
 
@@ -207,19 +226,26 @@ def try_model(trial: Trial, chance: random.Random) -> None:
     trial.expect(trial.play(*itertools.starmap(Set, enumerate(words))).partition(":")[2], " +" * 4)
     while lines < MODEL_LINES:
         batch = [random_action(chance) for _ in range(chance.choice((1, 3, 20, 256)))]
-        line = answer_of_model(words, [(kind, *map(int, numbers)) for kind, *numbers in (str(it).split() for it in batch)], 0)
+        line = answer_of_model(words, tuple(map(request_of, batch)), 0)
         line = re.sub(r" -(\d+)", lambda found: f" {text_of_refusal(int(found[1]))}", line)
         trial.expect(trial.play(*batch).partition(":")[2], line.partition(":")[2])
         lines += len(batch)
         trial.met[MODEL] += len(batch)
 
 
+def request_of(action: Action) -> Request:
+    """An action for the plain model."""
+    kind, *numbers = str(action).split()
+    return kind, *map(int, numbers)
+
+
 def random_action(chance: random.Random) -> Action:
     """An action on a world of four cells, which may be refused."""
     cell, other = chance.choices((0, 1, 2, 3, 4), (30, 30, 30, 30, 1), k=2)
     amount = chance.choice((0, 1, 7, 50, 1000, LIMIT - 30, LIMIT, LIMIT + 1, 2**63 - 1))
-    kinds = Set(cell, amount), Add(cell, chance.choice((1, -1)) * amount), Move(cell, other, amount), Swap(cell, other)
-    return chance.choice((*kinds, Move(cell, other, amount % 100), Add(cell, -(amount % 60)), Cap(cell, amount), Get(cell)))
+    kinds: list[Action] = [Set(cell, amount), Add(cell, chance.choice((1, -1)) * amount), Move(cell, other, amount)]
+    kinds += [Swap(cell, other), Move(cell, other, amount % 100), Add(cell, -(amount % 60)), Cap(cell, amount), Get(cell)]
+    return chance.choice(kinds)
 
 
 def try_polls(trial: Trial) -> None:
@@ -242,26 +268,33 @@ def try_polls(trial: Trial) -> None:
 def try_kept(trial: Trial) -> None:
     """Answers that came before the connection broke are received after `reconnect`, and before later ones. A call that plays
     a batch meanwhile returns its own answer."""
-    add, get, later = Step("add 1 1", "tick 1: +"), Step("get 1", "tick 2: =1"), Step("get 1", "tick 5: =1")
-    played, again = Step("get 1", "tick 3: =1"), Step("set 1 1", "tick 4: +")
+    added, got, played, again, later = "tick 1: +", "tick 2: =1", "tick 3: =1", "tick 4: +", "tick 5: =1"
+    before = Step("add 1 1", added), Step("get 1", got)
+    after = Step("get 1", played), Step("set 1 1", again), Step("get 1", later)
     for last in (Step("get 2", None), Step("get 2", "fault 12")):
-        script = Script([add, get, last], [LOST_PROBE], [READY, played, again, later])
+        script = Script([*before, last], [LOST_PROBE], [READY, *after])
         trial.open(script.address)
-        for batch in ([Add(1, 1)], [Get(1)], [Get(2)]):
-            trial.expect(trial.player.send(batch), "ok")
+        actions: tuple[Action, ...] = Add(1, 1), Get(1), Get(2)
+        for action in actions:
+            trial.expect(trial.player.send([action]), "ok")
         deadline = time.monotonic() + SECONDS
         while script.served < 3 and time.monotonic() < deadline:
             time.sleep(0.001)
         # The last answer may be on its way.
         time.sleep(0.05)
         trial.expect(trial.player.reconnect(SECONDS), "ok")
-        trial.expect(trial.player.play([Get(1)]), played.answer)
-        trial.expect(trial.player.again(SECONDS, [Set(1, 1)]), again.answer)
+        trial.expect(trial.player.play([Get(1)]), played)
+        trial.expect(trial.player.again(SECONDS, [Set(1, 1)]), again)
         trial.expect(trial.player.send([Get(1)]), "ok")
-        for wanted in (add.answer, get.answer, later.answer):
-            trial.expect(trial.player.receive(1), wanted)
+        for answer in (added, got, later):
+            trial.expect(trial.player.receive(1), answer)
         trial.met[KEPT] += 2
         script.end()
+
+
+def lost(step: Step) -> Step:
+    """A step whose answer is lost."""
+    return dataclasses.replace(step, answer=None)
 
 
 def try_bulk(trial: Trial) -> None:
@@ -271,7 +304,6 @@ def try_bulk(trial: Trial) -> None:
     gets = [[str(Get(cell)) for cell in range(it, min(it + 1024, 1100))] for it in (0, 1024)]
     set_steps = [Step(", ".join(it), f"tick 1:{' +' * len(it)}") for it in sets]
     read_steps = [Step(", ".join(it), "tick 2:" + "".join(f" ={7 * int(line[4:])}" for line in it)) for it in gets]
-    lost = lambda step: dataclasses.replace(step, answer=None)
     full = dataclasses.replace(set_steps[2], answer="fault 6")
     script = Script(
         [set_steps[0], lost(set_steps[1])],
@@ -367,7 +399,7 @@ def try_silence(trial: Trial) -> None:
 
 def try_addresses(trial: Trial) -> None:
     """Of several addresses a client finds the one that serves. It leaves one that is silent."""
-    other = free_port() if trial.transport == PORT else str(trial.room / "other")
+    other = str(free_port() if trial.transport == PORT else trial.room / "other")
     trial.expect(trial.player.open_any([other, trial.address], SECONDS), "ok")
     trial.expect(trial.play(Set(OWN, 400)).partition(":")[2], " +")
     trial.kill()
@@ -390,12 +422,12 @@ def try_addresses(trial: Trial) -> None:
     try_silent_server(trial, other)
 
 
-def silent_at(trial: Trial) -> socket.socket:
-    """A server at the address of a trial that never answers."""
-    if trial.transport == PORT:
-        return socket.create_server(("127.0.0.1", int(trial.address)))
-    pathlib.Path(trial.address).unlink(missing_ok=True)
-    return socket.create_server(trial.address, family=socket.AF_UNIX)
+def silent_at(world: World) -> socket.socket:
+    """A server at the address of a world that never answers."""
+    if world.transport == PORT:
+        return socket.create_server(("127.0.0.1", int(world.address)))
+    pathlib.Path(world.address).unlink(missing_ok=True)
+    return socket.create_server(world.address, family=socket.AF_UNIX)
 
 
 def try_silent_server(trial: Trial, other: str) -> None:
@@ -405,7 +437,7 @@ def try_silent_server(trial: Trial, other: str) -> None:
     trial.hold()
     held, copy = trial.server, trial.room.with_suffix(".copy")
     copy.mkdir()
-    subprocess.run([trial.worldd, "backup", "--dir", trial.room, "--to", copy], check=True, stdout=subprocess.DEVNULL)
+    ask(trial.worldd, "backup", trial.room, "--to", str(copy))
     late = threading.Timer(TURN / 2, trial.serve, [other, copy])
     late.start()
     trial.expect(trial.player.once(OWN, 402, SECONDS, [Add(1, 1), Get(1)]).partition(":")[2], " + =6")
@@ -459,7 +491,9 @@ def try_mistakes(trial: Trial) -> None:
     trial.open()
     trial.expect(trial.play(Set(OWN, 200), Set(1, 0)).partition(":")[2], " + +")
     trial.expect(trial.player.no_action(), BAD_ACTION)
-    for number, action in ((0, Get(1)), (LIMIT + 1, Get(1)), (201, Set(OWN, 1)), (201, Swap(1, OWN)), (201, Move(OWN, 1, 1))):
+    actions: tuple[Action, ...] = Set(OWN, 1), Swap(1, OWN), Move(OWN, 1, 1)
+    mistakes: list[tuple[int, Action]] = [(0, Get(1)), (LIMIT + 1, Get(1)), *((201, action) for action in actions)]
+    for number, action in mistakes:
         trial.expect(trial.player.once(OWN, number, SECONDS, [action]), BAD_ACTION)
     trial.expect(trial.player.once(OWN, 201, SECONDS, [Add(1, 1)] * 256), TOO_LARGE)
     trial.expect(trial.player.once(OWN, 199, SECONDS, [Add(1, 1)]), MARKER_REFUSED)
@@ -473,18 +507,23 @@ def try_mistakes(trial: Trial) -> None:
 
 def try_python_mistakes(world: cektaulis.World) -> None:
     """What the client in Python refuses, as its types can't."""
-    for call in (
-        lambda: world.play("end"),
-        lambda: world.play([Set(0, 1)]),
-        lambda: world.send(None),
-        lambda: list(world.play_all(["set 0 1"])),
-        lambda: world.play_again("get 0"),
-        lambda: world.play_once(OWN, 10**9, (Get(0),)),
-        lambda: cektaulis.does_no_harm_twice(["get 0"]),
-    ):
+    # The types forbid such calls.
+    it: Any = world
+    no_batch: Any = ["get 0"]
+    calls: list[Callable[[], object]] = [
+        lambda: it.play("end"),
+        lambda: it.play([Set(0, 1)]),
+        lambda: it.send(None),
+        lambda: list(it.play_all(["set 0 1"])),
+        lambda: it.play_again("get 0"),
+        lambda: it.play_once(OWN, 10**9, (Get(0),)),
+        lambda: cektaulis.does_no_harm_twice(no_batch),
+    ]
+    for call in calls:
         refuses(TypeError, call)
-    for address in (0, 65536, 72928, "72928", ""):
-        refuses(ValueError, lambda address=address: cektaulis.World(address))
+    addresses: tuple[int | str, ...] = 0, 65536, 72928, "72928", ""
+    for address in addresses:
+        refuses(ValueError, functools.partial(cektaulis.World, address))
     refuses(ValueError, lambda: cektaulis.World("7070", timeout=0))
 
 
@@ -563,7 +602,7 @@ def try_prompt(trial: Trial) -> None:
         os.close(terminal)
 
 
-def refuses(kind: type[Exception], call) -> Exception:
+def refuses(kind: type[Refusing], call: Callable[[], object]) -> Refusing:
     """What a call raises, which has to be of this kind."""
     try:
         got = call()
@@ -572,34 +611,37 @@ def refuses(kind: type[Exception], call) -> Exception:
     raise Wrong(f"{got!r} comes of a call that has to raise {kind.__name__}")
 
 
+# What a server of the trial's own is asked for, connection by connection, and what has to come of it.
+Try = tuple[str, list[list[Step]]]
 LOOK, PROBE, BATCH = "get 0", "", "set 0 5, add 1 1"
 NO, YES, READY, PLAYED = Step(LOOK, "tick 1: =4"), Step(LOOK, "tick 4: =5"), Step(PROBE, "tick 2:"), Step(BATCH, "tick 3: + +")
-LOST, LOST_LOOK, LOST_PROBE, FULL = Step(BATCH, None), Step(LOOK, None), Step(PROBE, None), Step(BATCH, "fault 6")
+LOST, LOST_LOOK, LOST_PROBE = Step(BATCH, None), Step(LOOK, None), Step(PROBE, None)
+FULL, DOWN = Step(BATCH, "fault 6"), Step(BATCH, "fault 12")
 
 
 def try_once(trial: Trial) -> None:
     """Each way of a batch that is to be played once, on servers of the trial's own."""
     played = "tick 3: +"
-    tries = (
-        (played, [NO, PLAYED]),
-        (played, [LOST_LOOK], [READY, NO, PLAYED]),
-        (played, [NO, LOST], [READY, NO, PLAYED]),
-        (ANSWER_LOST, [NO, LOST], [READY, YES]),
-        (ANSWER_LOST, [NO, LOST], [LOST_PROBE], [READY, LOST_LOOK], [LOST_PROBE], [READY, YES]),
-        (played, [NO, Step(BATCH, "fault 12")], [Step(PROBE, "fault 12")], [READY, Step(LOOK, "fault 12")], [READY, NO, PLAYED]),
-        (played, [NO, FULL, Step(BATCH, "fault 17"), PLAYED]),
-        (played, [NO, LOST], [Step(PROBE, "fault 6"), Step(LOOK, "fault 17"), NO, PLAYED]),
-        (f"fault 21: {TEXTS[-21]}", [NO, Step(BATCH, "fault 21")]),
-        (UNANSWERED, [NO, LOST], [READY, Step(LOOK, "fault 21")]),
-        (MARKER_REFUSED, [Step(LOOK, "tick 1: -1")]),
-        (MARKER_REFUSED, [Step(LOOK, "tick 1: =6")]),
-        (MARKER_REFUSED, [NO, Step(BATCH, "tick 3: -1 +")]),
-        (ANSWER_LOST, [YES]),
-        (GARBLED, [NO, Step(BATCH, "hello")]),
+    tries: list[Try] = [
+        (played, [[NO, PLAYED]]),
+        (played, [[LOST_LOOK], [READY, NO, PLAYED]]),
+        (played, [[NO, LOST], [READY, NO, PLAYED]]),
+        (ANSWER_LOST, [[NO, LOST], [READY, YES]]),
+        (ANSWER_LOST, [[NO, LOST], [LOST_PROBE], [READY, LOST_LOOK], [LOST_PROBE], [READY, YES]]),
+        (played, [[NO, DOWN], [Step(PROBE, "fault 12")], [READY, Step(LOOK, "fault 12")], [READY, NO, PLAYED]]),
+        (played, [[NO, FULL, Step(BATCH, "fault 17"), PLAYED]]),
+        (played, [[NO, LOST], [Step(PROBE, "fault 6"), Step(LOOK, "fault 17"), NO, PLAYED]]),
+        (f"fault 21: {TEXTS[-21]}", [[NO, Step(BATCH, "fault 21")]]),
+        (UNANSWERED, [[NO, LOST], [READY, Step(LOOK, "fault 21")]]),
+        (MARKER_REFUSED, [[Step(LOOK, "tick 1: -1")]]),
+        (MARKER_REFUSED, [[Step(LOOK, "tick 1: =6")]]),
+        (MARKER_REFUSED, [[NO, Step(BATCH, "tick 3: -1 +")]]),
+        (ANSWER_LOST, [[YES]]),
+        (GARBLED, [[NO, Step(BATCH, "hello")]]),
         # An answer that is late isn't a loss.
-        (played, [NO, dataclasses.replace(PLAYED, seconds=2 * SHORT)]),
-    )
-    for wanted, *connections in tries:
+        (played, [[NO, dataclasses.replace(PLAYED, seconds=2 * SHORT)]]),
+    ]
+    for wanted, connections in tries:
         script = Script(*connections)
         trial.open(script.address, SHORT)
         trial.expect(trial.player.once(OWN, 5, SECONDS, [Add(1, 1)]), wanted)
@@ -609,25 +651,25 @@ def try_once(trial: Trial) -> None:
 def try_bounds(trial: Trial) -> None:
     """Calls that connect again end in time, with what is known."""
     silent = socket.create_server(("127.0.0.1", 0))
-    tries = (
-        (NOT_CONNECTED, [LOST_LOOK]),
-        (UNANSWERED, [NO, LOST]),
-        (f"fault 6: {TEXTS[-6]}", [NO] + [FULL] * 100),
-        (UNANSWERED, [NO, LOST], [READY] + [Step(LOOK, "fault 6")] * 100),
-    )
+    tries: list[Try] = [
+        (NOT_CONNECTED, [[LOST_LOOK]]),
+        (UNANSWERED, [[NO, LOST]]),
+        (f"fault 6: {TEXTS[-6]}", [[NO] + [FULL] * 100]),
+        (UNANSWERED, [[NO, LOST], [READY] + [Step(LOOK, "fault 6")] * 100]),
+    ]
     with silent:
         trial.open(str(silent.getsockname()[1]))
         expect_in_time(trial, [SHORT], NOT_CONNECTED, trial.player.reconnect)
 
-        def play(bound: float) -> str:
+        def play(connections: list[list[Step]], bound: float) -> str:
             trial.open(Script(*connections).address)
             return trial.player.once(OWN, 5, bound, [Add(1, 1)])
 
-        for wanted, *connections in tries:
-            expect_in_time(trial, BOUNDS, wanted, play)
+        for wanted, connections in tries:
+            expect_in_time(trial, BOUNDS, wanted, functools.partial(play, connections))
 
 
-def expect_in_time(trial: Trial, bounds, wanted: str, call) -> None:
+def expect_in_time(trial: Trial, bounds: Sequence[float], wanted: str, call: Callable[[float], str]) -> None:
     """Expects an answer of a call that gives up after the first or a later of some bounds."""
     for bound in bounds:
         start = time.monotonic()
@@ -656,14 +698,16 @@ def try_doubt(seconds: float) -> None:
     batch = (Add(1, 1),)
     script = Script([Step("add 1 1", None)], [LOST_PROBE], [READY, LOST_LOOK], [READY, NO, Step("get 1", None)], [READY])
     world = cektaulis.World(script.address, seconds)
-    for kind, call in ((Unanswered, lambda: world.play(*batch)), (Unanswered, world.receive)):
-        lost = refuses(kind, call)
-        if lost.batches != [batch] or "reconnect" not in str(lost):
-            raise Wrong(f"{lost} keeps {lost.batches}")
-    for call in (lambda: world.play(Get(1)), lambda: world.send(Get(1)), lambda: world.was_played(OWN, 5)):
+    calls: list[Callable[[], object]] = [lambda: world.play(*batch), world.receive]
+    for call in calls:
+        why = refuses(Unanswered, call)
+        if why.batches != [batch] or "reconnect" not in str(why):
+            raise Wrong(f"{why} keeps {why.batches}")
+    calls = [lambda: world.play(Get(1)), lambda: world.send(Get(1)), lambda: world.was_played(OWN, 5)]
+    for call in calls:
         if "reconnect" not in str(refuses(cektaulis.NotConnected, call)):
             raise Wrong("a call without a connection doesn't name the way back")
-    got = [world.reconnect(seconds)]
+    got: list[object] = [world.reconnect(seconds)]
     refuses(Unanswered, lambda: world.was_played(OWN, 5))
     got += [world.reconnect(seconds), world.was_played(OWN, 5)]
     refuses(Unanswered, lambda: world.play(Get(1)))
@@ -679,7 +723,8 @@ def try_doubt_after_answers(seconds: float) -> None:
     get = Step("get 1", "tick 1: =4")
     script = Script([get, get, Step("add 1 1", "fault 12")], [READY, Step("get 1", None)], [READY])
     world = cektaulis.World(script.address, seconds)
-    for action in (Get(1), Get(1), Add(1, 1)):
+    actions: tuple[Action, ...] = Get(1), Get(1), Add(1, 1)
+    for action in actions:
         world.send(action)
     first = world.receive()
     deadline = time.monotonic() + SECONDS
@@ -695,7 +740,7 @@ def try_doubt_after_answers(seconds: float) -> None:
         raise Wrong(f"{kept} is kept, and {doubtful} is in doubt")
 
 
-Ends = dict[int, collections.Counter]
+Ends = dict[int, collections.Counter[str]]
 
 
 def killing(trial: Trial, chance: random.Random, kills: int | None, ends: Ends, done: threading.Event) -> int:
@@ -729,7 +774,7 @@ def turn(client: int, number: int) -> Action:
     return Move(SHOP, PURSES[client], 3) if number % 2 else Move(PURSES[client], SHOP, 2)
 
 
-def playing(player, client: int, ends: collections.Counter, done: threading.Event) -> None:
+def playing(player: Player, client: int, ends: collections.Counter[str], done: threading.Event) -> None:
     """Plays batches, each once, until the server is killed no more. Counts how they ended."""
     while not done.is_set():
         number, before = ends.total() + 1, player.connections()
@@ -750,7 +795,9 @@ def words_after(batches: dict[int, int]) -> dict[int, int]:
     return words
 
 
-def try_kills_of_many(kind, trial: Trial, chance: random.Random, kills: int | None) -> tuple[int, collections.Counter]:
+def try_kills_of_many(
+    kind: type[Player], trial: Trial, chance: random.Random, kills: int | None
+) -> tuple[int, collections.Counter[str]]:
     """Two clients count and two trade while the server is killed. Returns how often that was, and how batches ended."""
     players = {client: kind() for client in (*COUNTERS, *TRADERS)}
     ends: Ends = {client: collections.Counter() for client in players}
@@ -800,20 +847,19 @@ def try_client(trial: Trial, chance: random.Random) -> None:
         trial.player.close()
 
 
-def try_both(name: str, kind, given: argparse.Namespace, room: pathlib.Path, transport: str) -> None:
+def try_both(name: str, kind: type[Player], given: argparse.Namespace, room: pathlib.Path, transport: str) -> None:
     """Tries a client over a port or a socket, and prints what was met."""
-    worldd, folder = given.worldd.resolve(), room / f"{name}-{transport}"
-    trial = Trial(kind(), worldd, folder, transport)
+    folder = room / f"{name}-{transport}"
+    trial = Trial(kind(), given.worldd, folder, transport)
     try_client(trial, random.Random(given.seed))
-    many = Trial(kind(), worldd, folder.with_suffix(".many"), transport, 8)
+    many = Trial(kind(), given.worldd, folder.with_suffix(".many"), transport, 8)
     kills, ends = try_kills_of_many(kind, many, random.Random(given.seed), given.kills)
     met = ", ".join(f"{it} {trial.met[it]}" for it in WANTED)
     print(f"client in {name} over a {transport}: {met}")
     print(f"  {kills} kills, {ends.total()} batches of four clients, each counted once: "
           + ", ".join(f"{it} {ends[it]}" for it in ENDS))
-    never = [it for it in WANTED if not trial.met[it]] + [it for it in ENDS if not ends[it]]
-    if never:
-        raise Wrong(f"never met: {', '.join(never)}")
+    all_met(trial.met, WANTED)
+    all_met(ends, ENDS)
 
 
 # The cells of the patterns: two markers of a turn and two cells of each of its batches; a marker of trades, purses and goods.
@@ -821,7 +867,7 @@ BEGUN, COMPLETE, FIRST, SECOND = 0, 1, (2, 3), (4, 5)
 TRADE, BUYER, ESCROW, SELLER, STOCK, BOUGHT = range(6, 12)
 
 
-def try_patterns(worldd: pathlib.Path, room: pathlib.Path) -> None:
+def try_patterns(worldd: str, room: pathlib.Path) -> None:
     """Two patterns of docs/CLIENT.md: a turn over two batches with a kill in between, and trades by escrow."""
     trial = Trial(PythonPlayer(), worldd, room / "patterns", PORT, 3000)
     trial.serve()
@@ -855,7 +901,7 @@ def try_progress(trial: Trial) -> None:
         counts = (*range(step, 3000, step), 3000)
         wanted = "".join(f"\r{done} {count} of 3000 cells" for count in counts) + "\r\n"
         if run.wait(SECONDS) or printed.decode() != wanted:
-            raise Wrong(f"{flag} prints {printed}")
+            raise Wrong(f"{flag} prints {printed!r}")
     if got.read_text() != given.read_text():
         raise Wrong("a dump differs from what was loaded")
     with cektaulis.World(trial.address, SECONDS) as world:
@@ -881,11 +927,18 @@ def try_turns_of_two_batches(trial: Trial) -> int:
     return halves
 
 
+def is_done(tick: cektaulis.Tick | None) -> bool:
+    """Whether the only action of a batch was done. Its answer may not be lost."""
+    if tick is None:
+        raise Wrong("the answer of a trade is lost")
+    return tick.answers[0] is None
+
+
 def trade(world: cektaulis.World, number: int, price: int) -> str:
     """Buys one piece by escrow, in three batches."""
-    if world.play_once(TRADE, number, Move(BUYER, ESCROW, price)).answers[0] is not None:
+    if not is_done(world.play_once(TRADE, number, Move(BUYER, ESCROW, price))):
         return "too poor"
-    is_bought = world.play_once(TRADE, number + 1, Move(STOCK, BOUGHT, 1)).answers[0] is None
+    is_bought = is_done(world.play_once(TRADE, number + 1, Move(STOCK, BOUGHT, 1)))
     world.play_once(TRADE, number + 2, Move(ESCROW, SELLER if is_bought else BUYER, price))
     return "bought" if is_bought else "paid back"
 
@@ -897,17 +950,18 @@ BUILD = "import sys, flit_core.buildapi as it; print(it.build_wheel(sys.argv[1])
 
 def try_package(room: pathlib.Path, version: str) -> None:
     """The client in Python makes a package with its types, which leaves nothing behind and runs. Versions are all the same."""
-    pkg_config = re.search(r"^Version: (.*)$", (TOP / "clients" / "c" / "cektaulis.pc").read_text(), re.MULTILINE)
+    pkg_config = found_in_text(r"^Version: (.*)$", (TOP / "clients" / "c" / "cektaulis.pc").read_text())
     in_python = python_version(version)
     if (cektaulis.__version__, pkg_config[1]) != (in_python, version):
         raise Wrong(f"the versions differ: {version}, {cektaulis.__version__} in Python, {pkg_config[1]} for pkg-config")
     pythons = sys.executable, "/usr/bin/python3"
-    has_builder = [it for it in pythons if not subprocess.run([it, "-c", "import flit_core"], stderr=subprocess.DEVNULL).returncode]
+    has_builder = [it for it in pythons if not subprocess.run([it, "-c", "import flit_core"], stderr=QUIET).returncode]
     if not has_builder:
         print("client_trial: there is no flit_core, so the package isn't tried")
         return
     before = sorted(PACKAGE.rglob("*"))
-    run = subprocess.run([has_builder[0], "-c", BUILD, room], cwd=PACKAGE, env=BY_HAND, capture_output=True, text=True, check=True)
+    build: Words = [has_builder[0], "-c", BUILD, room]
+    run = subprocess.run(build, cwd=PACKAGE, env=BY_HAND, capture_output=True, text=True, check=True)
     if left := set(PACKAGE.rglob("*")) - set(before):
         raise Wrong(f"the build of the package leaves {left}")
     with zipfile.ZipFile(room / run.stdout.strip()) as wheel:
@@ -925,32 +979,28 @@ def try_package(room: pathlib.Path, version: str) -> None:
 
 def main() -> int:
     """Tries all clients."""
-    parser = argparse.ArgumentParser(description=__doc__.splitlines()[0])
-    parser.add_argument("worldd", type=pathlib.Path, help="the built program")
+    parser = parser_of(__doc__)
     parser.add_argument("--seed", type=int, default=1)
     parser.add_argument("--kills", type=int, help=f"how often each server is killed, in place of {KILLING_SECONDS} seconds")
     given = parser.parse_args()
+
+    def prepare() -> None:
+        printed = subprocess.run([given.worldd, "--version"], capture_output=True, text=True, check=True).stdout
+        try_package(room, printed.split()[1])
+        try_patterns(given.worldd, room)
+        build_players(room)
+        compile_header()
+
     with tempfile.TemporaryDirectory(prefix="client-trial-") as folder:
         room = pathlib.Path(folder)
-        kinds = {"python": PythonPlayer, "c": CPlayer}
-        try:
-            printed = subprocess.run([given.worldd, "--version"], capture_output=True, text=True, check=True).stdout
-            try_package(room, printed.split()[1])
-            try_patterns(given.worldd.resolve(), room)
-            build_players(room)
-            compile_header()
-        except (Wrong, OSError, subprocess.SubprocessError) as wrong:
-            print(f"client_trial: {wrong}", file=sys.stderr)
-            return 1
+        status = status_of("client_trial", prepare)
+        kinds: dict[str, type[Player]] = {"python": PythonPlayer, "c": CPlayer}
         if shutil.which("rustc"):
             kinds["rust"] = RustPlayer
         for (name, kind), transport in itertools.product(kinds.items(), TRANSPORTS):
-            try:
-                try_both(name, kind, given, room, transport)
-            except (Wrong, OSError, subprocess.SubprocessError) as wrong:
-                print(f"client_trial: {name} over a {transport}: {wrong}", file=sys.stderr)
-                return 1
-    return 0
+            run = functools.partial(try_both, name, kind, given, room, transport)
+            status = status or status_of(f"client_trial: {name} over a {transport}", run)
+    return status
 
 
 if __name__ == "__main__":

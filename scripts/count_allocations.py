@@ -16,10 +16,8 @@ import subprocess
 import sys
 import tempfile
 
-from kill_trial import connect
-from memory_trial import built_watcher
+from trial import PATIENCE_SECONDS, Words, absolute, begun, connect, create, library_of
 
-PATIENCE_SECONDS = 60
 MOST = ": at most "
 # The batches that are counted, how many lines each has, and how often it may allocate. The buffers have grown before.
 FEW, MANY, LINES = 200, 2200, 16
@@ -32,15 +30,9 @@ def counts_of(measures: str, library: pathlib.Path) -> tuple[list[str], list[int
     watched = {"LD_PRELOAD": str(library), "COUNTED_TO": str(writer)}
     with open(reader, encoding="ascii") as counts:
         with open(writer, closefd=True):
-            run = subprocess.run(
-                [measures, "allocations"],
-                env=os.environ | watched,
-                pass_fds=[writer],
-                stdout=subprocess.PIPE,
-                text=True,
-                timeout=PATIENCE_SECONDS,
-                check=True,
-            )
+            command, seconds, pipe = [measures, "allocations"], 2 * PATIENCE_SECONDS, subprocess.PIPE
+            environment = os.environ | watched
+            run = subprocess.run(command, env=environment, pass_fds=[writer], stdout=pipe, text=True, timeout=seconds, check=True)
         return run.stdout.splitlines(), [int(count) for count in counts]
 
 
@@ -64,15 +56,13 @@ def play(stream: socket.socket, numbers: range) -> None:
 def count_served(worldd: str, library: pathlib.Path, room: pathlib.Path) -> bool:
     """Prints how many allocations a served batch makes, and returns whether that is as few as it may."""
     folder, counter = room / "world", room / "counter"
-    folder.mkdir()
+    create(worldd, folder, LINES)
     counter.write_bytes(bytes(8))
-    subprocess.run([worldd, "create", "--dir", folder, "--cells", str(LINES)], check=True, stdout=subprocess.DEVNULL)
     flags = ["--method", "zigzag", "--port", "0", "--clients", "1", "--every", str(MANY)]
     watched = os.environ | {"LD_PRELOAD": str(library), "COUNTED_IN": str(counter)}
-    command = [worldd, "serve", "--dir", folder, *flags]
+    command: Words = [worldd, "serve", "--dir", folder, *flags]
     with subprocess.Popen(command, env=watched, stdout=subprocess.PIPE, stderr=subprocess.DEVNULL, text=True) as server:
-        server.stdout.readline()
-        with connect(server.stdout.readline().split()[1]) as stream:
+        with connect(begun(server)[1].split()[1]) as stream:
             play(stream, range(1, FEW))
             before = int.from_bytes(counter.read_bytes(), sys.byteorder)
             play(stream, range(FEW, MANY))
@@ -85,12 +75,12 @@ def count_served(worldd: str, library: pathlib.Path, room: pathlib.Path) -> bool
 def main() -> int:
     """Counts the allocations of each call, and of a served batch."""
     parser = argparse.ArgumentParser(description=__doc__.splitlines()[0])
-    parser.add_argument("measures", type=os.path.abspath, help="the built program that makes the calls")
-    parser.add_argument("worldd", type=os.path.abspath, help="the built server")
+    parser.add_argument("measures", type=absolute, help="the built program that makes the calls")
+    parser.add_argument("worldd", type=absolute, help="the built server")
     given = parser.parse_args()
     with tempfile.TemporaryDirectory() as folder:
         room = pathlib.Path(folder)
-        library = built_watcher(room)
+        library = library_of("watched_allocations.c", room)
         lines, counts = counts_of(given.measures, library)
         held = [is_within(line, count) for line, count in zip(lines, counts, strict=True)]
         held.append(count_served(given.worldd, library, room))

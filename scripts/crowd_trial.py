@@ -8,22 +8,18 @@ send 200 batches each, while one leaves in half a batch, one sends 10 MB without
 by byte and ends it last. Each tick must be answered once, and all answers, by tick, must be those of one plain model.
 Each method serves over a port and over a socket.
 """
-import argparse
 import itertools
-import os
 import pathlib
 import random
 import re
-import shutil
 import socket
-import subprocess
 import sys
-import tempfile
 import threading
 from typing import NamedTuple
 
-from kill_trial import CELLS, METHODS, PATIENCE_SECONDS, TRANSPORTS, Batch, Wrong
-from kill_trial import answer, connect, flags_of, random_request, text_of
+from kill_trial import CELLS, Batch, answer, random_request, text_of
+from trial import METHODS, PATIENCE_SECONDS, TRANSPORTS, Served, Wrong
+from trial import answer_to, connect, create, flags_of, parser_of, status_in_folder
 
 CLIENTS, BATCHES = 50, 200
 FLOOD = 10_000_000
@@ -42,30 +38,16 @@ class Way(NamedTuple):
         return f"{self.method}-{self.transport}"
 
 
-class Server:
-    """A serving worldd, whose lines are kept."""
+class Server(Served):
+    """A server of a new world."""
 
     def __init__(self, worldd: str, folder: pathlib.Path, way: "Way", cells: int, every: int, clients: int) -> None:
-        folder.mkdir()
-        subprocess.run([worldd, "create", "--dir", folder, "--cells", str(cells)], check=True, capture_output=True)
+        create(worldd, folder, cells)
         where = flags_of(way.transport, folder.with_suffix(".socket"))
         flags = ["--method", way.method, "--every", str(every), "--clients", str(clients), *where]
-        command = [worldd, "serve", "--dir", folder, *flags]
-        self.errors = folder.with_suffix(".errors")
-        with self.errors.open("w") as errors:
-            self.process = subprocess.Popen(command, stdout=subprocess.PIPE, stderr=errors, text=True)
-        self.expect("recovered 0 from 0")
-        self.address = self.line().removeprefix("listening ")
-
-    def line(self) -> str:
-        """The next line that it prints."""
-        return self.process.stdout.readline().removesuffix("\n")
-
-    def expect(self, line: str) -> None:
-        """The next line must be this one."""
-        printed = self.line()
-        if printed != line:
-            raise Wrong(f"worldd printed `{printed}` in place of `{line}`")
+        super().__init__([worldd, "serve", "--dir", folder, *flags], folder.with_suffix(".errors"))
+        self.begin("recovered 0 from 0")
+        self.address = self.listen()
 
     def connect(self) -> socket.socket:
         """A client's connection."""
@@ -77,14 +59,6 @@ class Server:
         if printed != f"stopped tick {ticks} acked {ticks}\n" or self.process.returncode:
             raise Wrong(f"worldd ended with status {self.process.returncode} and `{printed}`")
         return self.errors.read_text()
-
-
-def answer_to(stream: socket.socket, text: bytes) -> str:
-    """All that a client gets that sends this and no more."""
-    with stream:
-        stream.sendall(text)
-        stream.shutdown(socket.SHUT_WR)
-        return stream.makefile(encoding="ascii").read()
 
 
 def try_row(worldd: str, room: pathlib.Path, way: Way) -> None:
@@ -178,21 +152,17 @@ def try_crowd(worldd: str, room: pathlib.Path, way: Way, seed: int) -> int:
 
 def main() -> int:
     """Runs the trial, and keeps the files where it fails."""
-    parser = argparse.ArgumentParser(description=__doc__.splitlines()[0])
-    parser.add_argument("worldd", type=os.path.abspath, help="the built program")
+    parser = parser_of(__doc__)
     parser.add_argument("--seed", type=int, default=1, help="of the batches")
     given = parser.parse_args()
-    room = pathlib.Path(tempfile.mkdtemp(prefix="crowd-trial-"))
-    try:
+
+    def run(room: pathlib.Path) -> None:
         for way in itertools.starmap(Way, itertools.product(METHODS, TRANSPORTS)):
             try_row(given.worldd, room, way)
             opened = try_crowd(given.worldd, room, way, given.seed)
             print(f"{way}: {CLIENTS * BATCHES + 1} ticks answered once each to one world, {opened} images opened meanwhile")
-    except (Wrong, OSError, subprocess.SubprocessError) as wrong:
-        print(f"crowd_trial: {wrong}\ncrowd_trial: seed {given.seed}, files in {room}", file=sys.stderr)
-        return 1
-    shutil.rmtree(room)
-    return 0
+
+    return status_in_folder("crowd_trial", given, run)
 
 
 if __name__ == "__main__":

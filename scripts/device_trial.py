@@ -20,8 +20,9 @@ import time
 from collections.abc import Callable
 
 import here_machine
-from kill_trial import CELLS, CLIENTS, METHODS, Batch, Found, Wrong, batches, found_in, judge, text_of
-from power_machine import DISK, FLUSH, MOUNTED, READ, SECTOR, WAYS, WHOLE, WRITE, Disk, Rig, lacking, parser_of, status_of, world_of
+from kill_trial import CELLS, CLIENTS, Answered, Batch, Found, batches, found_in, judge, text_of
+from power_machine import DISK, FLUSH, MOUNTED, READ, SECTOR, WAYS, WHOLE, WRITE, Machine, Rig, lacking, parser_of, status_of, world_of
+from trial import METHODS, Wrong
 
 FS, SMALL_MEGABYTES = ("ext4", "xfs"), 32
 # The ports of the clients are in front of the one on which calls are asked, and the one that starts the server again.
@@ -57,7 +58,7 @@ while read word <&3; do
 done
 """
 
-# A call that is to fail: in a start or in play, on a file, in a step, and by the call itself or by what the disk refuses under it.
+# A call that is to fail: in a start or in play, on a file, in a step, and by the call itself or by what the disk refuses.
 Failure = tuple[str, str, str, str]
 
 
@@ -92,7 +93,23 @@ class Strayed(Exception):
 class Trial(Rig):
     """A trial on a file system: what was answered, what waits, and the call that is to fail."""
 
-    running: Disk
+    running: Machine | here_machine.Here
+    reader: object
+    # The ticks that were answered, the batches that wait and those that were refused, and the world before them.
+    answered: Answered
+    waiting: dict[int, Batch]
+    dead: list[Batch]
+    before: Found
+    # The clients that have no connection any more, what is down, and the step of each file's last write.
+    gone: set[int]
+    down: str | None
+    last: dict[str, str]
+    # The call that is to fail, those that may, and the one that has failed.
+    wanted: Failure | None
+    wanted_now: set[Failure]
+    failed_now: Failure | None
+    way: str | None
+    until_cut: int
 
     def __init__(self, given: argparse.Namespace, folder: pathlib.Path, fault: str) -> None:
         super().__init__(given, folder, "asked_calls.c", fault)
@@ -153,7 +170,7 @@ class Trial(Rig):
             return
         elif call == "did":
             if self.wanted and int(words[0]) < 0 and (self.hits or self.way is None):
-                self.failed_now, self.wanted_now = self.wanted, ()
+                self.failed_now, self.wanted_now = self.wanted, set()
                 self.tally.update([self.wanted])
             if self.hits:
                 # A refused write may be of another file. That file reports it at its next sync: in this case or in the next one.
@@ -172,16 +189,16 @@ class Trial(Rig):
         chosen = [(self.phase, name, step, way) for way in ways if (self.phase, name, step, way) in self.wanted_now]
         if not chosen:
             return b"."
-        self.wanted = random.choice(chosen)
-        if self.wanted[3] == CALL:
+        wanted = self.wanted = random.choice(chosen)
+        if wanted[3] == CALL:
             return random.choice((b"0", b"1", b"2")) if call == "write" else b"0"
-        self.way, self.share = self.wanted[3], random.choice((0, 0.5, 1))
+        self.way, self.share = wanted[3], random.choice((0, 0.5, 1))
         return b"."
 
     def refused(self, kind: int, data: bytes) -> float | None:
         """Whether the disk refuses a request, and how much of it is done nevertheless. Other writes spare the journal."""
         self.is_journal |= data[:4] in JOURNALS
-        if self.is_journal != (self.way == JOURNAL) or kind != REFUSED.get(self.way) or (kind == FLUSH and self.hits):
+        if self.is_journal != (self.way == JOURNAL) or kind != REFUSED.get(self.way or "") or (kind == FLUSH and self.hits):
             return None
         if self.way == "write" and random.random() > LIKELY:
             return None
@@ -231,13 +248,16 @@ class Trial(Rig):
             if not self.failed_now:
                 raise Wrong(f"{self.down} in {self.phase}, though no call failed: {self.server_line}")
 
-    def left_here(self, size: int, share: float) -> list[str]:
-        """Cuts the power of the disk that this machine has, and reports what is left."""
-        with self.running.lock:
+    def left_by_cut(self, size: int, share: float) -> list[str]:
+        """Cuts the power of the disk, and reports what is left: by this machine if the disk is its own, or by another one."""
+        if isinstance(self.running, Machine):
+            assert isinstance(self.reader, Machine)
+            return self.cut(self.running, self.reader, size, share)
+        with self.running.guard:
             self.running.cut(self.left, size, share)
         return here_machine.lines_of(self.folder, self.given.worldd, self.given.fs, self.left)
 
-    def start(self, **words: object) -> contextlib.closing[Disk]:
+    def start(self, **words: object) -> contextlib.AbstractContextManager[object]:
         """Starts a machine with a new disk: this one, or one of QEMU's."""
         if not self.given.here:
             return self.machine(SERVES, self.new_disk(), AGAIN, **words, settled=SETTLED, port=7070)
@@ -246,8 +266,7 @@ class Trial(Rig):
     def look(self, moment: str) -> Found:
         """Cuts the power, and judges what another machine recovers then."""
         way, (is_torn, share) = random.choice(list(WAYS.items()))
-        size, share = SECTOR if is_torn else WHOLE, random.random() if share is None else share
-        lines = world_of(self.left_here(size, share) if self.given.here else self.cut(self.running, self.reader, size, share))
+        lines = world_of(self.left_by_cut(SECTOR if is_torn else WHOLE, random.random() if share is None else share))
         self.tally.update(["cuts", moment, way])
         if not lines[0].startswith("recovered"):
             raise Wrong(f"recovered no world: {lines[0]}, {moment}" + (f", of {self.failed_now}" if self.failed_now else ""))
@@ -264,13 +283,13 @@ class Trial(Rig):
         if target[0] == PLAY:
             self.play(SEARCHED, True)
         for _ in range(STARTS if target[0] == START else 0):
-            self.wanted_now = ()
+            self.wanted_now = set()
             self.play(random.randrange(1, 2 * PLAYED))
             self.wanted_now = wanted
             self.again()
             if self.failed_now:
                 break
-        self.wanted_now = ()
+        self.wanted_now = set()
         return self.failed_now is not None
 
     def case(self) -> None:
@@ -280,6 +299,7 @@ class Trial(Rig):
             self.tally["not met"] += 1
             return
         self.until(lambda: self.down, "nothing is down")
+        assert self.failed_now and self.down
         self.tally.update(["failed calls", f"by a {self.failed_now[3]}", self.down])
         if random.random() < CUTS["after a failure"]:
             self.look("after a failure")
@@ -298,14 +318,13 @@ class Trial(Rig):
         """Lets calls fail in a new machine. One whose server fell by a refusal that strayed is judged, and left."""
         self.plans = [batches(f"{self.given.seed} {run} {client}", client, run) for client in range(CLIENTS)]
         self.before = Found("recovered 0 from 0", 0, 0, "image.a", [0] * self.given.cells, False)
-        self.answered: dict[int, tuple[Batch, str]] = {}
-        self.waiting: dict[int, Batch] = {}
-        self.dead: list[Batch] = []
-        self.gone: set[int] = set()
-        self.wanted, self.wanted_now, self.failed_now, self.server_line, self.until_cut = None, (), None, "", 0
+        self.answered, self.waiting, self.dead, self.gone = {}, {}, [], set()
+        self.wanted, self.wanted_now, self.failed_now, self.server_line, self.until_cut = None, set(), None, "", 0
         self.strayed = 0
         words = {"method": METHODS[run % 2], "every": random.choice(EVERY)}
-        with self.start(**words) as self.running:
+        with self.start(**words) as running:
+            assert isinstance(running, Machine | here_machine.Here)
+            self.running = running
             self.running.refused = self.refused
             try:
                 self.again()
@@ -329,12 +348,13 @@ class Trial(Rig):
 
     def counts(self) -> str:
         """What was met: all in all, and of each file in each step, in starts and in play."""
-        names = ("failed calls", *(f"by a {way}" for way in (CALL, *REFUSED)), "images down", "log down", "fault 18", "file system stopped")
-        names += ("failed elsewhere", "not met", "batches refused", "ticks answered", "cuts", *CUTS, "in play", "elsewhere", *WAYS)
+        names = ("failed calls", *(f"by a {way}" for way in (CALL, *REFUSED)), "images down", "log down", "fault 18")
+        names += ("file system stopped", "failed elsewhere", "not met", "batches refused", "ticks answered")
+        names += ("cuts", *CUTS, "in play", "elsewhere", *WAYS)
         counts = [f"{name} {self.tally[name]}" for name in names]
         for phase, file in dict.fromkeys(kind[:2] for kind in self.kinds):
             steps = dict.fromkeys(kind[2] for kind in self.kinds if kind[:2] == (phase, file))
-            met = {step: [f"{kind[3]} {self.tally[kind]}" for kind in self.kinds if kind[:3] == (phase, file, step)] for step in steps}
+            met = {it: [f"{kind[3]} {self.tally[kind]}" for kind in self.kinds if kind[:3] == (phase, file, it)] for it in steps}
             counts.append(f"{file} in {phase}: " + ", ".join(f"{step} ({', '.join(each)})" for step, each in met.items()))
         return "; ".join(counts)
 

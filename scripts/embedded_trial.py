@@ -7,26 +7,19 @@ It plays two batches, twice, and `worldd recover` has to find each tick. Of two 
 goes on. With each set of standard streams closed, the files have to stay a world.
 """
 import argparse
+import functools
 import itertools
-import os
 import pathlib
 import subprocess
 import sys
 import tempfile
+from typing import Any
+
+from trial import absolute, close_all, compare, create, pipe, ran, status_of, want
 
 SECONDS = 60
 CELLS = 2
 BATCHES = "add 0 5\nget 0\nend\nmove 0 1 2\nget 1\nget 2\nend\n"
-
-
-class Wrong(Exception):
-    """What the program should not have done."""
-
-
-def expect(what: str, got: object, want: object) -> None:
-    """Refuses an answer that differs."""
-    if got != want:
-        raise Wrong(f"{what}: {got!r} instead of {want!r}")
 
 
 class Trial:
@@ -34,54 +27,47 @@ class Trial:
 
     def __init__(self, embedded: str, worldd: str, folder: pathlib.Path) -> None:
         self.embedded, self.worldd, self.folder = embedded, worldd, folder
-        (folder / "world").mkdir()
-        self.run_worldd("create", "--cells", str(CELLS))
+        create(worldd, folder / "world", CELLS)
 
-    def run_worldd(self, command: str, *words: str) -> str:
-        """What `worldd` prints on the world."""
-        run = subprocess.run([self.worldd, command, "--dir", self.folder / "world", *words], capture_output=True, text=True, timeout=SECONDS)
-        expect(f"status of worldd {command}", (run.returncode, run.stderr), (0, ""))
-        return run.stdout
-
-    def start(self, **streams: object) -> subprocess.Popen:
+    def start(self, **streams: Any) -> subprocess.Popen[str]:
         """The program, with pipes unless its streams are said."""
-        how = {"stdin": subprocess.PIPE, "stdout": subprocess.PIPE, "stderr": subprocess.PIPE, "text": True, "cwd": self.folder}
-        return subprocess.Popen([self.embedded], **(how | streams))
+        how: dict[str, Any] = dict.fromkeys(("stdin", "stdout", "stderr"), subprocess.PIPE)
+        return subprocess.Popen([self.embedded], text=True, cwd=self.folder, **(how | streams))
 
     def tick(self) -> int:
         """The tick that recovery finds."""
-        return int(self.run_worldd("recover").split()[1])
+        run = ran(self.worldd, "recover", self.folder / "world")
+        compare("status of worldd recover", (run.returncode, run.stderr), (0, ""))
+        return int(run.stdout.split()[1])
 
     def play(self, first: int, total: int, moved: int) -> None:
         """Two batches are answered, and are there afterwards."""
         said, errors = self.start().communicate(BATCHES, timeout=SECONDS)
-        expect("answers", said, f"tick {first}: + ={total}\ntick {first + 1}: + ={moved} -1\n")
-        expect("standard error", errors, "")
-        expect("recovered tick", self.tick(), first + 1)
+        compare("answers", said, f"tick {first}: + ={total}\ntick {first + 1}: + ={moved} -1\n")
+        compare("standard error", errors, "")
+        compare("recovered tick", self.tick(), first + 1)
 
     def play_two(self) -> None:
         """Of two at once the second is refused, and the first goes on."""
         one = self.start()
-        one.stdin.write("get 0\nend\n")
-        one.stdin.flush()
-        answer = one.stdout.readline()
+        pipe(one.stdin).write("get 0\nend\n")
+        pipe(one.stdin).flush()
+        answer = pipe(one.stdout).readline()
         two = self.start()
         said, errors = two.communicate(BATCHES, timeout=SECONDS)
-        expect("the second program", (two.returncode, said), (1, ""))
-        if "another program writes this world" not in errors:
-            raise Wrong(f"the second program said {errors!r}")
+        compare("the second program", (two.returncode, said), (1, ""))
+        want("another program writes this world" in errors, f"the second program said {errors!r}")
         one.communicate(timeout=SECONDS)
-        expect("the first program", (one.returncode, answer.startswith("tick ")), (0, True))
+        compare("the first program", (one.returncode, answer.startswith("tick ")), (0, True))
 
     def play_closed(self, closed: tuple[int, ...]) -> None:
         """With these standard streams closed, no text gets into a file, and no tick is lost."""
         before = self.tick()
         streams = {("stdin", "stdout", "stderr")[at]: subprocess.DEVNULL for at in closed}
-        program = self.start(**streams, preexec_fn=lambda: [os.close(at) for at in closed])
+        program = self.start(**streams, preexec_fn=functools.partial(close_all, closed))
         program.communicate(None if 0 in closed else BATCHES, timeout=SECONDS)
         ticks = self.tick() - before
-        if ticks not in ((0,) if 0 in closed else (0, 1, 2)):
-            raise Wrong(f"with {closed} closed {ticks} ticks came")
+        want(ticks in ((0,) if 0 in closed else (0, 1, 2)), f"with {closed} closed {ticks} ticks came")
 
 
 def run(given: argparse.Namespace) -> str:
@@ -100,14 +86,10 @@ def run(given: argparse.Namespace) -> str:
 def main() -> int:
     """Runs the trial."""
     parser = argparse.ArgumentParser(description=__doc__.splitlines()[0])
-    parser.add_argument("embedded", type=os.path.abspath, help="the built example")
-    parser.add_argument("worldd", type=os.path.abspath, help="the built worldd")
-    try:
-        print(run(parser.parse_args()))
-    except (Wrong, OSError, subprocess.SubprocessError) as wrong:
-        print(f"embedded_trial: {wrong}", file=sys.stderr)
-        return 1
-    return 0
+    parser.add_argument("embedded", type=absolute, help="the built example")
+    parser.add_argument("worldd", type=absolute, help="the built worldd")
+    given = parser.parse_args()
+    return status_of("embedded_trial", lambda: run(given))
 
 
 if __name__ == "__main__":

@@ -7,7 +7,6 @@ It runs examples/session.txt as a script, each block of a page that is marked as
 that breaks before the answer comes. Then it lets both games play for ten seconds on a server that is killed. Each turn has to
 count once, and no step may wait for the server. Port 7070 stands for a free port. It needs a C compiler, as cc.
 """
-import argparse
 import contextlib
 import dataclasses
 import os
@@ -21,7 +20,11 @@ import tempfile
 import threading
 import time
 
-from check_docs import TOP, Block, pages
+from check_docs import Block, pages
+from map import TOP
+from trial import QUIET, Words, Wrong, begun, compare, create, free_port, parser_of, pipe, status_of
+
+import cektaulis
 
 EXAMPLES, CLIENTS = TOP / "examples", TOP / "clients"
 SECONDS = 60
@@ -33,61 +36,34 @@ GAME_LINE = r"steps (\d+), turns (\d+), late (\d+), losses (\d+), sent again (\d
 # For so many seconds the server is away once in a while. No step of a game may take as long as the bound in milliseconds.
 AWAY_SECONDS, STEP_BOUND = 0.8, 600
 
-sys.path.insert(0, str(CLIENTS / "python"))
-import cektaulis
 
-
-class Wrong(Exception):
-    """What an example or a client should not have done."""
-
-
-def compare(what: str, got: str, want: str) -> None:
-    """Refuses an answer that differs."""
-    if got != want:
-        raise Wrong(f"{what} prints\n{got}in place of\n{want}")
-
-
-def run_session(worldd: pathlib.Path) -> None:
+def run_session(worldd: str) -> None:
     """The script answers as its file says."""
     script = (EXAMPLES / "session.txt").read_text()
     run = subprocess.run([worldd, "steps"], input=script, capture_output=True, text=True, timeout=SECONDS, check=True)
     compare("examples/session.txt", run.stdout, (EXAMPLES / "session.expected").read_text())
 
 
-def free_port() -> str:
-    """A port that nobody listens on."""
-    with socket.create_server(("127.0.0.1", 0)) as listener:
-        return str(listener.getsockname()[1])
-
-
-def run_block(worldd: pathlib.Path, page: str, block: Block, room: pathlib.Path) -> None:
+def run_block(worldd: str, page: str, block: Block, room: pathlib.Path) -> None:
     """Runs the commands of a block in one shell, each once the lines of the one before were printed."""
     room.mkdir()
     (room / "worldd").symlink_to(worldd)
     (room / "examples").symlink_to(EXAMPLES)
     (room / "clients").symlink_to(CLIENTS)
-    path = f"{room}:{os.environ['PATH']}"
+    environment, both = os.environ | {"PATH": f"{room}:{os.environ['PATH']}"}, subprocess.PIPE
     shell = subprocess.Popen(
-        ["sh"],
-        cwd=room,
-        env=os.environ | {"PATH": path},
-        stdin=subprocess.PIPE,
-        stdout=subprocess.PIPE,
-        stderr=subprocess.DEVNULL,
-        text=True,
-        bufsize=1,
-        start_new_session=True,
+        ["sh"], cwd=room, env=environment, stdin=both, stdout=both, stderr=QUIET, text=True, bufsize=1, start_new_session=True
     )
     watch = threading.Timer(SECONDS, os.killpg, (shell.pid, signal.SIGKILL))
     watch.start()
     try:
-        for line in block.text.replace(PORT, free_port()).splitlines():
+        for line in block.text.replace(PORT, str(free_port())).splitlines():
             if line.startswith("$ "):
-                shell.stdin.write(line.removeprefix("$ ") + "\n")
+                pipe(shell.stdin).write(line.removeprefix("$ ") + "\n")
             else:
-                compare(f"{page}:{block.line}", shell.stdout.readline(), line + "\n")
-        shell.stdin.close()
-        compare(f"{page}:{block.line}", shell.stdout.read(), "")
+                compare(f"{page}:{block.line}", pipe(shell.stdout).readline(), line + "\n")
+        pipe(shell.stdin).close()
+        compare(f"{page}:{block.line}", pipe(shell.stdout).read(), "")
         if shell.wait():
             raise Wrong(f"{page}:{block.line}: its last command fails")
     finally:
@@ -164,25 +140,24 @@ def try_reconnect(room: pathlib.Path) -> None:
 def try_mistakes(room: pathlib.Path) -> None:
     """Both clients refuse what is no port and no line."""
     in_c, in_python = room / "client", EXAMPLES / "client.py"
-    for command in (
-        *([in_c, port, "1", "1"] for port in ("0", "65536", "72928")),
-        *([in_c, PORT, *rest] for rest in (["x", "1"], ["1", "x"], ["1", "0"], ["1", "1", "get 0 1"], ["1", "1", "set 1 2"])),
-        *([sys.executable, in_python, port] for port in ("0", "65536", "72928")),
-    ):
+    ports, no_lines = ("0", "65536", "72928"), (["x", "1"], ["1", "x"], ["1", "0"], ["1", "1", "get 0 1"], ["1", "1", "set 1 2"])
+    commands: list[Words] = [[in_c, port, "1", "1"] for port in ports]
+    commands += [[in_c, PORT, *rest] for rest in no_lines]
+    commands += [[sys.executable, in_python, port] for port in ports]
+    for command in commands:
         run = subprocess.run(command, stderr=subprocess.DEVNULL, timeout=SECONDS)
         compare(" ".join(map(str, command)), f"status {run.returncode}\n", "status 2\n")
 
 
-def serve(worldd: pathlib.Path, folder: pathlib.Path) -> subprocess.Popen:
+def serve(worldd: str, folder: pathlib.Path) -> subprocess.Popen[str]:
     """A server of a folder, at its file `socket`, once it listens."""
-    command = [worldd, "serve", "--dir", folder, "--method", "zigzag", "--socket", folder / "socket", "--clients", "100000"]
+    command: Words = [worldd, "serve", "--dir", folder, *"--method zigzag --clients 100000 --socket".split(), folder / "socket"]
     server = subprocess.Popen(command, stdout=subprocess.PIPE, stderr=subprocess.DEVNULL, text=True)
-    for _ in range(2):
-        server.stdout.readline()
+    begun(server)
     return server
 
 
-def lose(server: subprocess.Popen, games: list[subprocess.Popen], way: int) -> None:
+def lose(server: subprocess.Popen[str], games: list[subprocess.Popen[str]], way: int) -> None:
     """Kills the server of some games: at once; when it has turns that it hasn't played, for longer; or when it has played turns
     whose answers no game has seen."""
     if way:
@@ -200,18 +175,17 @@ def lose(server: subprocess.Popen, games: list[subprocess.Popen], way: int) -> N
     time.sleep(AWAY_SECONDS if way == 1 else 0.1)
 
 
-def try_games(worldd: pathlib.Path, room: pathlib.Path) -> None:
+def try_games(worldd: str, room: pathlib.Path) -> None:
     """Both games play at once while their server is killed. Prints what they print."""
     folder, in_c = room / "games", room / "game"
-    folder.mkdir()
     subprocess.run([*IN_C, "-o", in_c, EXAMPLES / "game.c"], check=True)
-    subprocess.run([worldd, "create", "--dir", folder, "--cells", "1204"], check=True, stdout=subprocess.DEVNULL)
-    programs = {"game.py": [sys.executable, EXAMPLES / "game.py"], "game.c": [in_c]}
+    create(worldd, folder, 1204)
+    programs: dict[str, Words] = {"game.py": [sys.executable, EXAMPLES / "game.py"], "game.c": [in_c]}
     environment = os.environ | {"PYTHONPATH": str(CLIENTS / "python"), "PYTHONDONTWRITEBYTECODE": "1"}
     server, kills, end = serve(worldd, folder), 0, time.monotonic() + GAME_SECONDS - 1
     games = {}
     for name, first in GAMES.items():
-        command = [*programs[name], folder / "socket", str(GAME_SECONDS), str(first)]
+        command: Words = [*programs[name], folder / "socket", str(GAME_SECONDS), str(first)]
         games[name] = subprocess.Popen(command, stdout=subprocess.PIPE, text=True, env=environment)
     try:
         # A game that begins late has its words before the first kill.
@@ -246,11 +220,10 @@ def try_games(worldd: pathlib.Path, room: pathlib.Path) -> None:
 
 def main() -> int:
     """Runs all examples."""
-    parser = argparse.ArgumentParser(description=__doc__.splitlines()[0])
-    parser.add_argument("worldd", type=pathlib.Path, help="the built program")
-    worldd = parser.parse_args().worldd.resolve()
+    worldd = parser_of(__doc__).parse_args().worldd
     blocks = [(page.name, block) for page in pages() for block in page.blocks if block.marker == "run"]
-    try:
+
+    def run() -> str:
         with tempfile.TemporaryDirectory(prefix="example-trial-") as folder:
             room = pathlib.Path(folder)
             run_session(worldd)
@@ -259,11 +232,9 @@ def main() -> int:
             try_reconnect(room)
             try_mistakes(room)
             try_games(worldd, room)
-    except (Wrong, OSError, subprocess.SubprocessError) as wrong:
-        print(f"example_trial: {wrong}", file=sys.stderr)
-        return 1
-    print(f"examples: the script, the broken connection, the games and blocks of commands ({len(blocks)}) do what their pages say")
-    return 0
+        return f"examples: the script, a lost connection, the games and {len(blocks)} blocks of commands do what their pages say"
+
+    return status_of("example_trial", run)
 
 
 if __name__ == "__main__":

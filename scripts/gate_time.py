@@ -87,7 +87,7 @@ def watch(top: int) -> None:
         time.sleep(1)
 
 
-def write_times(seen: dict, seconds: dict) -> None:
+def write_times(seen: dict[tuple[int, str], tuple[str, str]], seconds: dict[tuple[int, str], float]) -> None:
     """Writes the sums by crate and kind, replacing the file in one step."""
     sums: dict[tuple[str, str], float] = collections.defaultdict(float)
     for key, work in seen.items():

@@ -8,7 +8,6 @@ import pty
 import selectors
 import shutil
 import signal
-import socket
 import struct
 import subprocess
 import tempfile
@@ -17,8 +16,8 @@ import time
 import tty
 from collections.abc import Iterator
 
-from kill_trial import QUIET, Wrong
 from power_machine import DISK, FAILED, FLUSH, READ, WRITE, Disk, Rig
+from trial import QUIET, Words, Wrong, free_port, pipe
 
 # Of the protocol: the kinds of requests, and the attributes of a folder and of the file in it.
 INIT, LOOKUP, GETATTR, OPEN, OPENDIR, READS, WRITES, SYNCS = 26, 1, 3, 14, 27, 15, 16, 20
@@ -35,7 +34,7 @@ class Served(Disk):
 
     def __init__(self, folder: pathlib.Path, image: bytearray) -> None:
         super().__init__(image)
-        self.folder, self.requests, self.lock = folder, 0, threading.Lock()
+        self.folder, self.requests, self.guard = folder, 0, threading.Lock()
         folder.mkdir()
         self.device = os.open("/dev/fuse", os.O_RDWR | os.O_CLOEXEC)
         data = f"fd={self.device},rootmode=40000,user_id=0,group_id=0".encode()
@@ -79,7 +78,7 @@ class Served(Disk):
             return struct.pack("<QII", 1, DIRECT if kind == OPEN else 0, 0)
         if kind in EMPTY:
             return b""
-        with self.lock:
+        with self.guard:
             if kind == READS:
                 at, length = struct.unpack_from("<QI", data, 8)
                 self.refuse(READ, 0, b"")
@@ -129,16 +128,18 @@ class Here(Served):
         super().__init__(room / "disk", image)
         self.mounted, self.rests, self.seen = room / "mounted", [b""] * (1 + ports), 0
         self.mounted.mkdir()
-        find = ["losetup", "--find", "--show", room / "disk" / "file"]
+        find: Words = ["losetup", "--find", "--show", room / "disk" / "file"]
         self.loop = subprocess.run(find, check=True, capture_output=True, text=True).stdout.strip()
         pathlib.Path(f"/sys/block/{pathlib.Path(self.loop).name}/queue/max_sectors_kb").write_text("4")
-        ends = [Stream(room / f"p{port}") for port in range(1, 1 + ports)]
+        self.streams = {port: Stream(room / f"p{port}") for port in range(1, 1 + ports)}
         text = script.replace("/dev/vport*p", f"{room}/p").replace("/dev/vda", self.loop).replace("/mnt", str(self.mounted))
-        how = {"stdin": QUIET, "stdout": subprocess.PIPE, "stderr": subprocess.STDOUT, "start_new_session": True}
-        self.process = subprocess.Popen(["sh", "-c", text], cwd="/", **how)
-        self.streams, self.chosen = [self.process.stdout, *ends], selectors.DefaultSelector()
-        for number, stream in enumerate(self.streams):
-            self.chosen.register(stream, selectors.EVENT_READ, number)
+        self.process = subprocess.Popen(
+            ["sh", "-c", text], cwd="/", stdin=QUIET, stdout=subprocess.PIPE, stderr=subprocess.STDOUT, start_new_session=True
+        )
+        self.chosen = selectors.DefaultSelector()
+        self.chosen.register(pipe(self.process.stdout), selectors.EVENT_READ, 0)
+        for port, stream in self.streams.items():
+            self.chosen.register(stream, selectors.EVENT_READ, port)
 
     def close(self) -> None:
         """Ends what runs, and gives the disk up."""
@@ -156,9 +157,8 @@ class Here(Served):
         while self.seen < self.requests:
             self.seen += 1
             yield DISK, "request"
-        for number in sorted(key.data for key, _ in self.chosen.select(0.01)):
-            stream = self.streams[number]
-            data = os.read(stream.fileno(), 1 << 16)
+        for number, file in sorted((key.data, key.fd) for key, _ in self.chosen.select(0.01)):
+            data = os.read(file, 1 << 16)
             if not data:
                 raise Wrong("the script has ended")
             *lines, self.rests[number] = (self.rests[number] + data).split(b"\n")
@@ -178,7 +178,8 @@ def writing_late() -> Iterator[None]:
 
 def lacking() -> list[str]:
     """What isn't there."""
-    paths = ["/dev/fuse", "/dev/loop-control", *(str(shutil.which(name)) for name in ("losetup", "busybox", "mkfs.ext4", "mkfs.xfs"))]
+    programs = "losetup", "busybox", "mkfs.ext4", "mkfs.xfs"
+    paths = ["/dev/fuse", "/dev/loop-control", *(str(shutil.which(name)) for name in programs)]
     is_there = all(map(os.path.exists, paths))
     return ["root"] * (os.geteuid() != 0) + ["FUSE, loop device, busybox or file system"] * (not is_there)
 
@@ -188,11 +189,10 @@ def here(rig: Rig, script: str, ports: int, **words: object) -> Here:
     room = pathlib.Path(tempfile.mkdtemp(dir=rig.folder))
     (room / "bin").mkdir()
     (room / "bin" / "worldd").symlink_to(rig.given.worldd)
-    (room / "bin" / "nc").symlink_to(shutil.which("busybox"))
+    (room / "bin" / "nc").symlink_to(shutil.which("busybox") or "busybox")
     source = pathlib.Path(__file__).with_name(rig.library)
     subprocess.run(["cc", "-shared", "-fPIC", "-o", room / "first.so", source], check=True)
-    with socket.create_server(("127.0.0.1", 0)) as chosen:
-        words |= {"fault": rig.fault, "library": room / "first.so", "port": chosen.getsockname()[1]}
+    words |= {"fault": rig.fault, "library": room / "first.so", "port": free_port()}
     text = f"PATH={room}/bin:$PATH\n" + script.format(**vars(rig.given) | words)
     return Here(room, text, rig.new_disk(), ports)
 

@@ -4,12 +4,11 @@
     scripts/javascript_trial.py crates/worldd/out/worldd
     scripts/javascript_trial.py WORLDD --kills 200
 
-Over a port and over a socket, it plays 5,000 random lines that a plain model answers too. Some are bad, and some numbers are at or
-over their bounds. A server of the trial's own answers each code. Then the server is killed again and again while a client counts:
-each batch of `playOnce` has to count once. At last it serves at another address. The trial prints how often it met what, and fails
-if an answer was never met. Without node it only says so.
+Over a port and over a socket, it plays 5,000 random lines that a plain model answers too. Some are bad, and some numbers are at
+or over their bounds. A server of the trial's own answers each code. Then the server is killed again and again while a client
+counts: each batch of `playOnce` has to count once. At last it serves at another address. The trial prints how often it met what,
+and fails if an answer was never met. Without node it only says so.
 """
-import argparse
 import json
 import pathlib
 import random
@@ -19,10 +18,12 @@ import sys
 import tempfile
 import time
 
-from check_docs import TOP
-from client_trial import ELSEWHERE, MODEL, MODEL_LINES, MOST_KILLING_SECONDS, TEXTS, TURN, Trial, silent_at
-from example_trial import Script, Step, Wrong, free_port
-from kill_trial import CELLS, LIMIT, PATIENCE_SECONDS, PORT, TRANSPORTS, Batch, Request, answer, difference, random_request
+from client_trial import ELSEWHERE, MODEL, MODEL_LINES, MOST_KILLING_SECONDS, TEXTS, TURN, World, silent_at
+from example_trial import Script, Step
+from kill_trial import CELLS, LIMIT, Batch, Request, answer, difference, random_request
+from map import TOP
+from trial import PATIENCE_SECONDS, PORT, TRANSPORTS, Words, Wrong
+from trial import all_met, ask, free_port, parser_of, pipe, status_of
 
 CLIENT = TOP / "clients" / "javascript" / "cektaulis.mjs"
 MARKER, COUNT, BATCHES = 0, 1, 100
@@ -73,7 +74,7 @@ def play(address: str, batches: list[Batch]) -> list[list[str]]:
     return answers
 
 
-def try_model(trial: Trial, chance: random.Random) -> None:
+def try_model(trial: World, chance: random.Random) -> None:
     """Random lines are answered as by a plain model."""
     batches, words = [EDGES], [0] * CELLS
     while sum(map(len, batches)) < MODEL_LINES:
@@ -86,7 +87,7 @@ def try_model(trial: Trial, chance: random.Random) -> None:
         trial.met[MODEL] += len(batch)
 
 
-def try_codes(trial: Trial) -> None:
+def try_codes(trial: World) -> None:
     """Each code comes back with the text of docs/CLIENT.md, and so does the end of the connection."""
     server = Script([Step("get 0", line) for line in (*CODES, None)])
     answers = play(server.address, [(("get", 0),)] * (len(CODES) + 1))
@@ -97,13 +98,13 @@ def try_codes(trial: Trial) -> None:
     trial.met.update(code for code in CODES if "fault" in code)
 
 
-def try_kills(trial: Trial, chance: random.Random, kills: int) -> int:
+def try_kills(trial: World, chance: random.Random, kills: int) -> int:
     """Each batch of `playOnce` counts once, though the server is killed so often or more. Gives how many counted."""
     given, answers, played, begun = trial.room / "batches", trial.room / "answers", 0, time.monotonic()
     given.write_text(f"add {COUNT} 1, get {COUNT}\n" * BATCHES)
     while trial.met["kills"] < kills or not trial.met[LOST] and time.monotonic() - begun < MOST_KILLING_SECONDS:
         with given.open() as batches, answers.open("w") as output:
-            run = ["node", CLIENT, trial.address, str(MARKER), str(played + 1)]
+            run: Words = ["node", CLIENT, trial.address, str(MARKER), str(played + 1)]
             client = subprocess.Popen(run, stdin=batches, stdout=output)
         while client.poll() is None:
             time.sleep(chance.uniform(0, 0.2))
@@ -123,17 +124,17 @@ def try_kills(trial: Trial, chance: random.Random, kills: int) -> int:
     return played
 
 
-def try_addresses(trial: Trial, count: int) -> None:
+def try_addresses(trial: World, count: int) -> None:
     """Of two addresses a client finds the one that serves. It leaves one that is silent. It has counted up to a number before."""
-    other, copy = free_port() if trial.transport == PORT else str(trial.room / "other"), trial.room.with_suffix(".copy")
-    run = ["node", "--input-type=module", "--eval", COUNTER, other, trial.address, str(TURN)]
+    other, copy = str(free_port() if trial.transport == PORT else trial.room / "other"), trial.room.with_suffix(".copy")
+    run: Words = ["node", "--input-type=module", "--eval", COUNTER, other, trial.address, str(TURN)]
     with subprocess.Popen(run, stdin=subprocess.PIPE, stdout=subprocess.PIPE, text=True, bufsize=1) as client:
 
         def counts(kind: str = "counted once") -> None:
             nonlocal count
             count += 1
-            client.stdin.write(f"{count}\n")
-            if (line := client.stdout.readline()) != f"{count}\n":
+            pipe(client.stdin).write(f"{count}\n")
+            if (line := pipe(client.stdout).readline()) != f"{count}\n":
                 raise Wrong(f"batch {count} was answered `{line}`")
             trial.met[kind] += 1
 
@@ -149,42 +150,44 @@ def try_addresses(trial: Trial, count: int) -> None:
         trial.hold()
         held = trial.server
         copy.mkdir()
-        subprocess.run([trial.worldd, "backup", "--dir", trial.room, "--to", copy], check=True, stdout=subprocess.DEVNULL)
+        ask(trial.worldd, "backup", trial.room, "--to", str(copy))
         trial.serve(room=copy)
         counts(ELSEWHERE[2])
         held.kill()
         held.communicate()
-        client.stdin.close()
+        pipe(client.stdin).close()
+
+
+def try_over(trial: World, seed: str, kills: int) -> None:
+    """Tries the client over a transport, and prints what was met."""
+    chance = random.Random(seed)
+    trial.serve()
+    try:
+        try_model(trial, chance)
+        try_codes(trial)
+        try_addresses(trial, try_kills(trial, chance, kills))
+    finally:
+        trial.kill()
+    print(f"javascript over a {trial.transport}: {', '.join(f'{name} {trial.met[name]}' for name in WANTED)}")
+    all_met(trial.met, WANTED)
 
 
 def main() -> int:
     """Runs the trial over each transport."""
-    parser = argparse.ArgumentParser(description=__doc__.splitlines()[0])
-    parser.add_argument("worldd", type=pathlib.Path, help="the built program")
+    parser = parser_of(__doc__, "of the lines and the moments")
     parser.add_argument("--kills", type=int, default=10, help="how often a server is killed at least, over each transport (10)")
-    parser.add_argument("--seed", type=int, default=time.time_ns() % 10**9, help="of the lines and the moments")
     given = parser.parse_args()
     if not shutil.which("node"):
         print("javascript_trial: there is no node, so the client in JavaScript isn't tried")
         return 0
-    for transport in TRANSPORTS:
-        chance = random.Random(f"{given.seed} {transport}")
-        with tempfile.TemporaryDirectory(prefix="javascript-trial-") as folder:
-            trial = Trial(None, given.worldd.resolve(), pathlib.Path(folder) / "world", transport, CELLS)
-            trial.serve()
-            try:
-                try_model(trial, chance)
-                try_codes(trial)
-                try_addresses(trial, try_kills(trial, chance, given.kills))
-                if missing := [name for name in WANTED if not trial.met[name]]:
-                    raise Wrong(f"never met: {', '.join(missing)}")
-            except (Wrong, OSError, subprocess.SubprocessError) as wrong:
-                print(f"javascript_trial: over a {transport}, with seed {given.seed}: {wrong}", file=sys.stderr)
-                return 1
-            finally:
-                trial.kill()
-        print(f"javascript over a {transport}: {', '.join(f'{name} {trial.met[name]}' for name in WANTED)}")
-    return 0
+
+    def run() -> None:
+        for transport in TRANSPORTS:
+            with tempfile.TemporaryDirectory(prefix="javascript-trial-") as folder:
+                world = World(given.worldd, pathlib.Path(folder) / "world", transport, CELLS)
+                try_over(world, f"{given.seed} {transport}", given.kills)
+
+    return status_of(f"javascript_trial: with seed {given.seed}", run)
 
 
 if __name__ == "__main__":

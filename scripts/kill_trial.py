@@ -10,31 +10,28 @@ of a plain model. A start is killed after every fourth kill. A kill ends the pro
 this tries the order of what is written and answered, and not whether it was synced. Two servers in a row
 listen on a port, and the next two on a socket, whose file the kill leaves.
 """
-import argparse
+
+import collections
 import dataclasses
 import io
 import itertools
-import os
 import pathlib
 import random
 import re
-import shutil
 import signal
-import socket
-import subprocess
 import sys
-import tempfile
 import threading
 import time
 from collections.abc import Iterator
+
+from trial import METHODS, PATIENCE_SECONDS, QUIET, SOCKET, TRANSPORTS, Served, Words, Wrong  # noqa: F401 - others take QUIET here
+from trial import ask, connect, create, flags_of, parser_of, pipe, status_in_folder, summary
 
 LIMIT = 999_999_999_999_999_999
 TICK_ACTIONS = 256
 BAD_CELL, BAD_VALUE, OUT_OF_RANGE, SAME_CELL, TICK_FULL, BAD_LINE = 1, 2, 3, 4, 5, 16
 
 CLIENTS = 4
-METHODS = "zigzag", "pingpong"
-PORT, SOCKET = TRANSPORTS = "port", "socket"
 EVERY = 8
 # An image of them is written in two chunks.
 CELLS = 70
@@ -46,17 +43,16 @@ BAD_LINES = "foo", "", "get", "set 06 1", "move 6 7", "swap 6", "cap 6 -1", "add
 LONG_LINES = 1_019
 LOAD_SECONDS = 0.005, 0.150
 LAST_BATCHES = 100
-# How long an answer is waited for; a server has twice that in all.
-PATIENCE_SECONDS = 30
-QUIET = subprocess.DEVNULL
+# What came of the kills; each count has to grow.
+SUMMARY = (
+    "{kills} kills, {in_round} of them in an open round; {answered} ticks answered, none lost; unanswered batches kept by {kept} "
+    "kills and lost by {lost}; recovered {from_a} times from image.a and {from_b} from image.b; {starts} starts killed; "
+    "{replaced} sockets of killed servers replaced"
+)
 
 Request = tuple[str | int, ...]
 Batch = tuple[Request, ...]
 Answered = dict[int, tuple[Batch, str]]
-
-
-class Wrong(Exception):
-    """What worldd should not have done."""
 
 
 # The plain model.
@@ -64,7 +60,7 @@ class Wrong(Exception):
 
 def changes(words: list[int], action: Request) -> dict[int, int] | int:
     """The words that an action changes, or the code of its refusal."""
-    kind, *numbers = action
+    kind, numbers = action[0], numbers_of(action)
     count = 2 if kind in ("move", "swap") else 1
     cells, amount = numbers[:count], sum(numbers[count:])
     if any(cell >= len(words) for cell in cells):
@@ -88,6 +84,11 @@ def changes(words: list[int], action: Request) -> dict[int, int] | int:
     return dict(zip(cells, left)) if all(0 <= word <= LIMIT for word in left) else OUT_OF_RANGE
 
 
+def numbers_of(request: Request) -> list[int]:
+    """What stands after the kind of a request."""
+    return [int(number) for number in request[1:]]
+
+
 def answer(words: list[int], batch: Batch, number: int) -> str:
     """Runs a batch on the words as the tick of this number, and gives the line that answers it."""
     replies, accepted = [f"tick {number}:"], 0
@@ -95,7 +96,7 @@ def answer(words: list[int], batch: Batch, number: int) -> str:
         match request:
             case (_,):
                 replies.append(f"-{BAD_LINE}")
-            case ("get", cell):
+            case ("get", int(cell)):
                 replies.append(f"={words[cell]}" if cell < len(words) else f"-{BAD_CELL}")
             case action:
                 changed = changes(words, action) if accepted < TICK_ACTIONS else TICK_FULL
@@ -107,28 +108,6 @@ def answer(words: list[int], batch: Batch, number: int) -> str:
                 accepted += 1
                 replies.append("+")
     return " ".join(replies)
-
-
-# The connections.
-
-
-def flags_of(transport: str, path: pathlib.Path) -> list[str]:
-    """The flags of a server that lets the system choose its port, or that has a socket at this path."""
-    return ["--port", "0"] if transport == PORT else ["--socket", str(path)]
-
-
-def connect(address: str) -> socket.socket:
-    """A connection to a server that printed this port or this path."""
-    if address.isdigit():
-        return socket.create_connection(("127.0.0.1", int(address)), PATIENCE_SECONDS)
-    stream = socket.socket(socket.AF_UNIX)
-    stream.settimeout(PATIENCE_SECONDS)
-    try:
-        stream.connect(address)
-    except OSError:
-        stream.close()
-        raise
-    return stream
 
 
 # The batches.
@@ -321,48 +300,29 @@ def reason(after: Found, words: list[int], number: int, unanswered: int) -> str:
 # The trial.
 
 
-class Server:
-    """A serving worldd, from its start on."""
+class Server(Served):
+    """A server that is killed, for which it has a limited time unless its watch is cancelled."""
 
-    def __init__(self, command: list[str], complaints: pathlib.Path) -> None:
-        self.complaints, self.killed, self.begun = complaints, threading.Event(), time.monotonic()
-        with complaints.open("w") as errors:
-            self.process = subprocess.Popen(command, stdin=QUIET, stdout=subprocess.PIPE, stderr=errors, text=True)
+    def __init__(self, command: Words, errors: pathlib.Path) -> None:
+        self.killed, self.begun = threading.Event(), time.monotonic()
+        super().__init__(command, errors)
         self.watch = threading.Timer(2 * PATIENCE_SECONDS, self.process.kill)
         self.watch.start()
 
     def __enter__(self) -> "Server":
         return self
 
-    def __exit__(self, *_) -> None:
+    def __exit__(self, *_: object) -> None:
         self.watch.cancel()
         self.process.kill()
         self.process.wait()
-        self.process.stdout.close()
-
-    def line(self) -> str:
-        """The next line that it prints."""
-        return self.process.stdout.readline().removesuffix("\n")
-
-    def begin(self, before: Found) -> None:
-        """Waits until it prints the world that it has found, which has to be this one."""
-        line = self.line()
-        if line != before.line:
-            raise Wrong(f"serve began with `{line}` after `{before.line}`{self.complaint()}")
-
-    def listen(self) -> str:
-        """Its port or its socket, once its start has ended."""
-        line = self.line()
-        match = re.fullmatch(r"listening (.+)", line)
-        if not match:
-            raise Wrong(f"serve printed `{line}` in place of where it listens{self.complaint()}")
-        return match[1]
+        pipe(self.process.stdout).close()
 
     def kill(self) -> str:
         """Kills it, and gives what it had printed since."""
         self.killed.set()
         self.process.kill()
-        printed, status = self.process.stdout.read(), self.process.wait()
+        printed, status = pipe(self.process.stdout).read(), self.process.wait()
         if status != -signal.SIGKILL:
             raise Wrong(f"serve ended by itself with status {status}{self.complaint()}")
         self.look_at_complaints()
@@ -370,7 +330,7 @@ class Server:
 
     def end(self) -> str:
         """The line with which it ends by itself."""
-        printed, status = self.process.stdout.read(), self.process.wait()
+        printed, status = pipe(self.process.stdout).read(), self.process.wait()
         if status:
             raise Wrong(f"serve ended with status {status}{self.complaint()}")
         self.look_at_complaints()
@@ -381,55 +341,22 @@ class Server:
         if re.search("down|refused|fault", self.complaint()):
             raise Wrong(f"serve went on{self.complaint()}")
 
-    def complaint(self) -> str:
-        """What it printed on standard error, except of opened images and the closed port or socket."""
-        lines = self.complaints.read_text().splitlines()
-        said = [line for line in lines if not re.search(" image of tick | the (port|socket) is closed", line)]
-        return f", and said `{'; '.join(said)}`" if said else ""
-
-
-@dataclasses.dataclass
-class Tally:
-    """What came of the kills; each count has to grow."""
-
-    kills: int = 0
-    answered: int = 0
-    in_round: int = 0
-    kept: int = 0
-    lost: int = 0
-    from_a: int = 0
-    from_b: int = 0
-    starts: int = 0
-    replaced: int = 0
-
-    def __str__(self) -> str:
-        return (
-            f"{self.kills} kills, {self.in_round} of them in an open round; {self.answered} ticks answered, none lost; "
-            f"unanswered batches kept by {self.kept} kills and lost by {self.lost}; "
-            f"recovered {self.from_a} times from image.a and {self.from_b} from image.b; {self.starts} starts killed; "
-            f"{self.replaced} sockets of killed servers replaced"
-        )
-
 
 class Trial:
     """A world in a folder, what stands in its files, and the counts so far."""
 
     def __init__(self, worldd: str, room: pathlib.Path, seed: int) -> None:
         self.worldd, self.room, self.seed, self.socket = worldd, room, seed, room / "socket"
-        self.chance, self.tally, self.start_seconds = random.Random(seed), Tally(), 0.0
-        (room / "world").mkdir()
-        self.ask("create", "--cells", str(CELLS))
+        self.chance, self.start_seconds = random.Random(seed), 0.0
+        self.tally: collections.Counter[str] = collections.Counter()
+        create(worldd, room / "world", CELLS)
         self.found = self.look()
         if self.found.tick or any(self.found.words) or len(self.found.words) != CELLS:
             raise Wrong(f"create made a world that isn't {CELLS} zeros at tick 0: {self.found.line}")
 
     def ask(self, command: str, *flags: str) -> list[str]:
-        """The lines that a command prints, which has to end well."""
-        words = [self.worldd, command, "--dir", str(self.room / "world"), *flags]
-        ended = subprocess.run(words, stdin=QUIET, capture_output=True, text=True, timeout=PATIENCE_SECONDS)
-        if ended.returncode:
-            raise Wrong(f"{command} ended with status {ended.returncode}: {' '.join(ended.stderr.split())}")
-        return ended.stdout.splitlines()
+        """The lines that a command prints."""
+        return ask(self.worldd, command, self.room / "world", *flags).stdout.splitlines()
 
     def look(self) -> Found:
         """What stands in the files now."""
@@ -438,13 +365,13 @@ class Trial:
     def serve(self, run: int) -> Server:
         """Starts a server, by either method and over either transport in turn."""
         method, transport = METHODS[run % 2], TRANSPORTS[run // 2 % 2]
-        self.tally.replaced += transport == SOCKET and self.socket.exists()
+        self.tally["replaced"] += transport == SOCKET and self.socket.exists()
         flags = ["--method", method, "--every", str(EVERY), "--clients", str(CLIENTS), *flags_of(transport, self.socket)]
         return Server([self.worldd, "serve", "--dir", str(self.room / "world"), *flags], self.room / "complaints")
 
     def play(self, server: Server, run: int, most: int | None) -> list[Client]:
         """Lets clients send their batches, each so many at most."""
-        server.begin(self.found)
+        server.begin(self.found.line)
         address = server.listen()
         self.start_seconds = time.monotonic() - server.begun
         plans = [batches(f"{self.seed} {run} {client}", client, run) for client in range(CLIENTS)]
@@ -470,13 +397,9 @@ class Trial:
         kept = after.tick - self.found.tick - answered
         # With no tick in the log a start writes no image, and leaves the one closed that an earlier kill had left so.
         was_in_round = self.found.in_round and self.found.tick == self.found.base
-        self.tally.kills += 1
-        self.tally.answered += answered
-        self.tally.in_round += after.in_round and not was_in_round
-        self.tally.kept += kept > 0
-        self.tally.lost += unanswered > kept
-        self.tally.from_a += after.image == "image.a"
-        self.tally.from_b += after.image == "image.b"
+        self.tally.update(kills=1, answered=answered, kept=kept > 0, lost=unanswered > kept)
+        self.tally["in_round"] += after.in_round and not was_in_round
+        self.tally[f"from_{after.image[-1]}"] += 1
 
     def kill_start(self, run: int) -> None:
         """Kills a server in its start, which must leave the same world."""
@@ -485,7 +408,7 @@ class Trial:
             printed = server.kill()
         after = self.look()
         judge(self.found, after, {}, frozenset())
-        self.tally.starts += "listening" not in printed
+        self.tally["starts"] += "listening" not in printed
         self.found = after
 
     def end_play(self, run: int) -> None:
@@ -501,7 +424,7 @@ class Trial:
         judge(self.found, after, answered, frozenset())
         self.found = after
 
-    def run(self, kills: int, seconds: float) -> Tally:
+    def run(self, kills: int, seconds: float) -> str:
         """Kills so many times, for so long at most, and lets a server of each method end over each transport."""
         begun = time.monotonic()
         for run in range(kills):
@@ -512,34 +435,18 @@ class Trial:
                 self.kill_start(run // 4)
         for run in range(len(METHODS) * len(TRANSPORTS)):
             self.end_play(kills + run)
-        for name, count in dataclasses.asdict(self.tally).items():
-            if not count:
-                raise Wrong(f"the count `{name}` is 0: {self.tally}")
-        return self.tally
-
-
-def arguments() -> argparse.Namespace:
-    """What the command line asks for."""
-    parser = argparse.ArgumentParser(description=__doc__.splitlines()[0])
-    parser.add_argument("worldd", type=os.path.abspath, help="the built program")
-    parser.add_argument("--kills", type=int, default=200, help="how many times a serving worldd is killed (200)")
-    parser.add_argument("--seconds", type=float, default=float("inf"), help="begin no kill after so many seconds")
-    parser.add_argument("--seed", type=int, default=time.time_ns() % 10**9, help="of the batches and the moments")
-    parser.add_argument("--dir", help="where the folder of the world is made (the system's for temporary files)")
-    return parser.parse_args()
+        return summary(SUMMARY, self.tally)
 
 
 def main() -> int:
     """Runs the trial, and keeps the files where it fails."""
-    given = arguments()
-    room = pathlib.Path(tempfile.mkdtemp(prefix="kill-trial-", dir=given.dir))
-    try:
-        print(Trial(given.worldd, room, given.seed).run(given.kills, given.seconds))
-    except (Wrong, OSError, subprocess.TimeoutExpired) as wrong:
-        print(f"kill_trial: {wrong}\nkill_trial: seed {given.seed}, files in {room}", file=sys.stderr)
-        return 1
-    shutil.rmtree(room)
-    return 0
+    parser = parser_of(__doc__, "of the batches and the moments")
+    parser.add_argument("--kills", type=int, default=200, help="how many times a serving worldd is killed (200)")
+    parser.add_argument("--seconds", type=float, default=float("inf"), help="begin no kill after so many seconds")
+    parser.add_argument("--dir", help="where the folder of the world is made (the system's for temporary files)")
+    given = parser.parse_args()
+    most = given.kills, given.seconds
+    return status_in_folder("kill_trial", given, lambda room: Trial(given.worldd, room, given.seed).run(*most))
 
 
 if __name__ == "__main__":

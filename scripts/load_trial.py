@@ -7,7 +7,6 @@ A stand-in for worldd takes each client and gives prepared answers. Each run has
 often each way to end was seen, and fails where a run ended otherwise, or where a way to end was never seen.
 """
 import argparse
-import collections
 import pathlib
 import re
 import socket
@@ -16,14 +15,21 @@ import sys
 import tempfile
 import threading
 import time
+from collections.abc import Callable
+from typing import BinaryIO
+
+from trial import Runs, absolute
 
 SECONDS = 60
-LINES = 2
+LINES, TWO_BATCHES = 2, ("--batches", "2")
 CELLS = 3
+# What is printed in front of the waits, with its counts.
+HEAD = r"(.*), (.*) a batch, \d+\.\d{3} s\n(.*), \d+ a second\n(.*), \d+ a second\nmilliseconds: p50 "
 WRONG = "a wrong answer after tick "
 CLOSED = "the server closed a connection: it has ended, or had no thread or memory for this client"
 CUT_OFF = "the server closed a connection in the midst of an answer: "
 REFUSED = "the server refused a batch: "
+TOO_FEW_CELLS = f"the world has fewer than {CELLS} cells: --cells is to be at most that of `worldd create`"
 
 
 # After the first of two answers that come so late, a second has passed.
@@ -38,7 +44,7 @@ def counted(count: int, noun: str) -> str:
 class Server:
     """A stand-in for worldd on a port or on a socket, in its own thread."""
 
-    def __init__(self, answers, lines: int, path: pathlib.Path | None):
+    def __init__(self, answers: "Answers", lines: int, path: pathlib.Path | None):
         if path is None:
             self.listener = socket.create_server(("127.0.0.1", 0))
             self.flags = ("--port", str(self.listener.getsockname()[1]))
@@ -51,7 +57,7 @@ class Server:
         self.thread = threading.Thread(target=answers, args=(self,))
         self.thread.start()
 
-    def read_batch(self, reader) -> bool:
+    def read_batch(self, reader: BinaryIO) -> bool:
         """Reads a batch, and keeps its lines. False: the client has gone."""
         batch = [reader.readline() for _ in range(self.lines + 1)]
         self.batches.append(batch)
@@ -65,7 +71,11 @@ class Server:
             self.path.unlink()
 
 
-def giving(answers, pause: float = 0):
+# The work of a server.
+Answers = Callable[[Server], None]
+
+
+def giving(answers: tuple[str, ...], pause: float = 0) -> Answers:
     """A server's work: it takes a client, and answers its batches so, each after a pause."""
 
     def serve(server: Server) -> None:
@@ -95,40 +105,35 @@ def one_wrong(server: Server) -> None:
             return
 
 
-class Trial:
-    """Runs of one program, and what was seen of them."""
+class Trial(Runs):
+    """Runs against servers, of which those at a socket have this path, and what was seen of them."""
 
     def __init__(self, program: str, path: pathlib.Path):
-        self.program = program
+        super().__init__(program)
         self.path = path
-        self.wrong = 0
-        self.runs = 0
-        self.seen: collections.Counter[str] = collections.Counter()
 
-    def run(self, *words: str) -> subprocess.CompletedProcess:
+    def run(self, *words: str) -> subprocess.CompletedProcess[str]:
         """Runs the program with these words."""
         self.runs += 1
         return subprocess.run([self.program, *words], capture_output=True, text=True, timeout=SECONDS)
 
-    def check(self, what: str, got, want) -> None:
-        """Compares what was got, and prints what is wrong."""
-        if got != want:
-            self.wrong += 1
-            print(f"WRONG: {what}:\n  got  {got!r}\n  want {want!r}", file=sys.stderr)
-
-    def load(self, what: str, serve, want: str | int, kind: str, lines: int = LINES, more: tuple[str, ...] = ("--batches", "2")) -> None:
+    def load(
+        self, what: str, serve: Answers, want: str | int, kind: str, lines: int = LINES, more: tuple[str, ...] = TWO_BATCHES
+    ) -> None:
         """Loads a server at a port and one at a socket."""
         for path in (None, self.path):
             self.load_at(path, what, serve, want, kind, lines, more)
 
-    def load_at(self, path, what: str, serve, want: str | int, kind: str, lines: int, more: tuple[str, ...]) -> None:
+    def load_at(
+        self, path: pathlib.Path | None, what: str, serve: Answers, want: str | int, kind: str, lines: int, more: tuple[str, ...]
+    ) -> None:
         """Loads a server, and compares the error, or what is printed of so many ticks where the load ends well."""
         server = Server(serve, lines, path)
         run = self.run(*server.flags, "--lines", str(lines), "--cells", str(CELLS), *more)
         server.end()
         self.seen[kind] += 1
         if isinstance(want, int):
-            head = re.match(r"(.*), (.*) a batch, \d+\.\d{3} s\n(.*), \d+ a second\n(.*), \d+ a second\nmilliseconds: p50 ", run.stdout)
+            head = re.match(HEAD, run.stdout)
             counts = "1 connection", counted(lines, "line"), counted(want, "tick"), counted(want * lines, "action")
             self.check(what, (head and head.groups(), run.returncode), (counts, 0))
             self.check(f"{what}: its progress", run.stderr, PROGRESS if kind == "slow" else "")
@@ -141,7 +146,7 @@ class Trial:
 
 def try_answers(trial: Trial) -> None:
     """Answers that are right, wrong, cut off, or refusals."""
-    for answers, want, kind in (
+    tries: tuple[tuple[tuple[str, ...], str | int, str], ...] = (
         (("tick 1: + +\n", "tick 5: + +\n"), 2, "right"),
         (("tick 2: + +\n", "tick 2: + +\n"), f"{WRONG}2: tick 2: + +", "wrong"),
         (("tick 0: + +\n",), f"{WRONG}0: tick 0: + +", "wrong"),
@@ -153,12 +158,13 @@ def try_answers(trial: Trial) -> None:
         (("\x1b[31m",), f"{CUT_OFF}\\u{{1b}}[31m", "cut off"),
         (("fault 12\n",), f"{REFUSED}the log can't be written since the device failed: restart", "refused"),
         (("tick 1: + +\n", "fault 17\n"), f"{REFUSED}there is no memory left", "refused"),
-        (("tick 1: + -1\n",), f"the world has fewer than {CELLS} cells: --cells is to be at most that of `worldd create`", "too few cells"),
+        (("tick 1: + -1\n",), TOO_FEW_CELLS, "too few cells"),
         ((), CLOSED, "closed"),
         (("tick 1: + +\n", ""), CLOSED, "closed"),
         (("tick 1: +",), f"{CUT_OFF}tick 1: +", "cut off"),
         (("tick 1: + +",), f"{CUT_OFF}tick 1: + +", "cut off"),
-    ):
+    )
+    for answers, want, kind in tries:
         trial.load(f"answers {answers}", giving(answers), want, kind)
     trial.load("batches without lines", giving(("tick 1:\n", "tick 2:\n")), 2, "right", lines=0)
     trial.load("one batch of a line", giving(("tick 1: +\n",)), 1, "right", lines=1, more=("--batches", "1"))
@@ -198,17 +204,15 @@ def try_command_lines(trial: Trial) -> None:
 def main() -> int:
     """Runs all, and prints what was seen."""
     parser = argparse.ArgumentParser(description=__doc__.splitlines()[0])
-    parser.add_argument("program", type=pathlib.Path, help="the built world_load")
-    program = parser.parse_args().program.resolve()
+    parser.add_argument("program", type=absolute, help="the built world_load")
+    program = parser.parse_args().program
     with tempfile.TemporaryDirectory(prefix="load-trial-") as folder:
-        trial = Trial(str(program), pathlib.Path(folder) / "socket")
+        trial = Trial(program, pathlib.Path(folder) / "socket")
         for part in (try_answers, try_no_server, try_command_lines):
             part(trial)
     kinds = ("right", "slow", "wrong", "refused", "too few cells", "closed", "cut off", "no server", "mistaken", "help")
-    never = [kind for kind in kinds if not trial.seen[kind]]
     print("  " + ", ".join(f"{kind}: {trial.seen[kind]}" for kind in kinds))
-    print(f"load trial: {trial.runs} runs, {trial.wrong} wrong" + (f", never seen: {never}" if never else ""))
-    return 1 if trial.wrong or never else 0
+    return trial.status("load", kinds)
 
 
 if __name__ == "__main__":

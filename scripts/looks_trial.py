@@ -9,24 +9,19 @@ Four clients send random batches at full speed, to worlds with many pages and to
 them. None may end with a fault, and none may report a tick that is older than the greatest one that was answered before it
 began. backup_trial.py compares what copies hold.
 """
-import argparse
 import collections
-import os
 import pathlib
 import re
 import shutil
-import subprocess
 import sys
-import tempfile
 import threading
-import time
 from collections.abc import Iterator
 
 import backup_trial
 import kill_trial
-from kill_trial import METHODS, TRANSPORTS, Batch, Client, Server, Wrong, flags_of
+from kill_trial import CLIENTS, Batch, Client, Server
+from trial import METHODS, TRANSPORTS, Wrong, ask, create, flags_of, library_of, parser_of, status_in_folder
 
-CLIENTS, PATIENCE_SECONDS, QUIET = kill_trial.CLIENTS, 60, subprocess.DEVNULL
 # The worlds: how many cells they have, and after how many ticks an image is written. With images so rare looks are slowed:
 # else none would end between two images. A slow look waits so long at most after each read.
 RARE, SLOWED_MICROSECONDS = 20_000, 20_000
@@ -66,20 +61,9 @@ class Trial:
     """Worlds in a folder, and the counts so far."""
 
     def __init__(self, worldd: str, room: pathlib.Path, seed: int) -> None:
-        self.worldd, self.room, self.seed, self.library = worldd, room, seed, room / "slow_reads.so"
-        source = pathlib.Path(__file__).with_name("slow_reads.c")
-        subprocess.run(["cc", "-shared", "-fPIC", "-o", self.library, source], check=True)
+        self.worldd, self.room, self.seed, self.library = worldd, room, seed, library_of("slow_reads.c", room)
         self.tally: collections.Counter[str] = collections.Counter()
         self.wrong: collections.Counter[str] = collections.Counter()
-
-    def ask(self, command: str, folder: pathlib.Path, *flags: str, **variables: str) -> str:
-        """What a command prints, which has to end well."""
-        words = [self.worldd, command, "--dir", str(folder), *flags]
-        how = {"stdin": QUIET, "capture_output": True, "text": True, "timeout": PATIENCE_SECONDS}
-        ended = subprocess.run(words, **how, env=os.environ | variables)
-        if ended.returncode:
-            raise Wrong(f"{command} ended with status {ended.returncode}: {' '.join(ended.stderr.split())}")
-        return ended.stdout
 
     def look(self, command: str, world: pathlib.Path, clients: list[Player], is_slow: bool) -> int:
         """Looks at a world, and gives the tick that is reported. A look that goes wrong is counted, and gives 0."""
@@ -90,7 +74,7 @@ class Trial:
         slowed = {"LD_PRELOAD": str(self.library), "READS_SLOWED": str(SLOWED_MICROSECONDS)} if is_slow else {}
         self.tally.update([command, *["slowed"] * is_slow])
         try:
-            printed = self.ask(command, world, *(["--to", str(to)] if command == "backup" else []), **slowed)
+            printed = ask(self.worldd, command, world, *(["--to", str(to)] if command == "backup" else []), **slowed).stdout
         except Wrong as wrong:
             self.wrong[str(wrong)] += 1
             return 0
@@ -104,15 +88,15 @@ class Trial:
     def play(self, number: int, method: str, looks: int) -> None:
         """Lets clients play on a world, and looks so often meanwhile."""
         (cells, every), world, stop = WORLDS[number % len(WORLDS)], self.room / f"world{number}", threading.Event()
-        world.mkdir()
-        self.ask("create", world, "--cells", str(cells))
+        create(self.worldd, world, cells)
         flags = ["--method", method, "--every", str(every), "--clients", str(CLIENTS)]
         flags += flags_of(TRANSPORTS[number % 2], self.room / f"socket{number}")
         with Server([self.worldd, "serve", "--dir", str(world), *flags], self.room / "complaints") as server:
             server.watch.cancel()
             server.line()
             address = server.listen()
-            clients = [Player(address, batches(f"{self.seed} {number} {n}", n, cells, stop), server.killed) for n in range(CLIENTS)]
+            plans = [batches(f"{self.seed} {number} {n}", n, cells, stop) for n in range(CLIENTS)]
+            clients = [Player(address, plan, server.killed) for plan in plans]
             for client in clients:
                 client.start()
             try:
@@ -137,25 +121,16 @@ class Trial:
         counts = "; ".join(f"{name} {count}" for name, count in self.tally.items())
         if +self.wrong:
             raise Wrong("; ".join(f"{count} times {wrong}" for wrong, count in (+self.wrong).items()) + f": {counts}")
-        return counts
+        return f"looks trial: {counts}; none older than an answer"
 
 
 def main() -> int:
     """Runs the trial, and keeps the files where it fails."""
-    parser = argparse.ArgumentParser(description=__doc__.splitlines()[0])
-    parser.add_argument("worldd", type=lambda path: str(pathlib.Path(path).resolve()), help="the built program")
+    parser = parser_of(__doc__, "of the batches")
     parser.add_argument("--looks", type=int, default=160, help="how often a world is looked at (160)")
-    parser.add_argument("--seed", type=int, default=time.time_ns() % 10**9, help="of the batches")
     parser.add_argument("--dir", help="where the folders of the worlds are made (the system's for temporary files)")
     given = parser.parse_args()
-    room = pathlib.Path(tempfile.mkdtemp(prefix="looks-trial-", dir=given.dir))
-    try:
-        print(f"looks trial: {Trial(given.worldd, room, given.seed).run(given.looks)}; none older than an answer")
-    except (Wrong, OSError, subprocess.SubprocessError) as wrong:
-        print(f"looks_trial: {wrong}\nlooks_trial: seed {given.seed}, files in {room}", file=sys.stderr)
-        return 1
-    shutil.rmtree(room)
-    return 0
+    return status_in_folder("looks_trial", given, lambda room: Trial(given.worldd, room, given.seed).run(given.looks))
 
 
 if __name__ == "__main__":

@@ -8,7 +8,6 @@ completions of bash, zsh and fish have to offer each command, each flag and each
 bash and fish are asked, and those of zsh are run with stand-ins for its functions. A shell that isn't there is named, and only
 the text of its file is compared. Groff, if it is there, has to print the pages without a warning.
 """
-import argparse
 import dataclasses
 import pathlib
 import re
@@ -16,13 +15,11 @@ import shutil
 import subprocess
 import sys
 
-TOP = pathlib.Path(__file__).resolve().parent.parent
+from map import TOP
+from trial import absolute, compare, parser_of, status_of
+
 PAGES, COMPLETIONS = TOP / "man", TOP / "completions"
 SECONDS = 60
-
-
-class Wrong(Exception):
-    """How a page or a completion differs from the help."""
 
 
 @dataclasses.dataclass(frozen=True)
@@ -50,15 +47,10 @@ class Help:
     statuses: frozenset[str]
 
 
-def compare(what: str, got, want) -> None:
-    """Refuses a difference."""
-    if got != want:
-        raise Wrong(f"{what} has\n  {got}\nin place of\n  {want}")
-
-
 def flag_of(line: str) -> Flag:
     """The flag of a line of the help."""
     found = re.fullmatch(r" +(?:(-\w), )?(--[\w-]+)(?: <(\w+)>)? +(.*)", line)
+    assert found is not None, f"a flag of the help has the line `{line}`"
     short, long, value, text = found.groups()
     listed = re.search(r" \[possible values: (.*?)\]", text)
     values = tuple(listed[1].split(", ")) if listed else ()
@@ -69,7 +61,7 @@ def flag_of(line: str) -> Flag:
     return Flag(f"{short}, {long}" if short else long, value or "", text, values)
 
 
-def help_of(program: pathlib.Path, name: str, *command: str) -> Help:
+def help_of(program: str, name: str, *command: str) -> Help:
     """What a program prints for --help."""
     run = subprocess.run([program, *command, "--help"], capture_output=True, text=True, timeout=SECONDS, check=True)
     parts = dict(re.findall(r"^(Usage|Commands|Options):\s(.*?)(?:\n\n|\Z)", run.stdout, re.MULTILINE | re.DOTALL))
@@ -82,7 +74,7 @@ def help_of(program: pathlib.Path, name: str, *command: str) -> Help:
     return Help(run.stdout.partition("\n")[0], usage, flags, commands, statuses)
 
 
-def helps_of(program: pathlib.Path, name: str) -> dict[str, Help]:
+def helps_of(program: str, name: str) -> dict[str, Help]:
     """What a program prints for --help, after each command and alone."""
     top = help_of(program, name)
     return {"": top} | {command: help_of(program, name, command) for command in top.commands if command != "help"}
@@ -195,12 +187,12 @@ def check_text(shell: Shell, helps: dict[str, Help]) -> None:
 
 def main() -> int:
     """Compares everything."""
-    parser = argparse.ArgumentParser(description=__doc__.splitlines()[0])
-    parser.add_argument("worldd", type=pathlib.Path)
-    parser.add_argument("world_load", type=pathlib.Path)
+    parser = parser_of(__doc__)
+    parser.add_argument("world_load", type=absolute, help="the built world_load")
     given = parser.parse_args()
-    try:
-        for name, program in (("worldd", given.worldd.resolve()), ("world_load", given.world_load.resolve())):
+
+    def run() -> None:
+        for name, program in (("worldd", given.worldd), ("world_load", given.world_load)):
             helps = helps_of(program, name)
             words = [f"{check_page(name, helps)} flags in its page"]
             for shell in (Shell(it, name) for it in ("bash", "zsh", "fish")):
@@ -208,10 +200,8 @@ def main() -> int:
                 there = shutil.which(shell.name)
                 words.append(f"{check_shell(shell, helps)} words in {shell.name}" if there else f"there is no {shell.name}")
             print(f"manual of {name}: {', '.join(words)}")
-    except (Wrong, OSError, subprocess.SubprocessError) as wrong:
-        print(f"manual_trial: {wrong}", file=sys.stderr)
-        return 1
-    return 0
+
+    return status_of("manual_trial", run)
 
 
 if __name__ == "__main__":

@@ -7,7 +7,6 @@ First each call that takes memory, by the program trial_memory; then a script ov
 inspect, and serve, by either method over a port and over a socket: each is run again and again, the Nth time with its Nth
 allocation refused, until it has none left to refuse. It needs a C compiler, as cc.
 """
-import argparse
 import collections
 import dataclasses
 import itertools
@@ -17,10 +16,12 @@ import re
 import shutil
 import subprocess
 import sys
-import tempfile
 from collections.abc import Iterator
+from typing import Any
 
-from kill_trial import METHODS, PATIENCE_SECONDS, QUIET, TRANSPORTS, Batch, Wrong, answer, connect, flags_of, text_of
+from kill_trial import Batch, answer, text_of
+from trial import METHODS, PATIENCE_SECONDS, QUIET, TRANSPORTS, Words, Wrong
+from trial import begun, connect, flags_of, library_of, parser_of, status_in_folder
 
 STORES = "plain", "zigzag", "pingpong", "zigzag-shared", "pingpong-shared"
 SCRIPT = """\
@@ -112,23 +113,15 @@ class Run:
     was_refused: bool
 
 
-def built_watcher(room: pathlib.Path) -> pathlib.Path:
-    """The library that watches the allocations of a program before which it is loaded."""
-    library = room / "watched_allocations.so"
-    source = pathlib.Path(__file__).with_name("watched_allocations.c")
-    subprocess.run(["cc", "-shared", "-fPIC", "-O1", "-o", library, source], check=True)
-    return library
-
-
 class Refuser:
     """Refuses an allocation of each program that it starts."""
 
     def __init__(self, room: pathlib.Path) -> None:
-        self.library = built_watcher(room)
+        self.library = library_of("watched_allocations.c", room)
 
     def start(
-        self, command: list[object], number: int, which: str = "REFUSED_ALLOCATION", **files: object
-    ) -> tuple[subprocess.Popen, int]:
+        self, command: Words, number: int, which: str = "REFUSED_ALLOCATION", **files: Any
+    ) -> tuple[subprocess.Popen[str], int]:
         """A program whose allocation of this number is refused, and where that is reported."""
         reader, writer = os.pipe()
         refused = {"LD_PRELOAD": str(self.library), which: str(number), "REFUSED_TO": str(writer)}
@@ -138,13 +131,13 @@ class Refuser:
             )
         return process, reader
 
-    def run(self, command: list[object], number: int, script: str = "", **which: str) -> Run:
+    def run(self, command: Words, number: int, script: str = "", **which: str) -> Run:
         """A run whose allocation of this number is refused, 0 for none."""
         process, reader = self.start(command, number, **which, stdin=subprocess.PIPE, stderr=subprocess.PIPE)
         printed, errors = process.communicate(script, PATIENCE_SECONDS)
         return Run(process.returncode, printed, errors, was_refused(reader))
 
-    def runs(self, command: list[object], script: str = "") -> Iterator[Run]:
+    def runs(self, command: Words, script: str = "") -> Iterator[Run]:
         """A run for each allocation, which is refused, and a last one for which none is."""
         for number in itertools.count(1):
             run = self.run(command, number, script)
@@ -246,7 +239,7 @@ def try_create(worldd: str, refuser: Refuser, room: pathlib.Path) -> int:
     for number in itertools.count(1):
         folder = room / f"create-{number}"
         folder.mkdir()
-        command = [worldd, "create", "--dir", folder, "--cells", "2"]
+        command: Words = [worldd, "create", "--dir", folder, "--cells", "2"]
         run = refuser.run(command, number)
         if not (is_fault(run) if run.printed != "created 2\n" else run.status == 0):
             raise Wrong(f"create ended with status {run.status} and `{run.errors}`")
@@ -261,7 +254,7 @@ def try_create(worldd: str, refuser: Refuser, room: pathlib.Path) -> int:
 
 def try_reading(worldd: str, refuser: Refuser, folder: pathlib.Path, command: str, *flags: str) -> int:
     """Reads a folder, and must leave it as it is."""
-    words = [worldd, command, "--dir", folder, *flags]
+    words: Words = [worldd, command, "--dir", folder, *flags]
     whole, before = refuser.run(words, 0).printed, lines_of(worldd, folder)
     refused = 0
     for run in refuser.runs(words):
@@ -345,9 +338,9 @@ def try_server(
     world = World(before[-2], [int(word) for word in before[-1].split(" ")])
     errors = folder.with_suffix(".errors")
     with errors.open("w") as file:
-        command = [worldd, "serve", "--dir", folder, *flags]
+        command: Words = [worldd, "serve", "--dir", folder, *flags]
         process, reader = refuser.start(command, number, stdin=QUIET, stderr=file)
-    lines = [process.stdout.readline(), process.stdout.readline()]
+    lines = begun(process)
     is_whole = lines[1].startswith("listening ") and play_all(lines[1].split()[1], world, seen)
     last, _ = process.communicate(timeout=PATIENCE_SECONDS)
     run = Run(process.returncode, last, errors.read_text(), was_refused(reader))
@@ -387,11 +380,9 @@ def line_of(kinds: collections.Counter[str]) -> str:
 
 def main() -> int:
     """Runs the trial, and keeps the files where it fails."""
-    parser = argparse.ArgumentParser(description=__doc__.splitlines()[0])
-    parser.add_argument("worldd", type=os.path.abspath, help="the built program")
-    given = parser.parse_args()
-    room = pathlib.Path(tempfile.mkdtemp(prefix="memory-trial-"))
-    try:
+    given = parser_of(__doc__).parse_args()
+
+    def run(room: pathlib.Path) -> None:
         refuser = Refuser(room)
         calls = try_calls(refuser)
         print(f"calls refused {calls.total()} times, and answered then: {line_of(calls)}")
@@ -403,11 +394,8 @@ def main() -> int:
         for method, transport in itertools.product(METHODS, TRANSPORTS):
             seen = try_serving(given.worldd, refuser, room, method, transport)
             print(f"serve by {method} over a {transport}: {line_of(seen)}")
-    except (Wrong, OSError, subprocess.SubprocessError) as wrong:
-        print(f"memory_trial: {wrong}\nmemory_trial: files in {room}", file=sys.stderr)
-        return 1
-    shutil.rmtree(room)
-    return 0
+
+    return status_in_folder("memory_trial", given, run)
 
 
 if __name__ == "__main__":

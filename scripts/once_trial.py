@@ -6,20 +6,15 @@
 A batch adds 1 to its session's cell and reads the cell, so the answer to the k-th batch has k. Each session sends batches ahead.
 The ticks of all answers have to be 1, 2 and so on, each once, and those of a session have to rise.
 """
-import argparse
 import array
 import itertools
-import os
 import pathlib
-import shutil
 import socket
-import subprocess
 import sys
-import tempfile
 import threading
 
 from crowd_trial import Server, Way
-from kill_trial import METHODS, TRANSPORTS, Wrong
+from trial import METHODS, TRANSPORTS, Wrong, parser_of, status_in_folder
 
 SESSIONS, EVERY, AHEAD = 10, 4096, 200
 
@@ -69,20 +64,17 @@ def try_way(worldd: str, room: pathlib.Path, way: Way, ticks: int) -> None:
 
 def main() -> int:
     """Runs the trial, and keeps the files where it fails."""
-    parser = argparse.ArgumentParser(description=__doc__.splitlines()[0])
-    parser.add_argument("worldd", type=os.path.abspath, help="the built program")
+    parser = parser_of(__doc__)
     parser.add_argument("--ticks", type=int, default=20_000, help="of each way to serve (20,000)")
     given = parser.parse_args()
-    room, ticks = pathlib.Path(tempfile.mkdtemp(prefix="once-trial-")), given.ticks // SESSIONS * SESSIONS
-    try:
+    ticks = given.ticks // SESSIONS * SESSIONS
+
+    def run(room: pathlib.Path) -> None:
         for way in itertools.starmap(Way, itertools.product(METHODS, TRANSPORTS)):
             try_way(given.worldd, room, way, ticks)
             print(f"{way}: {ticks} batches of {SESSIONS} sessions, each played once, in order, and answered by its own answer")
-    except (Wrong, OSError, subprocess.SubprocessError) as wrong:
-        print(f"once_trial: {wrong}, files in {room}", file=sys.stderr)
-        return 1
-    shutil.rmtree(room)
-    return 0
+
+    return status_in_folder("once_trial", given, run)
 
 
 if __name__ == "__main__":

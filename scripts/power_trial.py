@@ -15,8 +15,9 @@ import struct
 import sys
 import time
 
-from kill_trial import CELLS, CLIENTS, COUNT, METHODS, Found, Wrong, batches, found_in, judge, text_of
+from kill_trial import CELLS, CLIENTS, COUNT, Answered, Batch, Found, batches, found_in, judge, text_of
 from power_machine import DISK, MEGABYTES, MOUNTED, WAYS, WHOLE, Machine, Rig, lacking, parser_of, status_of, world_of
+from trial import METHODS, Wrong, all_met
 
 # The disk of a file system, and the sectors at which its writes are torn: btrfs has no current copy of its 4,096-byte superblock.
 # udf brings no name along with a sync of a new file, so the syncs of folders are left out there. Nothing mends its map of free
@@ -24,7 +25,7 @@ from power_machine import DISK, MEGABYTES, MOUNTED, WAYS, WHOLE, Machine, Rig, l
 SECTORS, UDF, EVERY = {"btrfs": 4096}, {"fs": "udf", "options": "rw"}, (1, 8, 64)
 CUTS_OF_A_RUN, RUNS_OF_A_DISK, PATIENCE_SECONDS, WRITE_SECONDS = 60, 4, 600, 0.001
 # How likely the power is cut after a request of the disk, and before a flush is done: until clients are served, and then.
-NEVER, EARLY, LATE = {"request": 0, "flush": 0}, {"request": 0.06, "flush": 0.4}, {"request": 0.02, "flush": 0.1}
+NEVER, EARLY, LATE = {"request": 0.0, "flush": 0.0}, {"request": 0.06, "flush": 0.4}, {"request": 0.02, "flush": 0.1}
 # In every other run a write with these bytes, which the log has of each tick, takes longer: covers come by that. A disk that
 # drops flushes keeps so many writes back. To show that a sync matters may take so many times the cuts.
 SLOW_LOG, KEPT_BACK, SHOWN = (struct.pack("<BIq", 2, COUNT, 1), 0.05), 64, 5
@@ -56,8 +57,11 @@ class Trial(Rig):
         words = {"method": self.given.method or METHODS[run % 2], "every": self.given.every or EVERY[run % 3]}
         plans = [batches(f"{self.given.seed} {run} {client}", client, run) for client in range(CLIENTS)]
         end, kept, chances = time.monotonic() + PATIENCE_SECONDS, random.randrange(1 + cuts // 2), NEVER if self.is_udf else EARLY
-        self.before, self.part, self.answered, self.waiting = before or self.fresh, MOUNT if before else CREATE, {}, {}
+        self.before, self.part = before or self.fresh, MOUNT if before else CREATE
+        self.answered: Answered = {}
+        self.waiting: dict[int, Batch] = {}
         with self.machine(SERVES, bytearray(image), CLIENTS, **words, wakes=60_000 if self.is_udf else 10) as machine:
+            assert isinstance(machine, Machine)
             machine.slow, machine.kept_back = SLOW_LOG if run % 4 in (0, 3) else (b"", 0), KEPT_BACK * (self.fault == FLUSHES)
             while cuts and time.monotonic() < end:
                 for port, line in machine.events(WRITE_SECONDS):
@@ -84,6 +88,7 @@ class Trial(Rig):
         """Cuts the power, judges what another machine recovers then, and gives the world on the disk that was left."""
         way, (is_torn, share) = random.choice(list(WAYS.items()))
         size = self.given.sector or SECTORS.get(self.given.fs, 512) if is_torn else WHOLE
+        assert isinstance(self.reader, Machine)
         lines = self.cut(machine, self.reader, size, random.random() if share is None else share)
         self.tally.update({"cuts": 1, way: 1, self.part: 1, MENDED: "\n".join(lines).count("FILE SYSTEM WAS MODIFIED")})
         lines = world_of(lines)
@@ -112,9 +117,8 @@ class Trial(Rig):
                     image, before = self.new_disk(), None
                 image, before = self.serve(run, image, before, min(CUTS_OF_A_RUN, cuts - done))
         counts = "; ".join(f"{name} {self.tally[name]}" for name in ("cuts", "ticks answered", *KINDS, MENDED))
-        never = [kind for kind in KINDS if not self.tally[kind] and UNMET.get(kind) not in (self.given.fs, self.given.options)]
-        if never and not self.given.show:
-            raise Wrong(f"never met: {', '.join(never)}: {counts}")
+        kinds = [kind for kind in KINDS if UNMET.get(kind) not in (self.given.fs, self.given.options)]
+        all_met(self.tally, [] if self.given.show else kinds, after=f": {counts}")
         return counts
 
 

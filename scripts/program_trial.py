@@ -15,18 +15,16 @@ import itertools
 import os
 import pathlib
 import resource
-import socket
 import struct
 import subprocess
 import sys
 import tempfile
 import time
 from collections.abc import Iterator
+from typing import Any, BinaryIO
 
-from kill_trial import SOCKET, TRANSPORTS, connect
+from trial import METHODS, NAMES, SOCKET, TRANSPORTS, Runs, absolute, answer_to, begun, connect, free_port
 
-NAMES = ("image.a", "image.b", "log.a", "log.b")
-METHODS = ("zigzag", "pingpong")
 SECONDS = 60
 # How long figures may take to be those that are wanted. They come each second.
 PATIENCE_SECONDS = 20
@@ -42,6 +40,8 @@ IMAGE_OF_2 = b"\1" + struct.pack("<QQQQ", 2 + (0x20 << 56), 2, 5, 9)
 # An image of one cell, 0, at tick 0, and an open one of too many cells.
 SMALL_IMAGE = b"\1" + struct.pack("<QQQ", 1, 0, 0)
 BAD_IMAGE = b"\1" * 17
+# An image of two cells without its words.
+CUT_IMAGE = b"\1" + struct.pack("<QQ", 2, 9)
 # Segments: of no group (format 2 and base 0, format 1 and base 3), and one whose group is cut off.
 NEW_LOG = b"\1" + struct.pack("<QB", 0x20 << 56, 0)
 NEW_LOG_OF_3 = b"\1" + struct.pack("<QB", 3, 0)
@@ -66,33 +66,22 @@ MORE = "For more information, try '--help'.\n"
 Outcome = collections.namedtuple("Outcome", "output errors status")
 
 
-class Trial:
-    """Runs of one program, and what was seen of them."""
+class Trial(Runs):
+    """Runs on command lines, scripts and folders, and what was seen of them."""
 
-    def __init__(self, program: str):
-        self.program = program
-        self.wrong = 0
-        self.runs = 0
-        self.seen: collections.Counter[str] = collections.Counter()
-
-    def run(self, *words, full: bool = False, script: bytes = b"", memory: int = 0) -> Outcome:
+    def run(self, *words: str | bytes, full: bool = False, script: bytes = b"", memory: int = 0) -> Outcome:
         """Runs the program with these words, with so many bytes of memory if a number is given. A full output takes no byte."""
-        limited = (lambda: resource.setrlimit(resource.RLIMIT_AS, (memory, memory))) if memory else None
+        limit = (lambda: resource.setrlimit(resource.RLIMIT_AS, (memory, memory))) if memory else None
         with open("/dev/full", "wb") as device:
-            output = device if full else subprocess.PIPE
+            output: BinaryIO | int = device if full else subprocess.PIPE
             command = [self.program, *words]
-            run = subprocess.run(command, input=script, stdout=output, stderr=subprocess.PIPE, timeout=SECONDS, preexec_fn=limited)
+            pipe = subprocess.PIPE
+            run = subprocess.run(command, input=script, stdout=output, stderr=pipe, timeout=SECONDS, preexec_fn=limit)
         outcome = Outcome((run.stdout or b"").decode(), run.stderr.decode(), run.returncode)
         self.runs += 1
         first = outcome.errors.partition("\n")[0]
         self.seen[f"status {outcome.status}" + (f", {first}" if first.startswith("fault ") else "")] += 1
         return outcome
-
-    def check(self, what: str, got, want) -> None:
-        """Compares what was got, and prints what is wrong."""
-        if got != want:
-            self.wrong += 1
-            print(f"WRONG: {what}:\n  got  {got!r}\n  want {want!r}", file=sys.stderr)
 
     def ends(self, what: str, got: Outcome, output: str, errors: str, status: int) -> None:
         """Compares a whole outcome."""
@@ -100,7 +89,7 @@ class Trial:
 
 
 @contextlib.contextmanager
-def new_folder(*files: bytes):
+def new_folder(*files: bytes) -> Iterator[pathlib.Path]:
     """A folder with these bytes in the files of a world, in their order; with none, no file."""
     with tempfile.TemporaryDirectory(prefix="worldd-trial-") as name:
         folder = pathlib.Path(name)
@@ -131,46 +120,55 @@ def try_command_lines(trial: Trial) -> None:
     lacking = "the following required arguments were not provided:\n  "
     whole = "serve --dir world --method zigzag --clients 1"
     for words, text in (
-        ("", "'worldd' requires a subcommand but one was not provided\n  [subcommands: steps, create, recover, inspect, status, backup, salvage, serve, help]\n\nUsage: worldd <COMMAND>\n\n"),
-        ("stepz", "unrecognized subcommand 'stepz'\n\n  tip: a similar subcommand exists: 'steps'\n\nUsage: worldd <COMMAND>\n\n"),
-        ("steps extra", "unexpected argument 'extra' found\n\nUsage: worldd steps\n\n"),
-        ("create --cells 1", f"{lacking}--dir <FOLDER>\n\n{make}\n\n"),
-        ("create --dir world", f"{lacking}<--cells <N>|--words <FILE>>\n\n{make}\n\n"),
-        ("create --dir world --cells 2 --words w", f"the argument '--cells <N>' cannot be used with '--words <FILE>'\n\n{make}\n\n"),
-        ("create --dir world --cells 0", "invalid value '0' for '--cells <N>': 0 is not in 1..=1048576\n\n"),
-        ("create --dir world --cells 1048577", "invalid value '1048577' for '--cells <N>': 1048577 is not in 1..=1048576\n\n"),
-        ("create --dir world --cells two", "invalid value 'two' for '--cells <N>': invalid digit found in string\n\n"),
-        ("recover", f"{lacking}--dir <FOLDER>\n\nUsage: worldd recover --dir <FOLDER>\n\n"),
-        ("status", f"{lacking}--dir <FOLDER>\n\nUsage: worldd status --dir <FOLDER>\n\n"),
-        ("backup --dir world", f"{lacking}--to <FOLDER>\n\nUsage: worldd backup --dir <FOLDER> --to <FOLDER>\n\n"),
-        ("salvage --dir world", f"{lacking}--to <FOLDER>\n\nUsage: worldd salvage --dir <FOLDER> --to <FOLDER>\n\n"),
-        ("inspect --words", f"{lacking}--dir <FOLDER>\n\nUsage: worldd inspect --dir <FOLDER> --words\n\n"),
-        ("serve --dir world", f"{lacking}--method <METHOD>\n  --clients <K>\n  <--port <P>|--socket <PATH>>\n\n{serve}\n\n"),
-        (f"{whole}", f"{lacking}<--port <P>|--socket <PATH>>\n\n{serve}\n\n"),
-        (f"{whole} --port 0 --socket s", f"the argument '--port <P>' cannot be used with '--socket <PATH>'\n\n{serve}\n\n"),
-        (f"{whole} --port 0 --socket-mode 0660", f"the argument '--port <P>' cannot be used with '--socket-mode <MODE>'\n\n{serve}\n\n"),
-        ("serve --socket-mode all", "invalid value 'all' for '--socket-mode <MODE>'\n  [possible values: 0600, 0660, 0666]\n\n"),
-        ("serve --method plain", "invalid value 'plain' for '--method <METHOD>'\n  [possible values: zigzag, pingpong]\n\n"),
-        ("serve --every 0", "invalid value '0' for '--every <E>': 0 is not in 1..=65536\n\n"),
-        ("serve --every 65537", "invalid value '65537' for '--every <E>': 65537 is not in 1..=65536\n\n"),
-        ("serve --port 65536", "invalid value '65536' for '--port <P>': 65536 is not in 0..=65535\n\n"),
-        ("serve --idle 0", "invalid value '0' for '--idle <SECONDS>': 0 is not in 1..=86400\n\n"),
-        ("serve --idle 86401", "invalid value '86401' for '--idle <SECONDS>': 86401 is not in 1..=86400\n\n"),
-        ("serve --report 86401", "invalid value '86401' for '--report <SECONDS>': 86401 is not in 0..=86400\n\n"),
-        ("serve --exit-when-closed 86401", "invalid value '86401' for '--exit-when-closed <SECONDS>': 86401 is not in 0..=86400\n\n"),
-        ("serve --clients 100001", "invalid value '100001' for '--clients <K>': 100001 is not in 1..=100000\n\n"),
+        (
+            "",
+            "'worldd' requires a subcommand but one was not provided\n  [subcommands: steps, create, recover, inspect, status, "
+            "backup, salvage, serve, help]\n\nUsage: worldd <COMMAND>",
+        ),
+        ("stepz", "unrecognized subcommand 'stepz'\n\n  tip: a similar subcommand exists: 'steps'\n\nUsage: worldd <COMMAND>"),
+        ("steps extra", "unexpected argument 'extra' found\n\nUsage: worldd steps"),
+        ("create --cells 1", f"{lacking}--dir <FOLDER>\n\n{make}"),
+        ("create --dir world", f"{lacking}<--cells <N>|--words <FILE>>\n\n{make}"),
+        ("create --dir world --cells 2 --words w", f"the argument '--cells <N>' cannot be used with '--words <FILE>'\n\n{make}"),
+        ("create --dir world --cells 0", "invalid value '0' for '--cells <N>': 0 is not in 1..=1048576"),
+        ("create --dir world --cells 1048577", "invalid value '1048577' for '--cells <N>': 1048577 is not in 1..=1048576"),
+        ("create --dir world --cells two", "invalid value 'two' for '--cells <N>': invalid digit found in string"),
+        ("recover", f"{lacking}--dir <FOLDER>\n\nUsage: worldd recover --dir <FOLDER>"),
+        ("status", f"{lacking}--dir <FOLDER>\n\nUsage: worldd status --dir <FOLDER>"),
+        ("backup --dir world", f"{lacking}--to <FOLDER>\n\nUsage: worldd backup --dir <FOLDER> --to <FOLDER>"),
+        ("salvage --dir world", f"{lacking}--to <FOLDER>\n\nUsage: worldd salvage --dir <FOLDER> --to <FOLDER>"),
+        ("inspect --words", f"{lacking}--dir <FOLDER>\n\nUsage: worldd inspect --dir <FOLDER> --words"),
+        ("serve --dir world", f"{lacking}--method <METHOD>\n  --clients <K>\n  <--port <P>|--socket <PATH>>\n\n{serve}"),
+        (f"{whole}", f"{lacking}<--port <P>|--socket <PATH>>\n\n{serve}"),
+        (f"{whole} --port 0 --socket s", f"the argument '--port <P>' cannot be used with '--socket <PATH>'\n\n{serve}"),
+        (
+            f"{whole} --port 0 --socket-mode 0660",
+            f"the argument '--port <P>' cannot be used with '--socket-mode <MODE>'\n\n{serve}",
+        ),
+        ("serve --socket-mode all", "invalid value 'all' for '--socket-mode <MODE>'\n  [possible values: 0600, 0660, 0666]"),
+        ("serve --method plain", "invalid value 'plain' for '--method <METHOD>'\n  [possible values: zigzag, pingpong]"),
+        ("serve --every 0", "invalid value '0' for '--every <E>': 0 is not in 1..=65536"),
+        ("serve --every 65537", "invalid value '65537' for '--every <E>': 65537 is not in 1..=65536"),
+        ("serve --port 65536", "invalid value '65536' for '--port <P>': 65536 is not in 0..=65535"),
+        ("serve --idle 0", "invalid value '0' for '--idle <SECONDS>': 0 is not in 1..=86400"),
+        ("serve --idle 86401", "invalid value '86401' for '--idle <SECONDS>': 86401 is not in 1..=86400"),
+        ("serve --report 86401", "invalid value '86401' for '--report <SECONDS>': 86401 is not in 0..=86400"),
+        ("serve --exit-when-closed 86401", "invalid value '86401' for '--exit-when-closed <SECONDS>': 86401 is not in 0..=86400"),
+        ("serve --clients 100001", "invalid value '100001' for '--clients <K>': 100001 is not in 1..=100000"),
     ):
-        trial.ends(f"worldd {words}", trial.run(*words.split()), "", f"error: {text}{MORE}", 2)
-    trial.ends("bytes that are no text", trial.run(b"\xff"), "", "error: a word of the command line isn't UTF-8: a path has to be\n", 2)
+        trial.ends(f"worldd {words}", trial.run(*words.split()), "", f"error: {text}\n\n{MORE}", 2)
+    no_text = "error: a word of the command line isn't UTF-8: a path has to be\n"
+    trial.ends("bytes that are no text", trial.run(b"\xff"), "", no_text, 2)
     for flag in ("--version", "-V"):
         trial.ends(flag, trial.run(flag), "worldd 0.3.0-dev (reads file formats 1 and 2, writes 2)\n", "", 0)
     for words in ("--version", "--help", "serve --help"):
         trial.ends(f"{words} to a full output", trial.run(*words.split(), full=True), "", FULL, 1)
     escaped = "fault 18\nworldd: no\\x1b[31m\\x07\\x0a\\x7f\\x9b\u00e9/image.a: " + NO_FILE + "\n"
     trial.ends("control characters of a path", trial.run("recover", "--dir", "no\x1b[31m\a\n\x7f\x9b\u00e9"), "", escaped, 1)
+    usage = "\n\nUsage: worldd"
     for words, start, end in (
-        ("", "A main-memory world server with asynchronous checkpoints\n\nUsage: worldd <COMMAND>\n", "  -V, --version  Print version\n"),
-        ("steps", "Runs the script on standard input, over a world in memory\n\nUsage: worldd steps\n", "21 no tick numbers are left\n"),
+        ("", f"A main-memory world server with asynchronous checkpoints{usage} <COMMAND>\n", "  -V, --version  Print version\n"),
+        ("steps", f"Runs the script on standard input, over a world in memory{usage} steps\n", "21 no tick numbers are left\n"),
         (
             "create",
             f"Makes the files of a new world in a folder\n\n{make}\n",
@@ -183,13 +181,15 @@ def try_command_lines(trial: Trial) -> None:
         ),
         (
             "inspect",
-            "Prints what each file of a folder holds, and which world they hold together\n\nUsage: worldd inspect [OPTIONS] --dir <FOLDER>\n",
+            "Prints what each file of a folder holds, and which world they hold together\n\n"
+            "Usage: worldd inspect [OPTIONS] --dir <FOLDER>\n",
             "\nfrom the image of tick T. If they hold no world it ends as `recover` does.\n",
         ),
         (
             "status",
             "Prints figures of the world in a folder, also while it is served\n\nUsage: worldd status --dir <FOLDER>\n",
-            "\nend. If the files hold no world this line is all, and it ends as `recover` does, and as\n`backup` if no copy can be taken.\n",
+            "\nend. If the files hold no world this line is all, and it ends as `recover` does, and as\n"
+            "`backup` if no copy can be taken.\n",
         ),
         (
             "backup",
@@ -203,7 +203,8 @@ def try_command_lines(trial: Trial) -> None:
         ),
         (
             "serve",
-            f"Serves the world in the files of a folder to clients of a port or of a socket\n\n{serve.replace('serve --dir', 'serve [OPTIONS] --dir')}\n",
+            "Serves the world in the files of a folder to clients of a port or of a socket\n\n"
+            f"{serve.replace('serve --dir', 'serve [OPTIONS] --dir')}\n",
             "\n  can't be listened on, or a line couldn't be printed\n",
         ),
     ):
@@ -395,15 +396,17 @@ def try_figures(trial: Trial) -> None:
         with new_folder(*files) as folder:
             trial.ends(f"figures of {what}", trial.run("status", "--dir", str(folder)), NO_SERVER, f"fault {fault}\n", 1)
     with new_folder(NEW_IMAGE, b"", b"") as folder:
-        trial.ends("figures of three files", trial.run("status", "--dir", str(folder)), NO_SERVER, fault_of(folder, 18, "log.b", NO_FILE), 1)
+        fault = fault_of(folder, 18, "log.b", NO_FILE)
+        trial.ends("figures of three files", trial.run("status", "--dir", str(folder)), NO_SERVER, fault, 1)
     with new_folder() as folder:
-        trial.ends("figures of no files", trial.run("status", "--dir", str(folder)), "server: unknown\n", fault_of(folder, 18, "image.a", NO_FILE), 1)
+        fault = fault_of(folder, 18, "image.a", NO_FILE)
+        trial.ends("figures of no files", trial.run("status", "--dir", str(folder)), "server: unknown\n", fault, 1)
 
 
 # Folders that hold no world.
 NO_WORLDS = (
     ("closed files", (b"", b"", b"", b""), "13\nworldd: there is no image to recover from"),
-    ("a damaged image", (b"\1" + struct.pack("<QQ", 2, 9), IMAGE_OF_3, b"", b""), "14\nworldd: an image file is damaged: image.a"),
+    ("a damaged image", (CUT_IMAGE, IMAGE_OF_3, b"", b""), "14\nworldd: an image file is damaged: image.a"),
     ("a damaged log", (NEW_IMAGE, b"", b"", GARBAGE), "15\nworldd: a log file is damaged: log.b"),
 )
 
@@ -440,7 +443,7 @@ def try_copies(trial: Trial) -> None:
 
 def both(trial: Trial, folder: pathlib.Path, full: bool = False) -> tuple[Outcome, Outcome]:
     """`recover` and `inspect` of a folder."""
-    return tuple(trial.run(command, "--dir", str(folder), full=full) for command in ("recover", "inspect"))
+    return trial.run("recover", "--dir", str(folder), full=full), trial.run("inspect", "--dir", str(folder), full=full)
 
 
 def check_found(trial: Trial, what: str, folder: pathlib.Path, recovered: str, lines: str, noted: str = "") -> None:
@@ -490,12 +493,12 @@ def try_found(trial: Trial) -> None:
 # Files of which one was lost: an empty one beside an image of tick 3, an empty log beside ticks, and a log that begins after
 # the recovered tick.
 LOST = (
-    (("", IMAGE_OF_3, LOG_OF_3, LOG_OF_4), 14, "an image file is damaged: image.a is empty, so it was lost"),
-    ((IMAGE_OF_3, "", LOG_OF_3, LOG_OF_4), 14, "an image file is damaged: image.b is empty, so it was lost"),
-    ((IMAGE_OF_3, IMAGE_OF_2, "", LOG_OF_4), 15, "a log file is damaged: log.a is empty, so it was lost"),
-    ((IMAGE_OF_3, IMAGE_OF_2, LOG_OF_3, ""), 15, "a log file is damaged: log.b is empty, so it was lost"),
-    ((NEW_IMAGE, "", LOG_OF_GROUPS, ""), 15, "a log file is damaged: log.b is empty, so it was lost"),
-    ((NEW_IMAGE, "", "", LOG_OF_GROUPS), 15, "a log file is damaged: log.a is empty, so it was lost"),
+    ((b"", IMAGE_OF_3, LOG_OF_3, LOG_OF_4), 14, "an image file is damaged: image.a is empty, so it was lost"),
+    ((IMAGE_OF_3, b"", LOG_OF_3, LOG_OF_4), 14, "an image file is damaged: image.b is empty, so it was lost"),
+    ((IMAGE_OF_3, IMAGE_OF_2, b"", LOG_OF_4), 15, "a log file is damaged: log.a is empty, so it was lost"),
+    ((IMAGE_OF_3, IMAGE_OF_2, LOG_OF_3, b""), 15, "a log file is damaged: log.b is empty, so it was lost"),
+    ((NEW_IMAGE, b"", LOG_OF_GROUPS, b""), 15, "a log file is damaged: log.b is empty, so it was lost"),
+    ((NEW_IMAGE, b"", b"", LOG_OF_GROUPS), 15, "a log file is damaged: log.a is empty, so it was lost"),
     ((IMAGE_OF_2, b"\0", b"\0", LOG_OF_4), 15, "a log file is damaged: log.b begins after ticks that were lost"),
     ((b"\0", IMAGE_OF_2, NEW_LOG_OF_3, b"\0"), 15, "a log file is damaged: log.a begins after ticks that were lost"),
 )
@@ -505,7 +508,6 @@ def try_lost(trial: Trial) -> None:
     """Files of which one was lost: no command takes them for a world, and nothing is written."""
     serve = "--method", "zigzag", "--port", "0", "--clients", "1"
     for files, code, why in LOST:
-        files = tuple(data or b"" for data in files)
         fault = f"fault {code}\nworldd: {why}\n"
         with new_folder(*files) as folder, new_folder() as to:
             for line in (("recover",), ("status",), ("serve", *serve), ("backup", "--to", str(to))):
@@ -534,8 +536,8 @@ def try_doubtful(trial: Trial) -> None:
             trial.ends(f"recover beside {logs}", trial.run("recover", "--dir", str(folder)), "recovered 0 from 0\n", note, 0)
             line = f"serve --dir {folder} --method zigzag --port 0 --clients 1".split()
             with subprocess.Popen([trial.program, *line], stdout=subprocess.PIPE, stderr=subprocess.PIPE, text=True) as server:
-                address = [server.stdout.readline() for _ in range(2)][-1].split()[-1]
-                trial.check(f"serve beside {logs}", answer_to(address, b"end\n"), "tick 1:\n")
+                address = begun(server)[1].split()[-1]
+                trial.check(f"serve beside {logs}", answer_to(connect(address), b"end\n"), "tick 1:\n")
                 _, errors = server.communicate(timeout=SECONDS)
             trial.runs += 1
             trial.seen["served beside an empty log" if note else "served"] += 1
@@ -551,7 +553,8 @@ def try_long(trial: Trial) -> None:
             os.truncate(folder / name, 3 << 30)
         trial.ends("long files", trial.run("recover", "--dir", str(folder), memory=limit), "recovered 4 from 3\n", "", 0)
         got = trial.run("status", "--dir", str(folder), memory=limit)
-        trial.check("figures of long files", got.output.splitlines()[-2], f"bytes: {', '.join(f'{name} {3 << 30}' for name in NAMES)}, together {12 << 30}")
+        sizes = ", ".join(f"{name} {3 << 30}" for name in NAMES)
+        trial.check("figures of long files", got.output.splitlines()[-2], f"bytes: {sizes}, together {12 << 30}")
         got = trial.run("backup", "--dir", str(folder), "--to", str(to), memory=limit)
         trial.ends("a copy of long files", got, "backed up 4 from 3\n", "", 0)
         trial.check("a copy of long files", files_of(to), (IMAGE_OF_3, b"\0", LOG_OF_3, LOG_OF_4))
@@ -657,30 +660,15 @@ def try_not_serving(trial: Trial) -> None:
             refused(f"fault {fault}", folder, f"fault {fault}\n")
 
 
-def free_port() -> int:
-    """A port on which nobody listens."""
-    with socket.create_server(("127.0.0.1", 0)) as listener:
-        return listener.getsockname()[1]
-
-
-def answer_to(address: str, batch: bytes) -> str:
-    """What a client is answered that writes a batch."""
-    with connect(address) as client:
-        client.sendall(batch)
-        client.shutdown(socket.SHUT_WR)
-        return client.makefile().read()
-
-
 def serve_two(trial: Trial, folder: pathlib.Path, method: str, transport: str, more: tuple[str, ...]) -> None:
     """Serves a world to two clients, and compares answers and output."""
     address = str(folder / "socket") if transport == SOCKET else str(free_port())
     line = f"serve --dir {folder} --method {method} --{transport} {address} --clients 2".split()
     with subprocess.Popen([trial.program, *line, *more], stdout=subprocess.PIPE, stderr=subprocess.PIPE, text=True) as server:
-        begun = server.stdout.readline(), server.stdout.readline()
-        trial.check(f"serve {more}", begun, ("recovered 0 from 0\n", f"listening {address}\n"))
+        trial.check(f"serve {more}", begun(server), ["recovered 0 from 0\n", f"listening {address}\n"])
         answers = (
-            answer_to(address, b"set 0 5\nget 0\nmove 0 1 9\nfoo\nend\n"),
-            answer_to(address, b"add 0 1\nget 0\nend\n"),
+            answer_to(connect(address), b"set 0 5\nget 0\nmove 0 1 9\nfoo\nend\n"),
+            answer_to(connect(address), b"add 0 1\nget 0\nend\n"),
         )
         trial.check(f"answers {more}", answers, ("tick 1: + =5 -3 -16\n", "tick 2: + =6\n"))
         output, _ = server.communicate(timeout=SECONDS)
@@ -711,9 +699,9 @@ def try_largest(trial: Trial) -> None:
         line = f"serve --dir {folder} --method zigzag --every 65536 --port {port} --clients 1".split()
         for first in (0, LARGEST_TICKS):
             with subprocess.Popen([trial.program, *line], stdout=subprocess.PIPE, stderr=subprocess.DEVNULL, text=True) as server:
-                begun = server.stdout.readline(), server.stdout.readline()
-                trial.check("the largest world", begun, (f"recovered {first} from 0\n", f"listening {port}\n"))
-                answers = answer_to(port, batch.encode() * LARGEST_TICKS) if begun[1] else ""
+                lines = begun(server)
+                trial.check("the largest world", lines, [f"recovered {first} from 0\n", f"listening {port}\n"])
+                answers = answer_to(connect(port), batch.encode() * LARGEST_TICKS) if lines[1] else ""
                 want = [f"tick {n}:{' +' * 255} ={n}" for n in range(first + 1, first + LARGEST_TICKS + 1)]
                 trial.check("answers of the largest world", answers.splitlines() == want, True)
                 output, _ = server.communicate(timeout=SECONDS)
@@ -724,12 +712,13 @@ def try_largest(trial: Trial) -> None:
 
 
 @contextlib.contextmanager
-def reporting(trial: Trial, *flags: str, **process) -> Iterator[tuple[str, pathlib.Path]]:
+def reporting(trial: Trial, *flags: str, **process: Any) -> Iterator[tuple[str, pathlib.Path]]:
     """A server that prints its figures each second: its address, and the file of what it prints."""
     with new_folder(NEW_IMAGE, b"", b"", b"") as folder, open(folder / "errors", "w") as errors:
         line = f"serve --dir {folder} --method zigzag --port 0 --report 1".split()
-        with subprocess.Popen([trial.program, *line, *flags], stdout=subprocess.PIPE, stderr=errors, text=True, **process) as server:
-            yield [server.stdout.readline() for _ in range(2)][-1].split()[-1], folder / "errors"
+        command = [trial.program, *line, *flags]
+        with subprocess.Popen(command, stdout=subprocess.PIPE, stderr=errors, text=True, **process) as server:
+            yield begun(server)[1].split()[-1], folder / "errors"
             server.communicate(timeout=SECONDS)
         trial.runs += 1
 
@@ -747,7 +736,7 @@ def last_report(errors: pathlib.Path, want: str) -> str:
 def try_reporting(trial: Trial) -> None:
     """Figures that a server prints: the last answered tick, its newest image, its clients and what waits."""
     with reporting(trial, "--clients", "2", "--every", "3") as (address, errors):
-        trial.check("a first client", answer_to(address, b"end\nend\nend\n"), "tick 1:\ntick 2:\ntick 3:\n")
+        trial.check("a first client", answer_to(connect(address), b"end\nend\nend\n"), "tick 1:\ntick 2:\ntick 3:\n")
         with connect(address) as client, client.makefile() as reader:
             client.sendall(b"end\n")
             trial.check("a second client", reader.readline(), "tick 4:\n")
@@ -761,7 +750,7 @@ def try_reporting_down(trial: Trial) -> None:
     limit = functools.partial(resource.setrlimit, resource.RLIMIT_FSIZE, (FILE_LIMIT, FILE_LIMIT))
     with reporting(trial, "--clients", "1", "--every", "65536", preexec_fn=limit) as (address, errors):
         with connect(address) as client, client.makefile() as reader:
-            answers = []
+            answers: list[str] = []
             while not answers or answers[-1].startswith("tick"):
                 client.sendall(b"add 0 1\nend\n")
                 answers.append(reader.readline())
@@ -779,24 +768,28 @@ PARTS = (
 )
 
 
+# What has to be seen.
+SEEN = (
+    "status 0", "status 2", *(f"status 1, fault {code}" for code in (13, 14, 15, 16, 18, 22)),
+    "served", "served beside an empty log", "reported with its log down",
+)
+
+
 def main() -> int:
     """Runs all, and prints what was seen."""
     parser = argparse.ArgumentParser(description=__doc__.splitlines()[0])
-    parser.add_argument("program", type=pathlib.Path, help="the built worldd")
+    parser.add_argument("program", type=absolute, help="the built worldd")
     parser.add_argument("--only", metavar="PART", help="the one part to try, by the name of its function")
     given = parser.parse_args()
-    trial = Trial(str(given.program.resolve()))
+    trial = Trial(given.program)
     for part in PARTS:
         if given.only in (None, part.__name__):
             part(trial)
     if given.only:
         return 1 if trial.wrong or not trial.runs else 0
-    wanted = ["status 0", "status 2", "served", "served beside an empty log", "reported with its log down", *(f"status 1, fault {code}" for code in (13, 14, 15, 16, 18, 22))]
-    never = [kind for kind in wanted if not trial.seen[kind]]
     for kind, count in sorted(trial.seen.items()):
         print(f"  {kind}: {count}")
-    print(f"program trial: {trial.runs} runs, {trial.wrong} wrong" + (f", never seen: {never}" if never else ""))
-    return 1 if trial.wrong or never else 0
+    return trial.status("program", SEEN)
 
 
 if __name__ == "__main__":

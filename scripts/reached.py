@@ -13,9 +13,7 @@ FUNCTION = re.compile(r"^( *)(?:pub |pub\(\w+\) )?fn (\w+)")
 CALL = re.compile(r"\b(\w+)(?:::<[^;{}]*?>)?\(")
 NAMED = re.compile(r"`(?:\w+::)?([a-z]\w*)`")
 # Functions of README's table that worldd doesn't call, and why.
-OTHERS = {
-    "images_stay": "a law: it has no body",
-}
+OTHERS = {"images_stay": "a law: it has no body"}
 
 
 def bodies() -> Iterator[tuple[str, str]]:

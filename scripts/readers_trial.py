@@ -8,7 +8,6 @@ written, and copy the same bytes. Commands that write there must be refused with
 The file systems are mounted in a separate mount namespace: as root, or as a user by a user namespace. A file system that
 can't be made here is named in one line, and isn't tried.
 """
-import argparse
 import collections
 import contextlib
 import os
@@ -20,8 +19,10 @@ import subprocess
 import sys
 import tempfile
 from collections.abc import Iterator
+from typing import Any
 
-from surroundings_trial import NAMES, OWNER, STRANGER, Server, Wrong, is_root, want
+from surroundings_trial import OWNER, STRANGER, Client, Server, is_root
+from trial import Words, all_met, as_user, parser_of, status_of, want
 
 TICKS, SECONDS = 30, 30
 READS = ("recover",), ("inspect",), ("inspect", "--words"), ("status",)
@@ -111,7 +112,7 @@ def stopped(source: pathlib.Path, place: pathlib.Path) -> Iterator[None]:
     with filled(source, place) as file:
         make("mount", "-t", "sysfs", "sysfs", place.with_suffix(".sys"))
         with unmounted(place.with_suffix(".sys")):
-            find = ["losetup", "--noheadings", "--output", "NAME", "--associated", file]
+            find: Words = ["losetup", "--noheadings", "--output", "NAME", "--associated", file]
             loop = pathlib.Path(subprocess.run(find, capture_output=True, text=True).stdout.strip()).name
             (place.with_suffix(".sys") / "fs/ext4" / loop / "trigger_fs_error").write_text("1")
         yield
@@ -160,20 +161,19 @@ WAYS = {
 class Trial:
     """Worlds in a folder, and what was met in each way in which they can only be read."""
 
-    def __init__(self, worldd: pathlib.Path, room: pathlib.Path) -> None:
+    def __init__(self, worldd: str, room: pathlib.Path) -> None:
         self.room, self.worlds, self.worldd = room, room / "worlds", room / "worldd"
         shutil.copy(worldd, self.worldd)
         self.worldd.chmod(0o755)
         room.chmod(0o755)
-        self.as_user: dict[str, object] = {}
+        self.as_user: dict[str, Any] = {}
         self.met: dict[str, collections.Counter[str]] = {}
         self.copies = 0
 
     def run(self, *words: object) -> Outcome:
         """Runs a command to its end, as the user whose turn it is."""
         command = [str(word) for word in (self.worldd, *words)]
-        how = {"stdin": subprocess.DEVNULL, "capture_output": True, "text": True, "timeout": SECONDS, **self.as_user}
-        run = subprocess.run(command, **how)
+        run = subprocess.run(command, stdin=subprocess.DEVNULL, capture_output=True, text=True, timeout=SECONDS, **self.as_user)
         return Outcome(run.returncode, run.stdout, run.stderr, None)
 
     def make_worlds(self) -> None:
@@ -240,10 +240,10 @@ class Trial:
             wanted = Outcome(1, "", f"fault 18\nworldd: {place / folder}/image.a: {reason}\n", None)
             want(outcome == wanted, f"{command[0]} on {way}: {outcome}")
             self.met[way][f"{command[0]} refused"] += 1
-        for command, world in (("backup", "played"), ("salvage", "damaged")):
-            outcome = self.run(command, "--dir", place / world, "--to", place / EMPTY)
-            wanted = rf"fault 18\nworldd: {re.escape(str(place / EMPTY))}/(image|log)\.[ab]: {re.escape(reason)}\n"
-            want(outcome.status == 1 and bool(re.fullmatch(wanted, outcome.errors)), f"{command} to {way}: {outcome}")
+        for copying, world in (("backup", "played"), ("salvage", "damaged")):
+            outcome = self.run(copying, "--dir", place / world, "--to", place / EMPTY)
+            form = rf"fault 18\nworldd: {re.escape(str(place / EMPTY))}/(image|log)\.[ab]: {re.escape(reason)}\n"
+            want(outcome.status == 1 and bool(re.fullmatch(form, outcome.errors)), f"{copying} to {way}: {outcome}")
             self.met[way]["copies to it refused"] += 1
 
     def served(self, way: str, place: pathlib.Path) -> None:
@@ -286,7 +286,7 @@ class Trial:
             if is_root():
                 os.chown(path, OWNER, OWNER)
         for way, user in users.items():
-            self.as_user = {"user": user, "group": user, "extra_groups": []} if user else {}
+            self.as_user = as_user(user) if user else {}
             self.only_read(way, place, DENIED)
             if user == STRANGER:
                 for path in (self.worlds / SERVED).iterdir():
@@ -308,11 +308,10 @@ class Trial:
             self.users()
         for way, met in self.met.items():
             print(f"readers: {way}: {', '.join(f'{name} {count}' for name, count in met.items())}")
-            missed = [name for name in MET if not met[name]]
-            want(not missed, f"{way}: never met: {', '.join(missed)}")
+            all_met(met, MET, f"{way}: ")
 
 
-def played(client, ticks: int, before: int = 0) -> None:
+def played(client: Client, ticks: int, before: int = 0) -> None:
     """Plays so many ticks."""
     for tick in range(before + 1, before + ticks + 1):
         want(client.play(b"add %d 3\n" % (tick % 10)).startswith(b"tick %d:" % tick), f"tick {tick} wasn't answered")
@@ -330,27 +329,15 @@ def contents(place: pathlib.Path) -> dict[str, bytes]:
     return {str(path.relative_to(place)): path.read_bytes() for path in files}
 
 
-def tried(worldd: pathlib.Path, is_inside: bool) -> int:
-    """Runs the trial in its own folder."""
-    with tempfile.TemporaryDirectory(prefix="readers") as room:
-        try:
-            Trial(worldd, pathlib.Path(room)).all(is_inside)
-        except (Wrong, subprocess.SubprocessError) as wrong:
-            print(f"readers: {wrong}", file=sys.stderr)
-            return 1
-    return 0
-
-
 def main() -> int:
     """Runs it outside of a namespace, and then in one."""
-    parser = argparse.ArgumentParser(description=__doc__.splitlines()[0])
-    parser.add_argument("worldd", type=pathlib.Path, help="the built worldd")
+    parser = parser_of(__doc__)
     parser.add_argument(INSIDE, action="store_true", help="only the file systems, which are mounted in this namespace")
     given = parser.parse_args()
     os.environ["PATH"] += ":/usr/sbin:/sbin"
     signal.signal(signal.SIGPIPE, signal.SIG_IGN)
-    worldd = given.worldd.resolve()
-    status = tried(worldd, given.inside)
+    with tempfile.TemporaryDirectory(prefix="readers") as room:
+        status = status_of("readers", lambda: Trial(given.worldd, pathlib.Path(room)).all(given.inside))
     if given.inside or status:
         return status
     inside = ["unshare", "--mount", *["--map-root-user"] * (not is_root())]
@@ -358,7 +345,7 @@ def main() -> int:
         print("readers: not tried: file systems, since there is no mount namespace here")
         return 0
     sys.stdout.flush()
-    return subprocess.run([*inside, sys.executable, __file__, worldd, INSIDE]).returncode
+    return subprocess.run([*inside, sys.executable, __file__, given.worldd, INSIDE]).returncode
 
 
 if __name__ == "__main__":

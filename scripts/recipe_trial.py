@@ -10,7 +10,7 @@ mount namespace in which the folders of the system are copies or empty. This nee
 Before that install.sh runs on odd prefixes, over a stand-in for the kit: each gets a unit with its path and each file that
 install.sh names, or is refused and nothing is made. A program in C includes the header that was installed.
 """
-import argparse
+
 import collections
 import itertools
 import os
@@ -25,15 +25,19 @@ import sys
 import tempfile
 import threading
 import time
+from typing import Any
 
-from check_docs import TOP, commands_after
-from surroundings_trial import NAMES, Client, Wrong, is_root, want
+from check_docs import commands_after
+from map import TOP
+from surroundings_trial import Client, is_root
+from trial import NAMES, Words, Wrong, all_met, as_user, begun, found_in_text, parser_of, status_of, want
 
 MANUAL = (TOP / "docs" / "OPERATIONS.md").read_text()
 # Prefixes that a unit can have, and others.
 RIGHT = "plain", "with a space", "\u00e9", "a;b#c*d~e"
 ODD = (
-    "tab\t", "new\nline", "escape\x1b[31m", "quo'te", 'quo"te', "per%cent", "dol$lar", "back\\slash", "and&", "bar|", "not \udcff text",
+    "tab\t", "new\nline", "escape\x1b[31m", "quo'te", 'quo"te', "per%cent", "dol$lar", "back\\slash", "and&", "bar|",
+    "not \udcff text",
 )
 # What install.sh writes, and nothing else.
 INSTALLED = {"include/cektaulis.h", "share/pkgconfig/cektaulis.pc", "share/worldd/worldd.service"}.union(*(
@@ -48,7 +52,7 @@ STANDBY = {"promote", "step-down", "fence-peer", "standby.conf", "world.res"}
 MAKING, BACKUP = "**2. Make a user, its folder, and a world**", "**While it serves**"
 RESTORE, SAVING, LARGER = "**Restore.**", "**Files are removed**", "**A world gets more cells**"
 USER, PROGRAM = "world", "/usr/local/bin/worldd"
-AS_USER = {"user": USER, "group": USER, "extra_groups": []}
+AS_USER = as_user(USER)
 WORLD, OTHER, COPY = (pathlib.Path(path) for path in ("/var/lib/world", "/var/lib/world2", "/var/backups/world.1"))
 # The folder of the sockets, in the namespace.
 SOCKETS = pathlib.Path("/var/sockets")
@@ -66,10 +70,10 @@ def follow(name: str, room: pathlib.Path | None = None, **words: object) -> str:
     for word, given in words.items():
         want(word in text, f"the recipe after `{name}` has no {word}")
         text = re.sub(rf"\b{word}\b", str(given), text)
-    who = AS_USER | {"cwd": room} if room else {}
+    who: dict[str, Any] = AS_USER | {"cwd": room} if room else {}
     run = subprocess.run(["sh", "-e", "-u", "-c", text], capture_output=True, text=True, timeout=SECONDS, **who)
     want(run.returncode == 0, f"the recipe after `{name}` ends with {run.returncode}: {run.stdout}{run.stderr}")
-    return run.stdout
+    return str(run.stdout)
 
 
 class Player(threading.Thread):
@@ -89,18 +93,20 @@ class Trial:
     """The servers and the counts so far."""
 
     def __init__(self) -> None:
-        self.met, self.sockets = collections.Counter(), itertools.count()
-        self.servers: list[subprocess.Popen] = []
+        self.met: collections.Counter[str] = collections.Counter()
+        self.sockets = itertools.count()
+        self.servers: list[subprocess.Popen[str]] = []
 
-    def serve(self, folder: pathlib.Path) -> tuple[subprocess.Popen, int, Player]:
+    def serve(self, folder: pathlib.Path) -> tuple[subprocess.Popen[str], int, Player]:
         """A server of a folder, as the user of the world: its process, the tick that it recovered, and a client that plays."""
         place = SOCKETS / str(next(self.sockets))
-        command = [PROGRAM, "serve", "--dir", folder, "--method", "zigzag", "--every", "8", "--socket", place, "--clients", "10"]
+        command: Words = [PROGRAM, "serve", "--dir", folder, *"--method zigzag --every 8 --clients 10 --socket".split(), place]
         server = subprocess.Popen(command, stdout=subprocess.PIPE, stderr=subprocess.DEVNULL, text=True, **AS_USER)
         self.servers.append(server)
-        lines = [server.stdout.readline() for _ in range(2)]
-        match = re.fullmatch(r"recovered (\d+) from \d+\n", lines[0])
-        want(bool(match) and lines[1] == f"listening {place}\n", f"the user can't serve {folder}: {lines}")
+        lines = begun(server)
+        match = re.fullmatch(rf"recovered (\d+) from \d+\nlistening {place}\n", "".join(lines))
+        if not match:
+            raise Wrong(f"the user can't serve {folder}: {lines}")
         player = Player(str(place))
         end = time.monotonic() + SECONDS
         while player.answered < int(match[1]) + 50:
@@ -112,12 +118,13 @@ class Trial:
         """A folder has to belong to the user, and to hold each tick up to this one with its words. It gives the tick."""
         owner = WORLD.stat()
         for path, mode in ((folder, 0o700), *((folder / name, 0o600) for name in NAMES)):
-            found = path.stat()
-            want((found.st_uid, found.st_gid) == (owner.st_uid, owner.st_gid), f"{path} belongs to another user")
-            want(stat.S_IMODE(found.st_mode) == mode, f"{path} has the mode {stat.S_IMODE(found.st_mode):o}")
+            of_path = path.stat()
+            want((of_path.st_uid, of_path.st_gid) == (owner.st_uid, owner.st_gid), f"{path} belongs to another user")
+            want(stat.S_IMODE(of_path.st_mode) == mode, f"{path} has the mode {stat.S_IMODE(of_path.st_mode):o}")
         run = subprocess.run([PROGRAM, "inspect", "--dir", folder, "--words"], capture_output=True, text=True)
         found = re.search(r"^recovered (\d+) from \d+ in image\.[ab]\n(\d+) ", run.stdout, re.MULTILINE)
-        want(bool(found) and found[1] == found[2], f"{folder} holds other words: {run.stdout[:300]}{run.stderr}")
+        if not found or found[1] != found[2]:
+            raise Wrong(f"{folder} holds other words: {run.stdout[:300]}{run.stderr}")
         want(int(found[1]) >= floor, f"{folder} holds tick {found[1]}, and tick {floor} was answered")
         return int(found[1])
 
@@ -148,14 +155,14 @@ class Trial:
         """A backup under a server, its restore, and files that are removed under the server."""
         server, _, player = self.serve(WORLD)
         floor = player.answered
-        match = re.search(r"^backed up (\d+) from \d+$", follow(BACKUP), re.MULTILINE)
-        want(bool(match) and int(match[1]) >= floor, f"tick {floor} was answered before a copy of {match}")
+        copied = int(found_in_text(r"^backed up (\d+) from \d+$", follow(BACKUP))[1])
+        want(copied >= floor, f"tick {floor} was answered before a copy of {copied}")
         self.met["copies while it serves"] += 1
-        self.met["copies ahead of the answers"] += int(match[1]) > floor
+        self.met["copies ahead of the answers"] += copied > floor
         follow(RESTORE)
-        want(self.holds(OTHER, floor) == int(match[1]), "what was restored is another tick")
+        want(self.holds(OTHER, floor) == copied, "what was restored is another tick")
         self.met["copies restored"] += 1
-        self.serves_again(OTHER, int(match[1]))
+        self.serves_again(OTHER, copied)
         shutil.rmtree(COPY)
         for name in NAMES:
             (WORLD / name).unlink()
@@ -176,12 +183,11 @@ class Trial:
             self.round()
             shutil.rmtree(WORLD)
             subprocess.run(["userdel", USER], check=True, capture_output=True)
-        missed = [case for case in CASES if not self.met[case]]
-        want(not missed, f"never met: {', '.join(missed)}")
+        all_met(self.met, CASES)
         return "; ".join(f"{case} {self.met[case]}" for case in CASES)
 
 
-def install(worldd: pathlib.Path, room: pathlib.Path) -> str:
+def install(worldd: str, room: pathlib.Path) -> str:
     """Installs the program with each prefix, over a command `rt` that does nothing."""
     top, kit = room / "top", room / "kit"
     kit.mkdir()
@@ -210,17 +216,23 @@ def install(worldd: pathlib.Path, room: pathlib.Path) -> str:
         else:
             match = re.fullmatch("install.sh: a unit can't have the path [^\0-\x1f]*\n", run.stderr)
             want(run.returncode == 2 and bool(match) and not prefix.exists(), f"a prefix wasn't refused: {run}")
-    return f"prefixes with a unit {len(RIGHT)}; prefixes refused {len(ODD)}"
+    return f"recipes: prefixes with a unit {len(RIGHT)}; prefixes refused {len(ODD)}"
+
+
+def run_installer(top: pathlib.Path, flag: str, prefix: pathlib.Path) -> None:
+    """Runs install.sh with a flag, without the kit."""
+    subprocess.run([top / "install.sh", flag, prefix], check=True, stdout=subprocess.DEVNULL, env={"PATH": "/usr/bin:/bin"})
 
 
 def install_standby(top: pathlib.Path, prefix: pathlib.Path) -> None:
-    """Installs the files of a standby, without the kit."""
-    subprocess.run([top / "install.sh", "--standby", prefix], check=True, stdout=subprocess.DEVNULL, env={"PATH": "/usr/bin:/bin"})
+    """Installs the files of a standby."""
+    run_installer(top, "--standby", prefix)
     folder = prefix / "share" / "worldd" / "standby"
     files = {path.name: path.read_text() for path in folder.iterdir()}
     want(set(files) == STANDBY, f"what was installed for a standby differs by {sorted(set(files) ^ STANDBY)}")
     want(f'"{prefix}/bin/worldd" recover' in files["promote"], f"promote with {prefix}")
-    want(f'"\'{folder}/fence-peer\'"' in files["world.res"] and os.access(folder / "fence-peer", os.X_OK), f"world.res with {prefix}")
+    is_fenced = f'"\'{folder}/fence-peer\'"' in files["world.res"] and os.access(folder / "fence-peer", os.X_OK)
+    want(is_fenced, f"world.res with {prefix}")
     want("@PREFIX@" not in "".join(files.values()), f"a file with {prefix}")
 
 
@@ -229,7 +241,7 @@ def uninstall(top: pathlib.Path, prefix: pathlib.Path) -> None:
     install_standby(top, prefix)
     other = prefix / "share" / "worldd" / "other"
     other.write_text("kept")
-    subprocess.run([top / "install.sh", "--uninstall", prefix], check=True, stdout=subprocess.DEVNULL, env={"PATH": "/usr/bin:/bin"})
+    run_installer(top, "--uninstall", prefix)
     left = [path for path in prefix.rglob("*") if path.is_file()]
     want(left == [other], f"of what was installed {left} are left")
 
@@ -246,57 +258,51 @@ def include_header(prefix: pathlib.Path) -> None:
     subprocess.run(command, input=b"#include <cektaulis.h>\n", check=True)
 
 
-def furnish(worldd: pathlib.Path, room: pathlib.Path) -> None:
+def furnish(worldd: str, room: pathlib.Path) -> None:
     """Puts a copy of /etc, an empty /var and only the program in /usr/local/bin over those of the system, in this namespace."""
     shutil.copytree("/etc", room / "etc", symlinks=True, ignore_dangling_symlinks=True)
     (room / "bin").mkdir()
     shutil.copy(worldd, room / "bin" / "worldd")
     (room / "bin" / "worldd").chmod(0o755)
-    mounts = ("--bind", room / "etc", "/etc"), ("--bind", room / "bin", "/usr/local/bin"), ("-t", "tmpfs", "tmpfs", "/var")
+    mounts: tuple[Words, ...] = (
+        ("--bind", room / "etc", "/etc"), ("--bind", room / "bin", "/usr/local/bin"), ("-t", "tmpfs", "tmpfs", "/var"),
+    )
     for words in mounts:
         subprocess.run(["mount", *words], check=True)
     for folder in (WORLD.parent, COPY.parent, SOCKETS):
         folder.mkdir()
 
 
-def inside(worldd: pathlib.Path, room: pathlib.Path) -> int:
+def inside(worldd: str, room: pathlib.Path) -> str:
     """Runs the trial in this namespace."""
     trial = Trial()
     try:
         furnish(worldd, room)
-        print(f"recipes: {trial.run()}")
-    except (Wrong, OSError, subprocess.SubprocessError) as wrong:
-        print(f"recipes: {wrong}", file=sys.stderr)
-        return 1
+        return f"recipes: {trial.run()}"
     finally:
         trial.end()
-    return 0
 
 
 def main() -> int:
     """Runs the trial in its own namespace."""
-    parser = argparse.ArgumentParser(description=__doc__.splitlines()[0])
-    parser.add_argument("worldd", type=pathlib.Path, help="the built worldd")
+    parser = parser_of(__doc__)
     parser.add_argument(INSIDE, type=pathlib.Path, metavar="ROOM", help="with a folder for its files, in this namespace")
     given = parser.parse_args()
     os.environ["PATH"] += ":/usr/sbin:/sbin"
     signal.signal(signal.SIGPIPE, signal.SIG_IGN)
-    worldd = given.worldd.resolve()
     if given.inside:
-        return inside(worldd, given.inside)
+        return status_of("recipes", lambda: inside(given.worldd, given.inside))
     with tempfile.TemporaryDirectory(prefix="recipes") as room:
-        try:
-            print(f"recipes: {install(worldd, pathlib.Path(room))}", flush=True)
-        except (Wrong, OSError, subprocess.SubprocessError) as wrong:
-            print(f"recipes: {wrong}", file=sys.stderr)
-            return 1
+        status = status_of("recipes", lambda: install(given.worldd, pathlib.Path(room)))
+    if status:
+        return status
     lacking = [name for name in ("unshare", "useradd", "userdel", "runuser") if not shutil.which(name)]
     if not is_root() or lacking or subprocess.run(["unshare", "--mount", "true"]).returncode:
         print(f"recipes: not tried: {f'there is no {lacking[0]}' if lacking else 'only root can, with a mount namespace'}")
         return 0
     with tempfile.TemporaryDirectory(prefix="recipes") as room:
         pathlib.Path(room).chmod(0o755)
-        return subprocess.run(["unshare", "--mount", sys.executable, __file__, worldd, INSIDE, room]).returncode
+        return subprocess.run(["unshare", "--mount", sys.executable, __file__, given.worldd, INSIDE, room]).returncode
 
 
 if __name__ == "__main__":

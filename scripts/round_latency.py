@@ -18,28 +18,27 @@ import tempfile
 import threading
 import time
 
+from trial import METHODS, Words, absolute, begun, create, pipe
+
 LINES = 16
-METHODS = "zigzag", "pingpong"
 
 
 class Server:
     """A serving worldd over a new world, and when it reported its images."""
 
     def __init__(self, worldd: str, folder: pathlib.Path, method: str, cells: int, every: int) -> None:
-        subprocess.run([worldd, "create", "--dir", folder, "--cells", str(cells)], check=True, capture_output=True)
-        command = [worldd, "serve", "--dir", folder, "--method", method, "--every", str(every), "--port", "0"]
-        self.process = subprocess.Popen(
-            [*command, "--clients", "1"], stdout=subprocess.PIPE, stderr=subprocess.PIPE, text=True
-        )
-        self.process.stdout.readline()
-        self.port = int(self.process.stdout.readline().split()[1])
+        create(worldd, folder, cells)
+        flags = ["--method", method, "--every", str(every), "--port", "0", "--clients", "1"]
+        command: Words = [worldd, "serve", "--dir", folder, *flags]
+        self.process = subprocess.Popen(command, stdout=subprocess.PIPE, stderr=subprocess.PIPE, text=True)
+        self.port = int(begun(self.process)[1].split()[1])
         self.opened: dict[int, float] = {}
         self.listener = threading.Thread(target=self.hear)
         self.listener.start()
 
     def hear(self) -> None:
         """Notes when each image was opened."""
-        for line in self.process.stderr:
+        for line in pipe(self.process.stderr):
             match = re.fullmatch(r"worldd: image of tick (\d+) opened\n", line)
             if match:
                 self.opened[int(match[1])] = time.perf_counter()
@@ -64,7 +63,7 @@ def play(port: int, cells: int, seconds: float) -> list[tuple[float, float]]:
             line = answers.readline()
             times.append((sent, time.perf_counter()))
             if line != b"tick %d:" % len(times) + b" +" * LINES + b"\n":
-                raise SystemExit(f"tick {len(times)} was answered {line}")
+                raise SystemExit(f"tick {len(times)} was answered {line!r}")
     return times
 
 
@@ -84,7 +83,8 @@ def measure(worldd: str, folder: pathlib.Path, method: str, cells: int, every: i
     server.close()
     rounds = sorted((times[tick - 1][1], opened) for tick, opened in server.opened.items() if 1 <= tick <= len(times))
     begins = [begin for begin, _ in rounds]
-    inside, between = [], []
+    inside: list[float] = []
+    between: list[float] = []
     for sent, answered in times:
         at = bisect.bisect_right(begins, answered) - 1
         in_round = at >= 0 and sent < rounds[at][1]
@@ -99,7 +99,7 @@ def measure(worldd: str, folder: pathlib.Path, method: str, cells: int, every: i
 def main() -> None:
     """Measures both methods."""
     parser = argparse.ArgumentParser(description=__doc__, formatter_class=argparse.RawDescriptionHelpFormatter)
-    parser.add_argument("worldd")
+    parser.add_argument("worldd", type=absolute)
     parser.add_argument("--cells", type=int, default=1_048_576)
     parser.add_argument("--every", type=int, default=4096)
     parser.add_argument("--seconds", type=float, default=20)
@@ -107,7 +107,7 @@ def main() -> None:
     given = parser.parse_args()
     for method in METHODS:
         with tempfile.TemporaryDirectory(dir=given.dir) as folder:
-            measure(given.worldd, pathlib.Path(folder), method, given.cells, given.every, given.seconds)
+            measure(given.worldd, pathlib.Path(folder) / "world", method, given.cells, given.every, given.seconds)
 
 
 main()

@@ -5,10 +5,9 @@
     scripts/salvage_trial.py WORLDD --worlds 200 --seed 7
 
 Worlds of a plain model are written as a server leaves them, with images of two ticks and up to two segments of the log. Each is
-damaged in each way. `salvage` has to end by itself, and to leave the damaged files as they are. What it saved has to be recovered.
-It has to be the world after some of its first ticks, except if a number in a file was changed: no file has a checksum.
+damaged in each way. `salvage` has to end by itself, and to leave the damaged files as they are. What it saved has to be
+recovered. It has to be the world after some of its first ticks, except if a number in a file was changed: no file has a checksum.
 """
-import argparse
 import collections
 import pathlib
 import random
@@ -16,20 +15,18 @@ import shutil
 import struct
 import subprocess
 import sys
-import tempfile
-import time
 
-from kill_trial import CELLS, Wrong, changes, random_request
+from kill_trial import CELLS, Request, changes, random_request
+from trial import NAMES, Wrong, parser_of, ran, status_in_folder, want
 
-NAMES = ("image.a", "image.b", "log.a", "log.b")
-QUIET, PATIENCE_SECONDS, SECTOR, MARK = subprocess.DEVNULL, 60, 512, 0x20 << 56
+SECTOR, MARK = 512, 0x20 << 56
 KINDS = {"set": (1, "IQ"), "add": (2, "Iq"), "move": (3, "IIQ"), "swap": (4, "II"), "cap": (5, "IQ")}
 # What may come of it: all of the world, a part, another world since a number was changed, or nothing.
 WHOLE, PART, CHANGED, NONE = "whole", "in part", "changed", "nothing saved"
 
 
 class World:
-    """The files of a world that a server left, and its words after each tick. Gates are the places of bytes that aren't numbers."""
+    """The files of a world that a server left, and its words after each tick. Gates are places of bytes that aren't numbers."""
 
     def __init__(self, chance: random.Random) -> None:
         self.chance, self.words = chance, [[0] * CELLS]
@@ -41,9 +38,9 @@ class World:
         turn = chance.choice((1, -1))
         self.files = dict(zip(NAMES, [*images[::turn], *logs[:: chance.choice((1, -1))]]))
 
-    def tick(self) -> list[tuple]:
+    def tick(self) -> list[Request]:
         """Plays a tick of random actions, and gives those that were accepted."""
-        words, taken = list(self.words[-1]), []
+        words, taken = list(self.words[-1]), list[Request]()
         for request in (random_request(self.chance) for _ in range(self.chance.randrange(1, 9))):
             changed = changes(words, request) if request[0] in KINDS else 0
             if isinstance(changed, dict):
@@ -57,7 +54,7 @@ class World:
         """The image of this tick."""
         return struct.pack("<BQQ", 1, CELLS | MARK, tick) + struct.pack(f"<{CELLS}Q", *self.words[tick])
 
-    def segment(self, base: int, ticks: list[list[tuple]]) -> bytes:
+    def segment(self, base: int, ticks: list[list[Request]]) -> bytes:
         """The segment of these ticks, in groups."""
         made, left = struct.pack("<BQ", 1, base | MARK), list(ticks)
         while left:
@@ -65,7 +62,7 @@ class World:
             made += struct.pack("<BH", 1, len(group))
             for tick in group:
                 made += struct.pack("<H", len(tick))
-                made += b"".join(struct.pack(f"<B{KINDS[kind][1]}", KINDS[kind][0], *rest) for kind, *rest in tick)
+                made += b"".join(struct.pack(f"<B{KINDS[str(kind)][1]}", KINDS[str(kind)][0], *rest) for kind, *rest in tick)
         return made + b"\0"
 
     def has_gate(self, name: str, place: int) -> bool:
@@ -126,13 +123,8 @@ def tailed(chance: random.Random, files: Files, name: str) -> None:
 
 
 WAYS = {
-    "bits flipped": flipped,
-    "gate flipped": closed,
-    "tail cut": cut,
-    "file lost": lost,
-    "file emptied": emptied,
-    "sector zeroed": zeroed,
-    "bytes after": tailed,
+    "bits flipped": flipped, "gate flipped": closed, "tail cut": cut, "file lost": lost, "file emptied": emptied,
+    "sector zeroed": zeroed, "bytes after": tailed,
 }
 
 
@@ -145,10 +137,9 @@ class Trial:
 
     def ask(self, command: str, folder: pathlib.Path, *flags: str) -> subprocess.CompletedProcess[str]:
         """Runs a command, which has to end by itself with status 0 or a fault."""
-        words = [self.worldd, command, "--dir", str(folder), *flags]
-        ended = subprocess.run(words, stdin=QUIET, capture_output=True, text=True, timeout=PATIENCE_SECONDS)
-        if ended.returncode not in (0, 1) or (ended.returncode == 1) != ended.stderr.startswith("fault "):
-            raise Wrong(f"{command} ended with status {ended.returncode}: {' '.join(ended.stderr.split())}")
+        ended = ran(self.worldd, command, folder, *flags)
+        is_so = ended.returncode in (0, 1) and (ended.returncode == 1) == ended.stderr.startswith("fault ")
+        want(is_so, f"{command} ended with status {ended.returncode}: {' '.join(ended.stderr.split())}")
         return ended
 
     def try_one(self, world: World, way: str, count: int) -> None:
@@ -191,24 +182,16 @@ class Trial:
         met = {how for _, how in self.tally}
         if len(met) < 4:
             raise Wrong(f"only {', '.join(sorted(met))} came of it")
-        return "; ".join(counts)
+        return f"salvage trial: {'; '.join(counts)}"
 
 
 def main() -> int:
     """Runs the trial, and keeps the files where it fails."""
-    parser = argparse.ArgumentParser(description=__doc__.splitlines()[0])
-    parser.add_argument("worldd", type=lambda path: str(pathlib.Path(path).resolve()), help="the built program")
+    parser = parser_of(__doc__, "of the worlds and of the damage")
     parser.add_argument("--worlds", type=int, default=40, help="how many worlds are damaged in each way (40)")
-    parser.add_argument("--seed", type=int, default=time.time_ns() % 10**9, help="of the worlds and of the damage")
     given = parser.parse_args()
-    room = pathlib.Path(tempfile.mkdtemp(prefix="salvage-trial-"))
-    try:
-        print(f"salvage trial: {Trial(given.worldd, room, random.Random(given.seed)).run(given.worlds)}")
-    except (Wrong, OSError, subprocess.TimeoutExpired) as wrong:
-        print(f"salvage_trial: {wrong}\nsalvage_trial: seed {given.seed}, files in {room}", file=sys.stderr)
-        return 1
-    shutil.rmtree(room)
-    return 0
+    chance = random.Random(given.seed)
+    return status_in_folder("salvage_trial", given, lambda room: Trial(given.worldd, room, chance).run(given.worlds))
 
 
 if __name__ == "__main__":

@@ -8,11 +8,11 @@ No answered tick may be lost, no file of a world may get a byte that isn't a wor
 with its reason. It prints how often each case was met, and fails if one was never met. Other users of the machine can be
 tried only by root.
 """
-import argparse
 import collections
 import contextlib
 import ctypes
 import fcntl
+import functools
 import itertools
 import mmap
 import multiprocessing
@@ -30,15 +30,17 @@ import tempfile
 import threading
 import time
 from collections.abc import Callable, Iterator
+from typing import Any
 
-from kill_trial import PORT, SOCKET, TRANSPORTS, connect
+from trial import NAMES, PATIENCE_SECONDS, PORT, QUIET, SOCKET, TRANSPORTS, Words, Wrong, all_met, as_user, begun, close_all
+from trial import connect, create, found_in_text, free_port, library_of, parser_of, pipe, ran, status_of, want
 
-NAMES = ("image.a", "image.b", "log.a", "log.b")
-PATIENCE_SECONDS = 30
 CELLS = 1000
 # Text that worldd prints, of which a file of a world has none.
 FOREIGN = (b"recovered", b"listening", b"worldd", b"created", b"stopped")
 EXIT = ("--exit-when-log-down",)
+# The flags of a server that starts beside others.
+SERVE = "--method", "zigzag", "--port", "0", "--clients", "1"
 # The exit statuses of a shortage that passes, and of a listener that failed.
 SHORTAGE, LOST_LISTENER = 13, 10
 # How many clients come while there is no room for threads: more than there are stacks to use again.
@@ -58,7 +60,8 @@ FILE_LIMIT = 20_011
 START_LIMIT = 4_011
 SHORT = "the disk is full, or the file has reached a limit on its size"
 # The last line of `status`.
-UP, NO_LOG, NO_IMAGES, NEITHER = (f"server: running, log {log}, images {images}" for images in ("up", "down") for log in ("up", "down"))
+UP, NO_LOG = (f"server: running, log {log}, images up" for log in ("up", "down"))
+NO_IMAGES, NEITHER = (f"server: running, log {log}, images down" for log in ("up", "down"))
 NO_SERVER, UNKNOWN, UNKNOWN_PARTS = "server: none", "server: unknown", "server: running, log unknown, images unknown"
 SERVER_LINES = UP, NO_LOG, NO_IMAGES, NEITHER, NO_SERVER, UNKNOWN, UNKNOWN_PARTS
 HELD, KEPT = "another program writes this world", "a program that looks at this world keeps its lock"
@@ -71,43 +74,23 @@ CASES = (
     "short write named", "ended by its log", "start that fails", "no thread named",
     "socket with its mode", "socket removed", "old socket replaced", "socket in use kept", "socket's place taken",
     "other file kept", "next server's socket kept", "fault 16 not reset",
-    "client refused", "listener lost", "left when closed", "left at once when closed", "left with its log down", "lost file named",
-    *SERVER_LINES, "second server refused", "reader waited for", "reader too slow", "start beside looks", "one of two servers",
+    "client refused", "listener lost", "left when closed", "left at once when closed", "left with its log down",
+    "lost file named", *SERVER_LINES, "second server refused", "reader waited for", "reader too slow", "start beside looks",
+    "one of two servers",
 )
 CASES_OF_ROOT = ("user let in", "user refused", "socket never open to others", "shortage of room", "no /dev/null")
 # Users and groups, which the system need not know. The server's own are the first ones.
 OWNER, STRANGER = 61_001, 61_002
-AS_OWNER, AS_STRANGER = ({"user": user, "group": user, "extra_groups": []} for user in (OWNER, STRANGER))
+AS_OWNER, AS_STRANGER = as_user(OWNER), as_user(STRANGER)
 LET_IN, REFUSED = 0, 13
 # How many servers start at each mode while a stranger tries to connect.
 STARTS = 25
 FORK = multiprocessing.get_context("fork")
 
 
-class Wrong(Exception):
-    """What worldd should not have done."""
-
-
-def want(is_so: bool, what: str) -> None:
-    """Fails unless it is so."""
-    if not is_so:
-        raise Wrong(what)
-
-
-def closing(descriptors: tuple[int, ...]) -> Callable[[], None]:
-    """Closes these descriptors in a new process."""
-    return lambda: [os.close(descriptor) for descriptor in descriptors]
-
-
 def limiting(kind: int, most: int) -> Callable[[], None]:
     """Limits a resource of a new process."""
     return lambda: resource.setrlimit(kind, (most, most))
-
-
-def free_port() -> int:
-    """A port that nobody listens on."""
-    with socket.create_server(("127.0.0.1", 0)) as probe:
-        return probe.getsockname()[1]
 
 
 class Client:
@@ -136,16 +119,16 @@ class Server:
 
     def __init__(
         self, worldd: str, folder: pathlib.Path, *flags: str, clients: int = 100_000, transport: str = "port",
-        path: pathlib.Path | None = None, **process
+        path: pathlib.Path | None = None, **process: Any
     ) -> None:
         self.worldd, self.folder, self.path = worldd, folder, path or folder.with_suffix(".socket")
         if not folder.exists():
-            folder.mkdir()
-            subprocess.run([worldd, "create", "--dir", folder, "--cells", str(CELLS)], check=True, capture_output=True)
+            create(worldd, folder, CELLS)
         self.address = str(self.path) if transport == SOCKET else str(free_port())
         fixed = ("--method", "zigzag", f"--{transport}", self.address, "--clients", str(clients))
         process = {"stdout": subprocess.PIPE, "stderr": subprocess.PIPE, **process}
-        self.process = subprocess.Popen([worldd, "serve", "--dir", folder, *fixed, *flags], **process)
+        command: Words = [worldd, "serve", "--dir", folder, *fixed, *flags]
+        self.process: subprocess.Popen[bytes] = subprocess.Popen(command, **process)
 
     def client(self) -> Client:
         """A new client, once the server listens."""
@@ -179,9 +162,9 @@ class Server:
 
     def holds(self, ticks: int) -> None:
         """The files must hold the world after so many ticks or more, and nothing else."""
-        run = subprocess.run([self.worldd, "recover", "--dir", self.folder], capture_output=True, text=True)
+        run = ran(self.worldd, "recover", self.folder)
         found = re.fullmatch(r"recovered (\d+) from \d+\n", run.stdout)
-        want(bool(found) and int(found[1]) >= ticks, f"{ticks} ticks were answered: {run.stdout}{run.stderr}")
+        want(found is not None and int(found[1]) >= ticks, f"{ticks} ticks were answered: {run.stdout}{run.stderr}")
         has_no_text(self.folder)
 
 
@@ -204,11 +187,17 @@ class Trial:
         """A folder that isn't there yet."""
         return self.scratch / f"world{next(self.folders)}"
 
-    def server(self, *flags: str, **process) -> Server:
+    def world(self) -> pathlib.Path:
+        """A folder with a new world of two cells."""
+        folder = self.folder()
+        create(self.worldd, folder, 2)
+        return folder
+
+    def server(self, *flags: str, **process: Any) -> Server:
         """A server of a new world."""
         return Server(self.worldd, self.folder(), *flags, **process)
 
-    def run(self, *words: object, **process) -> subprocess.CompletedProcess:
+    def run(self, *words: object, **process: Any) -> subprocess.CompletedProcess[Any]:
         """Runs a command to its end."""
         return subprocess.run([self.worldd, *map(str, words)], timeout=PATIENCE_SECONDS, **process)
 
@@ -221,13 +210,11 @@ class Trial:
 
     def commands_without(self, closed: tuple[int, ...]) -> None:
         """The commands that end by themselves, with these descriptors closed."""
-        streams = {"stdin": subprocess.DEVNULL, "stdout": subprocess.DEVNULL, "stderr": subprocess.DEVNULL}
-        whole, folder = self.folder(), self.folder()
-        whole.mkdir()
+        whole, folder = self.world(), self.folder()
         folder.mkdir()
-        self.run("create", "--dir", whole, "--cells", 2, **streams)
-        for command in (("create", "--dir", folder, "--cells", 2), ("recover", "--dir", folder), ("inspect", "--dir", folder), ("steps",)):
-            run = self.run(*command, preexec_fn=closing(closed), **streams)
+        on_folder = ("create", "--cells", 2), ("recover",), ("inspect",)
+        for command in (*((*words, "--dir", folder) for words in on_folder), ("steps",)):
+            run = self.run(*command, preexec_fn=functools.partial(close_all, closed), stdin=QUIET, stdout=QUIET, stderr=QUIET)
             want(run.returncode == 0, f"{command[0]} without {closed}: {run.returncode}")
             for name in NAMES:
                 want((folder / name).read_bytes() == (whole / name).read_bytes(), f"{command[0]} without {closed}: {name}")
@@ -235,8 +222,8 @@ class Trial:
 
     def serve_without(self, closed: tuple[int, ...]) -> None:
         """A server with these descriptors closed, killed under load."""
-        streams = {"stdin": subprocess.DEVNULL, "stdout": subprocess.DEVNULL, "stderr": subprocess.DEVNULL}
-        server = self.server("--every", "8", preexec_fn=closing(closed), **streams)
+        closes = functools.partial(close_all, closed)
+        server = self.server("--every", "8", preexec_fn=closes, stdin=QUIET, stdout=QUIET, stderr=QUIET)
         client = server.client()
         for tick in range(1, 101):
             want(client.play().startswith(b"tick %d:" % tick), f"tick {tick} without {closed}")
@@ -272,7 +259,8 @@ class Trial:
     def short_connections(self, count: int, transport: str) -> None:
         """So many clients come and go. The process must not grow by those that have gone."""
         before, after = self.come_and_go(count, transport)
-        want(after.maps <= before.maps + 2 * OVERLAP and after.threads <= before.threads + 2, "ended sessions keep maps or threads")
+        want(after.maps <= before.maps + 2 * OVERLAP, "ended sessions keep maps")
+        want(after.threads <= before.threads + 2, "ended sessions keep threads")
         want(after.descriptors <= before.descriptors + 4, "ended sessions keep descriptors")
         want(after.kilobytes <= before.kilobytes + 2_048, "ended sessions keep memory")
 
@@ -282,8 +270,8 @@ class Trial:
         crowd = [server.client() for _ in range(40)]
         for client in crowd[:4]:
             want(client.play().startswith(b"tick"), "a client that came first got no answer")
-        line = server.process.stderr.readline()
-        want(line.startswith(b"worldd: clients wait: Too many open files"), f"no line of a shortage: {line}")
+        line = pipe(server.process.stderr).readline()
+        want(line.startswith(b"worldd: clients wait: Too many open files"), f"no line of a shortage: {line!r}")
         self.met["descriptors exhausted"] += 1
         spent = processor_seconds(server.process.pid)
         time.sleep(1)
@@ -292,8 +280,8 @@ class Trial:
             client.leave()
         late = server.client()
         want(late.play().startswith(b"tick"), "no answer after a shortage")
-        line = server.process.stderr.readline()
-        want(line == b"worldd: clients no longer wait\n", f"no line of the end of a shortage: {line}")
+        line = pipe(server.process.stderr).readline()
+        want(line == b"worldd: clients no longer wait\n", f"no line of the end of a shortage: {line!r}")
         self.met["descriptors freed"] += 1
         server.kill()
         server.holds(5)
@@ -314,16 +302,14 @@ class Trial:
             client.leave()
         server.process.kill()
         _, _, errors = server.end()
-        refused = errors.count("worldd: session refused: there is no thread\n") + errors.count("worldd: session refused: there is no memory\n")
+        refused = len(re.findall(r"^worldd: session refused: there is no (?:thread|memory)$", errors, re.MULTILINE))
         want(0 < closed == refused, f"{closed} clients were closed unanswered: {errors}")
         self.met["client refused"] += closed
         server.holds(CROWD - closed + 3)
 
     def lost_listener(self) -> None:
         """The listener fails after two clients: a line says so, they play on, and the server ends once they have left."""
-        library = self.scratch / "lost_listener.so"
-        source = pathlib.Path(__file__).with_name("lost_listener.c")
-        subprocess.run(["cc", "-shared", "-fPIC", "-o", library, source], check=True)
+        library = library_of("lost_listener.c", self.scratch)
         for transport in TRANSPORTS:
             server = self.server(transport=transport, env=os.environ | {"LD_PRELOAD": str(library), "ACCEPTS": "2"})
             first, second = server.client(), server.client()
@@ -333,7 +319,8 @@ class Trial:
             for client in (first, second):
                 client.leave()
             status, output, errors = server.end()
-            want(status == LOST_LISTENER and output.endswith("stopped tick 3 acked 3\n"), f"the end by its listener: {status} {output}")
+            is_ended = status == LOST_LISTENER and output.endswith("stopped tick 3 acked 3\n")
+            want(is_ended, f"the end by its listener: {status} {output}")
             want("worldd: listener failed: Invalid argument (os error 22)\n" in errors, f"a failed listener: {errors}")
             self.met["listener lost"] += 1
             server.holds(3)
@@ -341,7 +328,7 @@ class Trial:
     def unread_errors(self) -> None:
         """Nobody reads standard error for ten thousand ticks and many images."""
         server = self.server("--every", "1", clients=1)
-        fcntl.fcntl(server.process.stderr, fcntl.F_SETPIPE_SZ, SMALL_PIPE)
+        fcntl.fcntl(pipe(server.process.stderr), fcntl.F_SETPIPE_SZ, SMALL_PIPE)
         client = server.client()
         for tick in range(1, 10_001):
             want(client.play().startswith(b"tick %d:" % tick), f"tick {tick} with errors unread")
@@ -353,7 +340,7 @@ class Trial:
         begun = time.monotonic()
         status = server.process.wait(PATIENCE_SECONDS)
         want(status == 0 and time.monotonic() - begun < 10, f"the end with errors unread: {status}")
-        errors = server.process.stderr.read().decode()
+        errors = pipe(server.process.stderr).read().decode()
         want(0 < errors.count("opened") < 9_000, "lines were not dropped")
         self.met["lines dropped"] += 1
         server.holds(10_000)
@@ -402,7 +389,8 @@ class Trial:
             status, output, errors = server.end()
             passed = time.monotonic() - begun
             want(status == 0 and "stopped" not in output, f"the end with clients that stay: {status} {output}")
-            want(seconds <= passed < seconds + PATIENCE_SECONDS / 2, f"it ended {passed} seconds after its door was closed, and not {seconds}")
+            is_in_time = seconds <= passed < seconds + PATIENCE_SECONDS / 2
+            want(is_in_time, f"it ended {passed} seconds after its door was closed, and not {seconds}")
             want(f"worldd: the {transport} is closed" in errors, f"nothing was printed of the {transport}: {errors}")
             server.holds(2 if seconds else 1)
         self.overstayed_with_no_log()
@@ -456,11 +444,11 @@ class Trial:
             want(errors.count(line) == wanted, f"{name}, {wanted} lines wanted: {errors}")
             self.met["lost file named"] += wanted
 
-    def server_line(self, folder: pathlib.Path, **process) -> str:
+    def server_line(self, folder: pathlib.Path, **process: Any) -> str:
         """What `status` prints of the server of a world."""
         command = (process.pop("program", self.worldd), "status", "--dir", folder)
         run = subprocess.run(command, capture_output=True, text=True, timeout=PATIENCE_SECONDS, **process)
-        line = run.stdout.splitlines()[-1] if run.stdout else ""
+        line: str = run.stdout.splitlines()[-1] if run.stdout else ""
         unread = run.returncode == 1 and ": Permission denied (os error 13)\n" in run.stderr
         want(line in SERVER_LINES and (run.returncode == 0 or unread), f"status prints {run.stdout}{run.stderr}")
         self.met[line] += 1
@@ -478,8 +466,9 @@ class Trial:
         server = self.server("--every", "64")
         client = server.client()
         self.becomes(server.folder, UP, UP)
-        second = self.run("serve", "--dir", server.folder, *"--method zigzag --port 0 --clients 1".split(), capture_output=True, text=True)
-        want(second.returncode == 1 and second.stderr == f"fault 18\nworldd: {server.folder}/image.a: {HELD}\n", f"a second server: {second}")
+        second = ran(self.worldd, "serve", server.folder, *SERVE)
+        is_refused = second.returncode == 1 and second.stderr == f"fault 18\nworldd: {server.folder}/image.a: {HELD}\n"
+        want(is_refused, f"a second server: {second}")
         self.met["second server refused"] += 1
         resource.prlimit(server.process.pid, resource.RLIMIT_FSIZE, (START_LIMIT, START_LIMIT))
         self.becomes(server.folder, UP, NO_IMAGES, client.play)
@@ -498,7 +487,7 @@ class Trial:
     def end_log(self, server: Server, client: Client) -> None:
         """Plays until the log is down, since its file may hardly grow."""
         figures = self.run("status", "--dir", server.folder, capture_output=True, text=True).stdout
-        most = (server.folder / re.search(r"(log\.[ab]) has", figures)[1]).stat().st_size + 3
+        most = (server.folder / found_in_text(r"(log\.[ab]) has", figures)[1]).stat().st_size + 3
         resource.prlimit(server.process.pid, resource.RLIMIT_FSIZE, (most, most))
         end = time.monotonic() + PATIENCE_SECONDS
         while client.play().startswith(b"tick"):
@@ -511,7 +500,7 @@ class Trial:
         worldd = self.scratch / "worldd"
         shutil.copy(self.worldd, worldd)
         worldd.chmod(0o755)
-        how = {"program": worldd, **(AS_STRANGER if is_root() else {})}
+        how: dict[str, Any] = {"program": worldd, **(AS_STRANGER if is_root() else {})}
         server = self.server()
         server.client().play()
         for name in NAMES:
@@ -524,11 +513,9 @@ class Trial:
 
     def slow_readers(self) -> None:
         """A program that looks at a world keeps its lock: whoever writes the world waits for it, and not for long."""
-        for command in (("serve", *"--method zigzag --port 0 --clients 1".split()), ("create", "--cells", "2")):
-            folder = self.folder()
-            folder.mkdir()
-            if command[0] == "serve":
-                self.run("create", "--dir", folder, "--cells", 2, capture_output=True)
+        for command in (("serve", *SERVE), ("create", "--cells", "2")):
+            folder = self.world() if command[0] == "serve" else self.folder()
+            folder.mkdir(exist_ok=True)
             (folder / "image.a").touch()
             with open(folder / "image.a", "rb") as reader:
                 fcntl.flock(reader, fcntl.LOCK_SH)
@@ -539,18 +526,16 @@ class Trial:
                 process = subprocess.Popen((self.worldd, *command, "--dir", folder), stdout=subprocess.PIPE)
                 time.sleep(0.2)
                 want(process.poll() is None, f"{command[0]} ended beside a reader")
-            line = process.stdout.readline()
-            want(line in (b"recovered 0 from 0\n", b"created 2\n"), f"{command[0]} beside a reader that has gone: {line}")
+            line = pipe(process.stdout).readline()
+            want(line in (b"recovered 0 from 0\n", b"created 2\n"), f"{command[0]} beside a reader that has gone: {line!r}")
             process.kill()
             process.communicate()
             self.met["reader waited for"] += 1
 
     def starts_beside_looks(self) -> None:
         """Others look all the time while servers start. None is refused, and none is reported with a part that is down."""
-        folder = self.folder()
-        folder.mkdir()
-        self.run("create", "--dir", folder, "--cells", 2, capture_output=True)
-        command = (self.worldd, "serve", "--dir", folder, *"--method zigzag --port 0 --clients 1".split())
+        folder = self.world()
+        command: Words = (self.worldd, "serve", "--dir", folder, *SERVE)
         with Lookers(self, folder):
             for _ in range(LOOKED_AT):
                 self.starts(command, 1)
@@ -559,16 +544,16 @@ class Trial:
                 self.starts(command, 2)
                 self.met["one of two servers"] += 1
 
-    def starts(self, command: tuple[object, ...], count: int) -> None:
+    def starts(self, command: Words, count: int) -> None:
         """So many servers of one world start at once: one of them serves it."""
         servers = [subprocess.Popen(command, stdout=subprocess.PIPE, stderr=subprocess.PIPE) for _ in range(count)]
-        serving = [server for server in servers if server.stdout.readline().startswith(b"recovered")]
+        serving = [server for server in servers if pipe(server.stdout).readline().startswith(b"recovered")]
         for server in servers:
             if server not in serving:
                 errors = server.communicate()[1].decode()
                 want(errors.endswith(f": {HELD}\n"), f"a start was refused: {errors}")
         want(len(serving) == 1, f"{len(serving)} of {count} servers serve one world")
-        line = serving[0].stdout.readline()
+        line = pipe(serving[0].stdout).readline()
         serving[0].kill()
         errors = serving[0].communicate()[1].decode()
         want(line.startswith(b"listening"), f"a server ended beside looks: {errors}")
@@ -592,16 +577,15 @@ class Trial:
 
     def links(self) -> None:
         """Files that aren't ordinary files with one name, for those that write a world."""
-        for command in (("serve", "--method", "zigzag", "--port", "0", "--clients", "1"), ("create", "--cells", "2")):
+        symbolic, hard = "a symbolic link", "it has another name, by a hard link"
+        for command in (("serve", *SERVE), ("create", "--cells", "2")):
             for name, other, reason in (
-                ("image.a", None, "a symbolic link"), ("log.b", None, "a symbolic link"),
-                ("image.b", "image.a", "it has another name, by a hard link"), ("log.b", "log.a", "it has another name, by a hard link"),
+                ("image.a", None, symbolic), ("log.b", None, symbolic), ("image.b", "image.a", hard), ("log.b", "log.a", hard),
             ):
-                folder = self.folder()
-                folder.mkdir()
+                folder = self.world() if command[0] == "serve" else self.folder()
+                folder.mkdir(exist_ok=True)
                 aside = folder.with_suffix(".aside")
                 if command[0] == "serve":
-                    self.run("create", "--dir", folder, "--cells", 2, capture_output=True)
                     (folder / name).rename(aside)
                 else:
                     aside.write_bytes(b"")
@@ -638,7 +622,7 @@ class Trial:
                 want(status == 12 and not server.path.exists(), f"the end by the log: {status}")
                 self.met["ended by its log"] += 1
             else:
-                want(answer == b"fault 12\n", f"the answer after the log is down: {answer}")
+                want(answer == b"fault 12\n", f"the answer after the log is down: {answer!r}")
                 idle.leave()
                 client.leave()
                 status, _, errors = server.end()
@@ -677,7 +661,7 @@ class Trial:
         """A socket has the mode that is asked for, whatever the mask of the process is, and is removed at the end."""
         for mode, mask in itertools.product((None, "0600", "0660", "0666"), (0, 0o077)):
             flags = ("--socket-mode", mode) if mode else ()
-            server = self.server(*flags, clients=1, transport=SOCKET, preexec_fn=lambda: os.umask(mask))
+            server = self.server(*flags, clients=1, transport=SOCKET, umask=mask)
             client = server.client()
             found = stat.S_IMODE(server.path.stat().st_mode)
             want(found == int(mode or "0600", 8), f"a socket of mode {mode} has {found:o}")
@@ -714,9 +698,7 @@ class Trial:
 
     def refused(self, path: pathlib.Path, reason: str) -> None:
         """A server at this path ends with its reason."""
-        folder = self.folder()
-        folder.mkdir()
-        self.run("create", "--dir", folder, "--cells", 2, capture_output=True)
+        folder = self.world()
         flags = ("--method", "zigzag", "--socket", path, "--clients", 1)
         run = self.run("serve", "--dir", folder, *flags, capture_output=True, text=True)
         wanted = f"fault 18\nworldd: {path}: {reason}"
@@ -813,13 +795,13 @@ class Trial:
         path = room / "socket"
         fixed = (worldd, "serve", "--dir", room, "--method", "zigzag", "--clients", "100000", "--socket", path)
         for mode, of_group, of_all in (("0600", False, False), ("0660", True, False), ("0666", True, True)):
-            command = (*fixed, "--socket-mode", mode)
+            command: Words = (*fixed, "--socket-mode", mode)
             with serving(command):
                 for user, group, may in ((OWNER, OWNER, True), (STRANGER, OWNER, of_group), (STRANGER, STRANGER, of_all)):
                     self.enter(path, mode, user, group, may)
             self.knocked(command, path, of_all)
 
-    def knocked(self, command: tuple[object, ...], path: pathlib.Path, may: bool) -> None:
+    def knocked(self, command: Words, path: pathlib.Path, may: bool) -> None:
         """A stranger tries to connect all the time while servers start at a path. It comes in if it may, and else never."""
         with Stranger(path) as stranger:
             for _ in range(STARTS):
@@ -846,17 +828,17 @@ class Trial:
     def parts(self, connections: int) -> dict[str, Callable[[], object]]:
         """Every case, by the names of the parts that try them."""
         single = (
-            self.ended_sessions, self.closed_streams, self.overstayed, self.shortage, self.lost_files, self.server_lines, self.unread_files,
-            self.slow_readers, self.starts_beside_looks, self.no_null, self.descriptors, self.refused_clients, self.lost_listener,
-            self.unread_errors, self.broken_output, self.links, self.full_file, self.failed_start, self.threads, self.socket_modes,
-            self.old_sockets, self.taken_places, self.socket_in_use, self.next_server, self.longest_path,
-            *((self.users,) if is_root() else ()),
+            self.ended_sessions, self.closed_streams, self.overstayed, self.shortage, self.lost_files, self.server_lines,
+            self.unread_files, self.slow_readers, self.starts_beside_looks, self.no_null, self.descriptors, self.refused_clients,
+            self.lost_listener, self.unread_errors, self.broken_output, self.links, self.full_file, self.failed_start,
+            self.threads, self.socket_modes, self.old_sockets, self.taken_places, self.socket_in_use, self.next_server,
+            self.longest_path, *((self.users,) if is_root() else ()),
         )
         return {
-            "short_connections": lambda: [self.short_connections(connections, transport) for transport in TRANSPORTS],
-            "door": lambda: [self.door(transport) for transport in TRANSPORTS],
+            "short_connections": lambda: [*map(functools.partial(self.short_connections, connections), TRANSPORTS)],
+            "door": lambda: [*map(self.door, TRANSPORTS)],
             **{part.__name__: part for part in single},
-            "too_long": lambda: [self.too_long(transport) for transport in TRANSPORTS],
+            "too_long": lambda: [*map(self.too_long, TRANSPORTS)],
         }
 
 
@@ -903,7 +885,7 @@ class Stranger:
             time.sleep(0.001)
         return self
 
-    def __exit__(self, *_) -> None:
+    def __exit__(self, *_: object) -> None:
         self.process.kill()
         self.process.join()
 
@@ -939,7 +921,7 @@ class Lookers:
         for thread in self.threads:
             thread.start()
 
-    def __exit__(self, *_) -> None:
+    def __exit__(self, *_: object) -> None:
         self.is_over.set()
         for thread in self.threads:
             thread.join()
@@ -949,11 +931,13 @@ class Lookers:
 
 
 @contextlib.contextmanager
-def serving(command: tuple[object, ...]) -> Iterator[None]:
+def serving(command: Words) -> Iterator[None]:
     """A server of the owner, whose process has no mask, from the line that it listens on."""
-    server = subprocess.Popen(command, umask=0, stdout=subprocess.PIPE, stderr=subprocess.DEVNULL, **AS_OWNER)
+    server: subprocess.Popen[bytes] = subprocess.Popen(
+        command, umask=0, stdout=subprocess.PIPE, stderr=subprocess.DEVNULL, **AS_OWNER
+    )
     try:
-        lines = [server.stdout.readline()[:9] for _ in range(2)]
+        lines = [line[:9] for line in begun(server)]
         want(lines == [b"recovered", b"listening"], f"no server of another user: {command}")
         yield
     finally:
@@ -987,34 +971,34 @@ def footprint(pid: int) -> Footprint:
     return Footprint(len(maps), stacks, int(status["Threads"]), kilobytes, len(os.listdir(process / "fd")), size << 10)
 
 
+def report(met: collections.Counter[str]) -> None:
+    """Prints how often each case was met."""
+    cases = CASES + CASES_OF_ROOT if is_root() else CASES
+    for case in cases:
+        print(f"surroundings: {case}: {met[case]}")
+    if not is_root():
+        print(f"surroundings: not tried, since only root can: {', '.join(CASES_OF_ROOT)}")
+    all_met(met, cases)
+
+
 def main() -> int:
     """Runs every case in its own folder."""
-    parser = argparse.ArgumentParser(description=__doc__.splitlines()[0])
-    parser.add_argument("worldd", type=pathlib.Path, help="the built worldd")
+    parser = parser_of(__doc__)
     parser.add_argument("--connections", type=int, default=3_000, help="how many short connections come in a row")
     parser.add_argument("--only", metavar="PART", help="the one part to try, by the name of its function")
     given = parser.parse_args()
     signal.signal(signal.SIGPIPE, signal.SIG_IGN)
-    with tempfile.TemporaryDirectory(prefix="surroundings") as scratch:
-        trial = Trial(str(given.worldd.resolve()), pathlib.Path(scratch))
-        parts = trial.parts(given.connections)
-        try:
+
+    def run() -> None:
+        with tempfile.TemporaryDirectory(prefix="surroundings") as scratch:
+            trial = Trial(given.worldd, pathlib.Path(scratch))
+            parts = trial.parts(given.connections)
             for part in [parts[given.only]] if given.only else parts.values():
                 part()
-        except Wrong as wrong:
-            print(f"surroundings: {wrong}", file=sys.stderr)
-            return 1
-    if given.only:
-        return 0
-    cases = CASES + CASES_OF_ROOT if is_root() else CASES
-    for case in cases:
-        print(f"surroundings: {case}: {trial.met[case]}")
-    if not is_root():
-        print(f"surroundings: not tried, since only root can: {', '.join(CASES_OF_ROOT)}")
-    missed = [case for case in cases if trial.met[case] == 0]
-    if missed:
-        print(f"surroundings: never met: {', '.join(missed)}", file=sys.stderr)
-    return 1 if missed else 0
+        if not given.only:
+            report(trial.met)
+
+    return status_of("surroundings", run)
 
 
 if __name__ == "__main__":

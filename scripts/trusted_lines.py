@@ -19,9 +19,15 @@ import dataclasses
 import pathlib
 import re
 import sys
+from collections.abc import Callable, Iterator
 
 from map import below, read_crates
 
+# A definition: its crate, its file and its name. And of each definition how many lines it has, and what it stands on.
+Name = tuple[str, str, str]
+Known = dict[Name, tuple[int, set[Name]]]
+# A function or a type, with its owner.
+Item = tuple[str, str]
 NAME = re.compile(r"[^\s(){}\[\],;.:λ∀×→⊎¬=]+")
 IMPORT = re.compile(r"use Rattle\.(\w+)\.specs\.(\w+)((?:\.\w+)*)\.\{([^}]*)\}")
 # All variants of a type of the code, under one name; and the types that a file of the code imports.
@@ -50,12 +56,12 @@ ONE_FIGURE = re.compile(r"^\| [^|]*`(\w+)::(?:\w+::)?(\w+)` \| (?P<lines>[\d,]+)
 CLAUSE = re.compile(r"(?:requires|ensures|decreases|ghost (?!use))")
 
 
-def counts(line):
+def counts(line: str) -> bool:
     text = line.strip()
     return bool(text) and not re.match(r"//|--|#!?\[|(ghost |pub )?use |(pub )?mod ", text)
 
 
-def imported(text):
+def imported(text: str) -> dict[str, Name]:
     """What each name that a file imports stands for: crate, file, definition. A variant stands for its type."""
     found = {alias: (crate, DECLARED, name) for crate, name, alias in VARIANTS.findall(text)}
     for crate, file, path, names in IMPORT.findall(text):
@@ -66,12 +72,14 @@ def imported(text):
     return found
 
 
-def declared(crate, path):
+def declared(crate: str, path: pathlib.Path) -> Known:
     """The types and constants of a file of the code: for each how many lines it has, and which types it names."""
-    text, found = path.read_text(), {}
-    names = {}
+    text = path.read_text()
+    found: Known = {}
+    names: dict[str, Name] = {}
     for owner, group, one in TYPES_USED.findall(text):
-        names |= {name.strip(): (crate if owner == "crate" else owner, DECLARED, name.strip()) for name in (group or one).split(",")}
+        home = crate if owner == "crate" else owner
+        names |= {name.strip(): (home, DECLARED, name.strip()) for name in (group or one).split(",")}
     lines = text.splitlines()
     for at, line in enumerate(lines):
         start = TYPE.match(line)
@@ -83,7 +91,7 @@ def declared(crate, path):
     return found
 
 
-def out_of_modules(text):
+def out_of_modules(text: str) -> str:
     """The text with what stands in a module at the margin."""
     inside, lines = False, []
     for line in text.splitlines():
@@ -93,16 +101,18 @@ def out_of_modules(text):
     return "\n".join(lines)
 
 
-def definitions(crate, path):
+def definitions(crate: str, path: pathlib.Path) -> Known:
     """The definitions of a file: for each how many lines it has, and what it stands on."""
     text = out_of_modules(path.read_text())
-    lines, same, name = collections.defaultdict(list), {}, None
+    lines: dict[str, list[str]] = collections.defaultdict(list)
+    same: dict[str, str] = {}
+    name = ""
     for line in text.splitlines():
         start = DEFINITION.match(line)
         if start:
             name = start[1]
         elif line[:1].strip() and not (name and line.startswith(name)):
-            name = None
+            name = ""
         if name and counts(line):
             lines[name].append(line)
             case = CASE.match(line)
@@ -116,10 +126,11 @@ def definitions(crate, path):
     } | {(crate, path.stem, case): (0, {here[case]}) for case in same}
 
 
-def clauses(path, exported):
+def clauses(path: pathlib.Path, exported: set[str]) -> list[tuple[Item, str]]:
     """The clauses of a file's items that the crate hands out, each with the item's owner and its name. An item by itself owns
     itself."""
-    found, name, owner, is_trait, public, open_braces = [], None, None, False, False, 0
+    found: list[tuple[Item, str]] = []
+    name, owner, is_trait, public, open_braces = "", "", False, False, 0
     for line in path.read_text().splitlines():
         text = line.strip()
         if open_braces > 0:
@@ -141,36 +152,37 @@ def clauses(path, exported):
     return found
 
 
-def cited_in_readme():
+def cited_in_readme() -> set[Item]:
     """The functions and types whose contracts README's table cites, each with its owner."""
-    table = TABLE.search(pathlib.Path("README.md").read_text())[1]
+    table = TABLE.findall(pathlib.Path("README.md").read_text())[0]
     cited = [pair for row in ROW.findall(table) for pair in CITED.findall(CLAUSES.sub("", row))]
     return {(owner or name, name) for owner, name in cited}
 
 
-def theorem_of_readme():
+def theorem_of_readme() -> tuple[str, Item]:
     """The crate and the function whose contract is README's theorem."""
-    crate, name = THEOREM.search(pathlib.Path("README.md").read_text()).groups()
+    crate, name = THEOREM.findall(pathlib.Path("README.md").read_text())[0]
     return crate, (name, name)
 
 
-def of_traits(path):
+def of_traits(path: pathlib.Path) -> set[str]:
     """The names of a file's traits and of their functions."""
     found, inside = set(), False
     for line in path.read_text().splitlines():
         item = ITEM.match(line.strip())
         if line[:1].strip():
-            inside = bool(item) and item[2] == "trait"
+            inside = item is not None and item[2] == "trait"
         if inside and item:
             found.add(item[3])
     return found
 
 
-def is_test(path):
-    return path.stem == "tests" or "tests" in path.parts
+def sources(crate: pathlib.Path, kind: str = "src", pattern: str = "*.rt") -> list[pathlib.Path]:
+    """The files of a folder of a crate, except its tests."""
+    return [path for path in (crate / kind).rglob(pattern) if path.stem != "tests" and "tests" not in path.parts]
 
 
-def reached_from(names, known):
+def reached_from(names: list[Name], known: Known) -> set[Name]:
     """The definitions that these names have."""
     reached, waiting = set(), list(names)
     while waiting:
@@ -186,95 +198,104 @@ class Clause:
     """A line of a contract: its crate, its item with the item's owner, and the definitions that it names."""
 
     crate: str
-    item: tuple[str, str]
-    names: tuple[tuple[str, str, str], ...]
+    item: Item
+    names: tuple[Name, ...]
     is_of_trait: bool
     is_handed_out: bool
+
+
+# Whether a line of a contract is to be believed.
+Wanted = Callable[[Clause], bool]
 
 
 class Tree:
     """The lines of all crates, their definitions, and their contracts."""
 
-    def __init__(self):
-        self.known, self.lines, self.clauses = {}, collections.Counter(), []
+    def __init__(self) -> None:
+        self.known: Known = {}
+        self.lines: collections.Counter[str] = collections.Counter()
+        self.clauses: list[Clause] = []
         self.cited = cited_in_readme()
         self.theorem = theorem_of_readme()
         self.served = {"worldd"} | below(read_crates())["worldd"]
         for crate in sorted(pathlib.Path("crates").iterdir()):
             for kind in ("src", "specs", "proofs"):
-                for path in (crate / kind).rglob("*.*t*"):
-                    if not is_test(path) and crate.name in self.served:
-                        self.lines[kind] += sum(map(counts, path.read_text().splitlines()))
+                for path in sources(crate, kind, "*.*t*") if crate.name in self.served else ():
+                    self.lines[kind] += sum(map(counts, path.read_text().splitlines()))
             for path in (crate / "specs").rglob("*.antt"):
                 self.known |= definitions(crate.name, path)
-            for path in filter(lambda path: not is_test(path), (crate / "src").rglob("*.rt")):
+            for path in sources(crate):
                 self.known |= declared(crate.name, path)
             self.read_contracts(crate)
 
-    def read_contracts(self, crate):
+    def read_contracts(self, crate: pathlib.Path) -> None:
         """The contracts of what a crate hands out. A program hands nothing out, and the table cites its functions."""
         lib = crate / "src" / "lib.rt"
         exported = {owner for owner, _ in self.cited}
         if lib.exists():
             exported = {name.strip() for _, group, one in EXPORT.findall(lib.read_text()) for name in (group or one).split(",")}
-        for path in filter(lambda path: not is_test(path), (crate / "src").rglob("*.rt")):
+        for path in sources(crate):
             traits, names = of_traits(path), imported(path.read_text())
             for item, line in clauses(path, exported):
                 named = tuple(names[word] for word in NAME.findall(line) if word in names)
                 is_handed_out = lib.exists() and crate.name in self.served
                 self.clauses.append(Clause(crate.name, item, named, item[1] in traits, is_handed_out))
 
-    def everything(self):
+    def everything(self) -> int:
         """How many lines the product has."""
         return sum(self.lines.values())
 
-    def reached(self, wanted):
+    def reached(self, wanted: Wanted) -> tuple[list[Clause], set[Name]]:
         """The contracts for which this holds, and the definitions that they reach."""
         own = [clause for clause in self.clauses if wanted(clause)]
         return own, reached_from([name for clause in own for name in clause.names], self.known)
 
-    def believed(self, wanted):
+    def believed(self, wanted: Wanted) -> tuple[int, int]:
         """The lines of these contracts, and of their definitions."""
         own, names = self.reached(wanted)
         return len(own), sum(self.known[name][0] for name in names)
 
-    def of_readme(self, clause):
+    def of_readme(self, clause: Clause) -> bool:
         """Whether README's theorem or its table asks for this line."""
         is_of_table = clause.crate in self.served and clause.item in self.cited
         return clause.is_of_trait or is_of_table or (clause.crate, clause.item) == self.theorem
 
 
-def handed_out(clause):
+def handed_out(clause: Clause) -> bool:
     """Whether a crate hands this line to the next."""
     return clause.is_handed_out
 
 
-def of_one(crate, name):
+def of_one(crate: str, name: str) -> Wanted:
     """Whether a line is of the functions of this name of a crate."""
     return lambda clause: (clause.crate, clause.item[1]) == (crate, name)
 
 
-def is_near(stated, found):
+def is_near(stated: str, found: int) -> bool:
     """Whether a figure of a page is that of the tree, up to one in a hundred."""
     return abs(int(stated.replace(",", "")) - found) * 100 <= found
 
 
-def findings():
+def findings() -> Iterator[tuple[int, str]]:
     """The figures of the page on proofs that aren't those of the tree, each with its line."""
     tree, text = Tree(), pathlib.Path(PAGE).read_text()
-    wanted = [(README_FIGURE, tree.of_readme, "README's promises"), (ALL_FIGURE, handed_out, "all that crates hand out")]
-    rows = [(row, of_one(row[1], row[2]), row[2]) for row in ONE_FIGURE.finditer(text)]
-    for found, rule, what in [(figure.search(text), rule, what) for figure, rule, what in wanted] + rows:
+    figures: list[tuple[re.Match[str] | None, Wanted, str]] = [
+        (README_FIGURE.search(text), tree.of_readme, "README's promises"),
+        (ALL_FIGURE.search(text), handed_out, "all that crates hand out"),
+        *((row, of_one(row[1], row[2]), row[2]) for row in ONE_FIGURE.finditer(text)),
+    ]
+    for found, rule, what in figures:
         believed = sum(tree.believed(rule))
         share = f"{100 * believed / tree.everything():.1f}"
         if not found or not is_near(found["lines"], believed) or found.groupdict().get("share", share) != share:
-            yield text[: found.start()].count("\n") + 1 if found else 1, f"for {what} one has to believe {believed:,} lines, {share}%"
+            line = text[: found.start()].count("\n") + 1 if found else 1
+            yield line, f"for {what} one has to believe {believed:,} lines, {share}%"
 
 
-def main():
-    tree, one = Tree(), sys.argv[2:] if sys.argv[1:2] == ["of"] else None
+def main() -> None:
+    tree, one = Tree(), sys.argv[2:4] if sys.argv[1:2] == ["of"] else None
     print(f"code {tree.lines['src']}, specs {tree.lines['specs']}, proofs {tree.lines['proofs']}: {tree.everything()} lines")
-    asked = {"the promises of README": tree.of_readme, "all that crates hand out": handed_out}
+    asked: dict[str, Wanted] = {"the promises of README": tree.of_readme, "all that crates hand out": handed_out}
     for which, wanted in {" ".join(one): of_one(*one)}.items() if one else asked.items():
         contracts, defined = tree.believed(wanted)
         share = 100 * (contracts + defined) / tree.everything()

@@ -59,6 +59,10 @@ class Function:
         return any(path.startswith(it) and self.name in path.removeprefix(it).split("/") for it in modules)
 
 
+# Wrong bodies that are tried in one check, each with the functions that it changes.
+Group = dict[pathlib.Path, set[Function | None]]
+
+
 @dataclasses.dataclass(frozen=True)
 class Promise:
     """A line of PROMISES, with its number."""
@@ -86,7 +90,7 @@ def apply(body: pathlib.Path, crate: pathlib.Path) -> dict[pathlib.Path, str]:
     """The texts of the files that a wrong body changes. ValueError says why it can't be applied."""
     texts: dict[pathlib.Path, str] = {}
     were: dict[pathlib.Path, str] = {}
-    file, old = None, ""
+    file, old = crate, ""
     for line in body.read_text().splitlines():
         kind, _, text = line.partition(": ")
         if kind == "file":
@@ -96,9 +100,9 @@ def apply(body: pathlib.Path, crate: pathlib.Path) -> dict[pathlib.Path, str]:
         elif kind == "old":
             old = text
         elif kind.removesuffix(":") == "new":
-            found = texts[file].count(old) if file and old else 0
+            found = texts[file].count(old) if file in texts and old else 0
             if found != 1:
-                raise ValueError(f"`{old}` stands {found} times in {file.name if file else 'no file'}")
+                raise ValueError(f"`{old}` stands {found} times in {file.name if file in texts else 'no file'}")
             texts[file] = texts[file].replace(old, text)
     if texts == were:
         raise ValueError("it changes nothing")
@@ -109,7 +113,7 @@ def can_be_applied() -> int:
     """Prints each wrong body that can't be applied, and one that stands in two folders."""
     bad = count = 0
     for crate in sorted((TOP / "crates").iterdir()):
-        names = collections.Counter()
+        names: collections.Counter[str] = collections.Counter()
         for body in [body for folder in FOLDERS for body in bodies_of(crate, folder)]:
             count += 1
             names[body.name] += 1
@@ -167,7 +171,7 @@ def functions_of(file: str, text: str) -> list[Function]:
 def function_of(file: str, text: str, line: int) -> Function | None:
     """The function whose body has this line, counted from 1."""
     holding = [it for it in functions_of(file, text) if it.first <= line <= it.last]
-    return max(holding, key=lambda it: it.first, default=None)
+    return max(holding, key=lambda it: it.first) if holding else None
 
 
 def changed_by(body: pathlib.Path, crate: pathlib.Path) -> set[Function | None]:
@@ -192,9 +196,9 @@ def print_bodies(crates: list[str]) -> None:
                 print(f"    the bug: {it.bug}\n    breaks: {it.promise}\n    refused by {it.refused_by}")
 
 
-def groups_of(bodies: list[pathlib.Path], crate: pathlib.Path) -> list[dict[pathlib.Path, set]]:
+def groups_of(bodies: list[pathlib.Path], crate: pathlib.Path) -> list[Group]:
     """Wrong bodies by the check in which they are tried: those of a check change different functions, or it has one."""
-    groups: list[dict[pathlib.Path, set]] = []
+    groups: list[Group] = []
     for body in bodies:
         changed = changed_by(body, crate)
         names = {(it.file, it.name) if it else None for it in changed}
@@ -208,13 +212,13 @@ def groups_of(bodies: list[pathlib.Path], crate: pathlib.Path) -> list[dict[path
     return groups
 
 
-def halves_of(group: dict[pathlib.Path, set]) -> list[dict[pathlib.Path, set]]:
+def halves_of(group: Group) -> list[Group]:
     """A group as two, one of which lacks the wrong body that fails another function than its own."""
     items = list(group.items())
     return [dict(items[: len(items) // 2]), dict(items[len(items) // 2 :])]
 
 
-def check(crate: pathlib.Path, bodies: list[pathlib.Path]) -> subprocess.CompletedProcess:
+def check(crate: pathlib.Path, bodies: list[pathlib.Path]) -> subprocess.CompletedProcess[str]:
     """Checks a crate of the copy with these wrong bodies, and takes them away again."""
     were: dict[pathlib.Path, str] = {}
     try:
@@ -222,13 +226,14 @@ def check(crate: pathlib.Path, bodies: list[pathlib.Path]) -> subprocess.Complet
             for file, text in apply(body, crate).items():
                 were.setdefault(file, file.read_text())
                 file.write_text(text)
-        return subprocess.run(["rt", "check", "--jobs", "1"], cwd=crate, stdout=subprocess.PIPE, stderr=subprocess.STDOUT, text=True)
+        command, pipe = ["rt", "check", "--jobs", "1"], subprocess.PIPE
+        return subprocess.run(command, cwd=crate, stdout=pipe, stderr=subprocess.STDOUT, text=True)
     finally:
         for file, text in were.items():
             file.write_text(text)
 
 
-def failed_in(run: subprocess.CompletedProcess) -> dict[str, set[str]]:
+def failed_in(run: subprocess.CompletedProcess[str]) -> dict[str, set[str]]:
     """The folders of proofs/ of which a check names an open goal or an error, and these goals."""
     failed: dict[str, set[str]] = collections.defaultdict(set)
     for goal, path in OPEN_GOAL.findall(run.stdout):
@@ -245,18 +250,21 @@ def refused_by(failed: dict[str, set[str]]) -> str:
     return ", ".join(["refused", *goals[:GOALS_SHOWN]]) + more
 
 
-def refused_together(crate: pathlib.Path, group: dict[pathlib.Path, set]) -> dict[pathlib.Path, str]:
+def refused_together(crate: pathlib.Path, group: Group) -> dict[pathlib.Path, str]:
     """Those of a group that one check refuses, each by goals of a function that only it changes; none if another failed."""
     try:
         run = check(crate, list(group))
     except ValueError:
         return {}
     failed = failed_in(run)
-    changed = {it for them in group.values() for it in them}
+    changed = {it for them in group.values() for it in them if it}
     if run.returncode != 1 or not all(any(it.holds(path) for it in changed) for path in failed):
         return {}
-    own = {body: {path: failed[path] for path in failed if any(it.holds(path) for it in them)} for body, them in group.items()}
-    return {body: refused_by(goals) for body, goals in own.items() if goals}
+    refused = {}
+    for body, them in group.items():
+        if goals := {path: failed[path] for path in failed if any(it and it.holds(path) for it in them)}:
+            refused[body] = refused_by(goals)
+    return refused
 
 
 def own_copy(name: str, copy: pathlib.Path) -> pathlib.Path:
@@ -269,9 +277,10 @@ def own_copy(name: str, copy: pathlib.Path) -> pathlib.Path:
     return own / "crates" / name
 
 
-def attempt_crate(name: str, copy: pathlib.Path) -> collections.Counter:
+def attempt_crate(name: str, copy: pathlib.Path) -> collections.Counter[str]:
     """Tries the wrong bodies of a crate, prints what came of each, and counts the answers."""
-    crate, counts = own_copy(name, copy), collections.Counter()
+    crate = own_copy(name, copy)
+    counts: collections.Counter[str] = collections.Counter()
     bodies = bodies_of(crate)
     if bodies and check(crate, []).returncode:
         print(f"{name}: the crate itself isn't proved", flush=True)
@@ -313,7 +322,7 @@ def attempt(crates: list[str], jobs: int) -> int:
             return 0
         lay(crates, copy)
         with ThreadPoolExecutor(jobs) as pool:
-            counts = sum(pool.map(lambda crate: attempt_crate(crate, copy), crates), collections.Counter())
+            counts = sum(pool.map(lambda crate: attempt_crate(crate, copy), crates), collections.Counter[str]())
     print(f"wrong bodies: {counts['refused']} of {count} refused ({' '.join(crates)})")
     return 0 if counts["refused"] == count else 1
 

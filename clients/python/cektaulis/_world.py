@@ -33,14 +33,14 @@ _Batch = tuple[Action, ...]
 _Result = TypeVar("_Result")
 
 
-def _port_or_path(address: _Address) -> int | str:
+def _port_or_path(address: _Address | bytes) -> int | str:
     """An address as a port or as a path. A text of digits is a port."""
     if isinstance(address, str) and address.isascii() and address.isdigit():
         address = int(address)
     if isinstance(address, int):
         check("port", address, 1, 65_535)
         return address
-    path = os.fspath(address)
+    path = os.fsdecode(address)
     if not 0 < len(os.fsencode(path)) <= _MOST_PATH:
         raise ValueError(f"the path of a socket has 1 to {_MOST_PATH} bytes")
     return path
