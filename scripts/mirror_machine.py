@@ -109,7 +109,7 @@ class Pair:
     def __init__(self, given: argparse.Namespace, folder: pathlib.Path, edits: Edits) -> None:
         self.given, self.folder, self.edits = given, folder, {"/dev/VG/world": "/dev/vda", **edits}
         self.images = {name: bytearray(MEGABYTES << 20) for name in PEER}
-        self.ports, self.machines = {name: free_port() for name in PEER}, {}
+        self.ports, self.machines = {name: str(free_port()) for name in PEER}, {}
         # What each machine printed on each port, and the packets of each with their times.
         self.lines: dict[tuple[str, int], list[str]] = collections.defaultdict(list)
         self.wire = {name: collections.deque() for name in PEER}
