@@ -32,7 +32,7 @@ complete -c worldd -n '__fish_seen_subcommand_from salvage' -l to -x -a '(__fish
 complete -c worldd -n '__fish_seen_subcommand_from salvage' -s h -l help -d 'Print help'
 complete -c worldd -n '__fish_seen_subcommand_from serve' -l dir -x -a '(__fish_complete_directories)' -d 'The folder of image.a, image.b, log.a and log.b'
 complete -c worldd -n '__fish_seen_subcommand_from serve' -l method -x -a 'zigzag pingpong' -d 'How the words of a tick are captured while play continues'
-complete -c worldd -n '__fish_seen_subcommand_from serve' -l every -x -d 'After how many ticks an image is due'
+complete -c worldd -n '__fish_seen_subcommand_from serve' -l every -x -d 'After how many ticks an image is due; 64 by default'
 complete -c worldd -n '__fish_seen_subcommand_from serve' -l port -x -d 'The port on 127.0.0.1, 0 for one that the system chooses'
 complete -c worldd -n '__fish_seen_subcommand_from serve' -l socket -r -F -d 'The path of a socket, in place of a port'
 complete -c worldd -n '__fish_seen_subcommand_from serve' -l socket-mode -x -a '0600 0660 0666' -d 'Who may connect to the socket: its owner, its group too, or everyone'

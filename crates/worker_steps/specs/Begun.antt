@@ -49,7 +49,7 @@ pub record IsBegun {D : Type 0} (front : FrontState) (back : BackState) (writer 
   pub ticks : workers.mutator.ended ≡ ended
   pub since : workers.mutator.since ≡ 0
   pub due : workers.mutator.every ≡ every
-  pub up : workers.mutator.down ≡ false
+  pub up : workers.mutator.stopped ≡ false
   pub owes : workers.mutator.owed ≡ None
   pub checkpointer : workers.checkpointer ≡ record { back = back; covers = workers.checkpointer.covers; images = writer; opening = writer; over = false }
   pub log_writer : workers.log_writer ≡ writer_at workers.log_writer.from workers.log_writer.covers workers.log_writer.reported_down log ended

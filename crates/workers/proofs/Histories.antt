@@ -29,19 +29,19 @@ leads_snoc w [] mid x v lead after = (v, subst (λ (u : World). after_item u x v
 leads_snoc w (y ∷ ys) mid x v lead after = (lead.0, lead.1, leads_snoc lead.0 ys mid x v lead.2 after)
 
 -- the pushed items lead to the present front
-leads_now : (opening : List ℕ) (items : List Item) (down : Bool) (front : FrontState) → History opening items down front → down ≡ false → Leads (begun opening) items (world_of front)
-leads_now opening items down front h up =
+leads_now : (opening : List ℕ) (items : List Item) (stopped : Bool) (front : FrontState) → History opening items stopped front → stopped ≡ false → Leads (begun opening) items (world_of front)
+leads_now opening items stopped front h up =
     let all = h.all_reported up in
     subst (λ (l : List Item). Leads (begun opening) l (world_of front)) (ap (λ (l : List Item). items ++ l) all.0 ∙ append-nil items)
     (subst (Leads (begun opening) (items ++ h.late)) all.1 h.leads)
 
-pub history_more : (opening : List ℕ) (items : List Item) (down : Bool) (x : Item) (front front' : FrontState) → History opening items down front → down ≡ false → after_item (world_of front) x (world_of front') → History opening (items ++ x ∷ []) down front'
-history_more opening items down x front front' h up after = record {
+pub history_more : (opening : List ℕ) (items : List Item) (stopped : Bool) (x : Item) (front front' : FrontState) → History opening items stopped front → stopped ≡ false → after_item (world_of front) x (world_of front') → History opening (items ++ x ∷ []) stopped front'
+history_more opening items stopped x front front' h up after = record {
   late = [];
   is_late = inl refl;
   reported = world_of front';
   leads = subst (λ (l : List Item). Leads (begun opening) l (world_of front')) (sym (append-nil (items ++ x ∷ [])))
-      (leads_snoc (begun opening) items (world_of front) x (world_of front') (leads_now opening items down front h up) after);
+      (leads_snoc (begun opening) items (world_of front) x (world_of front') (leads_now opening items stopped front h up) after);
   rounds = refl;
   all_reported = λ _. (refl, refl);
 }
@@ -80,16 +80,16 @@ UpTo base rounds = All (λ (r : Round). r.tick ≤ base) rounds
 up_to_more : (base most : ℕ) (rounds : List Round) (r : Round) → base ≤ most → UpTo base rounds → r.tick ≤ most → UpTo most (rounds ++ r ∷ [])
 up_to_more base most rounds r le known this = All-push (λ (s : Round). s.tick ≤ most) rounds r (All-weaker (λ (s : Round). s.tick ≤ base) (λ (s : Round). s.tick ≤ most) (λ s l. omega (arith, l, le)) rounds known) this
 
-module _ (m : Playing) (front : FrontState) (heard : SignalState) (is : IsMutator m) (up : m.down ≡ false) where
+module _ (m : Playing) (front : FrontState) (heard : SignalState) (is : IsMutator m) (up : m.stopped ≡ false) where
   -- a batch was run, whose tick is owed
   pub owes_tick : (ended : Ended) (asked : AskedBatch) (requests : List Request) → ended.answer.asked ≡ asked → IsTaken m asked → SameRounds m.front front → ended.tick.list ≡ accepted_of requests m.front.live
       → ended.answer.text ≡ answer requests m.front.live ended.answer.number → ended.answer.number ≡ m.ended + 1 → front.live ≡ words_after requests m.front.live
       → (m.ended < TICK_MAX) × (m.since < SEGMENT_TICKS) → (HasFlags m.front → KeepsUntouched m.front front)
-      → IsMutator (record m { front = front; heard = heard; down = true; owed = Some (Tick ended) })
+      → IsMutator (record m { front = front; heard = heard; stopped = true; owed = Some (Tick ended) })
   owes_tick ended asked requests own taken same tick text number words room keeps =
       let h = is.history in
       let counts = is.counts in
-      let now = leads_now m.opening m.to.items m.down m.front h up in record {
+      let now = leads_now m.opening m.to.items m.stopped m.front h up in record {
         history = record {
           late = h.late;
           is_late = h.is_late;
@@ -119,9 +119,9 @@ module _ (m : Playing) (front : FrontState) (heard : SignalState) (is : IsMutato
 
   -- a round was opened, whose switch is owed
   pub owes_switch : (m.since ≡ 0 → ⊥) → front.live ≡ m.front.live → front.rounds ≡ m.front.rounds ++ round m.ended m.front.live m.front.touched ∷ [] → HasFlags front
-      → IsMutator (record m { front = front; heard = heard; down = true; owed = Some (Switch m.ended) })
+      → IsMutator (record m { front = front; heard = heard; stopped = true; owed = Some (Switch m.ended) })
   owes_switch some live rounds flags =
-      let now = leads_now m.opening m.to.items m.down m.front is.history up in
+      let now = leads_now m.opening m.to.items m.stopped m.front is.history up in
       let leads = leads_snoc (begun m.opening) m.to.items (world_of m.front) (Switch m.ended) (world_of front) now (live, (m.front.touched, rounds)) in
       let counts = is.counts in record {
         history = record {
@@ -154,7 +154,7 @@ pub owed_item : (m : Playing) (item : Item) → IsMutator m → m.owed ≡ Some 
 owed_item m item is some = subst (λ (o : Option Item). IfSome o (Owes m)) some is.owes
 
 -- a mutator that hasn't stopped owes nothing
-pub owes_nothing : (m : Playing) → IsMutator m → m.down ≡ false → m.owed ≡ None
+pub owes_nothing : (m : Playing) → IsMutator m → m.stopped ≡ false → m.owed ≡ None
 owes_nothing m is up = by_owed m.owed refl
   where
     by_owed : (owed : Option Item) → m.owed ≡ owed → m.owed ≡ None
@@ -177,7 +177,7 @@ module _ (m : Playing) (to : Pushing) (is : IsMutator m) (owed : Option Item) (n
   }
 
   pub paid_tick : (ended : Ended) → Owes m (Tick ended) → to.items ≡ m.to.items ++ Tick ended ∷ []
-      → IsMutator (record m { to = to; ended = m.ended + 1; since = m.since + 1; down = false; owed = owed })
+      → IsMutator (record m { to = to; ended = m.ended + 1; since = m.since + 1; stopped = false; owed = owed })
   paid_tick ended owes pushed =
       let last : items_end to.items ≡ end_after (items_end m.to.items) (Tick ended) = ap items_end pushed ∙ end_more m.to.items (Tick ended) in
       let counts = is.counts in record {
@@ -192,7 +192,7 @@ module _ (m : Playing) (to : Pushing) (is : IsMutator m) (owed : Option Item) (n
       }
 
   pub paid_switch : (number : ℕ) → Owes m (Switch number) → to.items ≡ m.to.items ++ Switch number ∷ []
-      → IsMutator (record m { to = to; since = 0; down = false; owed = owed })
+      → IsMutator (record m { to = to; since = 0; stopped = false; owed = owed })
   paid_switch number owes pushed =
       let last : items_end to.items ≡ end_after (items_end m.to.items) (Switch number) = ap items_end pushed ∙ end_more m.to.items (Switch number) in
       let counts = is.counts in record {
@@ -226,7 +226,7 @@ last_owed w (x ∷ items) number v lead = last_owed lead.0 items number v lead.2
 
 -- a mutator of a world whose start has ended
 pub begins : (asks : Taking) (front : FrontState) (to : Pushing) (heard : SignalState) (opening : List ℕ) (tick every : ℕ) → front.rounds ≡ [] → to.items ≡ Start tick ∷ [] → opening ≡ front.live → tick ≤ TICK_MAX → HasFlags front → AreNumbered asks.taken
-    → IsMutator (record { asks = asks; front = front; to = to; heard = heard; opening = opening; ended = tick; since = 0; every = every; down = false; owed = None })
+    → IsMutator (record { asks = asks; front = front; to = to; heard = heard; opening = opening; ended = tick; since = 0; every = every; stopped = false; owed = None })
 begins asks front to heard opening tick every none start words most flags numbered = record {
   history = record {
     late = [];

@@ -23,7 +23,7 @@ runs_of m ended front asked requests same number answers pair ran untouched = re
 
 -- the batch was run, and its tick is owed
 pub ran_tick : (m old : Playing) → m ≡ old → (front : FrontState) (heard : SignalState) (asked : AskedBatch) (ended : Ended) → Runs m asked ended front → m.owed ≡ None → heard ≡ loaded m.heard 0
-    → OwesTick old asked (record m { front = front; heard = heard; down = true; owed = Some (Tick ended) })
-ran_tick m old is front heard asked ended runs none up = let new : Playing = record m { front = front; heard = heard; down = true; owed = Some (Tick ended) } in
+    → OwesTick old asked (record m { front = front; heard = heard; stopped = true; owed = Some (Tick ended) })
+ran_tick m old is front heard asked ended runs none up = let new : Playing = record m { front = front; heard = heard; stopped = true; owed = Some (Tick ended) } in
     subst (λ (p : Playing). OwesTick p asked new) is
-    (none, (ended, runs, ap (λ (h : SignalState). let p : Playing = record m { front = front; heard = h; down = true; owed = Some (Tick ended) } in p) up))
+    (none, (ended, runs, ap (λ (h : SignalState). let p : Playing = record m { front = front; heard = h; stopped = true; owed = Some (Tick ended) } in p) up))

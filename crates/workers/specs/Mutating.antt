@@ -29,12 +29,12 @@ pub record Playing : Type 0 where
   pub ended : ℕ
   pub since : ℕ
   pub every : ℕ
-  pub down : Bool
+  pub stopped : Bool
   pub owed : Option Item
 
 -- It owes this item, which may be pushed next and states what the front did since the last push. Until then it has stopped.
 pub record Owes (m : Playing) (item : Item) : Type 0 where
-  pub stopped : m.down ≡ true
+  pub stopped : m.stopped ≡ true
   pub goes : Goes (items_end m.to.items) item
   pub leads : Leads (begun m.opening) (m.to.items ++ item ∷ []) (world_of m.front)
   pub in_turn : PlaysInTurn m.asks.taken (m.to.items ++ item ∷ [])
@@ -44,10 +44,10 @@ pub record Owes (m : Playing) (item : Item) : Type 0 where
 -- once, in its order. Unless it has stopped, each round is of a tick up to the last switch. In each round, and in one that is
 -- marked now, the untouched cells have the words of the round before.
 pub record IsMutator (m : Playing) : Type 0 where
-  pub history : History m.opening m.to.items m.down m.front
+  pub history : History m.opening m.to.items m.stopped m.front
   pub in_turn : PlaysInTurn m.asks.taken m.to.items
   pub counts : Counts (items_end m.to.items) m.ended m.since
-  pub rising : m.down ≡ false → All (λ (r : Round). r.tick ≤ (items_end m.to.items).base) m.front.rounds
+  pub rising : m.stopped ≡ false → All (λ (r : Round). r.tick ≤ (items_end m.to.items).base) m.front.rounds
   pub most : m.ended ≤ TICK_MAX
   pub flags : HasFlags m.front
   pub unchanged : AreUnchanged m.opening (marked_rounds m.front 0)
@@ -78,20 +78,20 @@ Marks old new = (new ≡ record old { front = new.front; to = new.to; since = 0 
 
 -- a round was opened, and the push of its switch was refused
 abbrev pub LosesSwitch : Playing → Playing → Type 0
-LosesSwitch old new = (new ≡ record old { front = new.front; to = with_refusal old.to; down = true }) × OpensRound old new.front
+LosesSwitch old new = (new ≡ record old { front = new.front; to = with_refusal old.to; stopped = true }) × OpensRound old new.front
 
 -- no round was due, or one was open
 abbrev pub OpensNone : Playing → Playing → Type 0
-OpensNone old new = ((new ≡ old) × ((old.down ≡ true) ⊎ IsEarly old)) ⊎ FindsRound old new
+OpensNone old new = ((new ≡ old) × ((old.stopped ≡ true) ⊎ IsEarly old)) ⊎ FindsRound old new
 
 -- a round was opened, and its switch is owed
 abbrev pub OwesSwitch : Playing → Playing → Type 0
 OwesSwitch old new =
-    (old.down ≡ false) × (old.owed ≡ None) × (new ≡ record old { front = new.front; down = true; owed = Some (Switch old.ended) }) × OpensRound old new.front
+    (old.stopped ≡ false) × (old.owed ≡ None) × (new ≡ record old { front = new.front; stopped = true; owed = Some (Switch old.ended) }) × OpensRound old new.front
 
 -- if a round is due and none is open, it is opened
 abbrev pub MarksIfDue : Playing → Playing → Type 0
-MarksIfDue old new = ((new ≡ old) × ((old.down ≡ true) ⊎ IsEarly old)) ⊎ (FindsRound old new ⊎ (Marks old new ⊎ LosesSwitch old new))
+MarksIfDue old new = ((new ≡ old) × ((old.stopped ≡ true) ⊎ IsEarly old)) ⊎ (FindsRound old new ⊎ (Marks old new ⊎ LosesSwitch old new))
 
 -- ---- a batch
 
@@ -118,12 +118,12 @@ PushesTick old asked new = (new ≡ record old { front = new.front; to = new.to;
 
 -- the push of the tick was refused
 abbrev pub LosesTick : Playing → AskedBatch → Playing → Type 0
-LosesTick old asked new = (new ≡ record old { front = new.front; to = with_refusal old.to; heard = loaded old.heard 0; down = true }) × ((ended : Ended) × Runs old asked ended new.front)
+LosesTick old asked new = (new ≡ record old { front = new.front; to = with_refusal old.to; heard = loaded old.heard 0; stopped = true }) × ((ended : Ended) × Runs old asked ended new.front)
 
 -- the log wasn't reported to be down, the batch was run, and its tick is owed
 abbrev pub OwesTick : Playing → AskedBatch → Playing → Type 0
 OwesTick old asked new = (old.owed ≡ None)
-    × ((ended : Ended) × Runs old asked ended new.front × (new ≡ record old { front = new.front; heard = loaded old.heard 0; down = true; owed = Some (Tick ended) }))
+    × ((ended : Ended) × Runs old asked ended new.front × (new ≡ record old { front = new.front; heard = loaded old.heard 0; stopped = true; owed = Some (Tick ended) }))
 
 -- the log was reported to be down
 abbrev pub HearsDown : Playing → Refusal → Playing → Type 0
@@ -134,15 +134,15 @@ HearsDown old reason new = (flag : ℕ) × (1 ≤ flag) × (new ≡ record old {
 abbrev pub RefusesBatch : (stuck : Type 0) → Playing → Refusal → Playing → Type 0
 RefusesBatch stuck old reason new =
     ((new ≡ record old { heard = loaded old.heard 0 }) × IsRefusedTick false old.ended old.since reason)
-    ⊎ (HearsDown old reason new ⊎ ((new ≡ record old { down = true }) × (reason ≡ LogDown) × ((old.down ≡ true) ⊎ stuck)))
+    ⊎ (HearsDown old reason new ⊎ ((new ≡ record old { stopped = true }) × (reason ≡ LogDown) × ((old.stopped ≡ true) ⊎ stuck)))
 
 -- a batch is run, if the mutator hasn't stopped and the gate lets it, or it is refused
 abbrev pub AnswersBatch : (go stuck : Type 0) → Playing → AskedBatch → Result (Unit {0}) Refusal → Playing → Type 0
-AnswersBatch go stuck old asked given new = MatchResult given (λ _. go × (old.down ≡ false) × (PushesTick old asked new ⊎ LosesTick old asked new)) (λ reason. RefusesBatch stuck old reason new)
+AnswersBatch go stuck old asked given new = MatchResult given (λ _. go × (old.stopped ≡ false) × (PushesTick old asked new ⊎ LosesTick old asked new)) (λ reason. RefusesBatch stuck old reason new)
 
 -- the same, except that the tick is owed
 abbrev pub RunsBatch : (go stuck : Type 0) → Playing → AskedBatch → Result (Unit {0}) Refusal → Playing → Type 0
-RunsBatch go stuck old asked given new = MatchResult given (λ _. go × (old.down ≡ false) × OwesTick old asked new) (λ reason. RefusesBatch stuck old reason new)
+RunsBatch go stuck old asked given new = MatchResult given (λ _. go × (old.stopped ≡ false) × OwesTick old asked new) (λ reason. RefusesBatch stuck old reason new)
 
 -- the next batch was taken, and run or refused
 pub record Plays (go stuck : Type 0) (old : Playing) (asked : AskedBatch) (given : Result (Unit {0}) Refusal) (new : Playing) : Type 0 where
@@ -155,10 +155,10 @@ pub record Plays (go stuck : Type 0) (old : Playing) (asked : AskedBatch) (given
 -- this item was pushed and counts, or its push was refused; it is owed no more
 abbrev pub PaysItem : Playing → Item → Playing → Type 0
 PaysItem old (Tick ended) new =
-    (new ≡ record old { to = with_item old.to (Tick ended); ended = old.ended + 1; since = old.since + 1; down = false; owed = None })
+    (new ≡ record old { to = with_item old.to (Tick ended); ended = old.ended + 1; since = old.since + 1; stopped = false; owed = None })
     ⊎ (new ≡ record old { to = with_refusal old.to; owed = None })
 PaysItem old (Switch number) new =
-    (new ≡ record old { to = with_item old.to (Switch number); since = 0; down = false; owed = None })
+    (new ≡ record old { to = with_item old.to (Switch number); since = 0; stopped = false; owed = None })
     ⊎ (new ≡ record old { to = with_refusal old.to; owed = None })
 PaysItem old item new = new ≡ record old { owed = None }
 
@@ -182,4 +182,4 @@ pub record Turns (go stuck : Type 0) (old : Playing) (asked : AskedBatch) (given
 
 -- the last item was pushed, or its push was refused
 abbrev pub StopsPlay : Playing → Playing → Type 0
-StopsPlay old new = (new ≡ record old { to = with_item old.to Stop }) ⊎ (new ≡ record old { to = with_refusal old.to; down = true })
+StopsPlay old new = (new ≡ record old { to = with_item old.to Stop }) ⊎ (new ≡ record old { to = with_refusal old.to; stopped = true })

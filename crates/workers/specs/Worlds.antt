@@ -67,13 +67,13 @@ IsLate items late = (late ≡ []) ⊎ ((number : ℕ) × (late ≡ Switch number
 
 -- The pushed items state what the front did, together with the switch of the last round if its push was refused. Only a tick
 -- whose push was refused is stated by no item.
-pub record History (opening : List ℕ) (items : List Item) (down : Bool) (front : FrontState) : Type 0 where
+pub record History (opening : List ℕ) (items : List Item) (stopped : Bool) (front : FrontState) : Type 0 where
   pub late : List Item
   pub is_late : IsLate items late
   pub reported : World
   pub leads : Leads (begun opening) (items ++ late) reported
   pub rounds : front.rounds ≡ reported.rounds
-  pub all_reported : down ≡ false → (late ≡ []) × (reported ≡ world_of front)
+  pub all_reported : stopped ≡ false → (late ≡ []) × (reported ≡ world_of front)
 
 -- so many ticks ended, and so many of them since the last switch or start
 pub record Counts (end : QueueEnd) (ended since : ℕ) : Type 0 where

@@ -43,8 +43,9 @@ pub struct Mutator<M: Method, G: Gate + Drop> {
     ended: u64,
     since: u64,
     every: u64,
-    down: bool,
-    /// The item of the front's last act, if it isn't pushed yet. Until the push, the mutator has stopped.
+    /// True while an item is owed. True for good once a push was refused or the gate holds every batch.
+    stopped: bool,
+    /// The item of the front's last act, if it isn't pushed yet.
     owed: Option<Item>,
 }
 
@@ -53,9 +54,9 @@ impl<M: Method, G: Gate + Drop> Model for Mutator<M, G> {
 
     ghost Value = { Playing };
 
-    ghost view = { λ m. record { asks = m.asks; front = m.front; to = m.to; heard = m.heard; opening = m.opening.value.live; ended = m.ended; since = m.since; every = m.every; down = m.down; owed = m.owed } };
+    ghost view = { λ m. record { asks = m.asks; front = m.front; to = m.to; heard = m.heard; opening = m.opening.value.live; ended = m.ended; since = m.since; every = m.every; stopped = m.stopped; owed = m.owed } };
 
-    ghost invariant = { λ m. IsMutator (record { asks = m.asks; front = m.front; to = m.to; heard = m.heard; opening = m.opening.value.live; ended = m.ended; since = m.since; every = m.every; down = m.down; owed = m.owed }) };
+    ghost invariant = { λ m. IsMutator (record { asks = m.asks; front = m.front; to = m.to; heard = m.heard; opening = m.opening.value.live; ended = m.ended; since = m.since; every = m.every; stopped = m.stopped; owed = m.owed }) };
 }
 
 impl<M: Method, G: Gate + Drop> Mutator<M, G> {
@@ -77,7 +78,7 @@ impl<M: Method, G: Gate + Drop> Mutator<M, G> {
         requires start { to.items ≡ Start tick ∷ [] }
         requires pushes { to.refused ≡ false }
         requires numbered { tick ≤ TICK_MAX }
-        ensures { result ≡ record { asks = asks; front = front; to = to; heard = heard; opening = front.live; ended = tick; since = 0; every = every; down = false; owed = None } }
+        ensures { result ≡ record { asks = asks; front = front; to = to; heard = heard; opening = front.live; ended = tick; since = 0; every = every; stopped = false; owed = None } }
     {
         let opening = Snapshot::of(&front);
         Mutator {
@@ -92,7 +93,7 @@ impl<M: Method, G: Gate + Drop> Mutator<M, G> {
             ended: tick,
             since: 0,
             every: u64::from(every),
-            down: false,
+            stopped: false,
             owed: None,
         }
     }
@@ -141,13 +142,13 @@ impl<M: Method, G: Gate + Drop> Mutator<M, G> {
         ensures opened { result ≡ true → OwesSwitch self.old self.new }
         ensures none { result ≡ false → OpensNone self.old self.new }
     {
-        if self.down || self.since == 0 || self.since < self.every {
+        if self.stopped || self.since == 0 || self.since < self.every {
             return false;
         }
         if self.front.mark(self.ended).is_err() {
             return false;
         }
-        self.down = true;
+        self.stopped = true;
         self.owed = Some(Item::Switch(self.ended));
         true
     }
@@ -171,11 +172,11 @@ impl<M: Method, G: Gate + Drop> Mutator<M, G> {
         requires { IsTaken self.old ask }
         ensures { RunsBatch (MayGo G.answers Tick) (MayStick G.answers Tick) self.old ask result self.new }
     {
-        if self.down {
+        if self.stopped {
             return refuse(rt, ask, Refusal::LogDown);
         }
         if !passes(rt, &mut self.gate, Place::Tick) {
-            self.down = true;
+            self.stopped = true;
             return refuse(rt, ask, Refusal::LogDown);
         }
         if hears_down(&mut self.heard) {
@@ -198,7 +199,7 @@ impl<M: Method, G: Gate + Drop> Mutator<M, G> {
         };
         let number = number + 1;
         let answer = ask.wait(number, text);
-        self.down = true;
+        self.stopped = true;
         self.owed = Some(Item::Tick(Ended { tick, answer }));
         Ok(())
     }
@@ -215,13 +216,13 @@ impl<M: Method, G: Gate + Drop> Mutator<M, G> {
                 if self.to.push(rt, Item::Tick(ended)) {
                     self.ended += 1;
                     self.since += 1;
-                    self.down = false;
+                    self.stopped = false;
                 }
             }
             Item::Switch(number) => {
                 if self.to.push(rt, Item::Switch(number)) {
                     self.since = 0;
-                    self.down = false;
+                    self.stopped = false;
                     ring(rt, &self.bell, &self.front, number);
                 }
             }
@@ -235,7 +236,7 @@ impl<M: Method, G: Gate + Drop> Mutator<M, G> {
     {
         self.bell = None;
         if !self.to.push(rt, Item::Stop) {
-            self.down = true;
+            self.stopped = true;
         }
     }
 }

@@ -20,6 +20,7 @@ report_text report =
 
 -- a line, over the paths of the server's files and socket; nothing is stated of a line that may have an error of the system
 abbrev pub line_text : Paths → Line → Option (List ℕ)
+line_text paths line.ManyImages = Some (codes "an image every 64 ticks can halve the speed: give --every, for example 4096")
 line_text paths (line.Recovered ended from) = Some (codes "recovered " ++ world_text ended from)
 line_text paths (line.Doubtful doubtful) = Some (doubtful_text doubtful.0)
 line_text paths (line.Listening port) = Some (codes "listening " ++ decimal port)

@@ -20,6 +20,8 @@ pub struct Failure {
 /// A line that a server prints.
 #[derive(Clone, Copy, Debug)]
 pub enum Line {
+    /// The command line doesn't say after how many ticks an image is due.
+    ManyImages,
     Recovered {
         ended: u64,
         from: u64,
@@ -74,6 +76,11 @@ impl fmt::Display for Printed<'_> {
 
     fn fmt<W: fmt::Write>(&self, f: &mut fmt::Formatter<W>) -> fmt::Result {
         match self.line {
+            Line::ManyImages => {
+                f.write_str(
+                    "an image every 64 ticks can halve the speed: give --every, for example 4096",
+                )
+            }
             Line::Recovered { ended, from } => write!(f, "recovered {ended} from {from}"),
             Line::Doubtful(doubtful) => write!(f, "{doubtful}"),
             Line::Listening(port) => write!(f, "listening {port}"),

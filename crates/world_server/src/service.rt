@@ -1,4 +1,4 @@
-ghost use Rattle.std.specs.Prelude.{◌≡◌};
+ghost use Rattle.std.specs.Prelude.{◌≡◌, IfSome, IfNone};
 
 use crate::socket::SocketMode;
 use client_service::Admission;
@@ -7,6 +7,9 @@ use shared_capture::Kind;
 /// After how many ticks a round is due.
 #[derive(Clone, Copy, Debug, PartialEq, Eq)]
 pub struct Every(pub u32);
+
+// The number of ticks if the command line doesn't say it.
+const EVERY_BY_DEFAULT: Every = Every(64);
 
 /// After how many connections a server accepts no more.
 #[derive(Clone, Copy, Debug, PartialEq, Eq)]
@@ -26,7 +29,8 @@ pub enum Address<'a> {
 pub struct Service<'a> {
     pub folder: &'a str,
     pub method: Kind,
-    pub every: Every,
+    /// Without a number the server says what the default costs.
+    pub every: Option<Every>,
     pub address: Address<'a>,
     pub clients: Clients,
     /// After how many seconds of silence a session ends; without a number never.
@@ -41,6 +45,17 @@ pub struct Service<'a> {
 }
 
 impl Service<'_> {
+    /// After how many ticks a round is due.
+    pub fn due_after(&self) -> Every
+        ensures given { IfSome self.now.every (λ every. result ≡ every) }
+        ensures by_default { IfNone self.now.every (result.0 ≡ 64) }
+    {
+        match self.every {
+            Some(every) => every,
+            None => EVERY_BY_DEFAULT,
+        }
+    }
+
     /// The clients that it takes.
     pub fn admission(&self) -> Admission
         ensures clients { result.clients ≡ self.now.clients.0 }

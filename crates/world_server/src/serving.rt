@@ -69,7 +69,7 @@ fn serve_by<
 {
     let files = open_existing(rt, service.folder)?;
     let mut front = SystemFront::start(rt, service)?;
-    let (every, admission) = (service.every, service.admission());
+    let (every, admission) = (service.due_after(), service.admission());
     let served = serve_world::<R, M, FileDisk, Lines<R>, SystemFront<'_, R>>(
         rt,
         rt.alloc(),

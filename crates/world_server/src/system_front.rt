@@ -69,6 +69,9 @@ impl<
             Ok(streams) => streams,
             Err(reason) => return Err(not_started(reason)),
         };
+        if service.every.is_none() {
+            streams.errors.print(rt, Line::ManyImages);
+        }
         match reported(rt, service.report, &streams) {
             Ok(reports) => Ok(SystemFront {
                 rt: *rt,

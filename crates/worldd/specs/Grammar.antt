@@ -83,7 +83,7 @@ abbrev pub mode_rule : Option ValueParser → Rule
 mode_rule words = record (value_rule (codes "socket-mode")) { defaults = codes "0600" ∷ []; is_free = false; parser = words }
 
 abbrev pub serve_rules : (methods modes : Option ValueParser) → List Rule
-serve_rules methods modes = folder_rule ∷ method_rule methods ∷ number_rule (codes "every") 1 65_536 (codes "64" ∷ [])
+serve_rules methods modes = folder_rule ∷ method_rule methods ∷ number_rule (codes "every") 1 65_536 []
     ∷ number_rule (codes "port") 0 65_535 [] ∷ value_rule (codes "socket") ∷ mode_rule modes
     ∷ needed_number_rule (codes "clients") 1 100_000 ∷ number_rule (codes "idle") 1 86_400 []
     ∷ number_rule (codes "report") 0 86_400 (codes "0" ∷ []) ∷ flag_rule (codes "exit-when-log-down")

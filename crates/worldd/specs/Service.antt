@@ -19,7 +19,8 @@ AsksForAddress found (Socket path mode) = (first_value found (codes "socket") �
 pub record AsksFor (found : Found) (service : Service) : Type 0 where
   pub folder : first_value found (codes "dir") ≡ Some service.folder.now
   pub method : first_value found (codes "method") ≡ Some (method_word service.method)
-  pub every : HasNumber 32 found (codes "every") service.every.0
+  pub every : IfSome service.every (λ every. HasNumber 32 found (codes "every") every.0)
+  pub no_every : IfNone service.every ((number : ℕ) → HasNumber 32 found (codes "every") number → ⊥)
   pub address : AsksForAddress found service.address
   pub clients : HasNumber 32 found (codes "clients") service.clients.0
   pub idle : IfSome service.idle (HasNumber 32 found (codes "idle"))

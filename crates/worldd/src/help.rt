@@ -126,6 +126,7 @@ It prints, each line at once:
   stopped tick N acked A    all are gone: N ticks ended, and those up to A are durable;
                             not after an end by one of the two flags --exit-when-..
 On standard error it prints, and drops lines that nobody reads:
+  worldd: an image every 64 ticks can halve the speed: give --every, for example 4096
   worldd: FILE is empty: if this world was played, its ticks are lost
   worldd: image of tick T opened
   worldd: images down: FILE: REASON            play continues without images

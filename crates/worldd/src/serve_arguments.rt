@@ -78,11 +78,10 @@ fn method_argument<'a>(alloc: Global) -> Arg<'a>
 }
 
 fn every_argument<'a>(alloc: Global) -> Arg<'a>
-    ensures { IsArgument (number_rule (codes "every") 1 65_536 (codes "64" ∷ [])) result }
+    ensures { IsArgument (number_rule (codes "every") 1 65_536 []) result }
 {
-    value_argument(alloc, EVERY, "E", "After how many ticks an image is due")
-        .default_value("64")
-        .value_parser(value_parser!(u32).range(1..=65_536))
+    let help = "After how many ticks an image is due; 64 by default";
+    value_argument(alloc, EVERY, "E", help).value_parser(value_parser!(u32).range(1..=65_536))
 }
 
 fn port_argument<'a>(alloc: Global) -> Arg<'a>
@@ -213,7 +212,7 @@ fn service_in<'a>(given: &ArgMatches<'a>) -> Option<Service<'a>>
     Some(Service {
         folder: given.get_str(FOLDER)?,
         method: method_of(given.get_str(METHOD)?)?,
-        every: Every(number_of(given, EVERY)?),
+        every: every_in(given),
         address: address_of(given)?,
         clients: Clients(number_of(given, CLIENTS)?),
         idle: number_of(given, IDLE),
@@ -221,6 +220,14 @@ fn service_in<'a>(given: &ArgMatches<'a>) -> Option<Service<'a>>
         exit_when_closed: number_of(given, EXIT_WHEN_CLOSED),
         exits_when_log_down: given.get_flag(EXIT_WHEN_LOG_DOWN),
     })
+}
+
+// After how many ticks an image is due, if the words say it.
+fn every_in(given: &ArgMatches<'_>) -> Option<Every>
+    ensures some { IfSome result (λ every. HasNumber 32 (found_of given.now) (codes "every") every.0) }
+    ensures none { IfNone result ((number : ℕ) → HasNumber 32 (found_of given.now) (codes "every") number → ⊥) }
+{
+    Some(Every(number_of(given, EVERY)?))
 }
 
 fn method_of(name: &str) -> Option<Kind>

@@ -195,7 +195,7 @@ fn asked(alloc: Global, line: &[&str]) -> Result<Option<Asked>, Fail> {
 type Asked = (
     String,
     bool,
-    Every,
+    Option<Every>,
     String,
     Clients,
     Option<u32>,
@@ -254,7 +254,7 @@ fn flags_of_serve_are_read(rt: HostRuntime) -> Result<(), Fail> {
     assert!(rt; address.as_str() == "Port(0)", "{address}");
     assert_eq!(rt;
         (every, clients, idle, report, closed),
-        (Every(64), Clients(100_000), None, 0, None)
+        (None, Clients(100_000), None, 0, None)
     );
     let Some((folder, is_ping_pong, every, address, clients, idle, report, closed, exits)) = asked(
         rt.alloc(),
@@ -267,7 +267,7 @@ fn flags_of_serve_are_read(rt: HostRuntime) -> Result<(), Fail> {
     assert!(rt; address.as_str() == SOCKET_OF_A_GROUP, "{address}");
     assert_eq!(rt;
         (every, clients, idle, report, closed),
-        (Every(65_536), Clients(1), Some(86_400), 60, Some(0))
+        (Some(Every(65_536)), Clients(1), Some(86_400), 60, Some(0))
     );
     Ok(())
 }

@@ -12,7 +12,7 @@ returns c =
     let modes = c.in_ok-socket_mode_argument.field-0.value_parser in
     let method = argument_added (codes "serve") _ [] (method_rule methods) c.in_ok-folder_command.field-0 c.in_ok-arg.field-0 c.method_argument.result
     c.in_ok-folder_command.ensures c.method_argument.ensures.0 c.in_ok-arg.ensures in
-    let every = argument_added (codes "serve") _ [] (number_rule (codes "every") 1 65_536 (codes "64" ∷ [])) c.in_ok-arg.field-0 c.in_ok-arg-2.field-0 c.every_argument.result
+    let every = argument_added (codes "serve") _ [] (number_rule (codes "every") 1 65_536 []) c.in_ok-arg.field-0 c.in_ok-arg-2.field-0 c.every_argument.result
     method c.every_argument.ensures c.in_ok-arg-2.ensures in
     let port = argument_added (codes "serve") _ [] (number_rule (codes "port") 0 65_535 []) c.in_ok-arg-2.field-0 c.in_ok-arg-3.field-0 c.port_argument.result
     every c.port_argument.ensures c.in_ok-arg-3.ensures in

@@ -21,7 +21,7 @@ returns g c =
     let waits = c.wait-answer.ensures in
     let number : c.wait-answer.result.number ≡ c.self.inside.ended + 1 = ap (λ (u : Unposted). u.number) waits in
     let text = ap (λ (u : Unposted). u.text) waits ∙ (c.in-Ok.ensures.text ∙ ap (λ (n : ℕ). answer requests c.self.inside.front.live n) (sym number)) in
-    let up : c.self.inside.down ≡ false = search rules in (
+    let up : c.self.inside.stopped ≡ false = search rules in (
       c.passes.ensures.goes (search rules),
       (search rules),
       ran_tick _ c.args.self.now c.self.view_is c.play-played.new.front c.hears_down.new.heard c.args.ask (record { tick = c.in-Ok.played.0; answer = c.wait-answer.result })
