@@ -69,9 +69,6 @@ impl<
             Ok(streams) => streams,
             Err(reason) => return Err(not_started(reason)),
         };
-        if service.every.is_none() {
-            streams.errors.print(rt, Line::ManyImages);
-        }
         match reported(rt, service.report, &streams) {
             Ok(reports) => Ok(SystemFront {
                 rt: *rt,
@@ -143,6 +140,9 @@ impl<
         self.place = Some(place.clone()?);
         let pulse = pulse_for(&self.rt, &self.reports, opened)?;
         let lines = lines_of(self, place, pulse, opened)?;
+        if self.service.every.is_none() {
+            self.streams.errors.print(&self.rt, Line::ManyImages);
+        }
         Ok((listener, lines))
     }
 
