@@ -660,6 +660,10 @@ def try_not_serving(trial: Trial) -> None:
             refused(f"fault {fault}", folder, f"fault {fault}\n")
 
 
+# A server without `--every` prints it once its world is open.
+MANY_IMAGES = "worldd: an image every 64 ticks can halve the speed: give --every, for example 4096"
+
+
 def serve_two(trial: Trial, folder: pathlib.Path, method: str, transport: str, more: tuple[str, ...]) -> None:
     """Serves a world to two clients, and compares answers and output."""
     address = str(folder / "socket") if transport == SOCKET else str(free_port())
@@ -671,10 +675,11 @@ def serve_two(trial: Trial, folder: pathlib.Path, method: str, transport: str, m
             answer_to(connect(address), b"add 0 1\nget 0\nend\n"),
         )
         trial.check(f"answers {more}", answers, ("tick 1: + =5 -3 -16\n", "tick 2: + =6\n"))
-        output, _ = server.communicate(timeout=SECONDS)
+        output, errors = server.communicate(timeout=SECONDS)
     trial.runs += 1
     trial.seen["served"] += 1
     trial.check(f"the end of serve {more}", (output, server.returncode), ("stopped tick 2 acked 2\n", 0))
+    trial.check(f"what images cost {more}", errors.splitlines().count(MANY_IMAGES), 0 if more else 1)
 
 
 def try_serving(trial: Trial) -> None:

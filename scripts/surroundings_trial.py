@@ -126,6 +126,7 @@ class Server:
             create(worldd, folder, CELLS)
         self.address = str(self.path) if transport == SOCKET else str(free_port())
         fixed = ("--method", "zigzag", f"--{transport}", self.address, "--clients", str(clients))
+        flags = flags if "--every" in flags else ("--every", "4096", *flags)
         process = {"stdout": subprocess.PIPE, "stderr": subprocess.PIPE, **process}
         command: Words = [worldd, "serve", "--dir", folder, *fixed, *flags]
         self.process: subprocess.Popen[bytes] = subprocess.Popen(command, **process)
