@@ -1,5 +1,7 @@
 -- Numbered items.
-use Rattle.std.proofs.Common.{arith, length, length-append, ◌≤◌, ◌≡◌, ℕ, List, [], ◌∷◌, ◌++◌, refl, sym, ap, ◌∙◌, subst}
+use Rattle.std.proofs.Common.{arith, inl, inr, ◌⊎◌, max, length, length-append, ◌≤◌, ◌≡◌, ℕ, List, [], ◌∷◌, ◌++◌, refl, sym, ap, ◌∙◌, subst}
+use Rattle.std.proofs.Math.Nat.{max-eq_left, max-eq_right}
+use Rattle.std.proofs.lemmas.Bool.{cases_lt}
 use Rattle.action_log.specs.declared.record.Record.{Record}
 use Rattle.action_log.specs.Queue.{QueueEnd}
 use Rattle.workers.specs.declared.item.Item.{Item}
@@ -9,6 +11,10 @@ use Rattle.workers.specs.declared.item.View.TheVariants.{Pushes, Pops}
 use Rattle.workers.specs.Order.{pushed_of, popped_of}
 use Rattle.workers.specs.Channel.{IsBegun}
 use Rattle.workers.specs.Items.{Goes, end_after, GoAll, end_all, items_end, AreNumbered}
+
+-- the greater of two numbers is one of them
+pub max_is_one : (m n : ℕ) → (max m n ≡ m) ⊎ (max m n ≡ n)
+max_is_one m n = elim (cases_lt m n) [ inl less ↦ inr (max-eq_right (let below : m ≤ n = omega (arith, less) in below)) | inr above ↦ inl (max-eq_left above) ]
 
 pub go_prefix : (end : QueueEnd) (xs ys : List Item) → GoAll end (xs ++ ys) → GoAll end xs
 go_prefix end [] ys go = tt

@@ -4,7 +4,7 @@ mod answers;
 mod holding;
 mod keep;
 
-ghost use Rattle.std.specs.Prelude.{◌≡◌, ◌≢◌, ◌↔◌, ◌⊎◌, ◌+◌, ◌<◌, ◌≤◌, ◌++◌, ◌∷◌, [], ℕ, max, true, false, List, length, IfOk, IsTrue};
+ghost use Rattle.std.specs.Prelude.{◌≡◌, ◌≢◌, ◌↔◌, ◌⊎◌, ◌+◌, ◌<◌, ◌≤◌, ◌++◌, ◌∷◌, [], ℕ, true, false, List, length, IfOk, IsTrue};
 ghost use Rattle.world_ticks.specs.declared.tick.TheConstants.{TICK_MAX};
 ghost use Rattle.disk_model.specs.Disk.{OneCalledAtMostOnce};
 ghost use Rattle.action_log.specs.declared.answer.LogAnswer.TheVariants.{Idle};
@@ -261,7 +261,7 @@ impl<D: Disk + Drop, G: Gate + Drop> LogWriter<D, G> {
                     ring: &self.ring,
                 };
                 self.answers.post_all(rt, receipt, &holding);
-                self.acked = greater(self.acked, receipt.tick());
+                self.acked = self.acked.max(receipt.tick());
             }
             LogAnswer::Idle | LogAnswer::Working => {}
         }
@@ -382,12 +382,4 @@ impl<D: Disk + Drop, G: Gate + Drop> LogWriter<D, G> {
         self.fill(rt);
         self.write_all(rt);
     }
-}
-
-fn greater(x: u64, y: u64) -> u64
-    ensures is { result ≡ max x y }
-    ensures least { (x ≤ result) × (y ≤ result) }
-    ensures one { (result ≡ x) ⊎ (result ≡ y) }
-{
-    if x < y { y } else { x }
 }

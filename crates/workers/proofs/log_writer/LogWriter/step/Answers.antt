@@ -1,9 +1,11 @@
 use Rattle.std.proofs.Common.{arith, ◌≡◌, ◌≢◌, ◌⊎◌, inl, inr, ℕ, ◌+◌, ◌≤◌, max, Bool, false, Some, None, length, length-append, refl, sym, ap, ◌∙◌, subst}
+use Rattle.std.proofs.Math.Nat.{le-max_left, le-max_right}
 use Rattle.action_log.specs.declared.answer.LogAnswer.TheVariants as answer
 use Rattle.workers.specs.Items.{records_of}
 use Rattle.workers.specs.Logging.{Logging, Writes, content_in, receipt_in}
 use Rattle.workers.proofs.Coverings.{loads_one}
 use Rattle.workers.proofs.Loggings.{reported_on, advanced}
+use Rattle.workers.proofs.Numbers.{max_is_one}
 use Rattle.workers.proofs.Receipts.{acknowledged}
 use Rattle.workers.proofs.log_writer.LogWriter.step.Goals as goal
 
@@ -27,14 +29,15 @@ invariant_of-self-in-Acked g c =
     let old = c.self.inside.answers in
     let posts = c.post_all.ensures.posts in
     let count : c.post_all.new.self.answered + length c.post_all.new.self.waiting ≡ old.answered + length old.waiting = omega (arith, posts.answered, ap length posts.order, length-append posts.done c.post_all.new.self.waiting) in
-    let greatest : c.in-Acked.receipt ≤ c.greater-self-inside.result = omega (arith, c.tick.ensures, c.greater-self-inside.ensures.least.1) in
-    let least : old.posted ≤ c.greater-self-inside.result = omega (arith, c.self.invariant.durable, c.greater-self-inside.ensures.least.0) in
-    let which : (c.greater-self-inside.result ≡ c.self.inside.acked) ⊎ (c.advance.result ≡ answer.Acked c.greater-self-inside.result) = elim c.greater-self-inside.ensures.one [
-      | inl same ↦ inl same
-      | inr now ↦ inr (c.in-Acked.is ∙ ap (λ k. answer.Acked k) (sym (now ∙ c.tick.ensures)))
+    let is : c.max-self-inside.result ≡ max c.self.inside.acked c.tick.result = c.max-self-inside.ensures in
+    let greatest : c.in-Acked.receipt ≤ c.max-self-inside.result = omega (arith, c.tick.ensures, is, le-max_right c.self.inside.acked c.tick.result) in
+    let least : old.posted ≤ c.max-self-inside.result = omega (arith, c.self.invariant.durable, is, le-max_left c.self.inside.acked c.tick.result) in
+    let which : (c.max-self-inside.result ≡ c.self.inside.acked) ⊎ (c.advance.result ≡ answer.Acked c.max-self-inside.result) = elim (max_is_one c.self.inside.acked c.tick.result) [
+      | inl same ↦ inl (is ∙ same)
+      | inr now ↦ inr (c.in-Acked.is ∙ ap (λ k. answer.Acked k) (sym (is ∙ now ∙ c.tick.ensures)))
     ] in
-    advanced g.D.Disk.content g.D.Disk.may_leave g.D.Disk.honest _ c.self.invariant c.latest-tick.new.self c.latest-tick.result c.advance.new.log c.advance.new.queue c.post_all.new.self c.advance.result c.greater-self-inside.result
-    (e.started c.self.invariant.started) e.fits e.follows e.end e.ring posts.room count posts.posted (posts.most c.greater-self-inside.result least greatest) which c.latest-tick.ensures e.advances
+    advanced g.D.Disk.content g.D.Disk.may_leave g.D.Disk.honest _ c.self.invariant c.latest-tick.new.self c.latest-tick.result c.advance.new.log c.advance.new.queue c.post_all.new.self c.advance.result c.max-self-inside.result
+    (e.started c.self.invariant.started) e.fits e.follows e.end e.ring posts.room count posts.posted (posts.most c.max-self-inside.result least greatest) which c.latest-tick.ensures e.advances
 
 pub invariant_of-self-in-Idle : goal.invariant_of-self-in-Idle
 invariant_of-self-in-Idle g c =
@@ -59,9 +62,9 @@ pub returns-in-Acked-clause-posts : goal.returns-in-Acked-clause-posts
 returns-in-Acked-clause-posts g c = λ _.
     let e = c.advance.ensures in
     let up : c.advance.result ≢ answer.Down = λ down. (let is = c.in-Acked.is in cc) in
-    acknowledged c.args.self.now _ c.self.view_is c.latest-tick.new.self c.latest-tick.result c.advance.new.log c.advance.new.queue c.post_all.new.self c.greater-self-inside.result c.latest-tick.ensures
+    acknowledged c.args.self.now _ c.self.view_is c.latest-tick.new.self c.latest-tick.result c.advance.new.log c.advance.new.queue c.post_all.new.self c.max-self-inside.result c.latest-tick.ensures
     (Some c.in-Acked.receipt) (sym (ap receipt_in c.in-Acked.is) ∙ e.receipt up)
-    (c.greater-self-inside.ensures.is ∙ ap (λ (k : ℕ). max c.self.inside.acked k) c.tick.ensures, c.post_all.ensures.posts, c.post_all.ensures.others)
+    (c.max-self-inside.ensures ∙ ap (λ (k : ℕ). max c.self.inside.acked k) c.tick.ensures, c.post_all.ensures.posts, c.post_all.ensures.others)
 
 pub returns-in-Idle-clause-posts : goal.returns-in-Idle-clause-posts
 returns-in-Idle-clause-posts g c = λ _.
