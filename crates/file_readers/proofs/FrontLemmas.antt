@@ -9,7 +9,8 @@ use Rattle.file_format.specs.Gate.{HasNoShutGate}
 use Rattle.action_log.specs.declared.format.TheConstants.{HEADER_BYTES, SEGMENT_BYTES_MAX}
 use Rattle.action_log.specs.Segment.{Tick, joined, group_bytes, spelled_base, EndsGroups, OpenSegment, IsSegment, IsOpenSegment}
 use Rattle.action_log.specs.Extent.{HasGroups, HasNoGroups, IsExtent, ReadsAlike}
-use Rattle.file_readers.specs.Reading.{IsFront, IsSegmentRead}
+use Rattle.image_files.specs.ImageRead.{IsFront}
+use Rattle.file_readers.specs.Reading.{IsSegmentRead}
 
 -- a fact on a result follows from another one
 pub on_ok : {T E : Type 0} (r : Result T E) (P Q : Type 0) → (P → Q) → OnOk r P → OnOk r Q

@@ -1,18 +1,8 @@
 -- The first bytes of a file that read as all of it.
-use Rattle.std.specs.Prelude.{◌≡◌, ◌<◌, ℕ, List, length, take}
+use Rattle.std.specs.Prelude.{◌≡◌, ℕ, List}
 use Rattle.disk_model.specs.declared.four_files.FourFiles.{FourFiles}
-use Rattle.image_files.specs.Image.{image_of}
+use Rattle.image_files.specs.ImageRead.{IsFront, IsImageRead}
 use Rattle.action_log.specs.Extent.{ReadsAlike}
-
--- the first bytes of a file, with its gate if it has one
-pub record IsFront (file bytes : List ℕ) : Type 0 where
-  pub first : bytes ≡ take (length bytes) file
-  pub gate : 0 < length file → 0 < length bytes
-
--- the first bytes of a file that read as the same image as all of it
-pub record IsImageRead (file bytes : List ℕ) : Type 0 where
-  pub front : IsFront file bytes
-  pub reads : image_of bytes ≡ image_of file
 
 -- the first bytes of a file that read as the same segment as all of it
 pub record IsSegmentRead (file bytes : List ℕ) : Type 0 where

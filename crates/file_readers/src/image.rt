@@ -2,7 +2,7 @@ ghost use Rattle.std.specs.Prelude.{◌≡◌, ◌⊎◌, ◌+◌, ◌*◌, ◌�
 ghost use Rattle.disk_model.specs.FourFiles.{KeepsFile, counted_device};
 ghost use Rattle.image_files.specs.Image.{Image, image_of, cells_in};
 ghost use Rattle.image_files.specs.declared.format.TheConstants.{HEADER_BYTES, WORD_BYTES, CELLS_MAX};
-ghost use Rattle.file_readers.specs.Reading.{IsImageRead};
+ghost use Rattle.image_files.specs.ImageRead.{IsImageRead};
 ghost use Rattle.file_readers.specs.Asking.{OnlyAsked};
 
 use crate::forward::read_forward;

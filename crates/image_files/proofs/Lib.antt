@@ -10,3 +10,4 @@ pub mod ClaimLemmas
 pub mod FileWords
 pub mod StandsLemmas
 pub mod SlotImages
+pub mod WordsImageLemmas

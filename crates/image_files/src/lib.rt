@@ -2,7 +2,7 @@
 //!
 //! An image file has a gate, the number of cells with the mark of the file's format, a tick, and the words
 //! of that tick. `read_image` reads any bytes in either format: a file is closed, or is open and has one
-//! tick's words, or is damaged. Images are written in the second format.
+//! tick's words, or is damaged. Images are written in the second format. `write_words` writes one of given words at tick 0.
 //!
 //! `ImageKeeper` writes the image of each round into one of two files while the other keeps the newest one. It closes its
 //! target, writes the words after the closed gate, makes them durable, and opens the gate last. So whatever a crash
@@ -18,6 +18,7 @@ mod keeper;
 mod laws;
 mod phase;
 mod reader;
+mod words_image;
 
 pub use answer::ImageAnswer;
 pub use chunk::CHUNK_CELLS;
@@ -30,3 +31,4 @@ pub use keeper::ImageKeeper;
 pub use laws::images_stay;
 pub use phase::Phase;
 pub use reader::{ImageState, read_image};
+pub use words_image::{image_body, write_words};

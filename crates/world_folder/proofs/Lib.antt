@@ -1,6 +1,5 @@
 pub mod MakingLemmas
 pub mod WordsLemmas
-pub mod WordsImageLemmas
 pub mod ForwardLemmas
 pub mod LostLemmas
 pub mod EndingLemmas

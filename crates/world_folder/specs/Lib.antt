@@ -9,7 +9,6 @@ pub mod ReadIn
 pub mod Ending
 pub mod Making
 pub mod WordsText
-pub mod WordsImage
 pub mod Look
 pub mod Forward
 pub mod Texts

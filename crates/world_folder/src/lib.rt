@@ -30,7 +30,6 @@ mod system_error;
 mod system_folder;
 mod unfinished;
 mod whole;
-mod words_image;
 mod words_text;
 mod world_file;
 
@@ -54,6 +53,5 @@ pub use system_error::Reason;
 pub use system_folder::SystemFolder;
 pub use unfinished::{MadeFiles, Unfinished, Why};
 pub use whole::{NotRecovered, Whole, recover_whole};
-pub use words_image::image_body;
 pub use words_text::{BadWords, Listed};
 pub use world_file::{IMAGE_A, IMAGE_B, LOG_A, LOG_B, Named, WorldFile};

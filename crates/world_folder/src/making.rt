@@ -14,10 +14,10 @@ ghost use Rattle.world_folder.specs.Making.{IsFirstOpen, ReportsUnmade, IsUnmade
 
 use crate::ending::{Ending, Occupied};
 use crate::opening::path_of;
-use crate::words_image::write_words;
 use crate::world_file::{IMAGE_A, IMAGE_B, LOG_A, LOG_B};
 use disk_model::{Disk, FourFiles};
 use file_readers::read_files;
+use image_files::write_words;
 use std::alloc::Global;
 use std::fmt;
 use world_actions::Refusal;

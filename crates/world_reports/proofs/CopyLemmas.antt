@@ -3,7 +3,8 @@ use Rattle.std.proofs.Common.{◌≡◌, ℕ, List, length, take, subst, sym, �
 use Rattle.disk_model.specs.declared.four_files.FourFiles.{FourFiles}
 use Rattle.file_format.specs.declared.slot.Slot.{Slot}
 use Rattle.file_format.specs.declared.slot.Slot.TheVariants.{A, B}
-use Rattle.file_readers.specs.Reading.{IsImageRead, IsSegmentRead}
+use Rattle.image_files.specs.ImageRead.{IsImageRead}
+use Rattle.file_readers.specs.Reading.{IsSegmentRead}
 use Rattle.world_reports.specs.declared.copying.Images.{Images}
 use Rattle.world_reports.specs.declared.copying.Images.TheVariants.{Newest, Both}
 use Rattle.world_folder.specs.declared.look.TheConstants.{IMAGE_HEAD, SEGMENT_HEAD}

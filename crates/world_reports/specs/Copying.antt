@@ -13,7 +13,8 @@ use Rattle.world_reports.specs.declared.copying.NotCopied.TheVariants.{NoImage, 
 use Rattle.world_folder.specs.declared.look.TheConstants.{IMAGE_HEAD, SEGMENT_HEAD}
 use Rattle.world_folder.specs.declared.world_file.WorldFile.{WorldFile}
 use Rattle.world_folder.specs.declared.world_file.WorldFile.TheVariants.{ImageA, ImageB, LogA, LogB}
-use Rattle.file_readers.specs.Reading.{IsImageRead, IsSegmentRead}
+use Rattle.image_files.specs.ImageRead.{IsImageRead}
+use Rattle.file_readers.specs.Reading.{IsSegmentRead}
 use Rattle.world_folder.specs.Ending.{IsFault}
 use Rattle.world_folder.specs.Fault.{Files}
 use Rattle.world_folder.specs.History.{Act, Read}

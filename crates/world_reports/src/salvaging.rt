@@ -11,6 +11,7 @@ use crate::counted::Counted;
 use crate::verified::{SalvagedInto, verify};
 use disk_model::FourFiles;
 use file_format::{CLOSED_GATE, OPEN_GATE};
+use image_files::image_body;
 use recovery::{Recovered, Slot};
 use salvage::{ImagePart, LogPart, Salvaged, salvage};
 use std::alloc::{AllocError, Global};
@@ -19,9 +20,7 @@ use std::fs::{File, Files};
 use std::io::{self, ErrorKind};
 use std::time::Clock;
 use world_actions::Refusal;
-use world_folder::{
-    Ending, Fault, Folder, Named, SystemFolder, WorldFile, image_body, opened, read_folder,
-};
+use world_folder::{Ending, Fault, Folder, Named, SystemFolder, WorldFile, opened, read_folder};
 
 /// Makes a world in an empty folder of the system of what can be read of the files of another one, as `salvage_into` does.
 pub fn salvage_world<R: Files<File = File> + Clock + Print + Eprint + AllocGlobal>(

@@ -12,6 +12,7 @@ use Rattle.file_format.specs.Gate.{HasShutGate}
 use Rattle.file_format.specs.declared.slot.Slot.{Slot}
 use Rattle.file_format.specs.Slot.{of_slot}
 use Rattle.image_files.specs.Image.{Image, image_of}
+use Rattle.image_files.specs.ImageRead.{IsFront}
 use Rattle.image_files.specs.declared.phase.Phase.TheVariants.{Closing, Header}
 use Rattle.image_files.specs.Progress.{Progress as ImageProgress, PhaseFits, made_keeper, begun_keeper, target_of}
 use Rattle.image_files.specs.Keeper.{Fits, TargetFits}
@@ -21,7 +22,7 @@ use Rattle.action_log.specs.Segment.{ClosedSegment}
 use Rattle.action_log.specs.Files.{FitsFiles as LogFits}
 use Rattle.recovery.specs.Recovery.{Recovery, Recovers, recovery_of}
 use Rattle.restart.specs.Start.{has_round, started_keeper, is_shut}
-use Rattle.file_readers.specs.Reading.{IsFront, AreFilesRead}
+use Rattle.file_readers.specs.Reading.{AreFilesRead}
 use Rattle.world_start.specs.declared.engine.Engine.{Engine}
 use Rattle.world_start.specs.Steps.{Begins, StartLaws}
 use Rattle.world_start.specs.Opening.{AreRead}

@@ -1,7 +1,7 @@
 use Rattle.std.proofs.Common.{◌≡◌, ◌≤◌, ◌++◌, vec_capacity, take}
 use Rattle.std.specs.List.{flat_map}
 use Rattle.file_format.specs.Number.{number_bytes}
-use Rattle.world_folder.proofs.words_image.image_body.Given as goal
+use Rattle.image_files.proofs.words_image.image_body.Given as goal
 
 -- the words so far are spelled
 abbrev pub invariant-loop-word : goal.invariant-loop-word

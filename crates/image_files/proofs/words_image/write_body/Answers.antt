@@ -1,6 +1,6 @@
 use Rattle.std.proofs.Common.{length}
-use Rattle.world_folder.proofs.WordsImageLemmas.{none_behind}
-use Rattle.world_folder.proofs.words_image.write_body.Goals as goal
+use Rattle.image_files.proofs.WordsImageLemmas.{none_behind}
+use Rattle.image_files.proofs.words_image.write_body.Goals as goal
 
 pub returns-in_err-write_at-clause-left : goal.returns-in_err-write_at-clause-left
 returns-in_err-write_at-clause-left g c = λ honest only.

@@ -3,8 +3,8 @@ use Rattle.std.proofs.lemmas.Result.{on_ok_weaker}
 use Rattle.file_format.specs.declared.gate.TheConstants.{OPEN_GATE}
 use Rattle.disk_model.specs.Disk.{overwritten}
 use Rattle.image_files.specs.Image.{image_of}
-use Rattle.world_folder.proofs.WordsImageLemmas.{whole_image}
-use Rattle.world_folder.proofs.words_image.write_words.Goals as goal
+use Rattle.image_files.proofs.WordsImageLemmas.{whole_image}
+use Rattle.image_files.proofs.words_image.write_words.Goals as goal
 
 pub returns-clause-made : goal.returns-clause-made
 returns-clause-made g c = λ honest.

@@ -1,5 +1,5 @@
-use Rattle.world_folder.proofs.WordsImageLemmas.{none_or_opened}
-use Rattle.world_folder.proofs.words_image.open_gate.Goals as goal
+use Rattle.image_files.proofs.WordsImageLemmas.{none_or_opened}
+use Rattle.image_files.proofs.words_image.open_gate.Goals as goal
 
 pub returns-in_err-write_at-clause-left : goal.returns-in_err-write_at-clause-left
 returns-in_err-write_at-clause-left g c = λ honest only.

@@ -12,7 +12,7 @@ use Rattle.disk_model.proofs.TornLemmas.{torn_behind_gate, torn_opening}
 use Rattle.image_files.specs.Image.{Closed, Open, image_of, header_bytes}
 use Rattle.image_files.proofs.GateLemmas.{shut_reads_closed}
 use Rattle.image_files.proofs.SpellingLemmas.{image_read}
-use Rattle.world_folder.specs.WordsImage.{LeavesNone}
+use Rattle.image_files.specs.WordsImage.{LeavesNone}
 
 -- a write after a shut gate leaves no image
 pub none_behind : (n : ℕ) (file : List ℕ) (old new : List ℕ → Type 0) → HasShutGate file → Only file old → Follows (Torn 1 n) old new → LeavesNone new

@@ -10,12 +10,12 @@ ghost use Rattle.file_format.specs.Number.{number_bytes};
 ghost use Rattle.disk_model.specs.Disk.{Only, Grew, IsDeviceFault, counted, overwritten};
 ghost use Rattle.image_files.specs.Image.{Closed, Open, image_of, header_bytes};
 ghost use Rattle.image_files.specs.declared.format.TheConstants.{WORD_BYTES};
-ghost use Rattle.file_readers.specs.Reading.{IsImageRead};
-ghost use Rattle.world_folder.specs.WordsImage.{LeavesNone};
+ghost use Rattle.image_files.specs.ImageRead.{IsImageRead};
+ghost use Rattle.image_files.specs.WordsImage.{LeavesNone};
 
+use crate::format::{WORD_BYTES, images_read_back};
 use disk_model::Disk;
 use file_format::{CLOSED_GATE, OPEN_GATE, is_shut, marked, put_u64};
-use image_files::{WORD_BYTES, images_read_back};
 use std::alloc::{AllocError, Global};
 use world_actions::Refusal;
 

@@ -3,8 +3,8 @@ use Rattle.std.specs.List.{flat_map}
 use Rattle.std.proofs.lemmas.List.{length-take}
 use Rattle.file_format.specs.Number.{number_bytes}
 use Rattle.file_format.proofs.NumberLemmas.{length-number_bytes}
-use Rattle.world_folder.proofs.WordsImageLemmas.{length_words}
-use Rattle.world_folder.proofs.words_image.image_body.Goals as goal
+use Rattle.image_files.proofs.WordsImageLemmas.{length_words}
+use Rattle.image_files.proofs.words_image.image_body.Goals as goal
 
 pub put_u64-requires-2 : goal.put_u64-requires-2
 put_u64-requires-2 c =
